@@ -1,0 +1,60 @@
+-- The value of digits, one digit at a time.
+use Rattle.std.proofs.Common.{◌≡◌, ℕ, ◌+◌, ◌*◌, ◌-◌, ◌^◌, ◌<◌, ◌≤◌, List, [], ◌∷◌, ◌++◌, inl, inr, length, take, drop, get_or, Bool, true, false, cond, refl, ap, sym, ◌∙◌, arith, ltb, take-append-drop}
+use Rattle.std.specs.Prelude.{Option, Some, None}
+use Rattle.std.specs.List.{list_all}
+use Rattle.std.specs.Char.{is_ascii_digit, digit_value}
+use Rattle.std.specs.Str.Parse.{digits_value, digits_value_after}
+use Rattle.std.proofs.lemmas.Bool.Decides.{nat_tests}
+use Rattle.std.proofs.lemmas.Bool.{cases_lt, cond_below, ltb-true}
+use Rattle.std.proofs.lemmas.Option.{cond_some}
+use Rattle.std.proofs.lemmas.Int.Digits.{digits_value_more}
+use Rattle.std.proofs.lemmas.List.{take_all}
+
+pub value_grows : (n : ℕ) (ds : List ℕ) → n ≤ digits_value_after 10 n ds
+value_grows n [] = omega arith
+value_grows n (d ∷ ds) = omega (arith, value_grows (n * 10 + digit_value d) ds)
+
+pub value_after_parts : (n : ℕ) (xs ys : List ℕ) → digits_value_after 10 n (xs ++ ys) ≡ digits_value_after 10 (digits_value_after 10 n xs) ys
+value_after_parts n [] ys = refl
+value_after_parts n (x ∷ xs) ys = value_after_parts (n * 10 + digit_value x) xs ys
+
+-- a front of the digits has no larger value
+pub value_front : (ds : List ℕ) (i : ℕ) → digits_value 10 (take i ds) ≤ digits_value 10 ds
+value_front ds i =
+    let parts : digits_value 10 ds ≡ digits_value_after 10 (digits_value 10 (take i ds)) (drop i ds) =
+        ap (digits_value 10) (sym (take-append-drop i ds)) ∙ value_after_parts 0 (take i ds) (drop i ds) in
+    omega (arith, parts, value_grows (digits_value 10 (take i ds)) (drop i ds))
+
+-- one more digit
+pub value_more : (ds : List ℕ) (i value : ℕ) → i < length ds → value ≡ digits_value 10 (take i ds) → value * 10 + digit_value (get_or ds i 0) ≡ digits_value 10 (take (i + 1) ds)
+value_more ds i value l e = omega (arith, digits_value_more 10 ds i l, e)
+
+not_below : (a b m : ℕ) → None ≡ cond (ltb a m) (Some b) None → m ≤ a
+not_below a b m e =
+    elim (cases_lt a m) [
+    | inl h ↦ absurd (let none : None ≡ Some b = e ∙ sym (cond_below a m (Some b) None h) in cc)
+    | inr h ↦ h
+    ]
+
+pub too_large : (m : ℕ) (ds : List ℕ) (i value : ℕ) → i < length ds → value ≡ digits_value 10 (take i ds) →
+    None ≡ cond (ltb (value * 10 + digit_value (get_or ds i 0)) m) (Some (value * 10 + digit_value (get_or ds i 0))) None → None ≡ cond (ltb (digits_value 10 ds) m) (Some (digits_value 10 ds)) None
+too_large m ds i value l e none =
+    let least : m ≤ digits_value 10 ds = omega (arith, not_below _ _ m none, value_more ds i value l e, value_front ds (i + 1)) in
+    grind (arith, nat_tests)
+
+-- what the loop keeps
+pub record IsValueSoFar (m : ℕ) (ds : List ℕ) (i value : ℕ) : Type 0 where
+  pub is : value ≡ digits_value 10 (take i ds)
+  pub small : value < m
+
+pub one_more : (m : ℕ) (ds : List ℕ) (i value next : ℕ) → i < length ds → IsValueSoFar m ds i value →
+    Some next ≡ cond (ltb (value * 10 + digit_value (get_or ds i 0)) m) (Some (value * 10 + digit_value (get_or ds i 0))) None → IsValueSoFar m ds (i + 1) next
+one_more m ds i value next l so_far e =
+    let found = cond_some (ltb (value * 10 + digit_value (get_or ds i 0)) m) (value * 10 + digit_value (get_or ds i 0)) next (sym e) in
+    let below = ltb-true _ _ found.0 in
+    record { is = omega (arith, found.1, value_more ds i value l so_far.is); small = omega (arith, found.1, below) }
+
+pub within : (m : ℕ) (ds : List ℕ) (i value : ℕ) → length ds ≤ i → IsValueSoFar m ds i value → Some value ≡ cond (ltb (digits_value 10 ds) m) (Some (digits_value 10 ds)) None
+within m ds i value l so_far =
+    let whole : value ≡ digits_value 10 ds = so_far.is ∙ ap (digits_value 10) (take_all i ds l) in
+    ap Some whole ∙ cond_below (digits_value 10 ds) m (Some (digits_value 10 ds)) None (omega (arith, so_far.small, whole))

@@ -1,0 +1,9 @@
+//! What lines, words and numbers are in the texts of `vsc`, and how they are cut and read.
+//!
+//! Every reader of a text stands on these definitions.
+#![tactic(auto)]
+
+pub mod first_fault;
+pub mod lines;
+pub mod numbers;
+pub mod words;

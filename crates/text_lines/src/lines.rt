@@ -1,0 +1,34 @@
+//! The lines of a text.
+
+ghost use Rattle.std.specs.Prelude.{◌≡◌, ◌<◌, [], ◌∷◌, length, position, MatchOption};
+ghost use Rattle.std.specs.List.{before_first, after_first};
+ghost use Rattle.text_lines.specs.Lines.{lines_of, is_line_feed};
+
+/// The place of the first line feed.
+fn find_line_feed(text: &[u8]) -> Option<usize>
+    ensures { result ≡ position is_line_feed text.now }
+{
+    text.iter().position(|byte| *byte == b'\n')
+}
+
+/// What stands before the first line feed, and what stands behind it.
+fn cut_at_line_feed(text: &[u8]) -> (&[u8], &[u8])
+    ensures front { result.0.now ≡ before_first is_line_feed text.now }
+    ensures back { result.1.now ≡ after_first is_line_feed text.now }
+{
+    match find_line_feed(text) {
+        Some(end) => (&text[..end], &text[end + 1..]),
+        None => (text, &[]),
+    }
+}
+
+/// The first line of the text, without its line feed, and what follows it; nothing where the text has no line.
+pub fn cut_line(text: &[u8]) -> Option<(&[u8], &[u8])>
+    ensures lines { MatchOption result (lines_of text.now ≡ []) (λ cut. lines_of text.now ≡ cut.0.now ∷ lines_of cut.1.now) }
+    ensures shorter { MatchOption result (text.now ≡ []) (λ cut. length cut.1.now < length text.now) }
+{
+    if text.is_empty() {
+        return None;
+    }
+    Some(cut_at_line_feed(text))
+}

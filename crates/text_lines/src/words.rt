@@ -1,0 +1,48 @@
+//! The words of a line.
+
+ghost use Rattle.std.specs.Prelude.{◌≡◌, ◌<◌, [], ◌∷◌, length, drop, not, position, MatchOption};
+ghost use Rattle.std.specs.List.{before_first, after_first, position_or_len};
+ghost use Rattle.text_lines.specs.Words.{words_of, is_blank};
+
+/// Whether the byte is a space, a tab or a carriage return.
+pub fn is_blank_byte(byte: u8) -> bool
+    ensures { result ≡ is_blank byte }
+{
+    byte == b' ' || byte == b'\t' || byte == b'\r'
+}
+
+/// The place of the first blank.
+fn find_blank(line: &[u8]) -> Option<usize>
+    ensures { result ≡ position is_blank line.now }
+{
+    line.iter().position(|byte| is_blank_byte(*byte))
+}
+
+/// The place of the first byte that is no blank.
+fn find_word(line: &[u8]) -> Option<usize>
+    ensures { result ≡ position (λ byte. not (is_blank byte)) line.now }
+{
+    line.iter().position(|byte| !is_blank_byte(*byte))
+}
+
+/// What stands before the first blank, and what stands behind it.
+fn cut_at_blank(line: &[u8]) -> (&[u8], &[u8])
+    ensures front { result.0.now ≡ before_first is_blank line.now }
+    ensures back { result.1.now ≡ after_first is_blank line.now }
+{
+    match find_blank(line) {
+        Some(end) => (&line[..end], &line[end + 1..]),
+        None => (line, &[]),
+    }
+}
+
+/// The first word of the line and what follows it; nothing where the line has no word.
+pub fn cut_word(line: &[u8]) -> Option<(&[u8], &[u8])>
+    ensures words { MatchOption result (words_of line.now ≡ []) (λ cut. words_of line.now ≡ cut.0.now ∷ words_of cut.1.now) }
+    ensures shorter { MatchOption result (words_of line.now ≡ []) (λ cut. length cut.1.now < length line.now) }
+{
+    match find_word(line) {
+        Some(start) => Some(cut_at_blank(&line[start..])),
+        None => None,
+    }
+}

@@ -1,0 +1,12 @@
+//! Traces of memory operations, schedules of them, their texts, and the judge of a schedule.
+//!
+//! Sequential consistency is Lamport's (1979), read and write operations are those of Gibbons and Korach
+//! ("Testing Shared Memories", 1997).
+#![tactic(auto)]
+
+pub mod judge;
+pub mod judgement;
+pub mod name;
+pub mod operation;
+pub mod schedule;
+pub mod trace;
