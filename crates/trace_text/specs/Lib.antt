@@ -1,6 +1,9 @@
 pub mod Interleaving
 pub mod Judgement
+pub mod Kept
 pub mod Legal
+pub mod Names
 pub mod Operation
+pub mod ScheduleText
 pub mod Trace
 pub mod ValueAfter

@@ -4,9 +4,10 @@
 //! ("Testing Shared Memories", 1997).
 #![tactic(auto)]
 
-pub mod judge;
 pub mod judgement;
 pub mod name;
 pub mod operation;
 pub mod schedule;
+pub mod schedule_fault;
 pub mod trace;
+pub mod trace_fault;
