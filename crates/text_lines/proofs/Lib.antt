@@ -1,3 +1,5 @@
-pub mod FaultLemmas
 pub mod CutLemmas
+pub mod FaultLemmas
 pub mod NumberLemmas
+pub mod PlainLemmas
+pub mod TakeLemmas

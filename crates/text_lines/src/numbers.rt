@@ -1,10 +1,10 @@
 //! The numbers of the texts.
 
-ghost use Rattle.std.specs.Prelude.{◌≡◌, ◌+◌, ◌*◌, ◌^◌, true, nat_lt, if◌then◌else◌};
+ghost use Rattle.std.specs.Prelude.{◌≡◌, ◌<◌, ◌+◌, ◌*◌, ◌^◌, ◌↔◌, ℕ, List, decimal, true, nat_lt, if◌then◌else◌};
 ghost use Rattle.std.specs.Char.{is_ascii_digit, digit_value};
 ghost use Rattle.std.specs.List.{list_all};
 ghost use Rattle.std.specs.Str.Parse.{digits_value};
-ghost use Rattle.text_lines.specs.Numbers.{is_digits, plain_number_up_to};
+ghost use Rattle.text_lines.specs.Numbers.{is_digits, plain_number, plain_number_up_to};
 
 fn all_digits(word: &[u8]) -> bool
     ensures { result ≡ list_all is_ascii_digit word.now }
@@ -48,4 +48,10 @@ pub fn read_plain(word: &[u8], most: u64) -> Option<u64>
         return None;
     }
     value_of_digits(word).filter(|value| *value <= most)
+}
+
+/// A word is a plain number of this value exactly where it is how the value is written in decimal.
+pub fn plain_exactly_decimal()
+    ensures { (word : List ℕ) (n : ℕ) → n < 2 ^ 64 → (plain_number word ≡ Some n) ↔ (word ≡ decimal n) }
+{
 }

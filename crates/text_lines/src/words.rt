@@ -1,8 +1,10 @@
 //! The words of a line.
 
-ghost use Rattle.std.specs.Prelude.{◌≡◌, ◌<◌, [], ◌∷◌, length, drop, not, position, MatchOption};
+ghost use Rattle.std.specs.Prelude.{◌≡◌, ◌<◌, [], ◌∷◌, length, take, drop, map, not, position, IfOk, MatchOption};
 ghost use Rattle.std.specs.List.{before_first, after_first, position_or_len};
 ghost use Rattle.text_lines.specs.Words.{words_of, is_blank};
+
+use std::alloc::{AllocError, Global};
 
 /// Whether the byte is a space, a tab or a carriage return.
 pub fn is_blank_byte(byte: u8) -> bool
@@ -45,4 +47,22 @@ pub fn cut_word(line: &[u8]) -> Option<(&[u8], &[u8])>
         Some(start) => Some(cut_at_blank(&line[start..])),
         None => None,
     }
+}
+
+/// The first words of the line, `most` of them at most.
+pub fn first_words(alloc: Global, line: &[u8], most: usize) -> Result<Vec<&[u8]>, AllocError>
+    ensures { IfOk result (λ words. map (λ word. word.now) words.items ≡ take most (words_of line.now)) }
+{
+    let mut words = Vec::with_capacity(alloc, most)?;
+    let mut rest = line;
+    while words.len() < most {
+        match cut_word(rest) {
+            Some((word, after)) => {
+                words.push(word)?;
+                rest = after;
+            }
+            None => break,
+        }
+    }
+    Ok(words)
 }

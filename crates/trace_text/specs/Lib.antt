@@ -4,6 +4,11 @@ pub mod Kept
 pub mod Legal
 pub mod Names
 pub mod Operation
+pub mod Said
 pub mod ScheduleText
+pub mod Statement
 pub mod Trace
+pub mod TraceFault
+pub mod TraceProgress
+pub mod TraceText
 pub mod ValueAfter

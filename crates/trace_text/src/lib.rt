@@ -9,5 +9,7 @@ pub mod name;
 pub mod operation;
 pub mod schedule;
 pub mod schedule_fault;
+pub mod statement;
 pub mod trace;
 pub mod trace_fault;
+pub mod trace_reader;

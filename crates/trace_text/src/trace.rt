@@ -2,6 +2,7 @@
 
 use crate::name::Name;
 use crate::operation::{Op, OpName};
+use std::alloc::Global;
 use std::marker::Model;
 
 /// The operations of a process, in program order.
@@ -61,4 +62,22 @@ impl Model for Trace {
     ghost view = { λ t. record { processes = t.processes.items; initial = t.initial.items; final_values = t.final_values.items; before = t.before.items } };
 
     ghost invariant = { λ t. IsTrace (record { processes = t.processes.items; initial = t.initial.items; final_values = t.final_values.items; before = t.before.items }) };
+}
+
+impl Trace {
+    ghost use Rattle.std.specs.Prelude.{◌≡◌, []};
+    ghost use Rattle.trace_text.specs.Trace.{IsTrace};
+
+    /// A trace of these processes, of which nothing else is known.
+    pub fn of_processes(alloc: Global, processes: Vec<Process>) -> Trace
+        requires { IsTrace (record { processes = processes.items; initial = []; final_values = []; before = [] }) }
+        ensures { result ≡ record { processes = processes.items; initial = []; final_values = []; before = [] } }
+    {
+        Trace {
+            processes,
+            initial: Vec::new(alloc),
+            final_values: Vec::new(alloc),
+            before: Vec::new(alloc),
+        }
+    }
 }

@@ -1,5 +1,7 @@
 //! What may be wrong with the text of a trace.
 
+use std::alloc::AllocFailed;
+
 /// What is wrong with a line of a trace text, or with the whole.
 #[derive(Clone, Copy, PartialEq, Eq)]
 pub enum TraceCause {
@@ -44,4 +46,15 @@ pub enum TraceFault {
     OutOfMemory,
     /// The first fault of the text and its line, counted from 1.
     Line(TraceCause, usize),
+}
+
+impl<T: Drop> From<AllocFailed<T>> for TraceFault {
+    ghost use Rattle.std.specs.Prelude.{◌≡◌};
+    ghost use Rattle.trace_text.specs.declared.trace_fault.TraceFault.TheVariants.{OutOfMemory};
+
+    ghost from_gives = { λ _ e. e ≡ OutOfMemory };
+
+    fn from(_failed: AllocFailed<T>) -> TraceFault {
+        TraceFault::OutOfMemory
+    }
 }
