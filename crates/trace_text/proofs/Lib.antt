@@ -1,3 +1,10 @@
+pub mod CauseLemmas
+pub mod ElementLemmas
+pub mod FaultlessLemmas
+pub mod JudgementLemmas
+pub mod LegalLemmas
 pub mod LineLemmas
+pub mod NameLemmas
+pub mod OrderLemmas
 pub mod ProgressLemmas
 pub mod StatementLemmas

@@ -5,6 +5,7 @@
 #![tactic(auto)]
 
 pub mod judgement;
+pub mod laws;
 pub mod name;
 pub mod operation;
 pub mod schedule;
