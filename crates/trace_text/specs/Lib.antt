@@ -1,13 +1,16 @@
 pub mod Interleaving
 pub mod Judgement
+pub mod JudgementText
 pub mod Kept
 pub mod Legal
 pub mod Names
 pub mod Operation
 pub mod Said
+pub mod Printed
 pub mod ScheduleText
 pub mod Statement
 pub mod Trace
+pub mod TraceCauses
 pub mod TraceFault
 pub mod TraceProgress
 pub mod TraceText

@@ -1,5 +1,7 @@
 //! What is said of a schedule.
 
+use std::fmt;
+
 /// Why a list of names is no legal schedule.
 #[derive(Clone, Copy, PartialEq, Eq)]
 pub enum Cause {
@@ -28,4 +30,59 @@ pub enum Judgement {
     Legal,
     /// The first fault, by its cause and its place. Places count from 1; a fault of the whole has the place after the last.
     Illegal(Cause, usize),
+}
+
+impl Cause {
+    ghost use Rattle.std.specs.Prelude.{◌≡◌};
+    ghost use Rattle.trace_text.specs.JudgementText.{number_of, name_of};
+
+    /// Its number.
+    pub fn number(&self) -> u8
+        ensures { result ≡ number_of self.now }
+    {
+        match self {
+            Cause::UnknownOp => 1,
+            Cause::RepeatedOp => 2,
+            Cause::OutOfProgramOrder => 3,
+            Cause::WrongRead => 4,
+            Cause::MissingOp => 5,
+            Cause::WrongFinal => 6,
+            Cause::BeforeBroken => 7,
+            Cause::WrongSource => 8,
+        }
+    }
+
+    /// Its name.
+    pub fn name(&self) -> &'static str
+        ensures { result.now ≡ name_of self.now }
+    {
+        match self {
+            Cause::UnknownOp => "UnknownOp",
+            Cause::RepeatedOp => "RepeatedOp",
+            Cause::OutOfProgramOrder => "OutOfProgramOrder",
+            Cause::WrongRead => "WrongRead",
+            Cause::MissingOp => "MissingOp",
+            Cause::WrongFinal => "WrongFinal",
+            Cause::BeforeBroken => "BeforeBroken",
+            Cause::WrongSource => "WrongSource",
+        }
+    }
+}
+
+impl fmt::Display for Judgement {
+    ghost use Rattle.std.specs.Prelude.{Some};
+    ghost use Rattle.trace_text.specs.JudgementText.{printed};
+
+    ghost output = { λ judgement. Some (printed judgement) };
+
+    fn fmt<W: fmt::Write>(&self, f: &mut fmt::Formatter<W>) -> fmt::Result {
+        match self {
+            Judgement::Legal => write!(f, "LEGAL"),
+            Judgement::Illegal(cause, place) => {
+                let number = cause.number();
+                let name = cause.name();
+                write!(f, "ILLEGAL {number} {name} at {place}")
+            }
+        }
+    }
 }
