@@ -52,7 +52,8 @@ cut_cases p xs =
     | inr h ↦ inr (record { split = whole_part p xs (omega arith); front = take_all _ xs h; back = drop_all _ xs (omega arith) })
     ]
 
-keeps_first : (part other : List ℕ) (others : List (List ℕ)) → without_empty_end (part ∷ (other ∷ others)) ≡ part ∷ without_empty_end (other ∷ others)
+-- a piece before others is no empty end
+pub keeps_first : (part other : List ℕ) (others : List (List ℕ)) → without_empty_end (part ∷ (other ∷ others)) ≡ part ∷ without_empty_end (other ∷ others)
 keeps_first [] other others = refl
 keeps_first (x ∷ part) other others = refl
 
@@ -90,7 +91,7 @@ not_empty : (x : ℕ) (xs : List ℕ) → not (is_empty (x ∷ xs)) ≡ true
 not_empty x xs = grind (arith, nat_tests)
 
 -- a word is kept
-kept : (word : List ℕ) (words : List (List ℕ)) (x : ℕ) (xs : List ℕ) → word ≡ x ∷ xs → filter (λ w. not (is_empty w)) (word ∷ words) ≡ word ∷ filter (λ w. not (is_empty w)) words
+pub kept : (word : List ℕ) (words : List (List ℕ)) (x : ℕ) (xs : List ℕ) → word ≡ x ∷ xs → filter (λ w. not (is_empty w)) (word ∷ words) ≡ word ∷ filter (λ w. not (is_empty w)) words
 kept word words x xs e = ap (λ b. cond b (word ∷ filter (λ w. not (is_empty w)) words) (filter (λ w. not (is_empty w)) words)) (ap (λ w. not (is_empty w)) e ∙ not_empty x xs)
 
 -- a line that begins with a word

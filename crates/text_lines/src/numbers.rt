@@ -53,5 +53,4 @@ pub fn read_plain(word: &[u8], most: u64) -> Option<u64>
 /// A word is a plain number of this value exactly where it is how the value is written in decimal.
 pub fn plain_exactly_decimal()
     ensures { (word : List ℕ) (n : ℕ) → n < 2 ^ 64 → (plain_number word ≡ Some n) ↔ (word ≡ decimal n) }
-{
-}
+{}

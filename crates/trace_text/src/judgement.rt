@@ -3,7 +3,7 @@
 use std::fmt;
 
 /// Why a list of names is no legal schedule.
-#[derive(Clone, Copy, PartialEq, Eq)]
+#[derive(Clone, Copy, Debug, PartialEq, Eq)]
 pub enum Cause {
     /// The trace has no operation of this name.
     UnknownOp,
@@ -24,7 +24,7 @@ pub enum Cause {
 }
 
 /// What is said of a schedule.
-#[derive(Clone, Copy, PartialEq, Eq)]
+#[derive(Clone, Copy, Debug, PartialEq, Eq)]
 pub enum Judgement {
     /// It is a legal schedule of the trace.
     Legal,

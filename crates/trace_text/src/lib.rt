@@ -4,13 +4,21 @@
 //! ("Testing Shared Memories", 1997).
 #![tactic(auto)]
 
+pub mod judge;
 pub mod judgement;
 pub mod laws;
+mod memory;
 pub mod name;
+mod name_table;
+mod op_table;
 pub mod operation;
 pub mod schedule;
 pub mod schedule_fault;
-pub mod statement;
+pub mod schedule_laws;
+pub mod schedule_reader;
+pub mod schedule_writer;
+mod statement;
+mod survey;
 pub mod trace;
 pub mod trace_fault;
 pub mod trace_reader;

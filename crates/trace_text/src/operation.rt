@@ -30,7 +30,10 @@ pub enum Op {
         origin: Origin,
     },
     /// Writes this value to the location.
-    Write { location: Name, value: u64 },
+    Write {
+        location: Name,
+        value: u64,
+    },
     /// Reads one value at the location and leaves another there.
     Update {
         location: Name,
@@ -38,4 +41,42 @@ pub enum Op {
         left: u64,
         origin: Origin,
     },
+}
+
+impl Op {
+    ghost use Rattle.std.specs.Prelude.{◌≡◌};
+    ghost use Rattle.trace_text.specs.Operation.{location_of, value_read, value_left};
+
+    /// The location on which it works.
+    pub fn location(&self) -> &Name
+        ensures { result.now ≡ location_of self.now }
+    {
+        match self {
+            Op::Read { location, .. } => location,
+            Op::Write { location, .. } => location,
+            Op::Update { location, .. } => location,
+        }
+    }
+
+    /// The value that it reads, if it is a reading operation.
+    pub fn value_read(&self) -> Option<u64>
+        ensures { result ≡ value_read self.now }
+    {
+        match self {
+            Op::Read { value, .. } => Some(*value),
+            Op::Write { .. } => None,
+            Op::Update { read, .. } => Some(*read),
+        }
+    }
+
+    /// The value that it leaves, if it writes.
+    pub fn value_left(&self) -> Option<u64>
+        ensures { result ≡ value_left self.now }
+    {
+        match self {
+            Op::Read { .. } => None,
+            Op::Write { value, .. } => Some(*value),
+            Op::Update { left, .. } => Some(*left),
+        }
+    }
 }

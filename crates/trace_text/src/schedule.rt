@@ -17,3 +17,28 @@ impl Model for Schedule {
 
     ghost view = { λ schedule. schedule.names.items };
 }
+
+impl Schedule {
+    ghost use Rattle.std.specs.Prelude.{◌≡◌};
+
+    /// These names, in this order.
+    pub fn new(names: Vec<OpName>) -> Schedule
+        ensures { result ≡ names.items }
+    {
+        Schedule { names }
+    }
+
+    /// The names as a slice.
+    pub fn names(&self) -> &[OpName]
+        ensures { result.now ≡ self.now }
+    {
+        self.names.as_slice()
+    }
+
+    /// The names; this takes no memory.
+    pub fn into_names(self) -> Vec<OpName>
+        ensures { result.items ≡ self }
+    {
+        self.names
+    }
+}

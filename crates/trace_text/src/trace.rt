@@ -80,4 +80,32 @@ impl Trace {
             before: Vec::new(alloc),
         }
     }
+
+    /// The processes, in order.
+    pub fn processes(&self) -> &[Process]
+        ensures { result.now ≡ self.now.processes }
+    {
+        self.processes.as_slice()
+    }
+
+    /// The initial value of each location that has one.
+    pub fn initial(&self) -> &[(Name, u64)]
+        ensures { result.now ≡ self.now.initial }
+    {
+        self.initial.as_slice()
+    }
+
+    /// The final value of each location of which the trace tells one.
+    pub fn final_values(&self) -> &[(Name, u64)]
+        ensures { result.now ≡ self.now.final_values }
+    {
+        self.final_values.as_slice()
+    }
+
+    /// The pairs of which the first operation stands before the second.
+    pub fn before(&self) -> &[(OpName, OpName)]
+        ensures { result.now ≡ self.now.before }
+    {
+        self.before.as_slice()
+    }
 }

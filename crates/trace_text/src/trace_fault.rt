@@ -4,7 +4,7 @@ use std::alloc::{AllocError, AllocFailed};
 use std::fmt;
 
 /// What is wrong with a line of a trace text, or with the whole.
-#[derive(Clone, Copy, PartialEq, Eq)]
+#[derive(Clone, Copy, Debug, PartialEq, Eq)]
 pub enum TraceCause {
     /// A byte above 127.
     NotAscii,
@@ -41,7 +41,7 @@ pub enum TraceCause {
 }
 
 /// Why a text is not read as a trace.
-#[derive(Clone, Copy, PartialEq, Eq)]
+#[derive(Clone, Copy, Debug, PartialEq, Eq)]
 pub enum TraceFault {
     /// There was no memory.
     OutOfMemory,

@@ -1,0 +1,117 @@
+-- What the engine that judges schedules answers and writes.
+use Rattle.std.specs.Prelude.{◌≡◌, ◌+◌, ◌≤◌, ◌⊎◌, ℕ, List, ◌++◌, length, Bool, true, codes, Result, Ok, Err}
+use Rattle.dimacs.specs.Sink.{AppendsFront}
+use Rattle.trace_text.specs.declared.judgement.Judgement.{Judgement}
+use Rattle.trace_text.specs.declared.operation.OpName.{OpName}
+use Rattle.trace_text.specs.declared.schedule_fault.ScheduleCause.{ScheduleCause}
+use Rattle.trace_text.specs.declared.trace_fault.TraceCause.{TraceCause}
+use Rattle.trace_text.specs.Judgement.{IsJudgement}
+use Rattle.trace_text.specs.JudgementText as judgement_text
+use Rattle.trace_text.specs.ScheduleText.{SpellsSchedule, HasScheduleFault}
+use Rattle.trace_text.specs.Trace.{TraceValue, IsTrace}
+use Rattle.trace_text.specs.TraceFault.{HasTraceFault}
+use Rattle.trace_text.specs.TraceText.{SpellsTrace}
+use Rattle.verdict_report.specs.declared.fault.Fault.{Fault}
+use Rattle.verdict_report.specs.declared.fault.Fault.TheVariants.{OutOfMemory, Device, InputTooLong, Trace, Schedule}
+use Rattle.verdict_report.specs.declared.status.Status.{Status}
+use Rattle.verdict_report.specs.Fault.{status_after}
+use Rattle.verdict_report.specs.Reading.{AppendsMoreThan}
+
+-- what a source did in a call: the bytes that it had handed out before and has now, whether it is at its end, and its failures before and now
+pub record SourceRun : Type 0 where
+  pub before : List ℕ
+  pub now : List ℕ
+  pub is_at_end : Bool
+  pub failures_before : ℕ
+  pub failures_now : ℕ
+
+-- the same of a sink and the bytes that it has taken
+pub record SinkRun : Type 0 where
+  pub before : List ℕ
+  pub now : List ℕ
+  pub failures_before : ℕ
+  pub failures_now : ℕ
+
+-- the source handed out this text, whole and within the limit
+pub record HandsOut (source : SourceRun) (text : List ℕ) : Type 0 where
+  pub handed : source.now ≡ source.before ++ text
+  pub ended : source.is_at_end ≡ true
+  pub within_limit : length text ≤ 268435456
+
+-- nothing failed
+pub record NothingFailed (trace schedule : SourceRun) (out : SinkRun) : Type 0 where
+  pub trace_unfailing : trace.failures_now ≡ trace.failures_before
+  pub schedule_unfailing : schedule.failures_now ≡ schedule.failures_before
+  pub out_unfailing : out.failures_now ≡ out.failures_before
+
+-- the sink took nothing
+abbrev pub TakesNothing : SinkRun → Type 0
+TakesNothing out = out.now ≡ out.before
+
+-- the sources handed out two texts that spell a trace and a schedule, of which this is the judgement
+pub record AreJudged (trace schedule : SourceRun) (judgement : Judgement) : Type 0 where
+  pub trace_text : List ℕ
+  pub trace_handed : HandsOut trace trace_text
+  pub schedule_text : List ℕ
+  pub schedule_handed : HandsOut schedule schedule_text
+  pub value : TraceValue
+  pub is_trace : IsTrace value
+  pub spelled : SpellsTrace trace_text value
+  pub names : List OpName
+  pub scheduled : SpellsSchedule schedule_text names
+  pub judged : IsJudgement value names judgement
+
+-- the line of a judgement
+abbrev pub judgement_line : Judgement → List ℕ
+judgement_line judgement = judgement_text.printed judgement ++ codes "\n"
+
+-- the line of the judgement is written, and the status is the one for it
+pub record Answers (trace schedule : SourceRun) (out : SinkRun) (status : Status) : Type 0 where
+  pub judgement : Judgement
+  pub judged : AreJudged trace schedule judgement
+  pub line : out.now ≡ out.before ++ judgement_line judgement
+  pub status_is : status ≡ status_after judgement
+  pub unfailing : NothingFailed trace schedule out
+
+-- the first input is past the limit, or the second one behind a first that is not
+abbrev pub IsTooLong : SourceRun → SourceRun → Type 0
+IsTooLong trace schedule = AppendsMoreThan 268435456 trace.before trace.now
+    ⊎ ((text : List ℕ) × HandsOut trace text × AppendsMoreThan 268435456 schedule.before schedule.now)
+
+-- both texts were handed out, and the trace's has this first fault
+pub record HasTraceRefusal (trace schedule : SourceRun) (cause : TraceCause) (line : ℕ) : Type 0 where
+  pub trace_text : List ℕ
+  pub trace_handed : HandsOut trace trace_text
+  pub schedule_text : List ℕ
+  pub schedule_handed : HandsOut schedule schedule_text
+  pub faulty : HasTraceFault trace_text cause line
+
+-- both texts were handed out, the trace's spells a trace, and the schedule's has this first fault
+pub record HasScheduleRefusal (trace schedule : SourceRun) (cause : ScheduleCause) (line : ℕ) : Type 0 where
+  pub trace_text : List ℕ
+  pub trace_handed : HandsOut trace trace_text
+  pub schedule_text : List ℕ
+  pub schedule_handed : HandsOut schedule schedule_text
+  pub value : TraceValue
+  pub is_trace : IsTrace value
+  pub spelled : SpellsTrace trace_text value
+  pub faulty : HasScheduleFault schedule_text cause line
+
+-- a source or the sink failed once, and the sink took a front of the answer's line at most
+pub data FailsOnce (trace schedule : SourceRun) (out : SinkRun) : Type 0 where
+  TraceFails : trace.failures_now ≡ trace.failures_before + 1 → TakesNothing out → FailsOnce trace schedule out
+  ScheduleFails : schedule.failures_now ≡ schedule.failures_before + 1 → TakesNothing out → FailsOnce trace schedule out
+  OutFails : out.failures_now ≡ out.failures_before + 1 → (judgement : Judgement) → AreJudged trace schedule judgement → AppendsFront out.before out.now (judgement_line judgement) → FailsOnce trace schedule out
+
+-- a refusal before anything is written, where nothing failed
+abbrev pub Refuses : SourceRun → SourceRun → SinkRun → Type 0 → Type 0
+Refuses trace schedule out reason = reason × NothingFailed trace schedule out × TakesNothing out
+
+-- what the engine answers, by what the sources hand out and the sink takes
+abbrev pub IsRunOfJudge : SourceRun → SourceRun → SinkRun → Result Status Fault → Type 0
+IsRunOfJudge trace schedule out (Ok status) = Answers trace schedule out status
+IsRunOfJudge trace schedule out (Err OutOfMemory) = NothingFailed trace schedule out × TakesNothing out
+IsRunOfJudge trace schedule out (Err Device) = FailsOnce trace schedule out
+IsRunOfJudge trace schedule out (Err InputTooLong) = Refuses trace schedule out (IsTooLong trace schedule)
+IsRunOfJudge trace schedule out (Err (Trace cause line)) = Refuses trace schedule out (HasTraceRefusal trace schedule cause line)
+IsRunOfJudge trace schedule out (Err (Schedule cause line)) = Refuses trace schedule out (HasScheduleRefusal trace schedule cause line)

@@ -1,0 +1,60 @@
+//! Reading a text whole.
+ghost use Rattle.std.specs.Prelude.{◌≡◌, ◌≤◌, ◌++◌, IfOk, OnOk, IsTrue, vec_len};
+ghost use Rattle.verdict_report.specs.Reading.{CountsFailures, AppendsMoreThan};
+
+use crate::source::Source;
+use std::alloc::{AllocError, Global};
+
+/// Why a text did not come whole from its source.
+#[derive(Clone, Copy, Debug, PartialEq, Eq)]
+pub enum ReadFault {
+    /// Memory ran out.
+    OutOfMemory,
+    /// The source failed.
+    Device,
+    /// The source handed out more bytes than the limit.
+    TooLong,
+}
+
+/// The most bytes that one input may have.
+pub const INPUT_LIMIT: usize = 268_435_456;
+
+/// The room for the bytes of one call.
+const CHUNK: usize = 65_536;
+
+// A buffer of so many bytes.
+fn blank(alloc: Global, size: usize) -> Result<Vec<u8>, AllocError>
+    ensures { IfOk result (λ buffer. vec_len buffer ≡ size) }
+{
+    vec![in alloc; 0; size]
+}
+
+/// Reads a text whole, up to the end of its source. A source that has more bytes than the limit is read no
+/// further than a chunk past it.
+pub fn read_whole<S: Source>(alloc: Global, source: &mut S) -> Result<Vec<u8>, ReadFault>
+    ensures text { IfOk result (λ text. S.handed_out source.new ≡ S.handed_out source.old ++ text.items) }
+    ensures end { OnOk result (IsTrue (S.is_at_end source.new)) }
+    ensures within_limit { IfOk result (λ text. vec_len text ≤ INPUT_LIMIT) }
+    ensures too_long { result ≡ Err ReadFault.TooLong →
+        AppendsMoreThan INPUT_LIMIT (S.handed_out source.old) (S.handed_out source.new) }
+    ensures failures { CountsFailures result (S.failures source.old) (S.failures source.new) }
+{
+    let Ok(mut chunk) = blank(alloc, CHUNK) else {
+        return Err(ReadFault::OutOfMemory);
+    };
+    let mut text = Vec::new(alloc);
+    loop {
+        let Ok(count) = source.read(chunk.as_mut_slice()) else {
+            return Err(ReadFault::Device);
+        };
+        if count == 0 {
+            return Ok(text);
+        }
+        if count > INPUT_LIMIT - text.len() {
+            return Err(ReadFault::TooLong);
+        }
+        if text.extend_from_slice(&chunk.as_slice()[..count]).is_err() {
+            return Err(ReadFault::OutOfMemory);
+        }
+    }
+}

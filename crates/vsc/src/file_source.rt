@@ -1,0 +1,77 @@
+//! A file as a source.
+ghost use Rattle.std.specs.Prelude.{◌≡◌, ◌≤◌, [], false, length, IfOk};
+
+use dimacs::{Failed, FailureCount, Transcript};
+use std::fs::File;
+use std::io::Read;
+use std::rt::Files;
+use verdict_report::Source;
+
+/// A file of the system, read from its beginning. It is opened at the first read, so that inputs are opened and
+/// read one after another; a file that cannot be opened fails that read.
+#[derive(Drop)]
+pub struct FileSource<'a, R> {
+    rt: &'a R,
+    path: &'a str,
+    file: Option<File>,
+    handed_out: Transcript,
+    is_at_end: bool,
+    failures: FailureCount,
+}
+
+impl<'a, R: Files<File = File>> FileSource<'a, R> {
+    /// The file at this path, of which nothing is read yet.
+    pub fn new(rt: &'a R, path: &'a str) -> FileSource<'a, R>
+        ensures handed_out { ⟦<FileSource<'a, R> as Source>⟧.handed_out result ≡ [] }
+        ensures is_at_end { ⟦<FileSource<'a, R> as Source>⟧.is_at_end result ≡ false }
+        ensures failures { ⟦<FileSource<'a, R> as Source>⟧.failures result ≡ 0 }
+    {
+        FileSource {
+            rt,
+            path,
+            file: None,
+            handed_out: Transcript::new(),
+            is_at_end: false,
+            failures: FailureCount::new(),
+        }
+    }
+}
+
+/// Reads from the file at this path, which is opened where it is not open yet.
+fn read_file<R: Files<File = File>>(
+    rt: &R,
+    path: &str,
+    file: &mut Option<File>,
+    buffer: &mut [u8],
+) -> Result<usize, Failed>
+    ensures { IfOk result (λ count. count ≤ length buffer.old) }
+{
+    if file.is_none() {
+        match File::open(rt, path) {
+            Ok(opened) => *file = Some(opened),
+            Err(_) => return Err(Failed),
+        }
+    }
+    match file {
+        Some(file) => file.read(buffer).map_err(|_| Failed),
+        None => Err(Failed),
+    }
+}
+
+impl<'a, R: Files<File = File>> Source for FileSource<'a, R> {
+    ghost handed_out = { λ s. s.handed_out.bytes };
+
+    ghost is_at_end = { λ s. s.is_at_end };
+
+    ghost failures = { λ s. s.failures.count };
+
+    fn read(&mut self, buffer: &mut [u8]) -> Result<usize, Failed> {
+        let Ok(count) = read_file(self.rt, self.path, &mut self.file, buffer) else {
+            self.failures.rise();
+            return Err(Failed);
+        };
+        self.handed_out.extend(&buffer[..count]);
+        self.is_at_end = count == 0;
+        Ok(count)
+    }
+}
