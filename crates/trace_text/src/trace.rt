@@ -71,7 +71,8 @@ impl Trace {
     /// A trace of these processes, of which nothing else is known.
     pub fn of_processes(alloc: Global, processes: Vec<Process>) -> Trace
         requires { IsTrace (record { processes = processes.items; initial = []; final_values = []; before = [] }) }
-        ensures { result ≡ record { processes = processes.items; initial = []; final_values = []; before = [] } }
+        ensures value { result ≡ record { processes = processes.items; initial = []; final_values = []; before = [] } }
+        ensures trace { IsTrace result }
     {
         Trace {
             processes,

@@ -8,6 +8,7 @@ ghost use Rattle.text_lines.specs.Numbers.{plain_number_up_to};
 ghost use Rattle.trace_text.specs.Kept.{is_skipped, kept};
 ghost use Rattle.trace_text.specs.Statement.{statement_of};
 ghost use Rattle.trace_text.specs.TraceFault.{is_value, is_high, IsTraceRefusal, trace_line_fault, words_fault};
+ghost use Rattle.trace_text.specs.Trace.{IsTrace};
 ghost use Rattle.trace_text.specs.TraceProgress.{open_process, processes_of, with_operation, fault_of_proc, fault_of_operation, IsRefusedFor, IsProgress, TakesHeader, TakesOperation, TakesProc, refusal_at, IsHeaderMissing, IsPlainTrace};
 ghost use Rattle.trace_text.specs.TraceText.{SpellsTrace, header_line};
 
@@ -280,6 +281,7 @@ impl TraceReader {
         requires { (earlier : List (List (List ℕ))) × IsProgress earlier self }
         ensures refused { IfErr result (λ fault. (self.has_header ≡ false → IsHeaderMissing next fault) × (self.has_header ≡ true → fault ≡ TraceFault.OutOfMemory)) }
         ensures read { IfOk result (λ t. (self.has_header ≡ true) × IsPlainTrace (processes_of self) t) }
+        ensures trace { IfOk result IsTrace }
     {
         if !self.has_header {
             return Err(TraceFault::Line(TraceCause::Header, next));
@@ -325,6 +327,7 @@ impl Refusal {
 /// The answer is the trace that the text spells, or else the first fault of the text with its line.
 pub fn read_trace(alloc: Global, text: &[u8]) -> Result<Trace, TraceFault>
     ensures spelled { IfOk result (SpellsTrace text.now) }
+    ensures trace { IfOk result IsTrace }
     ensures refused { IfErr result (IsTraceRefusal text.now) }
 {
     let mut reader = TraceReader::new(alloc);

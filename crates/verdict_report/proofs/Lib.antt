@@ -1,3 +1,4 @@
 mod GivenLemmas
+mod JudgeLemmas
 mod LineLemmas
 mod SourceLemmas

@@ -1,10 +1,9 @@
 -- What the engine that judges schedules answers and writes.
-use Rattle.std.specs.Prelude.{◌≡◌, ◌+◌, ◌≤◌, ◌⊎◌, ℕ, List, ◌++◌, length, Bool, true, codes, Result, Ok, Err}
+use Rattle.std.specs.Prelude.{◌≡◌, ◌+◌, ◌≤◌, ◌⊎◌, ⊤, ℕ, List, ◌++◌, length, Bool, true, codes, Result, Ok, Err}
 use Rattle.dimacs.specs.Sink.{AppendsFront}
 use Rattle.trace_text.specs.declared.judgement.Judgement.{Judgement}
 use Rattle.trace_text.specs.declared.operation.OpName.{OpName}
 use Rattle.trace_text.specs.declared.schedule_fault.ScheduleCause.{ScheduleCause}
-use Rattle.trace_text.specs.declared.trace_fault.TraceCause.{TraceCause}
 use Rattle.trace_text.specs.Judgement.{IsJudgement}
 use Rattle.trace_text.specs.JudgementText as judgement_text
 use Rattle.trace_text.specs.ScheduleText.{SpellsSchedule, HasScheduleFault}
@@ -48,12 +47,8 @@ pub record NothingFailed (trace schedule : SourceRun) (out : SinkRun) : Type 0 w
 abbrev pub TakesNothing : SinkRun → Type 0
 TakesNothing out = out.now ≡ out.before
 
--- the sources handed out two texts that spell a trace and a schedule, of which this is the judgement
-pub record AreJudged (trace schedule : SourceRun) (judgement : Judgement) : Type 0 where
-  pub trace_text : List ℕ
-  pub trace_handed : HandsOut trace trace_text
-  pub schedule_text : List ℕ
-  pub schedule_handed : HandsOut schedule schedule_text
+-- the texts spell a trace and a schedule, of which this is the judgement
+pub record AreJudged (trace_text schedule_text : List ℕ) (judgement : Judgement) : Type 0 where
   pub value : TraceValue
   pub is_trace : IsTrace value
   pub spelled : SpellsTrace trace_text value
@@ -61,14 +56,47 @@ pub record AreJudged (trace schedule : SourceRun) (judgement : Judgement) : Type
   pub scheduled : SpellsSchedule schedule_text names
   pub judged : IsJudgement value names judgement
 
+-- the first text spells a trace, and the second one has this first fault
+pub record HasFaultySchedule (trace_text schedule_text : List ℕ) (cause : ScheduleCause) (line : ℕ) : Type 0 where
+  pub value : TraceValue
+  pub is_trace : IsTrace value
+  pub spelled : SpellsTrace trace_text value
+  pub faulty : HasScheduleFault schedule_text cause line
+
+-- what is said of two texts: the judgement, or the first fault of the first text that has one
+abbrev pub IsSaidOfTexts : List ℕ → List ℕ → Result Judgement Fault → Type 0
+IsSaidOfTexts trace_text schedule_text (Ok judgement) = AreJudged trace_text schedule_text judgement
+IsSaidOfTexts trace_text schedule_text (Err OutOfMemory) = ⊤
+IsSaidOfTexts trace_text schedule_text (Err Device) = ⊥
+IsSaidOfTexts trace_text schedule_text (Err InputTooLong) = ⊥
+IsSaidOfTexts trace_text schedule_text (Err (Trace cause line)) = HasTraceFault trace_text cause line
+IsSaidOfTexts trace_text schedule_text (Err (Schedule cause line)) = HasFaultySchedule trace_text schedule_text cause line
+
 -- the line of a judgement
 abbrev pub judgement_line : Judgement → List ℕ
 judgement_line judgement = judgement_text.printed judgement ++ codes "\n"
 
+-- what becomes of writing the line of a judgement
+abbrev pub IsRunOfWriting : Judgement → SinkRun → Result Status Fault → Type 0
+IsRunOfWriting judgement out (Ok status) = (status ≡ status_after judgement) × (out.now ≡ out.before ++ judgement_line judgement) × (out.failures_now ≡ out.failures_before)
+IsRunOfWriting judgement out (Err OutOfMemory) = TakesNothing out × (out.failures_now ≡ out.failures_before)
+IsRunOfWriting judgement out (Err Device) = AppendsFront out.before out.now (judgement_line judgement) × (out.failures_now ≡ out.failures_before + 1)
+IsRunOfWriting judgement out (Err InputTooLong) = ⊥
+IsRunOfWriting judgement out (Err (Trace cause line)) = ⊥
+IsRunOfWriting judgement out (Err (Schedule cause line)) = ⊥
+
+-- both sources handed out their texts, of which this is said
+pub record Reads (trace schedule : SourceRun) (said : Result Judgement Fault) : Type 0 where
+  pub trace_text : List ℕ
+  pub trace_handed : HandsOut trace trace_text
+  pub schedule_text : List ℕ
+  pub schedule_handed : HandsOut schedule schedule_text
+  pub is_said : IsSaidOfTexts trace_text schedule_text said
+
 -- the line of the judgement is written, and the status is the one for it
 pub record Answers (trace schedule : SourceRun) (out : SinkRun) (status : Status) : Type 0 where
   pub judgement : Judgement
-  pub judged : AreJudged trace schedule judgement
+  pub reads : Reads trace schedule (Ok judgement)
   pub line : out.now ≡ out.before ++ judgement_line judgement
   pub status_is : status ≡ status_after judgement
   pub unfailing : NothingFailed trace schedule out
@@ -78,30 +106,11 @@ abbrev pub IsTooLong : SourceRun → SourceRun → Type 0
 IsTooLong trace schedule = AppendsMoreThan 268435456 trace.before trace.now
     ⊎ ((text : List ℕ) × HandsOut trace text × AppendsMoreThan 268435456 schedule.before schedule.now)
 
--- both texts were handed out, and the trace's has this first fault
-pub record HasTraceRefusal (trace schedule : SourceRun) (cause : TraceCause) (line : ℕ) : Type 0 where
-  pub trace_text : List ℕ
-  pub trace_handed : HandsOut trace trace_text
-  pub schedule_text : List ℕ
-  pub schedule_handed : HandsOut schedule schedule_text
-  pub faulty : HasTraceFault trace_text cause line
-
--- both texts were handed out, the trace's spells a trace, and the schedule's has this first fault
-pub record HasScheduleRefusal (trace schedule : SourceRun) (cause : ScheduleCause) (line : ℕ) : Type 0 where
-  pub trace_text : List ℕ
-  pub trace_handed : HandsOut trace trace_text
-  pub schedule_text : List ℕ
-  pub schedule_handed : HandsOut schedule schedule_text
-  pub value : TraceValue
-  pub is_trace : IsTrace value
-  pub spelled : SpellsTrace trace_text value
-  pub faulty : HasScheduleFault schedule_text cause line
-
 -- a source or the sink failed once, and the sink took a front of the answer's line at most
 pub data FailsOnce (trace schedule : SourceRun) (out : SinkRun) : Type 0 where
   TraceFails : trace.failures_now ≡ trace.failures_before + 1 → TakesNothing out → FailsOnce trace schedule out
   ScheduleFails : schedule.failures_now ≡ schedule.failures_before + 1 → TakesNothing out → FailsOnce trace schedule out
-  OutFails : out.failures_now ≡ out.failures_before + 1 → (judgement : Judgement) → AreJudged trace schedule judgement → AppendsFront out.before out.now (judgement_line judgement) → FailsOnce trace schedule out
+  OutFails : out.failures_now ≡ out.failures_before + 1 → (judgement : Judgement) → Reads trace schedule (Ok judgement) → AppendsFront out.before out.now (judgement_line judgement) → FailsOnce trace schedule out
 
 -- a refusal before anything is written, where nothing failed
 abbrev pub Refuses : SourceRun → SourceRun → SinkRun → Type 0 → Type 0
@@ -113,5 +122,5 @@ IsRunOfJudge trace schedule out (Ok status) = Answers trace schedule out status
 IsRunOfJudge trace schedule out (Err OutOfMemory) = NothingFailed trace schedule out × TakesNothing out
 IsRunOfJudge trace schedule out (Err Device) = FailsOnce trace schedule out
 IsRunOfJudge trace schedule out (Err InputTooLong) = Refuses trace schedule out (IsTooLong trace schedule)
-IsRunOfJudge trace schedule out (Err (Trace cause line)) = Refuses trace schedule out (HasTraceRefusal trace schedule cause line)
-IsRunOfJudge trace schedule out (Err (Schedule cause line)) = Refuses trace schedule out (HasScheduleRefusal trace schedule cause line)
+IsRunOfJudge trace schedule out (Err (Trace cause line)) = Refuses trace schedule out (Reads trace schedule (Err (Trace cause line)))
+IsRunOfJudge trace schedule out (Err (Schedule cause line)) = Refuses trace schedule out (Reads trace schedule (Err (Schedule cause line)))

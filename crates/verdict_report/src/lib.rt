@@ -3,7 +3,7 @@
 
 mod command_line;
 mod fault;
-// mod judge_engine;
+mod judge_engine;
 mod reading;
 mod short_source;
 mod source;
@@ -13,7 +13,7 @@ mod tests;
 
 pub use command_line::{Line, LineFault, read_line};
 pub use fault::{Fault, write_fault};
-// pub use judge_engine::run_judge;
+pub use judge_engine::run_judge;
 pub use reading::{INPUT_LIMIT, ReadFault, read_whole};
 pub use short_source::ShortSource;
 pub use source::Source;

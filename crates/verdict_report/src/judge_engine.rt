@@ -1,0 +1,65 @@
+//! The engine that judges a schedule, from bytes to bytes.
+
+ghost use Rattle.verdict_report.specs.JudgeEngine.{IsRunOfJudge, IsSaidOfTexts, IsRunOfWriting};
+
+use crate::fault::Fault;
+use crate::reading::read_whole;
+use crate::source::Source;
+use crate::status::Status;
+use dimacs::{Sink, write_whole};
+use std::alloc::Global;
+use trace_text::judge::judge;
+use trace_text::judgement::Judgement;
+use trace_text::schedule_reader::read_schedule;
+use trace_text::trace_reader::read_trace;
+
+/// Judges the schedule of the second source by the trace of the first, and writes `LEGAL`, or `ILLEGAL` with the
+/// number, the name and the place of the first fault, as one line.
+///
+/// Both texts are read whole, in this order, before either is parsed. The first refusal stands: of a source that
+/// fails, an input past the limit, the trace's text, the schedule's text, want of memory, or the sink.
+pub fn run_judge<T: Source, S: Source, W: Sink>(
+    alloc: Global,
+    trace: &mut T,
+    schedule: &mut S,
+    out: &mut W,
+) -> Result<Status, Fault>
+    ensures { IsRunOfJudge
+        (record { before = T.handed_out trace.old; now = T.handed_out trace.new; is_at_end = T.is_at_end trace.new; failures_before = T.failures trace.old; failures_now = T.failures trace.new })
+        (record { before = S.handed_out schedule.old; now = S.handed_out schedule.new; is_at_end = S.is_at_end schedule.new; failures_before = S.failures schedule.old; failures_now = S.failures schedule.new })
+        (record { before = W.written out.old; now = W.written out.new; failures_before = W.failures out.old; failures_now = W.failures out.new })
+        result }
+{
+    let trace_text = read_whole(alloc, trace)?;
+    let schedule_text = read_whole(alloc, schedule)?;
+    let judgement = judge_texts(alloc, trace_text.as_slice(), schedule_text.as_slice())?;
+    write_judgement(alloc, judgement, out)
+}
+
+/// The judgement of the schedule that the second text spells by the trace that the first one spells.
+fn judge_texts(
+    alloc: Global,
+    trace_text: &[u8],
+    schedule_text: &[u8],
+) -> Result<Judgement, Fault>
+    ensures { IsSaidOfTexts trace_text.now schedule_text.now result }
+{
+    let trace = read_trace(alloc, trace_text)?;
+    let schedule = read_schedule(alloc, schedule_text)?;
+    Ok(judge(alloc, &trace, &schedule)?)
+}
+
+/// Writes the judgement as a line, and gives the status for it.
+fn write_judgement<W: Sink>(
+    alloc: Global,
+    judgement: Judgement,
+    out: &mut W,
+) -> Result<Status, Fault>
+    ensures { IsRunOfWriting judgement
+        (record { before = W.written out.old; now = W.written out.new; failures_before = W.failures out.old; failures_now = W.failures out.new })
+        result }
+{
+    let line = format!(in alloc; "{judgement}\n")?;
+    write_whole(out, line.as_bytes())?;
+    Ok(Status::after(judgement))
+}
