@@ -1,7 +1,7 @@
 //! The lines of a text.
 
-ghost use Rattle.std.specs.Prelude.{◌≡◌, ◌<◌, [], ◌∷◌, length, position, MatchOption};
-ghost use Rattle.std.specs.List.{before_first, after_first};
+ghost use Rattle.std.specs.Prelude.{◌≡◌, ◌<◌, [], ◌∷◌, ◌++◌, ℕ, List, false, length, position, MatchOption};
+ghost use Rattle.std.specs.List.{before_first, after_first, list_any};
 ghost use Rattle.text_lines.specs.Lines.{lines_of, is_line_feed};
 
 /// The place of the first line feed.
@@ -32,3 +32,8 @@ pub fn cut_line(text: &[u8]) -> Option<(&[u8], &[u8])>
     }
     Some(cut_at_line_feed(text))
 }
+
+/// Bytes without a line feed, behind which one stands, are the first line.
+pub fn ended_line_is_first()
+    ensures { (line rest : List ℕ) → list_any is_line_feed line ≡ false → lines_of (line ++ 10 ∷ rest) ≡ line ∷ lines_of rest }
+{}

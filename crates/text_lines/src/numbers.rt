@@ -1,10 +1,11 @@
 //! The numbers of the texts.
 
-ghost use Rattle.std.specs.Prelude.{◌≡◌, ◌<◌, ◌+◌, ◌*◌, ◌^◌, ◌↔◌, ℕ, List, decimal, true, nat_lt, if◌then◌else◌};
+ghost use Rattle.std.specs.Prelude.{◌≡◌, ◌<◌, ◌+◌, ◌*◌, ◌^◌, ◌↔◌, ℕ, ℤ, List, Some, None, MatchOption, decimal, true, nat_lt, if◌then◌else◌};
 ghost use Rattle.std.specs.Char.{is_ascii_digit, digit_value};
 ghost use Rattle.std.specs.List.{list_all};
 ghost use Rattle.std.specs.Str.Parse.{digits_value};
-ghost use Rattle.text_lines.specs.Numbers.{is_digits, plain_number, plain_number_up_to};
+ghost use Rattle.text_lines.specs.SolverNumber.{IsNumber};
+ghost use Rattle.text_lines.specs.Numbers.{is_digits, plain_number, plain_number_up_to, has_minus, digits_after_sign, solver_number};
 
 fn all_digits(word: &[u8]) -> bool
     ensures { result ≡ list_all is_ascii_digit word.now }
@@ -48,6 +49,52 @@ pub fn read_plain(word: &[u8], most: u64) -> Option<u64>
         return None;
     }
     value_of_digits(word).filter(|value| *value <= most)
+}
+
+/// A number as solvers write it: its sign and its absolute value, where that is below 2^64.
+#[derive(Clone, Copy, Debug, PartialEq, Eq)]
+pub struct SolverNumber {
+    /// Whether a minus stands before it.
+    pub is_negative: bool,
+    /// Its absolute value, or nothing where that is 2^64 or more.
+    pub magnitude: Option<u64>,
+}
+
+/// The digits of a solver number, without the minus that may stand before them.
+fn without_minus(word: &[u8]) -> &[u8]
+    ensures { result.now ≡ digits_after_sign word.now }
+{
+    if begins_with_minus(word) {
+        &word[1..]
+    } else {
+        word
+    }
+}
+
+fn begins_with_minus(word: &[u8]) -> bool
+    ensures { result ≡ has_minus word.now }
+{
+    !word.is_empty() && word[0] == b'-'
+}
+
+/// Reads a solver number: an optional minus and one digit or more, leading zeros allowed. A minus before a value of
+/// zero is no number, nor is a leading plus.
+pub fn read_solver_number(word: &[u8]) -> Option<SolverNumber>
+    ensures { MatchOption result (solver_number word.now ≡ None) (λ n. (z : ℤ) × (solver_number word.now ≡ Some z) × IsNumber z n) }
+{
+    let digits = without_minus(word);
+    if !has_digits_alone(digits) {
+        return None;
+    }
+    let is_negative = begins_with_minus(word);
+    let magnitude = value_of_digits(digits);
+    if is_negative && magnitude == Some(0) {
+        return None;
+    }
+    Some(SolverNumber {
+        is_negative,
+        magnitude,
+    })
 }
 
 /// A word is a plain number of this value exactly where it is how the value is written in decimal.

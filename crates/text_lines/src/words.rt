@@ -1,7 +1,7 @@
 //! The words of a line.
 
-ghost use Rattle.std.specs.Prelude.{◌≡◌, ◌<◌, [], ◌∷◌, length, take, drop, map, not, position, IfOk, MatchOption};
-ghost use Rattle.std.specs.List.{before_first, after_first, position_or_len};
+ghost use Rattle.std.specs.Prelude.{◌≡◌, ◌<◌, [], ◌∷◌, ◌++◌, ℕ, List, true, false, length, take, map, not, position, IfOk, MatchOption};
+ghost use Rattle.std.specs.List.{before_first, after_first, list_any};
 ghost use Rattle.text_lines.specs.Words.{words_of, is_blank};
 
 use std::alloc::{AllocError, Global};
@@ -66,3 +66,10 @@ pub fn first_words(alloc: Global, line: &[u8], most: usize) -> Result<Vec<&[u8]>
     }
     Ok(words)
 }
+
+/// Bytes without a blank, behind which one stands, are the first word; and bytes without a blank are one word.
+pub fn ended_word_is_first()
+    ensures ended { (word : List ℕ) (blank : ℕ) (rest : List ℕ) → 0 < length word → list_any is_blank word ≡ false → is_blank blank ≡ true →
+        words_of (word ++ blank ∷ rest) ≡ word ∷ words_of rest }
+    ensures last { (word : List ℕ) → 0 < length word → list_any is_blank word ≡ false → words_of word ≡ word ∷ [] }
+{}
