@@ -1,10 +1,10 @@
 -- Where operations come first.
 use Rattle.std.proofs.Common.{◌≡◌, ◌<◌, ◌≤◌, ◌+◌, ◌-◌, ℕ, zero, suc, List, [], ◌∷◌, length, take, drop, get_or, Bool, true, false, cond, ◌&&◌, ◌||◌, nat_lt, nat_eq, refl, ap, sym, ◌∙◌, arith}
-use Rattle.std.specs.Prelude.{Option, Some, find}
+use Rattle.std.specs.Prelude.{Option, Some, None, find}
 use Rattle.std.specs.List.{slice_get, position_from, list_any}
 use Rattle.std.specs.Option.{option_and_then, option_map}
 use Rattle.std.specs.Str.{bytes_eq}
-use Rattle.std.proofs.Math.Seq.{drop-cons}
+use Rattle.std.proofs.Math.Seq.{drop-cons, drop-length}
 use Rattle.std.proofs.lemmas.Bool.Decides.{nat_tests, Decides-eqb}
 use Rattle.std.proofs.lemmas.Bool.{le-ltb}
 use Rattle.std.proofs.lemmas.Option.{slice_get-get_or}
@@ -32,6 +32,18 @@ drop_front : {X : Type 0} (xs : List X) (k : ℕ) (x : X) → 0 < k → k ≤ le
 drop_front xs k x p l e =
     let s : suc (k - 1) ≡ k = omega arith in
     drop-cons xs (k - 1) x (omega arith) ∙ (λ i. sym e i ∷ drop (s i) xs)
+
+-- no name yet
+pub first_none : (names : List OpName) (n : OpName) → position_from (same_op n) (length names) (drop (length names) names) ≡ None
+first_none names n = ap (position_from (same_op n) (length names)) (drop-length names)
+
+-- no process yet
+pub process_none : (processes : List Process) (name : List ℕ) (found : Option ℕ) → found ≡ None → option_and_then (slice_get processes) found ≡ find (λ p. bytes_eq p.name name) (drop (length processes) processes)
+process_none processes name found e = ap (option_and_then (slice_get processes)) e ∙ sym (ap (find (λ p. bytes_eq p.name name)) (drop-length processes))
+
+-- no value yet
+pub value_none : (values : List (List ℕ × ℕ)) (location : List ℕ) → value_of (drop (length values) values) location ≡ None
+value_none values location = ap (λ entries. value_of entries location) (drop-length values)
 
 -- one more name in front
 pub first_step : (names : List OpName) (k : ℕ) (x n : OpName) (old new : Option ℕ) → 0 < k → k ≤ length names → x ≡ get_or names (k - 1) x → new ≡ cond (same_op x n) (Some (k - 1)) old → old ≡ position_from (same_op n) k (drop k names) → new ≡ position_from (same_op n) (k - 1) (drop (k - 1) names)

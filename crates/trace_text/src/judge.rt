@@ -1,12 +1,12 @@
 //! The judge of a schedule.
 
-ghost use Rattle.std.specs.Prelude.{◌≡◌, ◌-◌, List, ℕ, IfOk, OnOk, take, length};
+ghost use Rattle.std.specs.Prelude.{◌≡◌, List, ℕ, IfOk, take, length};
 ghost use Rattle.std.specs.List.{slice_get, list_all, flat_map};
 ghost use Rattle.trace_text.specs.Judgement as judgement;
 ghost use Rattle.trace_text.specs.Judgement.{has_come, IsJudgement};
 ghost use Rattle.trace_text.specs.Survey.{IsSurvey};
 ghost use Rattle.trace_text.specs.Tables.{number_of};
-ghost use Rattle.trace_text.specs.Trace.{first_names, operation_at};
+ghost use Rattle.trace_text.specs.Trace.{first_names};
 ghost use Rattle.trace_text.specs.Walk.{IsWalk, IsInProgramOrder};
 
 use crate::judgement::{Cause, Judgement};

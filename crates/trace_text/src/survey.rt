@@ -1,13 +1,11 @@
 //! What the judge looks up: operations by name, where each comes first, and which come before their time.
 
-ghost use Rattle.std.specs.Prelude.{◌≡◌, ◌≤◌, List, ℕ, IfOk, take, find, not, false};
+ghost use Rattle.std.specs.Prelude.{◌≡◌, ℕ, IfOk, take, not, false};
 ghost use Rattle.std.specs.List.{slice_get, list_all};
 ghost use Rattle.std.specs.Option.{option_copied, option_and_then};
-ghost use Rattle.std.specs.Str.{bytes_eq};
-ghost use Rattle.trace_text.specs.declared.operation.OpName.{OpName};
 ghost use Rattle.trace_text.specs.Judgement as judgement;
 ghost use Rattle.trace_text.specs.Survey.{IsSurvey};
-ghost use Rattle.trace_text.specs.Tables.{number_of, number_at, FindsProcesses, FindsFirst, FindsEarly};
+ghost use Rattle.trace_text.specs.Tables.{number_at, FindsProcesses, FindsFirst, FindsEarly};
 ghost use Rattle.trace_text.specs.Tables as tables;
 ghost use Rattle.trace_text.specs.Trace as trace_value;
 
@@ -139,7 +137,8 @@ impl<'a> Survey<'a> {
     {
         let processes = places_of_processes(alloc, trace.processes())?;
         let places = first_places(alloc, names)?;
-        let early = early_ops(alloc, trace.before(), &places)?;
+        let pairs = trace.before();
+        let early = early_ops(alloc, pairs, &places)?;
         Ok(Survey {
             trace,
             names,

@@ -1,7 +1,9 @@
-use Rattle.std.proofs.Common.{ap, sym, ◌∙◌, is_some}
+use Rattle.std.proofs.Common.{ap, sym, ◌∙◌, is_some, arith}
+use Rattle.std.specs.List.{list_any}
+use Rattle.std.proofs.lemmas.List.{take_all}
 use Rattle.trace_text.specs.declared.op_table.OpTable.{OpTable}
 use Rattle.trace_text.specs.Tables.{number_at}
-use Rattle.trace_text.proofs.EarlyLemmas.{early_more, early_same}
+use Rattle.trace_text.proofs.EarlyLemmas.{early_more, early_same, is_early_by}
 use Rattle.trace_text.proofs.survey.early_ops.Goals as goal
 use Rattle.trace_text.proofs.survey.early_ops.Goals.{then-breaks+in_ok-insert, else-breaks}
 
@@ -11,3 +13,6 @@ loop-pair-preserved c =
       | then-breaks+in_ok-insert w ↦ λ n. early_more c.args.before.now c.args.places.now c.loop-pair.pair-index c.pair-item.result n (number_at c.loop-pair.early n) (number_at c.if-breaks.early n) c.loop-pair-test.true c.pair-item.is (c.loop-pair.invariant n) (sym c.breaks.ensures ∙ w.if-breaks.true) (ap (λ (t : OpTable). number_at t n) w.early-is ∙ w.in_ok-insert.ensures n)
       | else-breaks w ↦ λ n. ap (λ (t : OpTable). is_some (number_at t n)) w.early-is ∙ early_same c.args.before.now c.args.places.now c.loop-pair.pair-index c.pair-item.result n (number_at c.loop-pair.early n) c.loop-pair-test.true c.pair-item.is (c.loop-pair.invariant n) (sym c.breaks.ensures ∙ w.if-breaks.false)
     ]
+
+pub returns : goal.returns
+returns c = λ n. c.loop-pair.invariant n ∙ ap (list_any (is_early_by c.args.places.now n)) (take_all c.loop-pair.pair-index c.args.before.now (omega arith))
