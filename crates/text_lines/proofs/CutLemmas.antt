@@ -1,5 +1,5 @@
 -- How a line is cut from a text, and a word from a line.
-use Rattle.std.proofs.Common.{◌≡◌, ℕ, suc, get_or, length-drop, ltb, ◌+◌, ◌-◌, ◌<◌, ◌≤◌, ◌⊎◌, List, [], ◌∷◌, ◌++◌, length, take, drop, Bool, true, false, not, cond, refl, ap, sym, ◌∙◌, arith, inl, inr}
+use Rattle.std.proofs.Common.{◌≡◌, ℕ, suc, get_or, length-drop, ltb, ◌+◌, ◌<◌, ◌≤◌, ◌⊎◌, List, [], ◌∷◌, length, take, drop, Bool, true, false, not, cond, refl, ap, sym, ◌∙◌, arith, inl, inr}
 use Rattle.std.specs.List.{slice_split, onto_first, filter, before_first, after_first, position_or_len, prefix_len}
 use Rattle.std.proofs.lemmas.List.Splits.{slice_split_first, slice_split-cons_yes}
 use Rattle.std.proofs.lemmas.List.Sums.{prefix_len-le-length, prefix_len_stops, prefix_len-drop_no}
@@ -48,8 +48,8 @@ pub cut_cases : (p : ℕ → Bool) (xs : List ℕ) → CutsAt p xs ⊎ Ends p xs
 cut_cases p xs =
     let most : position_or_len p xs ≤ length xs = prefix_len-le-length (λ y. not (p y)) xs in
     elim (cases_lt (position_or_len p xs) (length xs)) [
-    | inl h ↦ inl (record { split = slice_split_first p xs 0 h })
-    | inr h ↦ inr (record { split = whole_part p xs (omega arith); front = take_all _ xs h; back = drop_all _ xs (omega arith) })
+      | inl h ↦ inl (record { split = slice_split_first p xs 0 h })
+      | inr h ↦ inr (record { split = whole_part p xs (omega arith); front = take_all _ xs h; back = drop_all _ xs (omega arith) })
     ]
 
 -- a piece before others is no empty end
@@ -62,12 +62,12 @@ pub lines_cut : (xs : List ℕ) → 0 < length xs → lines_of xs ≡ before_fir
 lines_cut [] h = absurd (omega (arith, h))
 lines_cut (x ∷ xs) h =
     elim (cut_cases is_line_feed (x ∷ xs)) [
-    | inl cut ↦ (
-        let rest = first_part is_line_feed (after_first is_line_feed (x ∷ xs)) in
-        ap without_empty_end (cut.split ∙ ap (λ l. before_first is_line_feed (x ∷ xs) ∷ l) rest.whole)
-        ∙ keeps_first (before_first is_line_feed (x ∷ xs)) rest.part rest.others
-        ∙ ap (λ l. before_first is_line_feed (x ∷ xs) ∷ without_empty_end l) (sym rest.whole))
-    | inr end ↦ ap without_empty_end end.split ∙ (λ i. sym end.front i ∷ lines_of (sym end.back i))
+      | inl cut ↦ (
+          let rest = first_part is_line_feed (after_first is_line_feed (x ∷ xs)) in
+          ap without_empty_end (cut.split ∙ ap (λ l. before_first is_line_feed (x ∷ xs) ∷ l) rest.whole)
+          ∙ keeps_first (before_first is_line_feed (x ∷ xs)) rest.part rest.others
+          ∙ ap (λ l. before_first is_line_feed (x ∷ xs) ∷ without_empty_end l) (sym rest.whole))
+      | inr end ↦ ap without_empty_end end.split ∙ (λ i. sym end.front i ∷ lines_of (sym end.back i))
     ]
 
 -- blanks at the front are passed over
@@ -84,7 +84,7 @@ words_skip (x ∷ xs) = skip_of x xs (prefix_len is_blank xs) (is_blank x) refl 
 before_cons : (x : ℕ) (xs : List ℕ) → is_blank x ≡ false → before_first is_blank (x ∷ xs) ≡ x ∷ before_first is_blank xs
 before_cons x xs h =
     let one_more : position_or_len is_blank (x ∷ xs) ≡ suc (position_or_len is_blank xs) =
-        ap (λ b. cond (not b) (1 + prefix_len (λ y. not (is_blank y)) xs) 0) h ∙ omega arith in
+    ap (λ b. cond (not b) (1 + prefix_len (λ y. not (is_blank y)) xs) 0) h ∙ omega arith in
     ap (λ k. take k (x ∷ xs)) one_more
 
 not_empty : (x : ℕ) (xs : List ℕ) → not (is_empty (x ∷ xs)) ≡ true
@@ -98,8 +98,8 @@ kept word words x xs e = ap (λ b. cond b (word ∷ filter (λ w. not (is_empty 
 words_cut_here : (x : ℕ) (xs : List ℕ) → is_blank x ≡ false → words_of (x ∷ xs) ≡ before_first is_blank (x ∷ xs) ∷ words_of (after_first is_blank (x ∷ xs))
 words_cut_here x xs h =
     elim (cut_cases is_blank (x ∷ xs)) [
-    | inl cut ↦ ap (filter (λ w. not (is_empty w))) cut.split ∙ kept (before_first is_blank (x ∷ xs)) (slice_split is_blank (after_first is_blank (x ∷ xs))) x (before_first is_blank xs) (before_cons x xs h)
-    | inr end ↦ ap (filter (λ w. not (is_empty w))) end.split ∙ kept (x ∷ xs) [] x xs refl ∙ (λ i. sym end.front i ∷ words_of (sym end.back i))
+      | inl cut ↦ ap (filter (λ w. not (is_empty w))) cut.split ∙ kept (before_first is_blank (x ∷ xs)) (slice_split is_blank (after_first is_blank (x ∷ xs))) x (before_first is_blank xs) (before_cons x xs h)
+      | inr end ↦ ap (filter (λ w. not (is_empty w))) end.split ∙ kept (x ∷ xs) [] x xs refl ∙ (λ i. sym end.front i ∷ words_of (sym end.back i))
     ]
 
 first_is_no_blank : (x : ℕ) (xs : List ℕ) (b : Bool) → is_blank x ≡ b → cond b (1 + prefix_len is_blank xs) 0 ≡ 0 → words_of (x ∷ xs) ≡ before_first is_blank (x ∷ xs) ∷ words_of (after_first is_blank (x ∷ xs))
@@ -135,6 +135,6 @@ pub no_word : (xs : List ℕ) → None ≡ position (λ byte. not (is_blank byte
 no_word xs e =
     let same : position_or_len (λ byte. not (is_blank byte)) xs ≡ prefix_len is_blank xs = λ i. prefix_len (λ x. double_not (is_blank x) i) xs in
     elim (cases_lt (position_or_len (λ byte. not (is_blank byte)) xs) (length xs)) [
-    | inl h ↦ absurd (let none : None ≡ Some (position_or_len (λ byte. not (is_blank byte)) xs) = e ∙ sym (cond_below _ _ (Some (position_or_len (λ byte. not (is_blank byte)) xs)) None h) in cc)
-    | inr h ↦ omega (arith, h, same)
+      | inl h ↦ absurd (let none : None ≡ Some (position_or_len (λ byte. not (is_blank byte)) xs) = e ∙ sym (cond_below _ _ (Some (position_or_len (λ byte. not (is_blank byte)) xs)) None h) in cc)
+      | inr h ↦ omega (arith, h, same)
     ]

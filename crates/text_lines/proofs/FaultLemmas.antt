@@ -12,9 +12,9 @@ compared (z ∷ b) (w ∷ c) x y a d e =
     let heads : z ≡ w = cc in
     let tails : b ++ x ∷ a ≡ c ++ y ∷ d = cc in
     elim (compared b c x y a d tails) [
-    | inl same ↦ inl (cc, same.1)
-    | inr (inl (m, f)) ↦ inr (inl (m, (cc)))
-    | inr (inr (m, f)) ↦ inr (inr (m, (cc)))
+      | inl same ↦ inl (cc, same.1)
+      | inr (inl (m, f)) ↦ inr (inl (m, (cc)))
+      | inr (inr (m, f)) ↦ inr (inr (m, (cc)))
     ]
 
 pub none_is_some : {F : Type 0} (f : F) → None ≡ Some f → ⊥
@@ -27,18 +27,18 @@ never_before fault b c m x f h ok e = none_is_some f (sym (ok b x m e) ∙ h)
 pub one_first : {A F : Type 0} (fault : List A → A → Option F) (items : List A) (p q : ℕ) (f g : F) → IsFirstFault fault items p f → IsFirstFault fault items q g → (p ≡ q) × (f ≡ g)
 one_first fault items p q f g h k =
     elim (compared h.before k.before h.item k.item h.after k.after (sym h.parts ∙ k.parts)) [
-    | inl (bs, xs) ↦ (h.counted ∙ ap (λ l. length l + 1) bs ∙ sym k.counted, (let s : Some f ≡ Some g = sym h.faulty ∙ (λ i. fault (bs i) (xs i)) ∙ k.faulty in cc))
-    | inr (inl (m, e)) ↦ absurd (never_before fault h.before k.before m h.item f h.faulty k.first e)
-    | inr (inr (m, e)) ↦ absurd (never_before fault k.before h.before m k.item g k.faulty h.first e)
+      | inl (bs, xs) ↦ (h.counted ∙ ap (λ l. length l + 1) bs ∙ sym k.counted, (let s : Some f ≡ Some g = sym h.faulty ∙ (λ i. fault (bs i) (xs i)) ∙ k.faulty in cc))
+      | inr (inl (m, e)) ↦ absurd (never_before fault h.before k.before m h.item f h.faulty k.first e)
+      | inr (inr (m, e)) ↦ absurd (never_before fault k.before h.before m k.item g k.faulty h.first e)
     ]
 
 -- one more item without a fault
 pub faultless_push : {A F : Type 0} (fault : List A → A → Option F) (done : List A) (x : A) → IsFaultless fault done → fault done x ≡ None → IsFaultless fault (done ++ x ∷ [])
 faultless_push fault done x ok none b y a e =
     elim (compared done b x y [] a e) [
-    | inl (bs, xs) ↦ (λ i. fault (sym bs i) (sym xs i)) ∙ none
-    | inr (inl (m, f)) ↦ absurd (let l : length (done ++ x ∷ []) ≡ length ((done ++ x ∷ m) ++ y ∷ a) = ap length (e ∙ ap (λ l. l ++ y ∷ a) f) in omega (arith, simp length-append at l))
-    | inr (inr (m, f)) ↦ ok b y m f
+      | inl (bs, xs) ↦ (λ i. fault (sym bs i) (sym xs i)) ∙ none
+      | inr (inl (m, f)) ↦ absurd (let l : length (done ++ x ∷ []) ≡ length ((done ++ x ∷ m) ++ y ∷ a) = ap length (e ∙ ap (λ l. l ++ y ∷ a) f) in omega (arith, simp length-append at l))
+      | inr (inr (m, f)) ↦ ok b y m f
     ]
 
 pub faultless_nil : {A F : Type 0} (fault : List A → A → Option F) → IsFaultless fault []

@@ -1,8 +1,7 @@
 -- The value of digits, one digit at a time.
-use Rattle.std.proofs.Common.{◌≡◌, ℕ, ◌+◌, ◌*◌, ◌-◌, ◌^◌, ◌<◌, ◌≤◌, List, [], ◌∷◌, ◌++◌, inl, inr, length, take, drop, get_or, Bool, true, false, cond, refl, ap, sym, ◌∙◌, arith, ltb, take-append-drop}
-use Rattle.std.specs.Prelude.{Option, Some, None}
-use Rattle.std.specs.List.{list_all}
-use Rattle.std.specs.Char.{is_ascii_digit, digit_value}
+use Rattle.std.proofs.Common.{◌≡◌, ℕ, ◌+◌, ◌*◌, ◌<◌, ◌≤◌, List, [], ◌∷◌, ◌++◌, inl, inr, length, take, drop, get_or, cond, refl, ap, sym, ◌∙◌, arith, ltb, take-append-drop}
+use Rattle.std.specs.Prelude.{Some, None}
+use Rattle.std.specs.Char.{digit_value}
 use Rattle.std.specs.Str.Parse.{digits_value, digits_value_after}
 use Rattle.std.proofs.lemmas.Bool.Decides.{nat_tests}
 use Rattle.std.proofs.lemmas.Bool.{cases_lt, cond_below, ltb-true}
@@ -22,7 +21,7 @@ value_after_parts n (x ∷ xs) ys = value_after_parts (n * 10 + digit_value x) x
 pub value_front : (ds : List ℕ) (i : ℕ) → digits_value 10 (take i ds) ≤ digits_value 10 ds
 value_front ds i =
     let parts : digits_value 10 ds ≡ digits_value_after 10 (digits_value 10 (take i ds)) (drop i ds) =
-        ap (digits_value 10) (sym (take-append-drop i ds)) ∙ value_after_parts 0 (take i ds) (drop i ds) in
+    ap (digits_value 10) (sym (take-append-drop i ds)) ∙ value_after_parts 0 (take i ds) (drop i ds) in
     omega (arith, parts, value_grows (digits_value 10 (take i ds)) (drop i ds))
 
 -- one more digit
@@ -32,8 +31,8 @@ value_more ds i value l e = omega (arith, digits_value_more 10 ds i l, e)
 not_below : (a b m : ℕ) → None ≡ cond (ltb a m) (Some b) None → m ≤ a
 not_below a b m e =
     elim (cases_lt a m) [
-    | inl h ↦ absurd (let none : None ≡ Some b = e ∙ sym (cond_below a m (Some b) None h) in cc)
-    | inr h ↦ h
+      | inl h ↦ absurd (let none : None ≡ Some b = e ∙ sym (cond_below a m (Some b) None h) in cc)
+      | inr h ↦ h
     ]
 
 pub too_large : (m : ℕ) (ds : List ℕ) (i value : ℕ) → i < length ds → value ≡ digits_value 10 (take i ds) →

@@ -1,6 +1,6 @@
 -- Solver numbers, by their sign and their digits.
-use Rattle.std.proofs.Common.{◌≡◌, ◌≢◌, ◌⊎◌, ℕ, zero, suc, ◌^◌, List, Bool, true, false, cond, not, ◌&&◌, drop, refl, ap, sym, ◌∙◌, inl, inr, eqb, arith}
-use Rattle.std.specs.Prelude.{Option, Some, None, ℤ, pos, negsuc, neg_ℤ, nat_abs, nat_lt, if◌then◌else◌, ◌==◌}
+use Rattle.std.proofs.Common.{◌≡◌, ◌≢◌, ℕ, zero, suc, ◌^◌, List, Bool, true, false, not, ◌&&◌, drop, refl, ap, sym, ◌∙◌, eqb, arith}
+use Rattle.std.specs.Prelude.{Option, Some, None, ℤ, pos, neg_ℤ, nat_abs, nat_lt, if◌then◌else◌, ◌==◌}
 use Rattle.std.specs.Int.{is_negative}
 use Rattle.std.specs.Option.{option_eq}
 use Rattle.text_lines.specs.declared.numbers.SolverNumber.{SolverNumber}
@@ -44,13 +44,13 @@ read_number word true e digits some =
       number = neg_ℤ (pos (digits_value 10 (drop 1 word)));
       is = chosen word true e digits (ne_eqb (digits_value 10 (digits_after_sign word)) 0 (some refl));
       sign = n.0;
-      size = n.1 ∙ sym (ap (digits_value 10) (after_sign word true e))
+      size = n.1 ∙ sym (ap (digits_value 10) (after_sign word true e));
     }
 read_number word false e digits some = record {
   number = pos (digits_value 10 word);
   is = chosen word false e digits refl;
   sign = not_negative (digits_value 10 word);
-  size = sym (ap (digits_value 10) (after_sign word false e))
+  size = sym (ap (digits_value 10) (after_sign word false e));
 }
 
 -- the digits' value where it is below 2^64

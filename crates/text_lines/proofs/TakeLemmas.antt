@@ -1,5 +1,5 @@
 -- The first words of a line, one word after another.
-use Rattle.std.proofs.Common.{◌≡◌, ℕ, ◌+◌, ◌-◌, ◌<◌, ◌≤◌, List, [], ◌∷◌, ◌++◌, length, take, refl, ap, sym, ◌∙◌, arith, append_assoc, append-nil, length-append, suc, zero}
+use Rattle.std.proofs.Common.{◌≡◌, ℕ, ◌-◌, ◌<◌, ◌≤◌, List, [], ◌∷◌, ◌++◌, length, take, refl, ap, sym, ◌∙◌, arith, append_assoc, append-nil, length-append, suc, zero}
 use Rattle.text_lines.specs.Words.{words_of}
 
 -- the words so far, and as many of the rest as are still wanted, are the first words of the line
@@ -14,9 +14,9 @@ pub one_more_word : (most : ℕ) (line rest after word : List ℕ) (words : List
 one_more_word most line rest after word words so_far l e = record {
   few = omega (arith, length-append words (word ∷ []), l);
   parts =
-    append_assoc words (word ∷ []) (take (most - length (words ++ word ∷ [])) (words_of after))
-    ∙ ap (λ t. words ++ t) (sym (ap (take (most - length words)) e ∙ take_suc (most - length words) (most - length (words ++ word ∷ [])) word (words_of after) (omega (arith, length-append words (word ∷ []), l))))
-    ∙ so_far.parts;
+      append_assoc words (word ∷ []) (take (most - length (words ++ word ∷ [])) (words_of after))
+      ∙ ap (λ t. words ++ t) (sym (ap (take (most - length words)) e ∙ take_suc (most - length words) (most - length (words ++ word ∷ [])) word (words_of after) (omega (arith, length-append words (word ∷ []), l))))
+      ∙ so_far.parts;
 }
 
 pub enough_words : (most : ℕ) (line rest : List ℕ) (words : List (List ℕ)) → AreFirstWords most line words rest → most ≤ length words → words ≡ take most (words_of line)

@@ -1,5 +1,5 @@
 -- The first fault of a list: what is wrong with an item is said behind the plain list of the items before it, as `fault before item`.
-use Rattle.std.specs.Prelude.{◌≡◌, ℕ, ◌+◌, List, [], ◌∷◌, ◌++◌, length, Option, Some, None}
+use Rattle.std.specs.Prelude.{◌≡◌, ℕ, ◌+◌, List, ◌∷◌, ◌++◌, length, Option, Some, None}
 
 -- no item has a fault
 abbrev pub IsFaultless : {A F : Type 0} → (List A → A → Option F) → List A → Type 0

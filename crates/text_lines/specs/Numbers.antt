@@ -1,5 +1,5 @@
 -- The numbers of the texts, by their digits.
-use Rattle.std.specs.Prelude.{ℕ, ℤ, pos, neg_ℤ, Bool, true, false, not, cond, List, [], ◌∷◌, ◌==◌, ◌&&◌, ◌||◌, Option, Some, None, nat_le, drop, slice_index, if◌then◌else◌}
+use Rattle.std.specs.Prelude.{ℕ, ℤ, pos, neg_ℤ, Bool, not, List, ◌==◌, ◌&&◌, ◌||◌, Option, Some, None, nat_le, drop, slice_index, if◌then◌else◌}
 use Rattle.std.specs.List.{list_all}
 use Rattle.std.specs.Char.{is_ascii_digit}
 use Rattle.std.specs.Option.{option_and_then}

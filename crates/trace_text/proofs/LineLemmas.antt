@@ -1,17 +1,16 @@
 -- A line of a trace text, by its first words.
-use Rattle.std.proofs.Common.{◌≡◌, ◌≢◌, ℕ, ◌+◌, ◌<◌, ◌≤◌, List, [], ◌∷◌, ◌++◌, length, take, map, Bool, true, false, cond, not, ◌&&◌, codes, refl, inl, inr, ap, sym, ◌∙◌, arith, subst, append_assoc, length-append}
-use Rattle.std.specs.Prelude.{Option, Some, None, if◌then◌else◌}
+use Rattle.std.proofs.Common.{◌≡◌, ◌≢◌, ℕ, ◌+◌, ◌<◌, ◌≤◌, List, [], ◌∷◌, ◌++◌, length, take, map, Bool, true, false, cond, not, ◌&&◌, codes, refl, inl, ap, sym, ◌∙◌, arith, subst, append_assoc, length-append}
+use Rattle.std.specs.Prelude.{Some, None, if◌then◌else◌}
 use Rattle.std.specs.List.{filter, list_any, list_all, flat_map, sum_by, AllPairs}
 use Rattle.trace_text.specs.declared.trace.Process.{Process}
 use Rattle.trace_text.specs.TraceText.{header_line, process_lines, is_written_process}
 use Rattle.std.specs.Str.{bytes_eq}
 use Rattle.std.proofs.lemmas.List.{map-append}
 use Rattle.std.proofs.lemmas.List.Elements.{filter-append}
-use Rattle.text_lines.specs.FirstFault.{IsFaultless, IsFirstFault}
+use Rattle.text_lines.specs.FirstFault.{IsFaultless}
 use Rattle.text_lines.specs.Lines.{lines_of}
 use Rattle.text_lines.specs.Words.{words_of}
 use Rattle.text_lines.proofs.FaultLemmas.{faultless_push, faultless_nil}
-use Rattle.trace_text.specs.declared.trace_fault.TraceCause.{TraceCause}
 use Rattle.trace_text.specs.declared.trace_fault.TraceCause.TheVariants.{NotAscii, Header}
 use Rattle.trace_text.specs.declared.trace_reader.Refusal.{Refusal}
 use Rattle.trace_text.specs.declared.trace_reader.Refusal.TheVariants.{OutOfMemory, Fault}
@@ -77,9 +76,10 @@ pub record TakesLine (before : List (List ℕ)) (line : List ℕ) (new : TraceRe
 
 pub takes_line : (before : List (List ℕ)) (line : List ℕ) (new : TraceReader) → is_skipped (words_of line) ≡ false → list_any is_high line ≡ false →
     words_fault (kept before) (take 8 (words_of line)) ≡ None → IsProgress (kept before ++ take 8 (words_of line) ∷ []) new → (trace_line_fault before line ≡ None) × IsProgress (kept (before ++ line ∷ [])) new
-takes_line before line new s h f p =
-    (line_fault before line s h ∙ sym (fault_first (kept before) (words_of line)) ∙ f,
-    subst (λ k. IsProgress k new) (ap (λ w. kept before ++ w ∷ []) (whole_line (kept before) (words_of line) f) ∙ sym (kept_more before line false s)) p)
+takes_line before line new s h f p = (
+  line_fault before line s h ∙ sym (fault_first (kept before) (words_of line)) ∙ f,
+  subst (λ k. IsProgress k new) (ap (λ w. kept before ++ w ∷ []) (whole_line (kept before) (words_of line) f) ∙ sym (kept_more before line false s)) p,
+)
 
 -- what is read so far, of which this is left
 pub record IsReadSoFar (text : List ℕ) (next : ℕ) (rest : List ℕ) (reader : TraceReader) : Type 0 where

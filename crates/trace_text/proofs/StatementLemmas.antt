@@ -1,6 +1,6 @@
 -- What the lines of processes say.
-use Rattle.std.proofs.Common.{◌≡◌, ℕ, suc, ◌+◌, List, [], ◌∷◌, ◌++◌, length, map, Bool, true, false, cond, not, ◌&&◌, ◌||◌, refl, ap, sym, ◌∙◌, arith, codes, ◌^◌, length-append}
-use Rattle.std.specs.Prelude.{Option, Some, None}
+use Rattle.std.proofs.Common.{◌≡◌, ℕ, suc, List, [], ◌∷◌, ◌++◌, length, map, Bool, true, false, cond, ◌&&◌, ◌||◌, refl, ap, ◌∙◌, arith, length-append}
+use Rattle.std.specs.Prelude.{Option, Some}
 use Rattle.std.specs.Fmt.{decimal}
 use Rattle.std.specs.List.{filter, list_any, list_all, flat_map, sum_by}
 use Rattle.std.specs.Str.{bytes_eq}
@@ -100,6 +100,6 @@ count_operations (p ∷ ps) w =
     let parts = both (is_written_process p) (list_all is_written_process ps) w in
     let here : filter (λ words. is_operation (statement_of words)) (process_lines p) ≡ map op_line p.operations = ops_pass p.operations (both (is_name p.name) (list_all is_written_op p.operations) parts.0).1 in
     let all : length (filter (λ words. is_operation (statement_of words)) (flat_map process_lines (p ∷ ps))) ≡ length (map op_line p.operations ++ filter (λ words. is_operation (statement_of words)) (flat_map process_lines ps)) =
-        ap length (filter-append (λ words. is_operation (statement_of words)) (process_lines p) (flat_map process_lines ps) ∙ ap (λ t. t ++ filter (λ words. is_operation (statement_of words)) (flat_map process_lines ps)) here) in
+    ap length (filter-append (λ words. is_operation (statement_of words)) (process_lines p) (flat_map process_lines ps) ∙ ap (λ t. t ++ filter (λ words. is_operation (statement_of words)) (flat_map process_lines ps)) here) in
     let sums = sum_by-append (λ (p : Process). length p.operations) (p ∷ []) ps in
     omega (arith, all, length-append (map op_line p.operations) (filter (λ words. is_operation (statement_of words)) (flat_map process_lines ps)), length-map p.operations op_line, count_operations ps parts.1, sums)

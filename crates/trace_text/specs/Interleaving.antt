@@ -1,5 +1,5 @@
 -- Interleavings (Lamport, 1979).
-use Rattle.std.specs.Prelude.{◌≡◌, ◌<◌, ℕ, List, [], ◌∷◌, ◌++◌, IsSome}
+use Rattle.std.specs.Prelude.{◌≡◌, ◌<◌, List, ◌∷◌, ◌++◌, IsSome}
 use Rattle.std.specs.List.{Contains}
 use Rattle.trace_text.specs.declared.operation.OpName.{OpName}
 use Rattle.trace_text.specs.Trace.{TraceValue, operation_at}

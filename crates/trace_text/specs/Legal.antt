@@ -1,5 +1,5 @@
 -- Legal schedules: sequential consistency (Lamport, 1979) of a trace (Gibbons and Korach, 1997).
-use Rattle.std.specs.Prelude.{◌≡◌, ⊤, ℕ, List, ◌∷◌, ◌++◌, Option, Some, None}
+use Rattle.std.specs.Prelude.{◌≡◌, ⊤, ℕ, List, ◌∷◌, ◌++◌, Some, None}
 use Rattle.trace_text.specs.declared.operation.Op.{Op}
 use Rattle.trace_text.specs.declared.operation.OpName.{OpName}
 use Rattle.trace_text.specs.declared.operation.Origin.{Origin}

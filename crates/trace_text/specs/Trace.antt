@@ -1,5 +1,5 @@
 -- A trace (reads and writes: Gibbons and Korach, 1997), and which operation a name names.
-use Rattle.std.specs.Prelude.{◌≡◌, ◌≢◌, ◌≤◌, ℕ, zero, suc, List, [], ◌∷◌, length, map, Option, Some, None, IsSome, Bool}
+use Rattle.std.specs.Prelude.{◌≢◌, ◌≤◌, ℕ, zero, suc, List, length, map, Option, None, IsSome}
 use Rattle.std.specs.List.{slice_get, find, flat_map, sum_by, range_with_len, All, AllPairs}
 use Rattle.std.specs.Option.{option_and_then, option_map}
 use Rattle.std.specs.Str.{bytes_eq}

@@ -1,5 +1,5 @@
 -- What the reader of traces has read so far.
-use Rattle.std.specs.Prelude.{◌≡◌, ◌≢◌, ◌≤◌, ◌+◌, ◌-◌, ◌^◌, ⊤, ℕ, IsSome, is_some, Bool, true, false, not, List, [], ◌∷◌, ◌++◌, Option, Some, None, is_none, nat_le, length, if◌then◌else◌}
+use Rattle.std.specs.Prelude.{◌≡◌, ◌≢◌, ◌≤◌, ◌+◌, ◌-◌, ◌^◌, ⊤, ℕ, IsSome, is_some, Bool, true, false, not, List, [], ◌∷◌, ◌++◌, Option, Some, None, nat_le, length, if◌then◌else◌}
 use Rattle.std.specs.List.{list_any, list_all, flat_map, sum_by, AllPairs}
 use Rattle.std.specs.Str.{bytes_eq}
 use Rattle.text_lines.specs.Numbers.{plain_number_up_to}

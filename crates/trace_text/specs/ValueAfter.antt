@@ -1,5 +1,5 @@
 -- What a location holds after some operations, and who wrote it last.
-use Rattle.std.specs.Prelude.{ℕ, List, Option, Some, None, is_some, if◌then◌else◌}
+use Rattle.std.specs.Prelude.{ℕ, List, Option, None, is_some, if◌then◌else◌}
 use Rattle.std.specs.List.{filter, filter_map, last_or}
 use Rattle.std.specs.Option.{option_and_then}
 use Rattle.std.specs.Str.{bytes_eq}

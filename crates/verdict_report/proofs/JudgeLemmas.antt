@@ -1,11 +1,11 @@
 -- How the engine that judges ends, by what becomes of its line.
-use Rattle.std.proofs.Common.{◌≡◌, ◌+◌, ℕ}
+use Rattle.std.proofs.Common.{◌≡◌}
 use Rattle.std.specs.Prelude.{Result, Ok, Err}
 use Rattle.trace_text.specs.declared.judgement.Judgement.{Judgement}
 use Rattle.verdict_report.specs.declared.fault.Fault.{Fault}
 use Rattle.verdict_report.specs.declared.fault.Fault.TheVariants.{OutOfMemory, Device, InputTooLong, Trace, Schedule}
 use Rattle.verdict_report.specs.declared.status.Status.{Status}
-use Rattle.verdict_report.specs.JudgeEngine.{SourceRun, SinkRun, Reads, IsRunOfWriting, IsRunOfJudge, FailsOnce, OutFails, NothingFailed}
+use Rattle.verdict_report.specs.JudgeEngine.{SourceRun, SinkRun, Reads, IsRunOfWriting, IsRunOfJudge, OutFails}
 
 pub written : (trace schedule : SourceRun) (out : SinkRun) (judgement : Judgement) → Reads trace schedule (Ok judgement) → trace.failures_now ≡ trace.failures_before → schedule.failures_now ≡ schedule.failures_before →
     (result : Result Status Fault) → IsRunOfWriting judgement out result → IsRunOfJudge trace schedule out result

@@ -37,11 +37,7 @@ pub fn run_judge<T: Source, S: Source, W: Sink>(
 }
 
 /// The judgement of the schedule that the second text spells by the trace that the first one spells.
-fn judge_texts(
-    alloc: Global,
-    trace_text: &[u8],
-    schedule_text: &[u8],
-) -> Result<Judgement, Fault>
+fn judge_texts(alloc: Global, trace_text: &[u8], schedule_text: &[u8]) -> Result<Judgement, Fault>
     ensures { IsSaidOfTexts trace_text.now schedule_text.now result }
 {
     let trace = read_trace(alloc, trace_text)?;

@@ -13,7 +13,9 @@ use std::env;
 use std::io::ErrorKind;
 use std::process::ExitCode;
 use stream_sink::StreamSink;
-use verdict_report::{Fault, Line, LineFault, Status, exit_status, read_line, run_judge, write_fault};
+use verdict_report::{
+    Fault, Line, LineFault, Status, exit_status, read_line, run_judge, write_fault,
+};
 
 /// The exit status of a command line that is refused.
 const REFUSED: u8 = 2;

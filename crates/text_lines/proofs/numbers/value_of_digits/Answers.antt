@@ -1,4 +1,4 @@
-use Rattle.std.proofs.Common.{◌≡◌, ℕ, sym, ◌∙◌, arith}
+use Rattle.std.proofs.Common.{◌∙◌, arith}
 use Rattle.text_lines.proofs.NumberLemmas.{too_large, one_more, within}
 use Rattle.text_lines.proofs.numbers.value_of_digits.Goals as goal
 

@@ -1,4 +1,4 @@
-use Rattle.std.proofs.Common.{length, vec_len, map}
+use Rattle.std.proofs.Common.{length, map}
 use Rattle.text_lines.proofs.TakeLemmas.{AreFirstWords}
 use Rattle.text_lines.proofs.words.first_words.Given as goal
 

@@ -7,22 +7,30 @@ use Rattle.verdict_report.proofs.judge_engine.run_judge.Goals as goal
 pub returns : goal.returns
 returns g c =
     let trace : SourceRun = record {
-      before = g.T.Source.handed_out c.args.trace.now; now = g.T.Source.handed_out c.read_whole.new.source; is_at_end = g.T.Source.is_at_end c.read_whole.new.source;
-      failures_before = g.T.Source.failures c.args.trace.now; failures_now = g.T.Source.failures c.read_whole.new.source
+      before = g.T.Source.handed_out c.args.trace.now;
+      now = g.T.Source.handed_out c.read_whole.new.source;
+      is_at_end = g.T.Source.is_at_end c.read_whole.new.source;
+      failures_before = g.T.Source.failures c.args.trace.now;
+      failures_now = g.T.Source.failures c.read_whole.new.source;
     } in
     let schedule : SourceRun = record {
-      before = g.S.Source.handed_out c.args.schedule.now; now = g.S.Source.handed_out c.read_whole-2.new.source; is_at_end = g.S.Source.is_at_end c.read_whole-2.new.source;
-      failures_before = g.S.Source.failures c.args.schedule.now; failures_now = g.S.Source.failures c.read_whole-2.new.source
+      before = g.S.Source.handed_out c.args.schedule.now;
+      now = g.S.Source.handed_out c.read_whole-2.new.source;
+      is_at_end = g.S.Source.is_at_end c.read_whole-2.new.source;
+      failures_before = g.S.Source.failures c.args.schedule.now;
+      failures_now = g.S.Source.failures c.read_whole-2.new.source;
     } in
     let out : SinkRun = record {
-      before = g.W.Sink.written c.args.out.now; now = g.W.Sink.written c.write_judgement.new.out;
-      failures_before = g.W.Sink.failures c.args.out.now; failures_now = g.W.Sink.failures c.write_judgement.new.out
+      before = g.W.Sink.written c.args.out.now;
+      now = g.W.Sink.written c.write_judgement.new.out;
+      failures_before = g.W.Sink.failures c.args.out.now;
+      failures_now = g.W.Sink.failures c.write_judgement.new.out;
     } in
     let reads : Reads trace schedule (Ok c.in_ok-judgement.judgement) = record {
       trace_text = c.in_ok-trace_text.trace_text.items;
       trace_handed = record { handed = search rules; ended = search rules; within_limit = search rules };
       schedule_text = c.in_ok-schedule_text.schedule_text.items;
       schedule_handed = record { handed = search rules; ended = search rules; within_limit = search rules };
-      is_said = search rules
+      is_said = search rules;
     } in
     written trace schedule out c.in_ok-judgement.judgement reads (search rules) (search rules) c.write_judgement.result c.write_judgement.ensures
