@@ -7,6 +7,7 @@
 pub mod judge;
 pub mod judgement;
 pub mod laws;
+mod line;
 mod memory;
 pub mod name;
 mod name_table;

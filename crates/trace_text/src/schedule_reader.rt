@@ -6,6 +6,7 @@ ghost use Rattle.trace_text.specs.ScheduleLine.{IsSkippedLine, IsNameLine, line_
 ghost use Rattle.trace_text.specs.ScheduleRefusal.{IsScheduleRefusal};
 ghost use Rattle.trace_text.specs.ScheduleText.{SpellsSchedule, is_dot, place_of, name_fault};
 
+use crate::line::begins_comment;
 use crate::name::{Name, is_name_word};
 use crate::operation::OpName;
 use crate::schedule::Schedule;
@@ -17,13 +18,6 @@ use text_lines::words::cut_word;
 
 /// The most names of a schedule.
 const MOST_NAMES: usize = 4096;
-
-/// Whether the word begins a comment.
-fn begins_comment(word: &[u8]) -> bool
-    ensures { result ≡ (slice_index word.now 0 == 35) }
-{
-    !word.is_empty() && word[0] == b'#'
-}
 
 fn find_dot(word: &[u8]) -> Option<usize>
     ensures { result ≡ position is_dot word.now }

@@ -12,6 +12,7 @@ ghost use Rattle.trace_text.specs.Trace.{IsTrace};
 ghost use Rattle.trace_text.specs.TraceProgress.{open_process, processes_of, with_operation, fault_of_proc, fault_of_operation, IsRefusedFor, IsProgress, TakesHeader, TakesOperation, TakesProc, refusal_at, IsHeaderMissing, IsPlainTrace};
 ghost use Rattle.trace_text.specs.TraceText.{SpellsTrace, header_line};
 
+use crate::line::{has_high_byte, is_skipped_line};
 use crate::name::{Name, is_name_word};
 use crate::operation::{Op, Origin};
 use crate::statement::{Statement, read_statement};
@@ -289,25 +290,6 @@ impl TraceReader {
         self.close_process()?;
         Ok(Trace::of_processes(alloc, self.closed))
     }
-}
-
-/// Whether the line is skipped: it has no words, or is a comment.
-fn is_skipped_line(words: &[&[u8]]) -> bool
-    ensures { result ≡ is_skipped (map (λ word. word.now) words.now) }
-{
-    words.is_empty() || begins_comment(words[0])
-}
-
-fn begins_comment(word: &[u8]) -> bool
-    ensures { result ≡ (slice_index word.now 0 == 35) }
-{
-    !word.is_empty() && word[0] == b'#'
-}
-
-fn has_high_byte(line: &[u8]) -> bool
-    ensures { result ≡ list_any is_high line.now }
-{
-    line.iter().any(|byte| *byte > 127)
 }
 
 impl Refusal {
