@@ -50,13 +50,13 @@ place_of InputTooLong = None
 place_of (Trace cause line) = Some line
 place_of (Schedule cause line) = Some line
 
--- a fault as it is printed
+-- a fault as it is printed: its area, and then its number, its name and its line, but of want of memory and of a device the area alone
 abbrev pub printed : Fault → List ℕ
-printed OutOfMemory = codes "memory"
-printed Device = codes "device"
-printed InputTooLong = codes "input 2 InputTooLong"
-printed (Trace cause line) = codes "trace " ++ printed_at (trace.cause_number cause) (trace.cause_name cause) (Some line)
-printed (Schedule cause line) = codes "schedule " ++ printed_at (schedule.cause_number cause) (schedule.cause_name cause) (Some line)
+printed OutOfMemory = area_of OutOfMemory
+printed Device = area_of Device
+printed InputTooLong = area_of InputTooLong ++ (codes " " ++ printed_at 2 (name_of InputTooLong) None)
+printed (Trace cause line) = area_of (Trace cause line) ++ (codes " " ++ printed_at (trace.cause_number cause) (trace.cause_name cause) (Some line))
+printed (Schedule cause line) = area_of (Schedule cause line) ++ (codes " " ++ printed_at (schedule.cause_number cause) (schedule.cause_name cause) (Some line))
 
 -- the line that tells it
 abbrev pub line_of : Fault → List ℕ

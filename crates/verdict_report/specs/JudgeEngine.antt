@@ -43,6 +43,10 @@ pub record NothingFailed (trace schedule : SourceRun) (out : SinkRun) : Type 0 w
   pub schedule_unfailing : schedule.failures_now ≡ schedule.failures_before
   pub out_unfailing : out.failures_now ≡ out.failures_before
 
+-- the source was not asked for anything
+abbrev pub IsUntouched : SourceRun → Type 0
+IsUntouched source = (source.now ≡ source.before) × (source.failures_now ≡ source.failures_before)
+
 -- the sink took nothing
 abbrev pub TakesNothing : SinkRun → Type 0
 TakesNothing out = out.now ≡ out.before
@@ -106,11 +110,14 @@ abbrev pub IsTooLong : SourceRun → SourceRun → Type 0
 IsTooLong trace schedule = AppendsMoreThan 268435456 trace.before trace.now
     ⊎ ((text : List ℕ) × HandsOut trace text × AppendsMoreThan 268435456 schedule.before schedule.now)
 
--- a source or the sink failed once, and the sink took a front of the answer's line at most
+-- One of the three failed, once. Where it is the first source, nothing else was asked; where it is the second one, the first text was handed out
+-- whole; where it is the sink, both were, and the sink took a front of the line that answers them.
 pub data FailsOnce (trace schedule : SourceRun) (out : SinkRun) : Type 0 where
-  TraceFails : trace.failures_now ≡ trace.failures_before + 1 → TakesNothing out → FailsOnce trace schedule out
-  ScheduleFails : schedule.failures_now ≡ schedule.failures_before + 1 → TakesNothing out → FailsOnce trace schedule out
-  OutFails : out.failures_now ≡ out.failures_before + 1 → (judgement : Judgement) → Reads trace schedule (Ok judgement) → AppendsFront out.before out.now (judgement_line judgement) → FailsOnce trace schedule out
+  TraceFails : trace.failures_now ≡ trace.failures_before + 1 → IsUntouched schedule → TakesNothing out → out.failures_now ≡ out.failures_before → FailsOnce trace schedule out
+  ScheduleFails : (text : List ℕ) → HandsOut trace text → trace.failures_now ≡ trace.failures_before → schedule.failures_now ≡ schedule.failures_before + 1 →
+      TakesNothing out → out.failures_now ≡ out.failures_before → FailsOnce trace schedule out
+  OutFails : (judgement : Judgement) → Reads trace schedule (Ok judgement) → trace.failures_now ≡ trace.failures_before → schedule.failures_now ≡ schedule.failures_before →
+      out.failures_now ≡ out.failures_before + 1 → AppendsFront out.before out.now (judgement_line judgement) → FailsOnce trace schedule out
 
 -- a refusal before anything is written, where nothing failed
 abbrev pub Refuses : SourceRun → SourceRun → SinkRun → Type 0 → Type 0

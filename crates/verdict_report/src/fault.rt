@@ -85,19 +85,22 @@ impl fmt::Display for Fault {
     ghost output = { λ fault. Some (printed fault) };
 
     fn fmt<W: fmt::Write>(&self, f: &mut fmt::Formatter<W>) -> fmt::Result {
+        let area = self.area();
+        let name = self.name();
         match self {
-            Fault::OutOfMemory => write!(f, "memory"),
-            Fault::Device => write!(f, "device"),
-            Fault::InputTooLong => write!(f, "input 2 InputTooLong"),
+            Fault::OutOfMemory => write!(f, "{area}"),
+            Fault::Device => write!(f, "{area}"),
+            Fault::InputTooLong => {
+                let number = 2u8;
+                write!(f, "{area} {number} {name}")
+            }
             Fault::Trace(cause, line) => {
                 let number = cause.number();
-                let name = cause.name();
-                write!(f, "trace {number} {name} at {line}")
+                write!(f, "{area} {number} {name} at {line}")
             }
             Fault::Schedule(cause, line) => {
                 let number = cause.number();
-                let name = cause.name();
-                write!(f, "schedule {number} {name} at {line}")
+                write!(f, "{area} {number} {name} at {line}")
             }
         }
     }
