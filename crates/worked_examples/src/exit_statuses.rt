@@ -1,0 +1,42 @@
+//! The exit status of each outcome, and the line of each kind of fault.
+
+use dimacs::MemorySink;
+use std::test::Fail;
+use trace_text::schedule_fault::ScheduleCause;
+use trace_text::trace_fault::TraceCause;
+use verdict_report::{Fault, Status, exit_status, write_fault};
+
+#[test]
+fn gives_a_status_for_each_answer(rt: HostRuntime) {
+    for (answer, status) in [(Status::Yes, 0), (Status::No, 1), (Status::Unknown, 3)] {
+        assert_eq!(rt; exit_status(&Ok(answer)), status);
+    }
+}
+
+#[test]
+fn tells_each_kind_of_fault(rt: HostRuntime) -> Result<(), Fail> {
+    for (fault, status, line) in [
+        (Fault::OutOfMemory, 2, "refused: memory\n"),
+        (Fault::Device, 4, "refused: device\n"),
+        (Fault::InputTooLong, 2, "refused: input 2 InputTooLong\n"),
+        (
+            Fault::Trace(TraceCause::TooManyOps, 4099),
+            2,
+            "refused: trace 13 TooManyOps at 4099\n",
+        ),
+        (
+            Fault::Schedule(ScheduleCause::BadName, 1),
+            2,
+            "refused: schedule 2 BadName at 1\n",
+        ),
+    ] {
+        let mut error = MemorySink::new(rt.alloc());
+        assert!(rt;
+            write_fault(rt.alloc(), &fault, &mut error).is_ok(),
+            "{line}"
+        );
+        assert_eq!(rt; error.as_slice(), line.as_bytes());
+        assert_eq!(rt; exit_status(&Err(fault)), status, "{line}");
+    }
+    Ok(())
+}
