@@ -1,3 +1,4 @@
+pub mod AsciiLemmas
 pub mod CauseLemmas
 pub mod EarlyLemmas
 pub mod ElementLemmas
@@ -10,10 +11,14 @@ pub mod NameLemmas
 pub mod OpNameLemmas
 pub mod OrderLemmas
 pub mod PlaceLemmas
+pub mod ProcessListLemmas
 pub mod ProgramOrderLemmas
 pub mod ProgressLemmas
+pub mod SameTraceLemmas
 pub mod ScheduleLemmas
 pub mod ScheduleTextLemmas
 pub mod ScheduleWrittenLemmas
 pub mod StatementLemmas
+pub mod TraceClearLemmas
+pub mod TraceReadLemmas
 pub mod WalkLemmas

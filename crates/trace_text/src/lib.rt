@@ -22,4 +22,5 @@ mod statement;
 mod survey;
 pub mod trace;
 pub mod trace_fault;
+pub mod trace_laws;
 pub mod trace_reader;

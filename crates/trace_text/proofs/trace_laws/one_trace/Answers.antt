@@ -1,0 +1,5 @@
+use Rattle.trace_text.proofs.SameTraceLemmas.{one_spelled}
+use Rattle.trace_text.proofs.trace_laws.one_trace.Goals as goal
+
+pub returns : goal.returns
+returns c = one_spelled
