@@ -35,7 +35,7 @@ pub whole_part : (p : ℕ → Bool) (xs : List ℕ) → position_or_len p xs ≡
 whole_part p [] h = refl
 whole_part p (x ∷ xs) h = whole_of p x xs (p x) (omega (arith, h)) (whole_part p xs)
 
--- a split is what stands before the first that passes, and then the split of what stands behind it, or the list
+-- a split is what stands before the first that passes, and then the split of what stands after it, or the list
 pub record CutsAt (p : ℕ → Bool) (xs : List ℕ) : Type 0 where
   pub split : slice_split p xs ≡ before_first p xs ∷ slice_split p (after_first p xs)
 

@@ -42,7 +42,7 @@ split_blank (x ∷ word) blank rest h b =
     let parts = or_parts (is_blank x) (list_any is_blank word) h in
     slice_split-cons_no is_blank x (word ++ blank ∷ rest) parts.0 ∙ ap (onto_first x) (split_blank word blank rest parts.1 b)
 
--- bytes without a blank, behind which a blank stands, are the first word
+-- bytes without a blank, after which a blank stands, are the first word
 pub word_ended : (word : List ℕ) (blank : ℕ) (rest : List ℕ) → 0 < length word → list_any is_blank word ≡ false → is_blank blank ≡ true → words_of (word ++ blank ∷ rest) ≡ word ∷ words_of rest
 word_ended [] blank rest l h b = absurd (omega (arith, l))
 word_ended (x ∷ xs) blank rest l h b = ap (filter (λ w. not (is_empty w))) (split_blank (x ∷ xs) blank rest h b) ∙ kept (x ∷ xs) (slice_split is_blank rest) x xs refl

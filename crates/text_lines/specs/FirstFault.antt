@@ -1,4 +1,4 @@
--- The first fault of a list: what is wrong with an item is said behind the plain list of the items before it, as `fault before item`.
+-- The first fault of a list: what is wrong with an item is said after the plain list of the items before it, as `fault before item`.
 use Rattle.std.specs.Prelude.{◌≡◌, ℕ, ◌+◌, List, ◌∷◌, ◌++◌, length, Option, Some, None}
 
 -- no item has a fault

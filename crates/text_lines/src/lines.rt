@@ -11,7 +11,7 @@ fn find_line_feed(text: &[u8]) -> Option<usize>
     text.iter().position(|byte| *byte == b'\n')
 }
 
-/// What stands before the first line feed, and what stands behind it.
+/// What stands before the first line feed, and what stands after it.
 fn cut_at_line_feed(text: &[u8]) -> (&[u8], &[u8])
     ensures front { result.0.now ≡ before_first is_line_feed text.now }
     ensures back { result.1.now ≡ after_first is_line_feed text.now }
@@ -33,7 +33,7 @@ pub fn cut_line(text: &[u8]) -> Option<(&[u8], &[u8])>
     Some(cut_at_line_feed(text))
 }
 
-/// Bytes without a line feed, behind which one stands, are the first line.
+/// Bytes without a line feed, after which one stands, are the first line.
 pub fn ended_line_is_first()
     ensures { (line rest : List ℕ) → list_any is_line_feed line ≡ false → lines_of (line ++ 10 ∷ rest) ≡ line ∷ lines_of rest }
 {}

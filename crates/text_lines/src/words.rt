@@ -27,7 +27,7 @@ fn find_word(line: &[u8]) -> Option<usize>
     line.iter().position(|byte| !is_blank_byte(*byte))
 }
 
-/// What stands before the first blank, and what stands behind it.
+/// What stands before the first blank, and what stands after it.
 fn cut_at_blank(line: &[u8]) -> (&[u8], &[u8])
     ensures front { result.0.now ≡ before_first is_blank line.now }
     ensures back { result.1.now ≡ after_first is_blank line.now }
@@ -67,7 +67,7 @@ pub fn first_words(alloc: Global, line: &[u8], most: usize) -> Result<Vec<&[u8]>
     Ok(words)
 }
 
-/// Bytes without a blank, behind which one stands, are the first word; and bytes without a blank are one word.
+/// Bytes without a blank, after which one stands, are the first word; and bytes without a blank are one word.
 pub fn ended_word_is_first()
     ensures ended { (word : List ℕ) (blank : ℕ) (rest : List ℕ) → 0 < length word → list_any is_blank word ≡ false → is_blank blank ≡ true →
         words_of (word ++ blank ∷ rest) ≡ word ∷ words_of rest }

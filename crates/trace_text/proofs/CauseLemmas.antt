@@ -1,4 +1,4 @@
--- What it means that a name has no fault behind the names before it.
+-- What it means that a name has no fault after the names before it.
 use Rattle.std.proofs.Common.{◌≡◌, ℕ, ◌-◌, List, Bool, true, false, cond, refl, ap, ◌∙◌}
 use Rattle.std.specs.Prelude.{Option, Some, None, is_none, not}
 use Rattle.std.specs.List.{list_all}
@@ -52,7 +52,7 @@ right_source t names location Any h = refl
 right_source t names location Initial h = ap is_none h
 right_source t names location (Operation n) h = same_the_op (last_writer t location names) n h
 
--- a known operation has no fault behind these names
+-- a known operation has no fault after these names
 pub record IsFine (t : TraceValue) (before : List OpName) (n : OpName) (op : Op) : Type 0 where
   pub new : has_come before n ≡ false
   pub ordered : list_all (has_come before) (first_names n.process (n.place - 1)) ≡ true

@@ -1,4 +1,4 @@
--- Memory behind the operations so far.
+-- Memory after the operations so far.
 use Rattle.std.proofs.Common.{◌≡◌, ℕ, List, [], ◌∷◌, ◌++◌, Bool, true, false, cond, refl, ap, sym, ◌∙◌}
 use Rattle.std.specs.Prelude.{Option, Some, None, is_some, MatchOption}
 use Rattle.std.specs.List.{slice_get, filter, filter_map, last_or, cons_option}

@@ -73,7 +73,7 @@ after_dot p d h =
     ∙ ap (drop (length p + 1)) (sym (append_assoc p (46 ∷ []) d))
     ∙ drop_at (p ++ 46 ∷ []) d (length p + 1) (length_push p 46)
 
--- a word with a dot is what stands before it, the dot, and what stands behind it
+-- a word with a dot is what stands before it, the dot, and what stands after it
 cut_word_at_dot : (word : List ℕ) → list_any is_dot word ≡ true → word ≡ before_first is_dot word ++ 46 ∷ after_first is_dot word
 cut_word_at_dot word h =
     let within = found_within is_dot word h in

@@ -63,7 +63,7 @@ no_op (p ∷ ps) op rest w e =
     let clash : true ≡ false = ap (λ l. is_proc (statement_of l)) same ∙ op_fails is_proc (record { read = λ a d. refl; write = λ a d. refl }) op w in
     cc
 
--- the same lines, the same operations and the same lines behind them
+-- the same lines, the same operations and the same lines after them
 same_ops : (xs ys : List Op) (ps qs : List Process) → list_all is_written_op xs ≡ true → list_all is_written_op ys ≡ true →
     map op_line xs ++ flat_map process_lines ps ≡ map op_line ys ++ flat_map process_lines qs → (xs ≡ ys) × (flat_map process_lines ps ≡ flat_map process_lines qs)
 same_ops [] [] ps qs h k e = (refl, e)

@@ -47,7 +47,7 @@ begun : (ps : List Process) → 0 < length ps → list_any (λ words. is_proc (s
 begun [] l = absurd (omega (arith, l))
 begun (p ∷ ps) l = refl
 
--- neither has an operation at a name with a value below 2^64, behind a process
+-- neither has an operation at a name with a value below 2^64, after a process
 operation_clear : (ps : List Process) (a d : List ℕ) → list_all is_written_process ps ≡ true → is_name a ≡ true → is_value d ≡ true → 0 < length ps → operations_in ps < 4096 → operation_fault (flat_map process_lines ps) a d ≡ None
 operation_clear ps a d w named value some room =
     let few = ap (leb 4096) (count_operations ps w) ∙ lt-leb 4096 (operations_in ps) room in
@@ -77,7 +77,7 @@ record AreFine (ps : List Process) : Type 0 where
   few_processes : length ps ≤ 64
   few_operations : operations_in ps ≤ 4096
 
--- a process behind others
+-- a process after others
 record Fits (front : List Process) (p : Process) : Type 0 where
   front_written : list_all is_written_process front ≡ true
   named : is_name p.name ≡ true

@@ -4,7 +4,7 @@ use Rattle.std.specs.List.{Contains}
 use Rattle.trace_text.specs.declared.operation.OpName.{OpName}
 use Rattle.trace_text.specs.Trace.{TraceValue, operation_at}
 
--- m stands in the list, and n behind it
+-- m stands in the list, and n after it
 abbrev pub StandsBefore : List OpName → OpName → OpName → Type 0
 StandsBefore names m n = (front : List OpName) × (middle : List OpName) × (back : List OpName) × (names ≡ front ++ m ∷ (middle ++ n ∷ back))
 

@@ -42,7 +42,7 @@ is_right_source writer Any = true
 is_right_source writer Initial = is_none writer
 is_right_source writer (Operation n) = is_the_op writer n
 
--- what is wrong with a known operation behind these names
+-- what is wrong with a known operation after these names
 abbrev pub fault_of_op : TraceValue → List OpName → OpName → Op → Option Cause
 fault_of_op t before n op =
     if has_come before n then Some RepeatedOp
@@ -56,7 +56,7 @@ abbrev pub fault_of_named : TraceValue → List OpName → OpName → Option Op 
 fault_of_named t before n None = Some UnknownOp
 fault_of_named t before n (Some op) = fault_of_op t before n op
 
--- what is wrong with a name behind the names before it
+-- what is wrong with a name after the names before it
 abbrev pub fault_at : TraceValue → List OpName → OpName → Option Cause
 fault_at t before n = fault_of_named t before n (operation_at t n)
 

@@ -15,12 +15,12 @@ ComesFrom t names location Any = ⊤
 ComesFrom t names location Initial = last_writer t location names ≡ None
 ComesFrom t names location (Operation n) = last_writer t location names ≡ Some n
 
--- an operation behind these reads what its location holds there, from where its origin says
+-- an operation after these reads what its location holds there, from where its origin says
 pub record ReadsRight (t : TraceValue) (names : List OpName) (op : Op) : Type 0 where
   pub value : (d : ℕ) → value_read op ≡ Some d → value_after t (location_of op) names ≡ Some d
   pub source : ComesFrom t names (location_of op) (origin_of op)
 
--- an interleaving in which each operation reads right behind those before it, and each final value is held in the end
+-- an interleaving in which each operation reads right after those before it, and each final value is held in the end
 pub record IsLegal (t : TraceValue) (names : List OpName) : Type 0 where
   pub interleaving : IsInterleaving t names
   pub reads : (before : List OpName) (n : OpName) (after : List OpName) (op : Op) → names ≡ before ++ n ∷ after → operation_at t n ≡ Some op → ReadsRight t before op

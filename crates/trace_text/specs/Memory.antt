@@ -1,4 +1,4 @@
--- The judge's memory behind some operations.
+-- The judge's memory after some operations.
 use Rattle.std.specs.Prelude.{◌≡◌, ℕ, List, Option, Some, cond, MatchOption}
 use Rattle.std.specs.List.{slice_get}
 use Rattle.std.specs.Option.{option_and_then}
@@ -15,7 +15,7 @@ use Rattle.trace_text.specs.ValueAfter.{value_after, last_writer}
 abbrev pub writer_of : List OpName → Memory → List ℕ → Option OpName
 writer_of names memory location = option_and_then (slice_get names) (number_of memory.writers location)
 
--- memory behind the operations `done`, of which the places are counted in `names`
+-- memory after the operations `done`, of which the places are counted in `names`
 pub record IsMemoryAfter (t : TraceValue) (names done : List OpName) (memory : Memory) : Type 0 where
   pub values : (location : List ℕ) → number_of memory.values location ≡ value_after t location done
   pub writers : (location : List ℕ) → writer_of names memory location ≡ last_writer t location done

@@ -12,13 +12,13 @@ use Rattle.trace_text.specs.ScheduleText.{name_word, is_op_name, schedule_words_
 abbrev pub IsSkippedLine : List ℕ → Type 0
 IsSkippedLine line = is_skipped (words_of line) ≡ true
 
--- the line is this name, and behind that many names there is room for it
+-- the line is this name, and after that many names there is room for it
 pub record IsNameLine (earlier : ℕ) (line : List ℕ) (n : OpName) : Type 0 where
   pub word : words_of line ≡ name_word n ∷ []
   pub written : is_op_name n ≡ true
   pub room : earlier < 4096
 
--- what is wrong with a line behind that many names
+-- what is wrong with a line after that many names
 abbrev pub line_fault : ℕ → List ℕ → Option ScheduleCause
 line_fault earlier line = if is_skipped (words_of line) then None else schedule_words_fault earlier (words_of line)
 

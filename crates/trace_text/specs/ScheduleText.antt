@@ -34,7 +34,7 @@ is_dot byte = byte == 46
 abbrev pub place_of : List ℕ → Option ℕ
 place_of word = option_and_then (λ n. if nat_le 1 n then Some n else None) (plain_number_up_to 65535 word)
 
--- what is wrong with the word of a line, behind that many names
+-- what is wrong with the word of a line, after that many names
 abbrev pub name_fault : ℕ → List ℕ → Option ScheduleCause
 name_fault earlier word =
     if not (list_any is_dot word && is_name (before_first is_dot word)) then Some BadName
@@ -47,7 +47,7 @@ abbrev pub schedule_words_fault : ℕ → List (List ℕ) → Option ScheduleCau
 schedule_words_fault earlier (word ∷ []) = name_fault earlier word
 schedule_words_fault earlier words = Some BadName
 
--- what is wrong with a line behind the lines before it
+-- what is wrong with a line after the lines before it
 abbrev pub schedule_line_fault : List (List ℕ) → List ℕ → Option ScheduleCause
 schedule_line_fault before line = if is_skipped (words_of line) then None else schedule_words_fault (length (kept before)) (words_of line)
 

@@ -36,7 +36,7 @@ is_operation said = false
 abbrev pub is_value : List ℕ → Bool
 is_value word = not (is_none (plain_number_up_to (2 ^ 64 - 1) word))
 
--- what is wrong with a line that begins a process, behind these lines
+-- what is wrong with a line that begins a process, after these lines
 abbrev pub proc_fault : List (List (List ℕ)) → List ℕ → Option TraceCause
 proc_fault earlier name =
     if not (is_name name) then Some BadName
@@ -44,7 +44,7 @@ proc_fault earlier name =
     else if nat_le 64 (length (filter (λ words. is_proc (statement_of words)) earlier)) then Some TooManyProcs
     else None
 
--- what is wrong with an operation at this location with this value, behind these lines
+-- what is wrong with an operation at this location with this value, after these lines
 abbrev pub operation_fault : List (List (List ℕ)) → List ℕ → List ℕ → Option TraceCause
 operation_fault earlier location value =
     if not (list_any (λ words. is_proc (statement_of words)) earlier) then Some OpOutsideProc
@@ -53,14 +53,14 @@ operation_fault earlier location value =
     else if nat_le 4096 (length (filter (λ words. is_operation (statement_of words)) earlier)) then Some TooManyOps
     else None
 
--- what is wrong with what a line says, behind the lines between the header and it
+-- what is wrong with what a line says, after the lines between the header and it
 abbrev pub statement_fault : List (List (List ℕ)) → Option Statement → Option TraceCause
 statement_fault earlier None = Some UnknownLine
 statement_fault earlier (Some (Proc name)) = proc_fault earlier name
 statement_fault earlier (Some (Read location value)) = operation_fault earlier location value
 statement_fault earlier (Some (Write location value)) = operation_fault earlier location value
 
--- what is wrong with the words of a line behind those of the lines before it, of which the first is the header
+-- what is wrong with the words of a line after those of the lines before it, of which the first is the header
 abbrev pub words_fault : List (List (List ℕ)) → List (List ℕ) → Option TraceCause
 words_fault [] words = if pointwise bytes_eq words header_line then None else Some Header
 words_fault (header ∷ earlier) words = statement_fault earlier (statement_of words)
@@ -69,7 +69,7 @@ words_fault (header ∷ earlier) words = statement_fault earlier (statement_of w
 abbrev pub is_high : ℕ → Bool
 is_high byte = nat_lt 127 byte
 
--- what is wrong with a line behind the lines before it
+-- what is wrong with a line after the lines before it
 abbrev pub trace_line_fault : List (List ℕ) → List ℕ → Option TraceCause
 trace_line_fault before line =
     if is_skipped (words_of line) then None

@@ -41,7 +41,7 @@ fault_of_proc processes name =
     else if nat_le 64 (length processes) then Some TooManyProcs
     else None
 
--- what is wrong with an operation, where a process has begun and behind that many operations
+-- what is wrong with an operation, where a process has begun and after that many operations
 abbrev pub fault_of_operation : Bool → ℕ → List ℕ → List ℕ → Option TraceCause
 fault_of_operation has_begun operations location value =
     if not has_begun then Some OpOutsideProc
@@ -66,7 +66,7 @@ pub record IsProgress (earlier : List (List (List ℕ))) (reader : TraceReader) 
   pub few_operations : reader.operations ≤ 4096
   pub counted : reader.operations ≡ sum_by (λ (p : Process). length p.operations) (processes_of reader)
 
--- an operation whose line has no fault is put behind the others of the last process
+-- an operation whose line has no fault is put after the others of the last process
 pub record TakesOperation (old new : TraceReader) (location value : List ℕ) (op : ℕ → Op) : Type 0 where
   pub number : ℕ
   pub read : plain_number_up_to (2 ^ 64 - 1) value ≡ Some number
@@ -76,7 +76,7 @@ pub record TakesOperation (old new : TraceReader) (location value : List ℕ) (o
   pub header : new.has_header ≡ old.has_header
   pub operations : new.operations ≡ old.operations + 1
 
--- a process of this name is put behind the others
+-- a process of this name is put after the others
 pub record TakesProc (old new : TraceReader) (name : List ℕ) : Type 0 where
   pub faultless : fault_of_proc (processes_of old) name ≡ None
   pub processes : processes_of new ≡ processes_of old ++ record { name = name; operations = [] } ∷ []

@@ -27,7 +27,7 @@ fn have_come<'a>(survey: &Survey<'a>, process: &'a [u8], n: usize, count: usize)
     n == 0 || survey.has_come(process, n, count)
 }
 
-/// What is wrong with an operation behind the first `count` names.
+/// What is wrong with an operation after the first `count` names.
 fn fault_of_op<'a>(
     survey: &Survey<'a>,
     memory: &Memory<'a>,

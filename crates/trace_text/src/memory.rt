@@ -1,4 +1,4 @@
-//! Memory behind the first operations of a schedule.
+//! Memory after the first operations of a schedule.
 
 ghost use Rattle.std.specs.Prelude.{◌≡◌, List, ℕ, IfOk, OnOk, []};
 ghost use Rattle.std.specs.List.{slice_get};

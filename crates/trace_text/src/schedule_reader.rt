@@ -25,7 +25,7 @@ fn find_dot(word: &[u8]) -> Option<usize>
     word.iter().position(|byte| *byte == b'.')
 }
 
-/// What stands before the first dot, and what stands behind it.
+/// What stands before the first dot, and what stands after it.
 fn cut_at_dot(word: &[u8]) -> Option<(&[u8], &[u8])>
     ensures { MatchOption result (list_any is_dot word.now ≡ false)
         (λ cut. (list_any is_dot word.now ≡ true) × (cut.0.now ≡ before_first is_dot word.now) × (cut.1.now ≡ after_first is_dot word.now)) }
@@ -45,7 +45,7 @@ fn read_place(word: &[u8]) -> Option<u16>
     Some(place as u16)
 }
 
-/// The process and the place of a name, behind that many names.
+/// The process and the place of a name, after that many names.
 fn read_name(word: &[u8], earlier: usize) -> Result<(&[u8], u16), ScheduleCause>
     ensures { MatchResult result
         (λ name. (name_fault earlier word.now ≡ None) × (name.0.now ≡ before_first is_dot word.now) × (place_of (after_first is_dot word.now) ≡ Some name.1))
@@ -66,7 +66,7 @@ fn read_name(word: &[u8], earlier: usize) -> Result<(&[u8], u16), ScheduleCause>
     Ok((process, place))
 }
 
-/// The process and the place of the name on the line, behind that many names; nothing where the line is skipped.
+/// The process and the place of the name on the line, after that many names; nothing where the line is skipped.
 fn read_line(line: &[u8], earlier: usize) -> Result<Option<(&[u8], u16)>, ScheduleCause>
     ensures { MatchResult result
         (λ found. MatchOption found (IsSkippedLine line.now) (λ name. IsNameLine earlier line.now (record { process = name.0.now; place = name.1 })))
@@ -87,7 +87,7 @@ fn read_line(line: &[u8], earlier: usize) -> Result<Option<(&[u8], u16)>, Schedu
     }
 }
 
-/// The name on the line of this number, behind that many names; nothing where the line is skipped.
+/// The name on the line of this number, after that many names; nothing where the line is skipped.
 fn name_on_line(
     alloc: Global,
     line: &[u8],

@@ -24,7 +24,7 @@ pub enum TraceCause {
     ProcTwice,
     /// An operation before the first `proc` line.
     OpOutsideProc,
-    /// An `init` or `final` line behind the first `proc` line.
+    /// An `init` or `final` line after the first `proc` line.
     LateHeaderLine,
     /// The 65th process.
     TooManyProcs,

@@ -332,7 +332,7 @@ fn is_header(words: &[&[u8]]) -> bool
     words.len() == 2 && words[0] == b"vsc".as_slice() && words[1] == b"1".as_slice()
 }
 
-/// Puts an operation behind the others of the open process.
+/// Puts an operation after the others of the open process.
 fn push_operation(open: &mut Option<OpenProcess>, op: Op) -> Result<(), AllocFailed<Op>>
     requires { IsSome open.old }
     ensures pushed { OnOk result (open_process open.new ≡ with_operation (open_process open.old) op) }

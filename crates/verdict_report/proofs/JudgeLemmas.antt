@@ -1,5 +1,5 @@
 -- How the engine that judges ends, by what becomes of its line.
-use Rattle.std.proofs.Common.{◌≡◌, ◌+◌, ℕ, List, inr, subst}
+use Rattle.std.proofs.Common.{◌≡◌, ℕ, List, inr, subst}
 use Rattle.std.specs.Prelude.{Result, Ok, Err}
 use Rattle.trace_text.specs.declared.judgement.Judgement.{Judgement}
 use Rattle.verdict_report.specs.declared.fault.Fault.{Fault}

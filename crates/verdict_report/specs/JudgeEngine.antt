@@ -105,7 +105,7 @@ pub record Answers (trace schedule : SourceRun) (out : SinkRun) (status : Status
   pub status_is : status ≡ status_after judgement
   pub unfailing : NothingFailed trace schedule out
 
--- the first input is past the limit, or the second one behind a first that is not
+-- the first input is past the limit, or the second one where the first is not
 abbrev pub IsTooLong : SourceRun → SourceRun → Type 0
 IsTooLong trace schedule = AppendsMoreThan 268435456 trace.before trace.now
     ⊎ ((text : List ℕ) × HandsOut trace text × AppendsMoreThan 268435456 schedule.before schedule.now)

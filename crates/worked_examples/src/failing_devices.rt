@@ -9,7 +9,7 @@ use verdict_report::{Fault, ShortSource, Status, run_judge, write_fault};
 /// The order that explains the read of the hand-off.
 const SCHEDULE: &str = "P.1\nQ.1\n";
 
-/// A source of the text that hands out a byte a call, and fails at this call. The call behind the last byte tells the
+/// A source of the text that hands out a byte a call, and fails at this call. The call after the last byte tells the
 /// end.
 fn failing_at(text: &str, call: usize) -> ShortSource<'_> {
     ShortSource::new(text.as_bytes(), 1).failing_at(call as u64)

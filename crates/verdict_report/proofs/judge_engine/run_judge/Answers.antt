@@ -39,16 +39,24 @@ returns g c =
 pub returns-in_err-schedule_text : goal.returns-in_err-schedule_text
 returns-in_err-schedule_text g c =
     let trace : SourceRun = record {
-      before = g.T.Source.handed_out c.args.trace.now; now = g.T.Source.handed_out c.read_whole.new.source; is_at_end = g.T.Source.is_at_end c.read_whole.new.source;
-      failures_before = g.T.Source.failures c.args.trace.now; failures_now = g.T.Source.failures c.read_whole.new.source
+      before = g.T.Source.handed_out c.args.trace.now;
+      now = g.T.Source.handed_out c.read_whole.new.source;
+      is_at_end = g.T.Source.is_at_end c.read_whole.new.source;
+      failures_before = g.T.Source.failures c.args.trace.now;
+      failures_now = g.T.Source.failures c.read_whole.new.source;
     } in
     let schedule : SourceRun = record {
-      before = g.S.Source.handed_out c.args.schedule.now; now = g.S.Source.handed_out c.read_whole-2.new.source; is_at_end = g.S.Source.is_at_end c.read_whole-2.new.source;
-      failures_before = g.S.Source.failures c.args.schedule.now; failures_now = g.S.Source.failures c.read_whole-2.new.source
+      before = g.S.Source.handed_out c.args.schedule.now;
+      now = g.S.Source.handed_out c.read_whole-2.new.source;
+      is_at_end = g.S.Source.is_at_end c.read_whole-2.new.source;
+      failures_before = g.S.Source.failures c.args.schedule.now;
+      failures_now = g.S.Source.failures c.read_whole-2.new.source;
     } in
     let out : SinkRun = record {
-      before = g.W.Sink.written c.args.out.now; now = g.W.Sink.written c.args.out.now;
-      failures_before = g.W.Sink.failures c.args.out.now; failures_now = g.W.Sink.failures c.args.out.now
+      before = g.W.Sink.written c.args.out.now;
+      now = g.W.Sink.written c.args.out.now;
+      failures_before = g.W.Sink.failures c.args.out.now;
+      failures_now = g.W.Sink.failures c.args.out.now;
     } in
     let handed : HandsOut trace c.in_ok-trace_text.trace_text.items = record { handed = search rules; ended = search rules; within_limit = search rules } in
     let p = err_from_is_err_and c.from_residual-in_err-schedule_text.result c.from_residual-in_err-schedule_text.ensures.1 in
