@@ -333,12 +333,12 @@ fn is_header(words: &[&[u8]]) -> bool
 }
 
 /// Puts an operation after the others of the open process.
-fn push_operation(open: &mut Option<OpenProcess>, op: Op) -> Result<(), AllocFailed<Op>>
-    requires { IsSome open.old }
-    ensures pushed { OnOk result (open_process open.new ≡ with_operation (open_process open.old) op) }
-    ensures open { OnOk result (IsSome open.new) }
+fn push_operation(opened: &mut Option<OpenProcess>, op: Op) -> Result<(), AllocFailed<Op>>
+    requires { IsSome opened.old }
+    ensures pushed { OnOk result (open_process opened.new ≡ with_operation (open_process opened.old) op) }
+    ensures open { OnOk result (IsSome opened.new) }
 {
-    match open {
+    match opened {
         Some(process) => process.ops.push(op),
         None => unreachable!(),
     }
