@@ -1,6 +1,9 @@
 //! The program `vsc`: its files, its standard streams and its exit status.
 #![tactic(auto)]
 
+ghost use Rattle.std.specs.Prelude.{◌≡◌, ◌⊎◌, IfOk, map, string_bytes};
+ghost use Rattle.verdict_report.specs.LineFault.{status_of};
+
 mod buffered_sink;
 mod file_source;
 mod standard_output;
@@ -47,7 +50,9 @@ fn run_line(rt: &HostRuntime, line: Line<'_>) -> u8 {
 }
 
 /// Prints help, or what is wrong with the command line.
-fn tell_line_fault(rt: &HostRuntime, fault: &LineFault) -> u8 {
+fn tell_line_fault(rt: &HostRuntime, fault: &LineFault) -> u8
+    ensures { (result ≡ status_of fault.now) ⊎ (result ≡ DEVICE) }
+{
     let told = if fault.is_answer() {
         print!(rt; "{fault}")
     } else {
@@ -57,12 +62,17 @@ fn tell_line_fault(rt: &HostRuntime, fault: &LineFault) -> u8 {
 }
 
 /// Refuses a command line before it is read.
-fn refuse(rt: &HostRuntime, why: &str) -> u8 {
+fn refuse(rt: &HostRuntime, why: &str) -> u8
+    ensures { result ≡ REFUSED }
+{
     let _ = eprintln!(rt; "{why}");
     REFUSED
 }
 
-fn words_of<'t>(alloc: Global, texts: &'t Vec<String>) -> Result<Vec<&'t str>, AllocError> {
+/// The texts as words.
+fn words_of<'t>(alloc: Global, texts: &'t Vec<String>) -> Result<Vec<&'t str>, AllocError>
+    ensures { IfOk result (λ words. map (λ word. word.now) words.items ≡ map string_bytes texts.now.items) }
+{
     let mut words = Vec::with_capacity(alloc, texts.len())?;
     for text in texts {
         words.push(text.as_str())?;
