@@ -1,53 +1,38 @@
 -- A line of a trace text, by its first words.
-use Rattle.std.proofs.Common.{◌≡◌, ◌≢◌, ℕ, ◌+◌, ◌<◌, ◌≤◌, List, [], ◌∷◌, ◌++◌, length, take, map, Bool, true, false, cond, not, ◌&&◌, codes, refl, inl, ap, sym, ◌∙◌, arith, subst, append_assoc, length-append}
+use Rattle.std.proofs.Common.{◌≡◌, ℕ, ◌+◌, ◌<◌, ◌≤◌, List, [], ◌∷◌, ◌++◌, length, take, map, Bool, true, false, cond, not, ◌&&◌, refl, inl, inr, ap, sym, ◌∙◌, arith, subst, append_assoc, append-nil, length-append}
 use Rattle.std.specs.Prelude.{Some, None, if◌then◌else◌}
-use Rattle.std.specs.List.{filter, list_any, list_all, flat_map, sum_by, AllPairs}
-use Rattle.trace_text.specs.declared.trace.Process.{Process}
-use Rattle.trace_text.specs.TraceText.{header_line, process_lines, is_written_process}
+use Rattle.std.specs.Cmp.Lexicographic.{pointwise}
+use Rattle.std.specs.List.{filter, list_any}
 use Rattle.std.specs.Str.{bytes_eq}
 use Rattle.std.proofs.lemmas.List.{map-append}
 use Rattle.std.proofs.lemmas.List.Elements.{filter-append}
+use Rattle.std.proofs.lemmas.Slice.Eq.{bytes_eq-Decides, slice_eq-Decides}
 use Rattle.text_lines.specs.FirstFault.{IsFaultless}
 use Rattle.text_lines.specs.Lines.{lines_of}
 use Rattle.text_lines.specs.Words.{words_of}
 use Rattle.text_lines.proofs.FaultLemmas.{faultless_push, faultless_nil}
 use Rattle.trace_text.specs.declared.trace_fault.TraceCause.TheVariants.{NotAscii, Header}
-use Rattle.trace_text.specs.declared.trace_reader.Refusal.{Refusal}
-use Rattle.trace_text.specs.declared.trace_reader.Refusal.TheVariants.{OutOfMemory, Fault}
+use Rattle.trace_text.specs.declared.refusal.Refusal.{Refusal}
+use Rattle.trace_text.specs.declared.refusal.Refusal.TheVariants.{OutOfMemory, Fault}
 use Rattle.trace_text.specs.declared.trace_reader.TraceReader.{TraceReader}
+use Rattle.trace_text.specs.Header.{header_fault, IsHeaderLine}
 use Rattle.trace_text.specs.Kept.{is_skipped, kept}
-use Rattle.trace_text.specs.TraceFault.{trace_line_fault, words_fault, is_high, IsTraceRefusal}
-use Rattle.trace_text.specs.TraceProgress.{IsProgress, IsRefusedFor, processes_of, refusal_at}
+use Rattle.trace_text.specs.Progress.{IsProgress}
+use Rattle.trace_text.specs.Read.{saying, AreSaid, TakesLine, TakesWords, HasHeader, IsAllRead}
+use Rattle.trace_text.specs.Refusal.{IsRefusedFor, refusal_at}
+use Rattle.trace_text.specs.Statement.{Statement, statement_of, words_for}
+use Rattle.trace_text.specs.TraceFault.{trace_line_fault, words_fault, said_fault, statement_fault, statements_of, is_header, is_version_2, is_high, IsTraceRefusal, HasTraceFault}
+use Rattle.trace_text.specs.TraceText.{header_line}
+use Rattle.trace_text.proofs.SaidLemmas.{said_first, words_said, statements_said}
 
--- the first eight words tell as much as all
+-- the first words tell as much as all
 pub skipped_first : (words : List (List ℕ)) → is_skipped (take 8 words) ≡ is_skipped words
 skipped_first [] = refl
 skipped_first (w ∷ ws) = refl
 
-pub fault_first : (earlier : List (List (List ℕ))) (words : List (List ℕ)) → words_fault earlier (take 8 words) ≡ words_fault earlier words
-fault_first [] [] = refl
-fault_first [] (a ∷ []) = refl
-fault_first [] (a ∷ b ∷ []) = refl
-fault_first [] (a ∷ b ∷ c ∷ ws) = refl
-fault_first (e ∷ es) [] = refl
-fault_first (e ∷ es) (a ∷ []) = refl
-fault_first (e ∷ es) (a ∷ b ∷ []) = refl
-fault_first (e ∷ es) (a ∷ b ∷ c ∷ []) = refl
-fault_first (e ∷ es) (a ∷ b ∷ c ∷ d ∷ ws) = refl
-
-too_long : (x y : Bool) → (if x && (y && false) then None else Some Header) ≡ None → ⊥
-too_long true true h = cc
-too_long true false h = cc
-too_long false y h = cc
-
--- a line without a fault has no more words
-pub whole_line : (earlier : List (List (List ℕ))) (words : List (List ℕ)) → words_fault earlier (take 8 words) ≡ None → take 8 words ≡ words
-whole_line earlier [] h = refl
-whole_line earlier (a ∷ []) h = refl
-whole_line earlier (a ∷ b ∷ []) h = refl
-whole_line earlier (a ∷ b ∷ c ∷ []) h = refl
-whole_line [] (a ∷ b ∷ c ∷ d ∷ ws) h = absurd (too_long (bytes_eq a (codes "vsc")) (bytes_eq b (codes "1")) h)
-whole_line (e ∷ es) (a ∷ b ∷ c ∷ d ∷ ws) h = absurd (cc)
+pub skipped_of_three : (words : List (List ℕ)) → is_skipped (take 3 words) ≡ is_skipped words
+skipped_of_three [] = refl
+skipped_of_three (w ∷ ws) = refl
 
 -- the kept lines with one more
 kept_by : (b : Bool) (words : List (List ℕ)) → cond (not b) (words ∷ []) [] ≡ (if b then [] else words ∷ [])
@@ -69,63 +54,187 @@ line_fault before line s h =
     ap (λ b. if b then None else if list_any is_high line then Some NotAscii else words_fault (kept before) (words_of line)) s
     ∙ ap (λ b. if b then Some NotAscii else words_fault (kept before) (words_of line)) h
 
--- a kept line is taken
-pub record TakesLine (before : List (List ℕ)) (line : List ℕ) (new : TraceReader) : Type 0 where
-  pub faultless : trace_line_fault before line ≡ None
-  pub progress : IsProgress (kept (before ++ line ∷ [])) new
+pub version_is : (two : Bool) → is_version_2 (header_line two) ≡ two
+version_is true = refl
+version_is false = refl
 
-pub takes_line : (before : List (List ℕ)) (line : List ℕ) (new : TraceReader) → is_skipped (words_of line) ≡ false → list_any is_high line ≡ false →
-    words_fault (kept before) (take 8 (words_of line)) ≡ None → IsProgress (kept before ++ take 8 (words_of line) ∷ []) new → (trace_line_fault before line ≡ None) × IsProgress (kept (before ++ line ∷ [])) new
-takes_line before line new s h f p = (
-  line_fault before line s h ∙ sym (fault_first (kept before) (words_of line)) ∙ f,
-  subst (λ k. IsProgress k new) (ap (λ w. kept before ++ w ∷ []) (whole_line (kept before) (words_of line) f) ∙ sym (kept_more before line false s)) p,
-)
+-- the fault of words behind statements
+pub fault_said : (two : Bool) (before : List (List ℕ)) (ss : List Statement) (words : List (List ℕ)) → AreSaid two before ss → words_fault (kept before) words ≡ said_fault ss (statement_of two words)
+fault_said two before ss words a =
+    ap (λ k. words_fault k words) a.kept_lines
+    ∙ ap (λ v. said_fault (statements_of v (map words_for ss)) (statement_of v words)) (version_is two)
+    ∙ ap (λ l. said_fault l (statement_of two words)) (statements_said two ss a.said)
+
+-- a line is refused by its first words
+pub line_refused : (two : Bool) (before : List (List ℕ)) (ss : List Statement) (line : List ℕ) (refusal : Refusal) → AreSaid two before ss → is_skipped (words_of line) ≡ false → list_any is_high line ≡ false →
+    IsRefusedFor (said_fault ss (statement_of two (take 8 (words_of line)))) refusal → IsRefusedFor (trace_line_fault before line) refusal
+line_refused two before ss line refusal a s h r = subst (λ f. IsRefusedFor f refusal)
+    (ap (said_fault ss) (said_first two (words_of line)) ∙ sym (fault_said two before ss (words_of line) a) ∙ sym (line_fault before line s h)) r
+
+-- a line is taken by its first words
+pub line_taken : (two : Bool) (before : List (List ℕ)) (ss : List Statement) (line : List ℕ) (new : TraceReader) → AreSaid two before ss → is_skipped (words_of line) ≡ false → list_any is_high line ≡ false →
+    TakesWords two ss (take 8 (words_of line)) new → TakesLine two before line new
+line_taken two before ss line new a s h t =
+    let says : statement_of two (words_of line) ≡ Some t.s = sym (said_first two (words_of line)) ∙ t.says in
+    let words : words_of line ≡ words_for t.s = words_said two (words_of line) t.s says in
+    record {
+      faultless = line_fault before line s h ∙ fault_said two before ss (words_of line) a ∙ ap (said_fault ss) says ∙ t.faultless;
+      ss = ss ++ t.s ∷ [];
+      said = record {
+        kept_lines = kept_more before line false s ∙ (λ i. a.kept_lines i ++ words i ∷ []) ∙ ap (λ l. header_line two ∷ l) (sym (map-append words_for ss (t.s ∷ [])));
+        said = map-append (saying two) ss (t.s ∷ []) ∙ (λ i. a.said i ++ (ap (statement_of two) (sym words) ∙ says) i ∷ []) ∙ sym (map-append Some ss (t.s ∷ []));
+        faultless = faultless_push statement_fault ss t.s a.faultless t.faultless;
+      };
+      progress = t.progress;
+    }
+
+-- a skipped line
+pub line_skipped : (two : Bool) (before : List (List ℕ)) (ss : List Statement) (line : List ℕ) (reader : TraceReader) → AreSaid two before ss → IsProgress ss reader → is_skipped (words_of line) ≡ true → TakesLine two before line reader
+line_skipped two before ss line reader a p s = record {
+  faultless = ap (λ b. if b then None else if list_any is_high line then Some NotAscii else words_fault (kept before) (words_of line)) s;
+  ss = ss;
+  said = record { kept_lines = kept_more before line true s ∙ append-nil (kept before) ∙ a.kept_lines; said = a.said; faultless = a.faultless };
+  progress = p;
+}
 
 -- what is read so far, of which this is left
-pub record IsReadSoFar (text : List ℕ) (next : ℕ) (rest : List ℕ) (reader : TraceReader) : Type 0 where
+pub record IsReadSoFar (text : List ℕ) (two : Bool) (next : ℕ) (rest : List ℕ) (reader : TraceReader) : Type 0 where
+  pub lines : List (List ℕ)
+  pub ss : List Statement
+  pub counted : next ≡ length lines + 1
+  pub parts : lines_of text ≡ lines ++ lines_of rest
+  pub faultless : IsFaultless trace_line_fault lines
+  pub said : AreSaid two lines ss
+  pub progress : IsProgress ss reader
+  pub room : next + length rest ≤ length text + 1
+
+pub one_more_line : (text : List ℕ) (two : Bool) (next : ℕ) (rest : List ℕ) (old new : TraceReader) (line after : List ℕ) (so_far : IsReadSoFar text two next rest old) → lines_of rest ≡ line ∷ lines_of after → length after < length rest →
+    TakesLine two so_far.lines line new → IsReadSoFar text two (next + 1) after new
+one_more_line text two next rest old new line after so_far e l t = record {
+  lines = so_far.lines ++ line ∷ [];
+  ss = t.ss;
+  counted = omega (arith, so_far.counted, length-append so_far.lines (line ∷ []));
+  parts = so_far.parts ∙ ap (λ ls. so_far.lines ++ ls) e ∙ sym (append_assoc so_far.lines (line ∷ []) (lines_of after));
+  faultless = faultless_push trace_line_fault so_far.lines line so_far.faultless t.faultless;
+  said = t.said;
+  progress = t.progress;
+  room = omega (arith, so_far.room, l);
+}
+
+-- a fault at a line behind lines that have none
+pub fault_here : (text : List ℕ) (next : ℕ) (lines : List (List ℕ)) (rest line after : List ℕ) (refusal : Refusal) → next ≡ length lines + 1 → lines_of text ≡ lines ++ lines_of rest → IsFaultless trace_line_fault lines → lines_of rest ≡ line ∷ lines_of after →
+    IsRefusedFor (trace_line_fault lines line) refusal → IsTraceRefusal text (refusal_at refusal next)
+fault_here text next lines rest line after OutOfMemory n p f e r = tt
+fault_here text next lines rest line after (Fault cause) n p f e r = inl (record {
+  before = lines;
+  item = line;
+  after = lines_of after;
+  parts = p ∙ ap (λ ls. lines ++ ls) e;
+  counted = n;
+  faulty = r;
+  first = f;
+})
+
+pub refused_at : (text : List ℕ) (two : Bool) (next : ℕ) (rest : List ℕ) (reader : TraceReader) (line after : List ℕ) (refusal : Refusal) (so_far : IsReadSoFar text two next rest reader) → lines_of rest ≡ line ∷ lines_of after →
+    IsRefusedFor (trace_line_fault so_far.lines line) refusal → IsTraceRefusal text (refusal_at refusal next)
+refused_at text two next rest reader line after refusal so_far e r = fault_here text next so_far.lines rest line after refusal so_far.counted so_far.parts so_far.faultless e r
+
+-- the header is read
+pub header_read : (text : List ℕ) (two : Bool) (next : ℕ) (rest : List ℕ) (reader : TraceReader) → HasHeader text two rest next → IsProgress [] reader → IsReadSoFar text two next rest reader
+header_read text two next rest reader h p = record {
+  lines = h.lines;
+  ss = [];
+  counted = h.counted;
+  parts = h.parts;
+  faultless = h.faultless;
+  said = record { kept_lines = h.header; said = refl; faultless = faultless_nil statement_fault };
+  progress = p;
+  room = h.room;
+}
+
+-- all lines are read
+pub all_read : (text : List ℕ) (two : Bool) (next : ℕ) (rest : List ℕ) (reader : TraceReader) → IsReadSoFar text two next rest reader → lines_of rest ≡ [] → IsAllRead text two reader
+all_read text two next rest reader so_far e =
+    let all : lines_of text ≡ so_far.lines = so_far.parts ∙ ap (λ l. so_far.lines ++ l) e ∙ append-nil so_far.lines in
+    record {
+      ss = so_far.ss;
+      said = subst (λ l. AreSaid two l so_far.ss) (sym all) so_far.said;
+      faultless = subst (λ l. IsFaultless trace_line_fault l) (sym all) so_far.faultless;
+      progress = so_far.progress;
+    }
+
+-- the tests of a header
+is_pair : (a b c d : List ℕ) (x y : Bool) → bytes_eq a c ≡ x → bytes_eq b d ≡ y → (x && (y && true)) ≡ true → a ∷ b ∷ [] ≡ c ∷ d ∷ []
+is_pair a b c d true true e f h = λ i. (bytes_eq-Decides a c).0 e i ∷ (bytes_eq-Decides b d).0 f i ∷ []
+is_pair a b c d true false e f h = absurd (cc)
+is_pair a b c d false y e f h = absurd (cc)
+
+-- the words are those of a text's header where the test says so
+pub pointwise_pair : (words texts : List (List ℕ)) → pointwise bytes_eq words texts ≡ true → words ≡ texts
+pointwise_pair words texts h = (slice_eq-Decides bytes_eq-Decides words texts true (sym h)).0 refl
+
+-- three words tell as well as all whether they are a header
+pub header_first : (words : List (List ℕ)) → is_header (take 3 words) ≡ is_header words
+header_first [] = refl
+header_first (a ∷ []) = refl
+header_first (a ∷ b ∷ []) = refl
+header_first (a ∷ b ∷ c ∷ ws) = refl
+
+-- the first three words are a header's two
+pub header_whole : (two : Bool) (words : List (List ℕ)) → take 3 words ≡ header_line two → words ≡ header_line two
+header_whole two [] h = h
+header_whole two (a ∷ []) h = h
+header_whole two (a ∷ b ∷ []) h = h
+header_whole two (a ∷ b ∷ c ∷ ws) h = absurd (cc)
+
+header_tests : (two : Bool) → is_header (header_line two) ≡ true
+header_tests true = refl
+header_tests false = refl
+
+header_unskipped : (two : Bool) → is_skipped (header_line two) ≡ false
+header_unskipped true = refl
+header_unskipped false = refl
+
+-- what is read before the header
+pub record IsBeforeHeader (text : List ℕ) (next : ℕ) (rest : List ℕ) : Type 0 where
   pub lines : List (List ℕ)
   pub counted : next ≡ length lines + 1
   pub parts : lines_of text ≡ lines ++ lines_of rest
   pub faultless : IsFaultless trace_line_fault lines
-  pub progress : IsProgress (kept lines) reader
+  pub none : kept lines ≡ []
   pub room : next + length rest ≤ length text + 1
 
-pub one_more_line : (text : List ℕ) (next : ℕ) (rest : List ℕ) (old new : TraceReader) (line after : List ℕ) (so_far : IsReadSoFar text next rest old) → lines_of rest ≡ line ∷ lines_of after → length after < length rest →
-    (trace_line_fault so_far.lines line ≡ None) × IsProgress (kept (so_far.lines ++ line ∷ [])) new → IsReadSoFar text (next + 1) after new
-one_more_line text next rest old new line after so_far e l t = record {
-  lines = so_far.lines ++ line ∷ [];
-  counted = omega (arith, so_far.counted, length-append so_far.lines (line ∷ []));
-  parts = so_far.parts ∙ ap (λ ls. so_far.lines ++ ls) e ∙ sym (append_assoc so_far.lines (line ∷ []) (lines_of after));
-  faultless = faultless_push trace_line_fault so_far.lines line so_far.faultless t.0;
-  progress = t.1;
-  room = omega (arith, so_far.room, l);
+pub nothing_read : (text : List ℕ) → IsBeforeHeader text 1 text
+nothing_read text = record { lines = []; counted = omega arith; parts = refl; faultless = faultless_nil trace_line_fault; none = refl; room = omega arith }
+
+pub skipped_line : (text : List ℕ) (next : ℕ) (rest line after : List ℕ) → IsBeforeHeader text next rest → lines_of rest ≡ line ∷ lines_of after → length after < length rest → is_skipped (words_of line) ≡ true → IsBeforeHeader text (next + 1) after
+skipped_line text next rest line after b e l s = record {
+  lines = b.lines ++ line ∷ [];
+  counted = omega (arith, b.counted, length-append b.lines (line ∷ []));
+  parts = b.parts ∙ ap (λ ls. b.lines ++ ls) e ∙ sym (append_assoc b.lines (line ∷ []) (lines_of after));
+  faultless = faultless_push trace_line_fault b.lines line b.faultless (ap (λ c. if c then None else if list_any is_high line then Some NotAscii else words_fault (kept b.lines) (words_of line)) s);
+  none = kept_more b.lines line true s ∙ append-nil (kept b.lines) ∙ b.none;
+  room = omega (arith, b.room, l);
 }
 
-pub refused_at : (text : List ℕ) (next : ℕ) (rest : List ℕ) (reader : TraceReader) (line after : List ℕ) (refusal : Refusal) (so_far : IsReadSoFar text next rest reader) → lines_of rest ≡ line ∷ lines_of after →
-    IsRefusedFor (trace_line_fault so_far.lines line) refusal → IsTraceRefusal text (refusal_at refusal next)
-refused_at text next rest reader line after OutOfMemory so_far e r = tt
-refused_at text next rest reader line after (Fault cause) so_far e r = inl (record {
-  before = so_far.lines;
-  item = line;
-  after = lines_of after;
-  parts = so_far.parts ∙ ap (λ ls. so_far.lines ++ ls) e;
-  counted = so_far.counted;
-  faulty = r;
-  first = so_far.faultless;
-})
+pub header_line_read : (text : List ℕ) (next : ℕ) (rest line after : List ℕ) (two : Bool) → IsBeforeHeader text next rest → lines_of rest ≡ line ∷ lines_of after → length after < length rest → IsHeaderLine line two → HasHeader text two after (next + 1)
+header_line_read text next rest line after two b e l h =
+    let unskipped : is_skipped (words_of line) ≡ false = ap is_skipped h.words ∙ header_unskipped two in
+    record {
+      lines = b.lines ++ line ∷ [];
+      counted = omega (arith, b.counted, length-append b.lines (line ∷ []));
+      parts = b.parts ∙ ap (λ ls. b.lines ++ ls) e ∙ sym (append_assoc b.lines (line ∷ []) (lines_of after));
+      faultless = faultless_push trace_line_fault b.lines line b.faultless
+          (line_fault b.lines line unskipped h.low ∙ (λ i. words_fault (b.none i) (h.words i)) ∙ ap (λ c. if c then None else Some Header) (header_tests two));
+      header = kept_more b.lines line false unskipped ∙ (λ i. b.none i ++ h.words i ∷ []);
+      room = omega (arith, b.room, l);
+    }
 
--- nothing is read yet
-pub nothing_read : (text : List ℕ) (reader : TraceReader) → IsProgress [] reader → IsReadSoFar text 1 text reader
-nothing_read text reader p = record { lines = []; counted = omega arith; parts = refl; faultless = faultless_nil trace_line_fault; progress = p; room = omega arith }
+pub header_refused : (text : List ℕ) (next : ℕ) (rest line after : List ℕ) (refusal : Refusal) → IsBeforeHeader text next rest → lines_of rest ≡ line ∷ lines_of after → IsRefusedFor (header_fault line) refusal → IsTraceRefusal text (refusal_at refusal next)
+header_refused text next rest line after refusal b e r = fault_here text next b.lines rest line after refusal b.counted b.parts b.faultless e
+    (subst (λ f. IsRefusedFor f refusal) (ap (λ k. if is_skipped (words_of line) then None else if list_any is_high line then Some NotAscii else words_fault k (words_of line)) (sym b.none)) r)
 
-pub empty_progress : (r : TraceReader) → r.has_header ≡ false → processes_of r ≡ [] → r.operations ≡ 0 → IsProgress [] r
-empty_progress r h p o = record {
-  lines = sym (ap (λ b. if b then header_line ∷ flat_map process_lines (processes_of r) else []) h);
-  none = λ _. p;
-  opened = λ _. p;
-  written = ap (list_all is_written_process) p;
-  distinct = subst (λ l. AllPairs (λ (p q : Process). p.name ≢ q.name) l) (sym p) (λ i j d b l. absurd (omega (arith, l)));
-  few_processes = omega (arith, ap length p);
-  few_operations = omega (arith, o);
-  counted = o ∙ sym (ap (sum_by (λ (p : Process). length p.operations)) p);
-}
+pub header_missing : (text : List ℕ) (next : ℕ) (rest : List ℕ) → IsBeforeHeader text next rest → lines_of rest ≡ [] → HasTraceFault text Header next
+header_missing text next rest b e =
+    let all : lines_of text ≡ b.lines = b.parts ∙ ap (λ l. b.lines ++ l) e ∙ append-nil b.lines in
+    inr (inl (record { faultless = subst (λ l. IsFaultless trace_line_fault l) (sym all) b.faultless; empty = ap kept all ∙ b.none }, refl, b.counted ∙ ap (λ l. length l + 1) (sym all)))

@@ -1,9 +1,20 @@
 -- A statement of the code, as the statement that it is.
+use Rattle.trace_text.specs.declared.statement.Source.{Source as WrittenSource}
+use Rattle.trace_text.specs.declared.statement.Source.TheVariants.{Unsaid as WrittenUnsaid, FromInit as WrittenFromInit, FromOp as WrittenFromOp}
 use Rattle.trace_text.specs.declared.statement.Statement.{Statement as Written}
-use Rattle.trace_text.specs.declared.statement.Statement.TheVariants.{Proc as WrittenProc, Read as WrittenRead, Write as WrittenWrite}
-use Rattle.trace_text.specs.Statement.{Statement, Proc, Read, Write}
+use Rattle.trace_text.specs.declared.statement.Statement.TheVariants.{Init as WrittenInit, Final as WrittenFinal, Proc as WrittenProc, Read as WrittenRead, Write as WrittenWrite, Update as WrittenUpdate, Before as WrittenBefore}
+use Rattle.trace_text.specs.Statement.{Source, Unsaid, FromInit, FromOp, Statement, Init, Final, Proc, Read, Write, Update, Before}
+
+abbrev pub said_source : WrittenSource → Source
+said_source WrittenUnsaid = Unsaid
+said_source WrittenFromInit = FromInit
+said_source (WrittenFromOp process place) = FromOp process.now place.now
 
 abbrev pub said : Written → Statement
+said (WrittenInit location value) = Init location.now value.now
+said (WrittenFinal location value) = Final location.now value.now
 said (WrittenProc name) = Proc name.now
-said (WrittenRead location value) = Read location.now value.now
+said (WrittenRead location value source) = Read location.now value.now (said_source source)
 said (WrittenWrite location value) = Write location.now value.now
+said (WrittenUpdate location read left source) = Update location.now read.now left.now (said_source source)
+said (WrittenBefore process place other other_place) = Before process.now place.now other.now other_place.now

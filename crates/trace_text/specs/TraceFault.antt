@@ -1,90 +1,232 @@
 -- The first fault of a trace text.
-use Rattle.std.specs.Prelude.{◌≡◌, ◌⊎◌, ⊤, ◌+◌, ◌-◌, ◌^◌, ℕ, Bool, true, false, not, List, [], ◌∷◌, length, Option, Some, None, is_none, nat_le, nat_lt, if◌then◌else◌}
+use Rattle.std.specs.Prelude.{◌≡◌, ◌⊎◌, ⊤, ◌+◌, ◌-◌, ◌^◌, ℕ, Bool, true, false, not, List, [], ◌∷◌, ◌++◌, length, map, Option, Some, None, is_none, ◌&&◌, ◌||◌, nat_le, nat_lt, if◌then◌else◌}
 use Rattle.std.specs.Cmp.Lexicographic.{pointwise}
-use Rattle.std.specs.List.{filter, list_any}
+use Rattle.std.specs.List.{filter, filter_map, list_any, list_all}
+use Rattle.std.specs.Option.{option_and_then, unwrap_or}
 use Rattle.std.specs.Str.{bytes_eq}
 use Rattle.text_lines.specs.FirstFault.{IsFaultless, IsFirstFault}
 use Rattle.text_lines.specs.Lines.{lines_of}
 use Rattle.text_lines.specs.Numbers.{plain_number_up_to}
 use Rattle.text_lines.specs.Words.{words_of}
 use Rattle.trace_text.specs.declared.trace_fault.TraceCause.{TraceCause}
-use Rattle.trace_text.specs.declared.trace_fault.TraceCause.TheVariants.{NotAscii, Header, UnknownLine, BadName, BadNumber, ProcTwice, OpOutsideProc, TooManyProcs, TooManyOps}
+use Rattle.trace_text.specs.declared.trace_fault.TraceCause.TheVariants.{NotAscii, Header, UnknownLine, BadName, BadNumber, InitTwice, FinalTwice, ProcTwice, OpOutsideProc, LateHeaderLine, TooManyProcs, TooManyOps, TooManyLocations, NoSuchOp, BeforeItself, TooManyBefore}
 use Rattle.trace_text.specs.declared.trace_fault.TraceFault.{TraceFault}
 use Rattle.trace_text.specs.declared.trace_fault.TraceFault.TheVariants.{OutOfMemory, Line}
 use Rattle.trace_text.specs.Kept.{kept, is_skipped}
+use Rattle.trace_text.specs.Locations.{distinct, holds_name}
 use Rattle.trace_text.specs.Names.{is_name}
-use Rattle.trace_text.specs.Statement.{Statement, Proc, Read, Write, statement_of}
+use Rattle.trace_text.specs.Statement.{Source, Unsaid, FromInit, FromOp, Statement, Init, Final, Proc, Read, Write, Update, Before, statement_of}
 use Rattle.trace_text.specs.TraceText.{header_line}
 
--- the line begins a process
-abbrev pub is_proc : Option Statement → Bool
-is_proc (Some (Proc name)) = true
-is_proc said = false
+-- kinds of statements
+abbrev pub is_proc : Statement → Bool
+is_proc (Proc name) = true
+is_proc s = false
 
--- the line begins the process of this name
-abbrev pub is_proc_of : List ℕ → Option Statement → Bool
-is_proc_of name (Some (Proc other)) = bytes_eq other name
-is_proc_of name said = false
+abbrev pub is_value_line : Statement → Bool
+is_value_line (Init location value) = true
+is_value_line (Final location value) = true
+is_value_line s = false
 
--- the line is an operation
-abbrev pub is_operation : Option Statement → Bool
-is_operation (Some (Read location value)) = true
-is_operation (Some (Write location value)) = true
-is_operation said = false
+abbrev pub is_operation : Statement → Bool
+is_operation (Read location value source) = true
+is_operation (Write location value) = true
+is_operation (Update location read left source) = true
+is_operation s = false
 
--- the word is a value: a plain number below 2^64
+abbrev pub is_before : Statement → Bool
+is_before (Before process place other other_place) = true
+is_before s = false
+
+-- an operation that is named, by its process and its place as they are written
+abbrev pub references_of_source : Source → List (List ℕ × List ℕ)
+references_of_source Unsaid = []
+references_of_source FromInit = []
+references_of_source (FromOp process place) = (process, place) ∷ []
+
+abbrev pub references_of : Statement → List (List ℕ × List ℕ)
+references_of (Read location value source) = references_of_source source
+references_of (Update location read left source) = references_of_source source
+references_of (Before process place other other_place) = (process, place) ∷ (other, other_place) ∷ []
+references_of s = []
+
+-- the location that is named, if one is
+abbrev pub location_named : Statement → Option (List ℕ)
+location_named (Init location value) = Some location
+location_named (Final location value) = Some location
+location_named (Read location value source) = Some location
+location_named (Write location value) = Some location
+location_named (Update location read left source) = Some location
+location_named s = None
+
+-- the words that should be names, and those that should be values
+abbrev pub own_names : Statement → List (List ℕ)
+own_names (Proc name) = name ∷ []
+own_names (Before process place other other_place) = []
+own_names (Init location value) = location ∷ []
+own_names (Final location value) = location ∷ []
+own_names (Read location value source) = location ∷ []
+own_names (Write location value) = location ∷ []
+own_names (Update location read left source) = location ∷ []
+
+abbrev pub names_of : Statement → List (List ℕ)
+names_of s = own_names s ++ map (λ (r : List ℕ × List ℕ). r.0) (references_of s)
+
+abbrev pub values_of : Statement → List (List ℕ)
+values_of (Init location value) = value ∷ []
+values_of (Final location value) = value ∷ []
+values_of (Proc name) = []
+values_of (Read location value source) = value ∷ []
+values_of (Write location value) = value ∷ []
+values_of (Update location read left source) = read ∷ left ∷ []
+values_of (Before process place other other_place) = []
+
+-- a value is a plain number below 2^64
 abbrev pub is_value : List ℕ → Bool
 is_value word = not (is_none (plain_number_up_to (2 ^ 64 - 1) word))
 
--- what is wrong with a line that begins a process, after these lines
-abbrev pub proc_fault : List (List (List ℕ)) → List ℕ → Option TraceCause
-proc_fault earlier name =
-    if not (is_name name) then Some BadName
-    else if list_any (λ words. is_proc_of name (statement_of words)) earlier then Some ProcTwice
-    else if nat_le 64 (length (filter (λ words. is_proc (statement_of words)) earlier)) then Some TooManyProcs
+-- a place as it is written, from 1 to 65535
+abbrev pub place_of : List ℕ → Option ℕ
+place_of word = option_and_then (λ n. if nat_le 1 n then Some n else None) (plain_number_up_to 65535 word)
+
+abbrev pub is_place : List ℕ → Bool
+is_place word = not (is_none (place_of word))
+
+-- two statements of which a text may have only one
+abbrev pub repeats : Statement → Statement → Bool
+repeats (Init location value) (Init other other_value) = bytes_eq other location
+repeats (Final location value) (Final other other_value) = bytes_eq other location
+repeats (Proc name) (Proc other) = bytes_eq other name
+repeats s t = false
+
+-- the cause for the second one
+abbrev pub twice_cause : Statement → TraceCause
+twice_cause (Init location value) = InitTwice
+twice_cause (Final location value) = FinalTwice
+twice_cause s = ProcTwice
+
+-- whether a statement passes a limit behind these: 64 processes, 4,096 operations, 4,096 `before` lines
+abbrev pub limit_fault : List Statement → Statement → Option TraceCause
+limit_fault earlier s =
+    if is_proc s && nat_le 64 (length (filter is_proc earlier)) then Some TooManyProcs
+    else if is_operation s && nat_le 4096 (length (filter is_operation earlier)) then Some TooManyOps
+    else if is_before s && nat_le 4096 (length (filter is_before earlier)) then Some TooManyBefore
     else None
 
--- what is wrong with an operation at this location with this value, after these lines
-abbrev pub operation_fault : List (List (List ℕ)) → List ℕ → List ℕ → Option TraceCause
-operation_fault earlier location value =
-    if not (list_any (λ words. is_proc (statement_of words)) earlier) then Some OpOutsideProc
-    else if not (is_name location) then Some BadName
-    else if not (is_value value) then Some BadNumber
-    else if nat_le 4096 (length (filter (λ words. is_operation (statement_of words)) earlier)) then Some TooManyOps
+-- whether a statement names a location that these do not, and they name 4,096
+abbrev pub is_location_too_many : List Statement → Option (List ℕ) → Bool
+is_location_too_many earlier None = false
+is_location_too_many earlier (Some location) =
+    not (holds_name (filter_map location_named earlier) location) && nat_le 4096 (length (distinct (filter_map location_named earlier)))
+
+-- the first of two faults
+abbrev pub or_else : Option TraceCause → Option TraceCause → Option TraceCause
+or_else None other = other
+or_else (Some cause) other = Some cause
+
+-- what is wrong with the place of a statement behind these, and with its words
+abbrev pub shape_fault : List Statement → Statement → Option TraceCause
+shape_fault earlier s =
+    if is_value_line s && list_any is_proc earlier then Some LateHeaderLine
+    else if is_operation s && not (list_any is_proc earlier) then Some OpOutsideProc
+    else if not (list_all is_name (names_of s)) then Some BadName
+    else if not (list_all is_value (values_of s) && list_all (λ (r : List ℕ × List ℕ). is_place r.1) (references_of s)) then Some BadNumber
     else None
 
--- what is wrong with what a line says, after the lines between the header and it
-abbrev pub statement_fault : List (List (List ℕ)) → Option Statement → Option TraceCause
-statement_fault earlier None = Some UnknownLine
-statement_fault earlier (Some (Proc name)) = proc_fault earlier name
-statement_fault earlier (Some (Read location value)) = operation_fault earlier location value
-statement_fault earlier (Some (Write location value)) = operation_fault earlier location value
+-- what is wrong with a statement behind these
+abbrev pub statement_fault : List Statement → Statement → Option TraceCause
+statement_fault earlier s =
+    or_else (shape_fault earlier s)
+    (if list_any (repeats s) earlier then Some (twice_cause s)
+    else or_else (limit_fault earlier s)
+    (if is_location_too_many earlier (location_named s) then Some TooManyLocations else None))
 
--- what is wrong with the words of a line after those of the lines before it, of which the first is the header
+abbrev pub said_fault : List Statement → Option Statement → Option TraceCause
+said_fault earlier None = Some UnknownLine
+said_fault earlier (Some s) = statement_fault earlier s
+
+-- the words are those of a header, and of the header of version 2
+abbrev pub is_header : List (List ℕ) → Bool
+is_header words = pointwise bytes_eq words (header_line false) || pointwise bytes_eq words (header_line true)
+
+abbrev pub is_version_2 : List (List ℕ) → Bool
+is_version_2 words = pointwise bytes_eq words (header_line true)
+
+-- what the lines behind a header say
+abbrev pub statements_of : Bool → List (List (List ℕ)) → List Statement
+statements_of two body = filter_map (statement_of two) body
+
+-- what is wrong with the words of a line behind those of the lines before it, of which the first is the header
 abbrev pub words_fault : List (List (List ℕ)) → List (List ℕ) → Option TraceCause
-words_fault [] words = if pointwise bytes_eq words header_line then None else Some Header
-words_fault (header ∷ earlier) words = statement_fault earlier (statement_of words)
+words_fault [] words = if is_header words then None else Some Header
+words_fault (header ∷ earlier) words = said_fault (statements_of (is_version_2 header) earlier) (statement_of (is_version_2 header) words)
 
 -- a byte above 127
 abbrev pub is_high : ℕ → Bool
 is_high byte = nat_lt 127 byte
 
--- what is wrong with a line after the lines before it
+-- what is wrong with a line behind the lines before it
 abbrev pub trace_line_fault : List (List ℕ) → List ℕ → Option TraceCause
 trace_line_fault before line =
     if is_skipped (words_of line) then None
     else if list_any is_high line then Some NotAscii
     else words_fault (kept before) (words_of line)
 
+-- how many operations follow up to the next process
+abbrev pub operations_up_to_proc : List Statement → ℕ
+operations_up_to_proc [] = 0
+operations_up_to_proc (Proc name ∷ ss) = 0
+operations_up_to_proc (s ∷ ss) = if is_operation s then 1 + operations_up_to_proc ss else operations_up_to_proc ss
+
+-- whether these statements have an operation at this place of this process
+abbrev pub has_operation : List Statement → List ℕ → ℕ → Bool
+has_operation [] process place = false
+has_operation (Proc name ∷ ss) process place = (bytes_eq name process && nat_le place (operations_up_to_proc ss)) || has_operation ss process place
+has_operation (s ∷ ss) process place = has_operation ss process place
+
+-- the operation that is named is one of these statements
+abbrev pub is_known : List Statement → List ℕ × List ℕ → Bool
+is_known all r = has_operation all r.0 (unwrap_or (place_of r.1) 0)
+
+-- a `before` line of an operation and itself
+abbrev pub is_before_itself : Statement → Bool
+is_before_itself (Before process place other other_place) = bytes_eq process other && bytes_eq place other_place
+is_before_itself s = false
+
+-- what is wrong with the operations that a statement names, where these are all statements
+abbrev pub reference_fault : List Statement → Option Statement → Option TraceCause
+reference_fault all None = None
+reference_fault all (Some s) =
+    if not (list_all (is_known all) (references_of s)) then Some NoSuchOp
+    else if is_before_itself s then Some BeforeItself
+    else None
+
+-- what is wrong with the operations that a line names, where these are all kept lines
+abbrev pub line_reference_fault : List (List (List ℕ)) → List ℕ → Option TraceCause
+line_reference_fault [] line = None
+line_reference_fault (header ∷ body) line =
+    if is_skipped (words_of line) then None
+    else reference_fault (statements_of (is_version_2 header) body) (statement_of (is_version_2 header) (words_of line))
+
+-- no line by itself has a fault
+abbrev pub IsLineByLineFaultless : List ℕ → Type 0
+IsLineByLineFaultless text = IsFaultless trace_line_fault (lines_of text)
+
 -- no line has a fault, and none is the header
 pub record LacksHeader (text : List ℕ) : Type 0 where
-  pub faultless : IsFaultless trace_line_fault (lines_of text)
+  pub faultless : IsLineByLineFaultless text
   pub empty : kept (lines_of text) ≡ []
 
--- the text has its first fault at this line, counted from 1. A missing header is a fault of the line after the last.
+-- no line by itself has a fault, and this is the first that names no operation of the trace, or puts one before itself
+pub record HasReferenceFault (text : List ℕ) (cause : TraceCause) (line : ℕ) : Type 0 where
+  pub faultless : IsLineByLineFaultless text
+  pub found : IsFirstFault (λ _ here. line_reference_fault (kept (lines_of text)) here) (lines_of text) line cause
+
+-- The text has its first fault at this line, counted from 1. A missing header is a fault of the line after the last.
+-- The operations that lines name are looked at only where no line has another fault.
 abbrev pub HasTraceFault : List ℕ → TraceCause → ℕ → Type 0
 HasTraceFault text cause line = IsFirstFault trace_line_fault (lines_of text) line cause
-    ⊎ (LacksHeader text × (cause ≡ Header) × (line ≡ length (lines_of text) + 1))
+    ⊎ ((LacksHeader text × (cause ≡ Header) × (line ≡ length (lines_of text) + 1)) ⊎ HasReferenceFault text cause line)
 
 -- why a text is not read: its first fault, unless there was no memory
 abbrev pub IsTraceRefusal : List ℕ → TraceFault → Type 0

@@ -1,53 +1,84 @@
 -- What a trace text spells.
-use Rattle.std.specs.Prelude.{◌≡◌, ℕ, Bool, true, false, List, [], ◌∷◌, map, codes, ◌&&◌, ◌^◌, nat_lt}
+use Rattle.std.specs.Prelude.{◌≡◌, ◌≤◌, ◌↔◌, ℕ, Bool, true, false, not, List, [], ◌∷◌, ◌++◌, length, map, codes, ◌||◌, ◌==◌, if◌then◌else◌}
 use Rattle.std.specs.Fmt.{decimal}
-use Rattle.std.specs.List.{flat_map, list_all}
+use Rattle.std.specs.List.{filter, flat_map, list_any, Contains}
+use Rattle.std.specs.List.Sorted.{IsPermutation}
+use Rattle.std.specs.Str.{bytes_eq}
 use Rattle.text_lines.specs.Lines.{lines_of}
 use Rattle.trace_text.specs.declared.operation.Op.{Op}
 use Rattle.trace_text.specs.declared.operation.Op.TheVariants.{Read, Write, Update}
+use Rattle.trace_text.specs.declared.operation.OpName.{OpName}
 use Rattle.trace_text.specs.declared.operation.Origin.{Origin}
 use Rattle.trace_text.specs.declared.operation.Origin.TheVariants.{Any, Initial, Operation}
 use Rattle.trace_text.specs.declared.trace.Process.{Process}
 use Rattle.trace_text.specs.Kept.{kept}
-use Rattle.trace_text.specs.Names.{is_name}
 use Rattle.trace_text.specs.Trace.{TraceValue}
 
--- the words of the header
-abbrev pub header_line : List (List ℕ)
-header_line = codes "vsc" ∷ codes "1" ∷ []
+-- the words of the header of version 1 or 2
+abbrev pub header_line : Bool → List (List ℕ)
+header_line two = codes "vsc" ∷ (if two then codes "2" else codes "1") ∷ []
+
+-- the lines of an initial value and of a final value
+abbrev pub init_line : List ℕ × ℕ → List (List ℕ)
+init_line entry = codes "init" ∷ entry.0 ∷ decimal entry.1 ∷ []
+
+abbrev pub final_line : List ℕ × ℕ → List (List ℕ)
+final_line entry = codes "final" ∷ entry.0 ∷ decimal entry.1 ∷ []
 
 abbrev pub proc_line : List ℕ → List (List ℕ)
 proc_line name = codes "proc" ∷ name ∷ []
 
 -- where an operation says that its value comes from
-abbrev pub source_words : Origin → List (List ℕ)
-source_words Any = []
-source_words Initial = codes "from" ∷ codes "init" ∷ []
-source_words (Operation n) = codes "from" ∷ n.process ∷ decimal n.place ∷ []
+abbrev pub origin_words : Origin → List (List ℕ)
+origin_words Any = []
+origin_words Initial = codes "from" ∷ codes "init" ∷ []
+origin_words (Operation n) = codes "from" ∷ n.process ∷ decimal n.place ∷ []
 
 -- the words of the line of an operation
 abbrev pub op_line : Op → List (List ℕ)
-op_line (Read location value origin) = codes "R" ∷ location ∷ decimal value ∷ source_words origin
+op_line (Read location value origin) = codes "R" ∷ location ∷ decimal value ∷ origin_words origin
 op_line (Write location value) = codes "W" ∷ location ∷ decimal value ∷ []
-op_line (Update location read left origin) = codes "U" ∷ location ∷ decimal read ∷ decimal left ∷ source_words origin
+op_line (Update location read left origin) = codes "U" ∷ location ∷ decimal read ∷ decimal left ∷ origin_words origin
 
 -- a process: its first line, and a line for each of its operations
 abbrev pub process_lines : Process → List (List (List ℕ))
 process_lines p = proc_line p.name ∷ map op_line p.operations
 
--- an operation that can be written: a name, and numbers below 2^64. Only plain reads without an origin and writes are read so far.
-abbrev pub is_written_op : Op → Bool
-is_written_op (Read location value Any) = is_name location && nat_lt value (2 ^ 64)
-is_written_op (Write location value) = is_name location && nat_lt value (2 ^ 64)
-is_written_op op = false
+-- the line of a pair of which the first stands before the second
+abbrev pub before_line : OpName × OpName → List (List ℕ)
+before_line pair = codes "before" ∷ pair.0.process ∷ decimal pair.0.place ∷ pair.1.process ∷ decimal pair.1.place ∷ []
 
-abbrev pub is_written_process : Process → Bool
-is_written_process p = is_name p.name && list_all is_written_op p.operations
+-- the line begins with this word
+abbrev pub begins : List ℕ → List (List ℕ) → Bool
+begins key [] = false
+begins key (word ∷ words) = bytes_eq word key
 
--- the lines that are not skipped are the header and those of the processes
+-- the line is of a process: it says no initial or final value and is no `before` line
+abbrev pub is_process_line : List (List ℕ) → Bool
+is_process_line words = not (begins (codes "init") words || begins (codes "final") words || begins (codes "before") words)
+
+-- an operation says where its value comes from
+abbrev pub has_origin : Op → Bool
+has_origin (Read location value Any) = false
+has_origin (Read location value origin) = true
+has_origin (Write location value) = false
+has_origin (Update location read left Any) = false
+has_origin (Update location read left origin) = true
+
+-- the trace says what version 1 has no line for
+abbrev pub needs_version_2 : TraceValue → Bool
+needs_version_2 t = not (length t.before == 0) || list_any (λ (p : Process). list_any has_origin p.operations) t.processes
+
+-- The lines that are not skipped are a header and a body. In the body stand the lines of the processes, in order;
+-- before the first of them, in any order, those of the initial and the final values; and anywhere those of the pairs, which may be repeated.
 pub record SpellsTrace (text : List ℕ) (t : TraceValue) : Type 0 where
-  pub lines : kept (lines_of text) ≡ header_line ∷ flat_map process_lines t.processes
-  pub written : list_all is_written_process t.processes ≡ true
-  pub initial : t.initial ≡ []
-  pub final_values : t.final_values ≡ []
-  pub before : t.before ≡ []
+  pub two : Bool
+  pub body : List (List (List ℕ))
+  pub lines : kept (lines_of text) ≡ header_line two ∷ body
+  pub processes : filter is_process_line body ≡ flat_map process_lines t.processes
+  pub initial : IsPermutation (map init_line t.initial) (filter (begins (codes "init")) body)
+  pub final_values : IsPermutation (map final_line t.final_values) (filter (begins (codes "final")) body)
+  pub in_front : (front behind : List (List (List ℕ))) → body ≡ front ++ behind → list_any (begins (codes "proc")) front ≡ true → list_any (λ words. begins (codes "init") words || begins (codes "final") words) behind ≡ false
+  pub before : (words : List (List ℕ)) → Contains (filter (begins (codes "before")) body) words ↔ Contains (map before_line t.before) words
+  pub few_before : length (filter (begins (codes "before")) body) ≤ 4096
+  pub version : two ≡ false → needs_version_2 t ≡ false

@@ -4,6 +4,9 @@
 //! ("Testing Shared Memories", 1997).
 #![tactic(auto)]
 
+mod entry;
+mod gathered;
+mod header;
 pub mod judge;
 pub mod judgement;
 pub mod laws;
@@ -13,14 +16,20 @@ pub mod name;
 mod name_table;
 mod op_table;
 pub mod operation;
+mod pair_order;
+mod place;
+mod references;
+mod refusal;
 pub mod schedule;
 pub mod schedule_fault;
 pub mod schedule_laws;
 pub mod schedule_reader;
 pub mod schedule_writer;
+mod seen;
 mod statement;
 mod survey;
 pub mod trace;
 pub mod trace_fault;
 pub mod trace_laws;
 pub mod trace_reader;
+pub mod trace_writer;

@@ -14,6 +14,15 @@ impl<'a> NameTable<'a> {
     ghost use Rattle.std.specs.Str.{bytes_eq};
     ghost use Rattle.trace_text.specs.Tables.{number_of};
 
+    /// A table of no names.
+    pub fn new(alloc: Global) -> NameTable<'a>
+        ensures { (name : List ℕ) → number_of result name ≡ None }
+    {
+        NameTable {
+            numbers: HashMap::new(alloc),
+        }
+    }
+
     /// A table of no names, with room for some.
     pub fn with_capacity(alloc: Global, capacity: usize) -> Result<NameTable<'a>, AllocError>
         ensures { IfOk result (λ table. (name : List ℕ) → number_of table name ≡ None) }

@@ -1,19 +1,38 @@
 //! What a line of a trace text says.
 
-ghost use Rattle.std.specs.Prelude.{◌≡◌, map, option_map};
+ghost use Rattle.std.specs.Prelude.{◌≡◌, ◌≤◌, ◌&&◌, codes, false, true, length, map, option_map};
 ghost use Rattle.std.specs.Str.{bytes_eq};
 ghost use Rattle.trace_text.specs.Said.{said};
 ghost use Rattle.trace_text.specs.Statement.{statement_of};
 
+/// Where a value is said to come from.
+#[derive(Clone, Copy)]
+pub enum Source<'a> {
+    /// Nothing is said.
+    Unsaid,
+    /// It is the initial value.
+    FromInit,
+    /// An operation left it, which is named by its process and its place there.
+    FromOp(&'a [u8], &'a [u8]),
+}
+
 /// What a line says, its names and numbers as they are written.
 #[derive(Clone, Copy)]
 pub enum Statement<'a> {
+    /// The initial value of a location.
+    Init(&'a [u8], &'a [u8]),
+    /// The final value of a location.
+    Final(&'a [u8], &'a [u8]),
     /// Begins the process of this name.
     Proc(&'a [u8]),
     /// A plain read at a location of a value.
-    Read(&'a [u8], &'a [u8]),
+    Read(&'a [u8], &'a [u8], Source<'a>),
     /// A write to a location of a value.
     Write(&'a [u8], &'a [u8]),
+    /// A read-and-write at a location: the value that it reads, and the one that it leaves.
+    Update(&'a [u8], &'a [u8], &'a [u8], Source<'a>),
+    /// The first operation stands before the second. Each is named by its process and its place there.
+    Before(&'a [u8], &'a [u8], &'a [u8], &'a [u8]),
 }
 
 /// Whether the word is this text.
@@ -23,17 +42,109 @@ fn is_word(word: &[u8], text: &str) -> bool
     word == text.as_bytes()
 }
 
-/// What the words of a line say, if they are of a form that there is.
-pub fn read_statement<'a>(words: &[&'a [u8]]) -> Option<Statement<'a>>
-    ensures { option_map said result ≡ statement_of (map (λ word. word.now) words.now) }
+/// What three words say.
+fn of_three_words<'a>(two: bool, words: &[&'a [u8]]) -> Option<Statement<'a>>
+    requires { length words.now ≡ 3 }
+    ensures { option_map said result ≡ statement_of two (map (λ word. word.now) words.now) }
 {
-    if words.len() == 2 && is_word(words[0], "proc") {
-        Some(Statement::Proc(words[1]))
-    } else if words.len() == 3 && is_word(words[0], "R") {
-        Some(Statement::Read(words[1], words[2]))
-    } else if words.len() == 3 && is_word(words[0], "W") {
+    if is_word(words[0], "init") {
+        Some(Statement::Init(words[1], words[2]))
+    } else if is_word(words[0], "final") {
+        Some(Statement::Final(words[1], words[2]))
+    } else if is_word(words[0], "R") {
+        Some(Statement::Read(words[1], words[2], Source::Unsaid))
+    } else if is_word(words[0], "W") {
         Some(Statement::Write(words[1], words[2]))
     } else {
         None
+    }
+}
+
+/// Whether a word is this text and another one `from`.
+fn is_key_from(key: &[u8], text: &str, from: &[u8]) -> bool
+    ensures { result ≡ (bytes_eq key.now text.now && bytes_eq from.now (codes "from")) }
+{
+    is_word(key, text) && is_word(from, "from")
+}
+
+/// Whether a word is this text, and two others are `from` and `init`.
+fn is_key_from_init(key: &[u8], text: &str, from: &[u8], init: &[u8]) -> bool
+    ensures { result ≡ (bytes_eq key.now text.now && bytes_eq from.now (codes "from") && bytes_eq init.now (codes "init")) }
+{
+    is_key_from(key, text, from) && is_word(init, "init")
+}
+
+/// What five words say in version 2.
+fn of_five_words<'a>(words: &[&'a [u8]]) -> Option<Statement<'a>>
+    requires { length words.now ≡ 5 }
+    ensures { option_map said result ≡ statement_of true (map (λ word. word.now) words.now) }
+{
+    if is_key_from_init(words[0], "R", words[3], words[4]) {
+        Some(Statement::Read(words[1], words[2], Source::FromInit))
+    } else if is_word(words[0], "before") {
+        Some(Statement::Before(words[1], words[2], words[3], words[4]))
+    } else {
+        None
+    }
+}
+
+/// What six words say in version 2.
+fn of_six_words<'a>(words: &[&'a [u8]]) -> Option<Statement<'a>>
+    requires { length words.now ≡ 6 }
+    ensures { option_map said result ≡ statement_of true (map (λ word. word.now) words.now) }
+{
+    if is_key_from(words[0], "R", words[3]) {
+        Some(Statement::Read(words[1], words[2], Source::FromOp(words[4], words[5])))
+    } else if is_key_from_init(words[0], "U", words[4], words[5]) {
+        Some(Statement::Update(words[1], words[2], words[3], Source::FromInit))
+    } else {
+        None
+    }
+}
+
+/// What five words or more say in version 2.
+fn read_long_statement<'a>(words: &[&'a [u8]]) -> Option<Statement<'a>>
+    requires { 5 ≤ length words.now }
+    ensures { option_map said result ≡ statement_of true (map (λ word. word.now) words.now) }
+{
+    if words.len() == 5 {
+        of_five_words(words)
+    } else if words.len() == 6 {
+        of_six_words(words)
+    } else if words.len() == 7 && is_key_from(words[0], "U", words[4]) {
+        Some(Statement::Update(
+            words[1],
+            words[2],
+            words[3],
+            Source::FromOp(words[5], words[6]),
+        ))
+    } else {
+        None
+    }
+}
+
+/// What the words of a line say, if they are of a form that version 1 has.
+fn read_plain_statement<'a>(words: &[&'a [u8]]) -> Option<Statement<'a>>
+    ensures { option_map said result ≡ statement_of false (map (λ word. word.now) words.now) }
+{
+    if words.len() == 2 && is_word(words[0], "proc") {
+        Some(Statement::Proc(words[1]))
+    } else if words.len() == 3 {
+        of_three_words(false, words)
+    } else if words.len() == 4 && is_word(words[0], "U") {
+        Some(Statement::Update(words[1], words[2], words[3], Source::Unsaid))
+    } else {
+        None
+    }
+}
+
+/// What the words of a line say, if they are of a form that there is; `two` says whether those of version 2 are among them.
+pub fn read_statement<'a>(two: bool, words: &[&'a [u8]]) -> Option<Statement<'a>>
+    ensures { option_map said result ≡ statement_of two (map (λ word. word.now) words.now) }
+{
+    if two && words.len() >= 5 {
+        read_long_statement(words)
+    } else {
+        read_plain_statement(words)
     }
 }

@@ -2,7 +2,6 @@
 
 use crate::name::Name;
 use crate::operation::{Op, OpName};
-use std::alloc::Global;
 use std::marker::Model;
 
 /// The operations of a process, in program order.
@@ -65,20 +64,24 @@ impl Model for Trace {
 }
 
 impl Trace {
-    ghost use Rattle.std.specs.Prelude.{◌≡◌, []};
+    ghost use Rattle.std.specs.Prelude.{◌≡◌};
     ghost use Rattle.trace_text.specs.Trace.{IsTrace};
 
-    /// A trace of these processes, of which nothing else is known.
-    pub fn of_processes(alloc: Global, processes: Vec<Process>) -> Trace
-        requires { IsTrace (record { processes = processes.items; initial = []; final_values = []; before = [] }) }
-        ensures value { result ≡ record { processes = processes.items; initial = []; final_values = []; before = [] } }
-        ensures trace { IsTrace result }
+    /// A trace of these processes, initial and final values, and pairs of which the first stands before the second.
+    pub fn new(
+        processes: Vec<Process>,
+        initial: Vec<(Name, u64)>,
+        final_values: Vec<(Name, u64)>,
+        before: Vec<(OpName, OpName)>,
+    ) -> Trace
+        requires { IsTrace (record { processes = processes.items; initial = initial.items; final_values = final_values.items; before = before.items }) }
+        ensures { result ≡ record { processes = processes.items; initial = initial.items; final_values = final_values.items; before = before.items } }
     {
         Trace {
             processes,
-            initial: Vec::new(alloc),
-            final_values: Vec::new(alloc),
-            before: Vec::new(alloc),
+            initial,
+            final_values,
+            before,
         }
     }
 

@@ -1,0 +1,236 @@
+-- The lines of a trace tell it.
+use Rattle.std.proofs.Common.{◌≡◌, ℕ, List, [], ◌∷◌, ◌++◌, map, get_or, true, ◌&&◌, refl, ap, sym, ◌∙◌, subst, arith}
+use Rattle.std.specs.Prelude.{◌↔◌, codes}
+use Rattle.std.specs.Fmt.{decimal}
+use Rattle.std.specs.List.{list_all, filter, flat_map, Contains}
+use Rattle.std.specs.List.Sorted.{IsPermutation}
+use Rattle.std.specs.Str.Parse.{digits_value}
+use Rattle.std.proofs.lemmas.Bool.{and_parts, ltb-true}
+use Rattle.std.proofs.lemmas.Fmt.{decimal_injective, decimal_is_IsNumeral}
+use Rattle.std.proofs.lemmas.List.Sorted.{IsPermutation-map, IsPermutation-sym, IsPermutation-trans}
+use Rattle.text_lines.specs.Lines.{lines_of}
+use Rattle.trace_text.specs.declared.operation.Op.{Op}
+use Rattle.trace_text.specs.declared.operation.Op.TheVariants.{Read, Write, Update}
+use Rattle.trace_text.specs.declared.operation.OpName.{OpName}
+use Rattle.trace_text.specs.declared.operation.Origin.{Origin}
+use Rattle.trace_text.specs.declared.operation.Origin.TheVariants.{Any, Initial, Operation}
+use Rattle.trace_text.specs.declared.trace.Process.{Process}
+use Rattle.trace_text.specs.Kept.{kept}
+use Rattle.trace_text.specs.Names.{is_name}
+use Rattle.trace_text.specs.SameTrace.{IsSameTrace}
+use Rattle.trace_text.specs.ScheduleText.{is_op_name}
+use Rattle.trace_text.specs.Trace.{TraceValue}
+use Rattle.trace_text.specs.TraceText.{SpellsTrace, begins, is_process_line, header_line, init_line, final_line, proc_line, origin_words, op_line, process_lines, before_line}
+use Rattle.trace_text.specs.TraceWritten.{canonical_body, canonical_lines, canonical_trace, is_written}
+use Rattle.trace_text.specs.Written.{is_written_value, is_written_entry, is_written_origin, is_written_op, is_written_process, is_written_pair}
+use Rattle.trace_text.proofs.ElementLemmas.{all_pass, from_map, to_map}
+use Rattle.trace_text.proofs.LineTextLemmas.{written_kept}
+use Rattle.trace_text.proofs.OpNameLemmas.{writable}
+use Rattle.trace_text.proofs.TraceWrittenLemmas.{written_parts, lines_kept_of, process_part, init_part, final_part, before_part}
+
+-- words tell numbers
+same_value : (m n : ℕ) → is_written_value m ≡ true → is_written_value n ≡ true → decimal m ≡ decimal n → m ≡ n
+same_value m n h k e = decimal_injective m n (ltb-true _ _ h) (ltb-true _ _ k) e
+
+same_op_name : (m n : OpName) → is_op_name m ≡ true → is_op_name n ≡ true → m.process ≡ n.process → decimal m.place ≡ decimal n.place → m ≡ n
+same_op_name m n h k process digits =
+    let first = (writable m h).high in
+    let second = (writable n k).high in
+    let place = decimal_injective m.place n.place (omega (arith, first)) (omega (arith, second)) digits in
+    (λ i. record { process = process i; place = place i })
+
+-- words tell where a value comes from
+same_origin : (a b : Origin) → is_written_origin a ≡ true → is_written_origin b ≡ true → origin_words a ≡ origin_words b → a ≡ b
+same_origin Any Any h k e = refl
+same_origin Any Initial h k e = absurd (cc)
+same_origin Any (Operation n) h k e = absurd (cc)
+same_origin Initial Any h k e = absurd (cc)
+same_origin Initial Initial h k e = refl
+same_origin Initial (Operation n) h k e = absurd (cc)
+same_origin (Operation m) Any h k e = absurd (cc)
+same_origin (Operation m) Initial h k e = absurd (cc)
+same_origin (Operation m) (Operation n) h k e =
+    let process : m.process ≡ n.process = cc in
+    let place : decimal m.place ≡ decimal n.place = cc in
+    ap Operation (same_op_name m n h k process place)
+
+-- the first byte of a line
+abbrev first_byte : List (List ℕ) → ℕ
+first_byte words = get_or (get_or words 0 []) 0 0
+
+same_first : (a b : List (List ℕ)) → a ≡ b → first_byte a ≡ first_byte b
+same_first a b e = ap first_byte e
+
+-- a line tells the operation
+same_op : (a b : Op) → is_written_op a ≡ true → is_written_op b ≡ true → op_line a ≡ op_line b → a ≡ b
+same_op (Read l v o) (Read m w p) h k e =
+    let first = and_parts (is_name l && is_written_value v) (is_written_origin o) h in
+    let second = and_parts (is_name m && is_written_value w) (is_written_origin p) k in
+    let location : l ≡ m = cc in
+    let digits : decimal v ≡ decimal w = cc in
+    let words : origin_words o ≡ origin_words p = cc in
+    let value = same_value v w (and_parts (is_name l) (is_written_value v) first.0).1 (and_parts (is_name m) (is_written_value w) second.0).1 digits in
+    let origin = same_origin o p first.1 second.1 words in
+    (λ i. Read (location i) (value i) (origin i))
+same_op (Read l v o) (Write m w) h k e = let bytes = same_first (op_line (Read l v o)) (op_line (Write m w)) e in absurd (omega (arith, bytes))
+same_op (Read l v o) (Update m w x p) h k e = let bytes = same_first (op_line (Read l v o)) (op_line (Update m w x p)) e in absurd (omega (arith, bytes))
+same_op (Write l v) (Read m w p) h k e = let bytes = same_first (op_line (Write l v)) (op_line (Read m w p)) e in absurd (omega (arith, bytes))
+same_op (Write l v) (Write m w) h k e =
+    let location : l ≡ m = cc in
+    let digits : decimal v ≡ decimal w = cc in
+    let value = same_value v w (and_parts (is_name l) (is_written_value v) h).1 (and_parts (is_name m) (is_written_value w) k).1 digits in
+    (λ i. Write (location i) (value i))
+same_op (Write l v) (Update m w x p) h k e = let bytes = same_first (op_line (Write l v)) (op_line (Update m w x p)) e in absurd (omega (arith, bytes))
+same_op (Update l u v o) (Read m w p) h k e = let bytes = same_first (op_line (Update l u v o)) (op_line (Read m w p)) e in absurd (omega (arith, bytes))
+same_op (Update l u v o) (Write m w) h k e = let bytes = same_first (op_line (Update l u v o)) (op_line (Write m w)) e in absurd (omega (arith, bytes))
+same_op (Update l u v o) (Update m w x p) h k e =
+    let first = and_parts (is_name l && is_written_value u && is_written_value v) (is_written_origin o) h in
+    let second = and_parts (is_name m && is_written_value w && is_written_value x) (is_written_origin p) k in
+    let first_values = and_parts (is_name l && is_written_value u) (is_written_value v) first.0 in
+    let second_values = and_parts (is_name m && is_written_value w) (is_written_value x) second.0 in
+    let location : l ≡ m = cc in
+    let read_digits : decimal u ≡ decimal w = cc in
+    let left_digits : decimal v ≡ decimal x = cc in
+    let words : origin_words o ≡ origin_words p = cc in
+    let read = same_value u w (and_parts (is_name l) (is_written_value u) first_values.0).1 (and_parts (is_name m) (is_written_value w) second_values.0).1 read_digits in
+    let left = same_value v x first_values.1 second_values.1 left_digits in
+    let origin = same_origin o p first.1 second.1 words in
+    (λ i. Update (location i) (read i) (left i) (origin i))
+
+-- no line of an operation begins a process
+not_proc : (name : List ℕ) (op : Op) → proc_line name ≡ op_line op → ⊥
+not_proc name (Read l v o) e = let bytes = same_first (proc_line name) (op_line (Read l v o)) e in omega (arith, bytes)
+not_proc name (Write l v) e = let bytes = same_first (proc_line name) (op_line (Write l v)) e in omega (arith, bytes)
+not_proc name (Update l v w o) e = let bytes = same_first (proc_line name) (op_line (Update l v w o)) e in omega (arith, bytes)
+
+not_op : (ps : List Process) (op : Op) (rest : List (List (List ℕ))) → flat_map process_lines ps ≡ op_line op ∷ rest → ⊥
+not_op [] op rest e = cc
+not_op (p ∷ ps) op rest e = let line : proc_line p.name ≡ op_line op = cc in not_proc p.name op line
+
+-- lines tell the operations up to the next process
+same_ops : (a b : List Op) (ps qs : List Process) → list_all is_written_op a ≡ true → list_all is_written_op b ≡ true →
+    map op_line a ++ flat_map process_lines ps ≡ map op_line b ++ flat_map process_lines qs → (a ≡ b) × (flat_map process_lines ps ≡ flat_map process_lines qs)
+same_ops [] [] ps qs h k e = (refl, e)
+same_ops [] (y ∷ b) ps qs h k e = absurd (not_op ps y (map op_line b ++ flat_map process_lines qs) e)
+same_ops (x ∷ a) [] ps qs h k e = absurd (not_op qs x (map op_line a ++ flat_map process_lines ps) (sym e))
+same_ops (x ∷ a) (y ∷ b) ps qs h k e =
+    let first = and_parts (is_written_op x) (list_all is_written_op a) h in
+    let second = and_parts (is_written_op y) (list_all is_written_op b) k in
+    let line : op_line x ≡ op_line y = cc in
+    let lines : map op_line a ++ flat_map process_lines ps ≡ map op_line b ++ flat_map process_lines qs = cc in
+    let head = same_op x y first.0 second.0 line in
+    let tail = same_ops a b ps qs first.1 second.1 lines in
+    (λ i. head i ∷ tail.0 i, tail.1)
+
+pub same_processes : (ps qs : List Process) → list_all is_written_process ps ≡ true → list_all is_written_process qs ≡ true → flat_map process_lines ps ≡ flat_map process_lines qs → ps ≡ qs
+same_processes [] [] h k e = refl
+same_processes [] (q ∷ qs) h k e = absurd (cc)
+same_processes (p ∷ ps) [] h k e = absurd (cc)
+same_processes (p ∷ ps) (q ∷ qs) h k e =
+    let first = and_parts (is_written_process p) (list_all is_written_process ps) h in
+    let second = and_parts (is_written_process q) (list_all is_written_process qs) k in
+    let name : p.name ≡ q.name = cc in
+    let lines : map op_line p.operations ++ flat_map process_lines ps ≡ map op_line q.operations ++ flat_map process_lines qs = cc in
+    let ops = same_ops p.operations q.operations ps qs (and_parts (is_name p.name) (list_all is_written_op p.operations) first.0).1
+    (and_parts (is_name q.name) (list_all is_written_op q.operations) second.0).1 lines in
+    let tail = same_processes ps qs first.1 second.1 ops.1 in
+    (λ i. record { name = name i; operations = ops.0 i } ∷ tail i)
+
+-- a line tells the pair
+same_pair : (a b : OpName × OpName) → is_written_pair a ≡ true → is_written_pair b ≡ true → before_line a ≡ before_line b → a ≡ b
+same_pair a b h k e =
+    let first = and_parts (is_op_name a.0) (is_op_name a.1) h in
+    let second = and_parts (is_op_name b.0) (is_op_name b.1) k in
+    let front : a.0.process ≡ b.0.process = cc in
+    let front_place : decimal a.0.place ≡ decimal b.0.place = cc in
+    let back : a.1.process ≡ b.1.process = cc in
+    let back_place : decimal a.1.place ≡ decimal b.1.place = cc in
+    let one = same_op_name a.0 b.0 first.0 second.0 front front_place in
+    let other = same_op_name a.1 b.1 first.1 second.1 back back_place in
+    (λ i. (one i, other i))
+
+-- a line tells the location and the value
+abbrev entry_of : List (List ℕ) → List ℕ × ℕ
+entry_of words = (get_or words 1 [], digits_value 10 (get_or words 2 []))
+
+told_back : (line : List ℕ × ℕ → List (List ℕ)) → ((entry : List ℕ × ℕ) → entry_of (line entry) ≡ (entry.0, digits_value 10 (decimal entry.1))) →
+    (entries : List (List ℕ × ℕ)) → list_all is_written_entry entries ≡ true → map entry_of (map line entries) ≡ entries
+told_back line tells [] h = refl
+told_back line tells (entry ∷ entries) h =
+    let parts = and_parts (is_written_entry entry) (list_all is_written_entry entries) h in
+    let small = ltb-true _ _ (and_parts (is_name entry.0) (is_written_value entry.1) parts.0).1 in
+    let value = (decimal_is_IsNumeral entry.1 small).1 in
+    let rest = told_back line tells entries parts.1 in
+    let here : entry_of (line entry) ≡ entry = tells entry ∙ (λ i. (entry.0, value i)) in
+    (λ i. here i ∷ rest i)
+
+same_entries : (line : List ℕ × ℕ → List (List ℕ)) → ((entry : List ℕ × ℕ) → entry_of (line entry) ≡ (entry.0, digits_value 10 (decimal entry.1))) →
+    (xs ys : List (List ℕ × ℕ)) → list_all is_written_entry xs ≡ true → list_all is_written_entry ys ≡ true → map line xs ≡ map line ys → xs ≡ ys
+same_entries line tells xs ys h k e = sym (told_back line tells xs h) ∙ ap (map entry_of) e ∙ told_back line tells ys k
+
+permuted_entries : (line : List ℕ × ℕ → List (List ℕ)) → ((entry : List ℕ × ℕ) → entry_of (line entry) ≡ (entry.0, digits_value 10 (decimal entry.1))) →
+    (xs ys : List (List ℕ × ℕ)) → list_all is_written_entry xs ≡ true → list_all is_written_entry ys ≡ true → IsPermutation (map line xs) (map line ys) → IsPermutation xs ys
+permuted_entries line tells xs ys h k moved =
+    subst (λ (l : List (List ℕ × ℕ)). IsPermutation l ys) (told_back line tells xs h)
+    (subst (λ (l : List (List ℕ × ℕ)). IsPermutation (map entry_of (map line xs)) l) (told_back line tells ys k)
+    (IsPermutation-map entry_of (map line xs) (map line ys) moved))
+
+same_pairs : (xs ys : List (OpName × OpName)) → list_all is_written_pair xs ≡ true → list_all is_written_pair ys ≡ true → map before_line xs ≡ map before_line ys → xs ≡ ys
+same_pairs [] [] h k e = refl
+same_pairs [] (y ∷ ys) h k e = absurd (cc)
+same_pairs (x ∷ xs) [] h k e = absurd (cc)
+same_pairs (x ∷ xs) (y ∷ ys) h k e =
+    let first = and_parts (is_written_pair x) (list_all is_written_pair xs) h in
+    let second = and_parts (is_written_pair y) (list_all is_written_pair ys) k in
+    let line : before_line x ≡ before_line y = cc in
+    let lines : map before_line xs ≡ map before_line ys = cc in
+    let head = same_pair x y first.0 second.0 line in
+    let tail = same_pairs xs ys first.1 second.1 lines in
+    (λ i. head i ∷ tail i)
+
+-- a canonical text is of one trace
+pub one_canonical : (s t : TraceValue) → is_written s ≡ true → is_written t ≡ true → canonical_trace s ≡ canonical_trace t → s ≡ t
+one_canonical s t h k e =
+    let first = written_parts s h in
+    let second = written_parts t k in
+    let lines = sym (written_kept (canonical_lines s) (lines_kept_of s h)) ∙ ap (λ text. kept (lines_of text)) e ∙ written_kept (canonical_lines t) (lines_kept_of t k) in
+    let body : canonical_body s ≡ canonical_body t = cc in
+    let processes = same_processes s.processes t.processes first.processes second.processes (sym (process_part s) ∙ ap (filter is_process_line) body ∙ process_part t) in
+    let initial = same_entries init_line (λ entry. refl) s.initial t.initial first.initial second.initial (sym (init_part s) ∙ ap (filter (begins (codes "init"))) body ∙ init_part t) in
+    let final_values = same_entries final_line (λ entry. refl) s.final_values t.final_values first.final_values second.final_values (sym (final_part s) ∙ ap (filter (begins (codes "final"))) body ∙ final_part t) in
+    let before = same_pairs s.before t.before first.pairs second.pairs (sym (before_part s) ∙ ap (filter (begins (codes "before"))) body ∙ before_part t) in
+    (λ i. record { processes = processes i; initial = initial i; final_values = final_values i; before = before i })
+
+-- both are the same lines in another order
+both_permuted : (a b c d : List (List (List ℕ))) → IsPermutation a c → IsPermutation b d → c ≡ d → IsPermutation a b
+both_permuted a b c d h k e = IsPermutation-trans a d b (subst (λ (l : List (List (List ℕ))). IsPermutation a l) e h) (IsPermutation-sym b d k)
+
+pairs_told : (xs ys : List (OpName × OpName)) (lines others : List (List (List ℕ))) → list_all is_written_pair xs ≡ true → list_all is_written_pair ys ≡ true → lines ≡ others →
+    ((words : List (List ℕ)) → Contains lines words ↔ Contains (map before_line xs) words) → ((words : List (List ℕ)) → Contains others words ↔ Contains (map before_line ys) words) →
+    (pair : OpName × OpName) → Contains xs pair → Contains ys pair
+pairs_told xs ys lines others h k e first second pair c =
+    let here = (first (before_line pair)).1 (to_map before_line xs pair c) in
+    let there = (second (before_line pair)).0 (subst (λ (l : List (List (List ℕ))). Contains l (before_line pair)) e here) in
+    let found = from_map before_line ys (before_line pair) there in
+    let same = same_pair found.0 pair (all_pass is_written_pair ys k found.0 found.1) (all_pass is_written_pair xs h pair c) found.2 in
+    subst (λ (p : OpName × OpName). Contains ys p) same found.1
+
+-- a text spells one trace
+pub one_spelled : (text : List ℕ) (s t : TraceValue) → is_written s ≡ true → is_written t ≡ true → SpellsTrace text s → SpellsTrace text t → IsSameTrace s t
+one_spelled text s t h k first second =
+    let one = written_parts s h in
+    let other = written_parts t k in
+    let lines : header_line first.two ∷ first.body ≡ header_line second.two ∷ second.body = sym first.lines ∙ second.lines in
+    let body : first.body ≡ second.body = cc in
+    let pairs : filter (begins (codes "before")) first.body ≡ filter (begins (codes "before")) second.body = ap (filter (begins (codes "before"))) body in
+    record {
+      processes = same_processes s.processes t.processes one.processes other.processes (sym first.processes ∙ ap (filter is_process_line) body ∙ second.processes);
+      initial = permuted_entries init_line (λ entry. refl) s.initial t.initial one.initial other.initial
+          (both_permuted (map init_line s.initial) (map init_line t.initial) (filter (begins (codes "init")) first.body) (filter (begins (codes "init")) second.body) first.initial second.initial (ap (filter (begins (codes "init"))) body));
+      final_values = permuted_entries final_line (λ entry. refl) s.final_values t.final_values one.final_values other.final_values
+          (both_permuted (map final_line s.final_values) (map final_line t.final_values) (filter (begins (codes "final")) first.body) (filter (begins (codes "final")) second.body) first.final_values second.final_values (ap (filter (begins (codes "final"))) body));
+      before = λ pair. (
+        pairs_told s.before t.before (filter (begins (codes "before")) first.body) (filter (begins (codes "before")) second.body) one.pairs other.pairs pairs first.before second.before pair,
+        pairs_told t.before s.before (filter (begins (codes "before")) second.body) (filter (begins (codes "before")) first.body) other.pairs one.pairs (sym pairs) second.before first.before pair,
+      );
+    }

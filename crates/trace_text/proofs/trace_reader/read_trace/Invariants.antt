@@ -1,9 +1,0 @@
-use Rattle.std.proofs.Common.{length}
-use Rattle.trace_text.proofs.LineLemmas.{IsReadSoFar}
-use Rattle.trace_text.proofs.trace_reader.read_trace.Given as goal
-
-abbrev pub invariant-loop-line : goal.invariant-loop-line
-invariant-loop-line l = IsReadSoFar l.text l.next l.rest l.reader
-
-abbrev pub decreases-loop-line : goal.decreases-loop-line
-decreases-loop-line l = length l.rest

@@ -1,0 +1,77 @@
+-- What an entry of a trace says, with its numbers in decimal.
+use Rattle.std.specs.Prelude.{◌^◌, nat_le, nat_lt, ℕ, Bool, true, ◌&&◌, List, Option, Some, None, if◌then◌else◌}
+use Rattle.std.specs.Fmt.{decimal}
+use Rattle.std.specs.List.{list_all}
+use Rattle.trace_text.specs.declared.entry.Entry.{Entry}
+use Rattle.trace_text.specs.declared.entry.Entry.TheVariants.{Initial as InitialEntry, Final as FinalEntry, Process as ProcessEntry, Operation as OperationEntry, Before as BeforeEntry}
+use Rattle.trace_text.specs.declared.operation.Op.{Op}
+use Rattle.trace_text.specs.declared.operation.Op.TheVariants.{Read as ReadOp, Write as WriteOp, Update as UpdateOp}
+use Rattle.trace_text.specs.declared.operation.OpName.{OpName}
+use Rattle.trace_text.specs.declared.operation.Origin.{Origin}
+use Rattle.trace_text.specs.declared.operation.Origin.TheVariants.{Any, Initial, Operation}
+use Rattle.trace_text.specs.declared.trace_fault.TraceCause.{TraceCause}
+use Rattle.trace_text.specs.declared.trace_fault.TraceCause.TheVariants.{BadNumber}
+use Rattle.trace_text.specs.Statement.{Source, Unsaid, FromInit, FromOp, Statement, Init, Final, Proc, Read, Write, Update, Before}
+use Rattle.trace_text.specs.TraceFault.{is_value, is_place, values_of, references_of, references_of_source}
+
+abbrev pub source_of : Origin → Source
+source_of Any = Unsaid
+source_of Initial = FromInit
+source_of (Operation n) = FromOp n.process (decimal n.place)
+
+abbrev pub op_statement : Op → Statement
+op_statement (ReadOp location value origin) = Read location (decimal value) (source_of origin)
+op_statement (WriteOp location value) = Write location (decimal value)
+op_statement (UpdateOp location read left origin) = Update location (decimal read) (decimal left) (source_of origin)
+
+abbrev pub init_statement : List ℕ × ℕ → Statement
+init_statement entry = Init entry.0 (decimal entry.1)
+
+abbrev pub final_statement : List ℕ × ℕ → Statement
+final_statement entry = Final entry.0 (decimal entry.1)
+
+abbrev pub before_statement : OpName × OpName → Statement
+before_statement pair = Before pair.0.process (decimal pair.0.place) pair.1.process (decimal pair.1.place)
+
+abbrev pub statement_for : Entry → Statement
+statement_for (InitialEntry location value) = init_statement (location, value)
+statement_for (FinalEntry location value) = final_statement (location, value)
+statement_for (ProcessEntry name) = Proc name
+statement_for (OperationEntry op) = op_statement op
+statement_for (BeforeEntry first second) = before_statement (first, second)
+
+-- the place that a source names is one
+abbrev pub has_place : Source → Bool
+has_place source = list_all (λ (r : List ℕ × List ℕ). is_place r.1) (references_of_source source)
+
+-- the words that should be numbers are numbers
+abbrev pub has_numbers : Statement → Bool
+has_numbers s = list_all is_value (values_of s) && list_all (λ (r : List ℕ × List ℕ). is_place r.1) (references_of s)
+
+-- what is wrong where the numbers are fine or not
+abbrev pub number_fault : Bool → Option TraceCause
+number_fault fine = if fine then None else Some BadNumber
+
+-- the numbers are in their ranges
+abbrev pub fits_value : ℕ → Bool
+fits_value value = nat_lt value (2 ^ 64)
+
+abbrev pub fits_place : ℕ → Bool
+fits_place place = nat_le 1 place && nat_le place 65535
+
+abbrev pub origin_fits : Origin → Bool
+origin_fits Any = true
+origin_fits Initial = true
+origin_fits (Operation n) = fits_place n.place
+
+abbrev pub op_fits : Op → Bool
+op_fits (ReadOp location value origin) = fits_value value && origin_fits origin
+op_fits (WriteOp location value) = fits_value value
+op_fits (UpdateOp location read left origin) = fits_value read && (fits_value left && origin_fits origin)
+
+abbrev pub entry_fits : Entry → Bool
+entry_fits (InitialEntry location value) = fits_value value
+entry_fits (FinalEntry location value) = fits_value value
+entry_fits (ProcessEntry name) = true
+entry_fits (OperationEntry op) = op_fits op
+entry_fits (BeforeEntry first second) = fits_place first.place && fits_place second.place

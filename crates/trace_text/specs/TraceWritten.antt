@@ -1,0 +1,26 @@
+-- The canonical text of a trace, and which traces can be written.
+use Rattle.std.specs.Prelude.{ℕ, Bool, List, [], ◌∷◌, ◌++◌, map, ◌&&◌}
+use Rattle.std.specs.List.{flat_map, list_all, join_with_byte}
+use Rattle.trace_text.specs.Trace.{TraceValue}
+use Rattle.trace_text.specs.TraceText.{header_line, init_line, final_line, process_lines, before_line, needs_version_2}
+use Rattle.trace_text.specs.Written.{is_written_entry, is_written_process, is_written_pair}
+
+-- a line: its words, a space between each two, and a line feed
+abbrev pub line_text : List (List ℕ) → List ℕ
+line_text words = join_with_byte 32 words ++ 10 ∷ []
+
+-- the lines behind the header: the initial values, the final values, the processes, the pairs, each in their order
+abbrev pub canonical_body : TraceValue → List (List (List ℕ))
+canonical_body t = map init_line t.initial ++ (map final_line t.final_values ++ (flat_map process_lines t.processes ++ map before_line t.before))
+
+-- the header, of version 2 only where the trace needs it, and the lines behind it
+abbrev pub canonical_lines : TraceValue → List (List (List ℕ))
+canonical_lines t = header_line (needs_version_2 t) ∷ canonical_body t
+
+-- the text of these lines
+abbrev pub canonical_trace : TraceValue → List ℕ
+canonical_trace t = flat_map line_text (canonical_lines t)
+
+-- a trace that can be written
+abbrev pub is_written : TraceValue → Bool
+is_written t = list_all is_written_entry t.initial && list_all is_written_entry t.final_values && list_all is_written_process t.processes && list_all is_written_pair t.before

@@ -1,0 +1,206 @@
+//! What a line of a trace text adds to the trace.
+
+ghost use Rattle.std.specs.Prelude.{◌≡◌, ◌<◌, ◌^◌, ◌&&◌, true, decimal, is_some, IfOk, IfErr, IfSome, Some, None, if◌then◌else◌};
+ghost use Rattle.trace_text.specs.Entry.{source_of, statement_for, op_statement, has_numbers, has_place, number_fault, fits_value, fits_place, origin_fits, op_fits, entry_fits};
+ghost use Rattle.trace_text.specs.Refusal.{IsRefusedFor};
+ghost use Rattle.trace_text.specs.Said.{said, said_source};
+ghost use Rattle.trace_text.specs.Statement.{Read, Write, Update, Before};
+ghost use Rattle.trace_text.specs.TraceFault.{is_value, is_place, place_of};
+
+use crate::name::Name;
+use crate::operation::{Op, OpName, Origin};
+use crate::refusal::Refusal;
+use crate::statement::{Source, Statement};
+use crate::trace_fault::TraceCause;
+use std::alloc::Global;
+use text_lines::numbers::read_plain;
+
+/// What a line adds to the trace.
+#[derive(Drop)]
+pub enum Entry {
+    /// The initial value of a location.
+    Initial(Name, u64),
+    /// The final value of a location.
+    Final(Name, u64),
+    /// A further process.
+    Process(Name),
+    /// A further operation of the last process.
+    Operation(Op),
+    /// A pair of which the first stands before the second.
+    Before(OpName, OpName),
+}
+
+/// The value that a word writes.
+fn read_value(word: &[u8]) -> Option<u64>
+    ensures known { is_some result ≡ is_value word.now }
+    ensures written { IfSome result (λ value. word.now ≡ decimal value) }
+    ensures fits { IfSome result (λ value. fits_value value ≡ true) }
+{
+    read_plain(word, u64::MAX)
+}
+
+/// The place of an operation that a word writes.
+pub fn read_place(word: &[u8]) -> Option<u16>
+    ensures value { result ≡ place_of word.now }
+    ensures known { is_some result ≡ is_place word.now }
+    ensures written { IfSome result (λ place. word.now ≡ decimal place) }
+    ensures fits { IfSome result (λ place. fits_place place ≡ true) }
+{
+    match read_plain(word, 65535) {
+        Some(place) if place >= 1 => Some(place as u16),
+        _ => None,
+    }
+}
+
+/// A location and its value.
+fn read_located(alloc: Global, location: &[u8], value: &[u8]) -> Result<(Name, u64), Refusal>
+    ensures refused { IfErr result (IsRefusedFor (number_fault (is_value value.now))) }
+    ensures fine { IfOk result (λ _. is_value value.now ≡ true) }
+    ensures location { IfOk result (λ located. located.0 ≡ location.now) }
+    ensures value { IfOk result (λ located. value.now ≡ decimal located.1) }
+    ensures fits { IfOk result (λ located. fits_value located.1 ≡ true) }
+{
+    let Some(value) = read_value(value) else {
+        return Err(Refusal::Fault(TraceCause::BadNumber));
+    };
+    Ok((Name::copy_of(alloc, location)?, value))
+}
+
+/// The name of an operation.
+fn read_op_name(alloc: Global, process: &[u8], place: &[u8]) -> Result<OpName, Refusal>
+    ensures refused { IfErr result (IsRefusedFor (number_fault (is_place place.now))) }
+    ensures fine { IfOk result (λ _. is_place place.now ≡ true) }
+    ensures process { IfOk result (λ name. name.process ≡ process.now) }
+    ensures place { IfOk result (λ name. place.now ≡ decimal name.place) }
+    ensures fits { IfOk result (λ name. fits_place name.place ≡ true) }
+{
+    let Some(place) = read_place(place) else {
+        return Err(Refusal::Fault(TraceCause::BadNumber));
+    };
+    Ok(OpName {
+        process: Name::copy_of(alloc, process)?,
+        place,
+    })
+}
+
+/// Where a value comes from.
+fn read_origin(alloc: Global, source: Source<'_>) -> Result<Origin, Refusal>
+    ensures refused { IfErr result (IsRefusedFor (number_fault (has_place (said_source source.entry)))) }
+    ensures fine { IfOk result (λ _. has_place (said_source source.entry) ≡ true) }
+    ensures source { IfOk result (λ origin. source_of origin ≡ said_source source.entry) }
+    ensures fits { IfOk result (λ origin. origin_fits origin ≡ true) }
+{
+    match source {
+        Source::Unsaid => Ok(Origin::Any),
+        Source::FromInit => Ok(Origin::Initial),
+        Source::FromOp(process, place) => Ok(Origin::Operation(read_op_name(
+            alloc, process, place,
+        )?)),
+    }
+}
+
+/// What the line of a plain read adds.
+fn read_read(
+    alloc: Global,
+    location: &[u8],
+    value: &[u8],
+    source: Source<'_>,
+) -> Result<Op, Refusal>
+    ensures refused { IfErr result (IsRefusedFor (number_fault (has_numbers (Read location.now value.now (said_source source.entry))))) }
+    ensures fine { IfOk result (λ _. has_numbers (Read location.now value.now (said_source source.entry)) ≡ true) }
+    ensures said { IfOk result (λ op. op_statement op ≡ Read location.now value.now (said_source source.entry)) }
+    ensures fits { IfOk result (λ op. op_fits op ≡ true) }
+{
+    let (location, value) = read_located(alloc, location, value)?;
+    Ok(Op::Read {
+        location,
+        value,
+        origin: read_origin(alloc, source)?,
+    })
+}
+
+/// What the line of a read-and-write adds.
+fn read_update(
+    alloc: Global,
+    location: &[u8],
+    read: &[u8],
+    left: &[u8],
+    source: Source<'_>,
+) -> Result<Op, Refusal>
+    ensures refused { IfErr result (IsRefusedFor (number_fault (has_numbers (Update location.now read.now left.now (said_source source.entry))))) }
+    ensures fine { IfOk result (λ _. has_numbers (Update location.now read.now left.now (said_source source.entry)) ≡ true) }
+    ensures said { IfOk result (λ op. op_statement op ≡ Update location.now read.now left.now (said_source source.entry)) }
+    ensures fits { IfOk result (λ op. op_fits op ≡ true) }
+{
+    let Some(read) = read_value(read) else {
+        return Err(Refusal::Fault(TraceCause::BadNumber));
+    };
+    let (location, left) = read_located(alloc, location, left)?;
+    Ok(Op::Update {
+        location,
+        read,
+        left,
+        origin: read_origin(alloc, source)?,
+    })
+}
+
+/// What the line of a write adds.
+fn read_write(alloc: Global, location: &[u8], value: &[u8]) -> Result<Op, Refusal>
+    ensures refused { IfErr result (IsRefusedFor (number_fault (has_numbers (Write location.now value.now)))) }
+    ensures fine { IfOk result (λ _. has_numbers (Write location.now value.now) ≡ true) }
+    ensures said { IfOk result (λ op. op_statement op ≡ Write location.now value.now) }
+    ensures fits { IfOk result (λ op. op_fits op ≡ true) }
+{
+    let (location, value) = read_located(alloc, location, value)?;
+    Ok(Op::Write { location, value })
+}
+
+/// The operations that a `before` line names.
+fn read_pair(
+    alloc: Global,
+    process: &[u8],
+    place: &[u8],
+    other: &[u8],
+    other_place: &[u8],
+) -> Result<Entry, Refusal>
+    ensures refused { IfErr result (IsRefusedFor (number_fault (has_numbers (Before process.now place.now other.now other_place.now)))) }
+    ensures fine { IfOk result (λ _. has_numbers (Before process.now place.now other.now other_place.now) ≡ true) }
+    ensures said { IfOk result (λ entry. statement_for entry ≡ Before process.now place.now other.now other_place.now) }
+    ensures fits { IfOk result (λ entry. entry_fits entry ≡ true) }
+{
+    let first = read_op_name(alloc, process, place)?;
+    let second = read_op_name(alloc, other, other_place)?;
+    Ok(Entry::Before(first, second))
+}
+
+/// What a line adds that says this, where its numbers are numbers.
+pub fn read_entry(alloc: Global, statement: Statement<'_>) -> Result<Entry, Refusal>
+    ensures refused { IfErr result (IsRefusedFor (number_fault (has_numbers (said statement.entry)))) }
+    ensures fine { IfOk result (λ _. has_numbers (said statement.entry) ≡ true) }
+    ensures said { IfOk result (λ entry. statement_for entry ≡ said statement.entry) }
+    ensures fits { IfOk result (λ entry. entry_fits entry ≡ true) }
+{
+    match statement {
+        Statement::Init(location, value) => {
+            let (location, value) = read_located(alloc, location, value)?;
+            Ok(Entry::Initial(location, value))
+        }
+        Statement::Final(location, value) => {
+            let (location, value) = read_located(alloc, location, value)?;
+            Ok(Entry::Final(location, value))
+        }
+        Statement::Proc(name) => Ok(Entry::Process(Name::copy_of(alloc, name)?)),
+        Statement::Read(location, value, source) => {
+            Ok(Entry::Operation(read_read(alloc, location, value, source)?))
+        }
+        Statement::Write(location, value) => {
+            Ok(Entry::Operation(read_write(alloc, location, value)?))
+        }
+        Statement::Update(location, read, left, source) => {
+            Ok(Entry::Operation(read_update(alloc, location, read, left, source)?))
+        }
+        Statement::Before(process, place, other, other_place) => {
+            read_pair(alloc, process, place, other, other_place)
+        }
+    }
+}

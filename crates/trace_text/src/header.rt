@@ -1,0 +1,97 @@
+//! The header of a trace text.
+
+ghost use Rattle.std.specs.Prelude.{◌≡◌, ◌∷◌, [], true, false, codes, map, MatchOption, IfOk, IfErr};
+ghost use Rattle.std.specs.Cmp.Lexicographic.{pointwise};
+ghost use Rattle.std.specs.List.{list_any};
+ghost use Rattle.std.specs.Str.{bytes_eq};
+ghost use Rattle.text_lines.specs.Words.{words_of};
+ghost use Rattle.trace_text.specs.Header.{header_fault, IsHeaderLine};
+ghost use Rattle.trace_text.specs.Kept.{is_skipped};
+ghost use Rattle.trace_text.specs.Read.{HasHeader};
+ghost use Rattle.trace_text.specs.Refusal.{IsRefusedFor};
+ghost use Rattle.trace_text.specs.TraceFault.{is_header, IsTraceRefusal};
+ghost use Rattle.trace_text.specs.TraceText.{header_line};
+
+use crate::line::{has_high_byte, is_skipped_line};
+use crate::refusal::Refusal;
+use crate::trace_fault::{TraceCause, TraceFault};
+use std::alloc::Global;
+use text_lines::lines::cut_line;
+use text_lines::words::first_words;
+
+/// One word more than a header has.
+const MOST_WORDS: usize = 3;
+
+/// The header of a text, and what follows it.
+#[derive(Drop)]
+pub struct Header<'a> {
+    /// Whether the text is of version 2.
+    pub two: bool,
+    /// The text behind the header.
+    pub rest: &'a [u8],
+    /// The number of the line behind the header.
+    pub next: usize,
+}
+
+/// Whether the words are those of the header of this version.
+fn is_header_of(words: &[&[u8]], version: &str) -> bool
+    ensures { result ≡ pointwise bytes_eq (map (λ word. word.now) words.now) (codes "vsc" ∷ version.now ∷ []) }
+{
+    words.len() == 2 && words[0] == b"vsc".as_slice() && words[1] == version.as_bytes()
+}
+
+/// Whether the header of these words is of version 2, if they are those of a header.
+fn version_of(words: &[&[u8]]) -> Option<bool>
+    ensures { MatchOption result (is_header (map (λ word. word.now) words.now) ≡ false) (λ two. map (λ word. word.now) words.now ≡ header_line two) }
+{
+    if is_header_of(words, "1") {
+        Some(false)
+    } else if is_header_of(words, "2") {
+        Some(true)
+    } else {
+        None
+    }
+}
+
+/// Whether the header on this line is of version 2; nothing where the line is skipped.
+fn read_header_line(alloc: Global, line: &[u8]) -> Result<Option<bool>, Refusal>
+    ensures refused { IfErr result (IsRefusedFor (header_fault line.now)) }
+    ensures read { IfOk result (λ version. MatchOption version (is_skipped (words_of line.now) ≡ true) (IsHeaderLine line.now)) }
+{
+    let words = first_words(alloc, line, MOST_WORDS)?;
+    if is_skipped_line(words.as_slice()) {
+        return Ok(None);
+    }
+    if has_high_byte(line) {
+        return Err(Refusal::Fault(TraceCause::NotAscii));
+    }
+    match version_of(words.as_slice()) {
+        Some(two) => Ok(Some(two)),
+        None => Err(Refusal::Fault(TraceCause::Header)),
+    }
+}
+
+/// Reads the lines up to the header.
+pub fn read_header(alloc: Global, text: &[u8]) -> Result<Header<'_>, TraceFault>
+    ensures refused { IfErr result (IsTraceRefusal text.now) }
+    ensures read { IfOk result (λ header. HasHeader text.now header.two header.rest.now header.next) }
+{
+    let mut rest = text;
+    let mut next = 1usize;
+    while let Some((line, after)) = cut_line(rest) {
+        match read_header_line(alloc, line) {
+            Ok(Some(two)) => {
+                return Ok(Header {
+                    two,
+                    rest: after,
+                    next: next + 1,
+                });
+            }
+            Ok(None) => {}
+            Err(refusal) => return Err(refusal.at(next)),
+        }
+        rest = after;
+        next += 1;
+    }
+    Err(TraceFault::Line(TraceCause::Header, next))
+}

@@ -1,0 +1,133 @@
+//! The operations that the lines of a trace text name.
+
+ghost use Rattle.std.specs.Prelude.{◌≡◌, ◌&&◌, ℕ, List, None, OnOk, IfErr, nat_le, length, map, option_map, unwrap_or};
+ghost use Rattle.std.specs.List.{list_all, list_any};
+ghost use Rattle.std.specs.Str.{bytes_eq};
+ghost use Rattle.text_lines.specs.FirstFault.{IsFaultless};
+ghost use Rattle.text_lines.specs.Lines.{lines_of};
+ghost use Rattle.trace_text.specs.Refusal.{IsRefusedFor};
+ghost use Rattle.trace_text.specs.References.{is_of, is_among, fault_of_references, fault_of_line, IsRefusedByReferences};
+ghost use Rattle.trace_text.specs.Said.{said, said_source};
+ghost use Rattle.trace_text.specs.TraceFault.{place_of, references_of, references_of_source, is_before_itself};
+
+use crate::entry::read_place;
+use crate::line::is_skipped_line;
+use crate::refusal::Refusal;
+use crate::statement::{Source, Statement, read_statement};
+use crate::trace::Process;
+use crate::trace_fault::{TraceCause, TraceFault};
+use std::alloc::Global;
+use text_lines::lines::cut_line;
+use text_lines::words::first_words;
+
+/// No line of any form has as many words.
+const MOST_WORDS: usize = 8;
+
+/// Whether the process has this name, and an operation at this place.
+fn has_place(process: &Process, name: &[u8], place: u16) -> bool
+    ensures { result ≡ is_of name.now place process.now }
+{
+    process.name.as_bytes() == name && place as usize <= process.operations.as_slice().len()
+}
+
+fn some_has_place(processes: &[Process], name: &[u8], place: u16) -> bool
+    ensures { result ≡ list_any (is_of name.now place) processes.now }
+{
+    processes
+        .iter()
+        .any(|process| has_place(process, name, place))
+}
+
+/// Whether one of the processes has the operation that is named.
+fn has_named(processes: &[Process], name: &[u8], place: &[u8]) -> bool
+    ensures { result ≡ list_any (is_of name.now (unwrap_or (place_of place.now) 0)) processes.now }
+{
+    some_has_place(processes, name, read_place(place).unwrap_or(0))
+}
+
+fn source_is_known(processes: &[Process], source: Source<'_>) -> bool
+    ensures { result ≡ list_all (is_among processes.now) (references_of_source (said_source source.entry)) }
+{
+    match source {
+        Source::FromOp(process, place) => has_named(processes, process, place),
+        Source::Unsaid => true,
+        Source::FromInit => true,
+    }
+}
+
+/// Whether the operations are known that a line names.
+fn all_are_known(processes: &[Process], statement: Statement<'_>) -> bool
+    ensures { result ≡ list_all (is_among processes.now) (references_of (said statement.entry)) }
+{
+    match statement {
+        Statement::Read(_, _, source) => source_is_known(processes, source),
+        Statement::Update(_, _, _, source) => source_is_known(processes, source),
+        Statement::Before(process, place, other, other_place) => {
+            has_named(processes, process, place) && has_named(processes, other, other_place)
+        }
+        _ => true,
+    }
+}
+
+/// Whether a line puts an operation before itself.
+fn is_of_one(statement: Statement<'_>) -> bool
+    ensures { result ≡ is_before_itself (said statement.entry) }
+{
+    match statement {
+        Statement::Before(process, place, other, other_place) => {
+            process == other && place == other_place
+        }
+        _ => false,
+    }
+}
+
+/// What is wrong with the operations that a line names.
+fn fault_of_names(processes: &[Process], statement: Statement<'_>) -> Result<(), Refusal>
+    ensures refused { IfErr result (IsRefusedFor (fault_of_references processes.now (Some (said statement.entry)))) }
+    ensures fine { OnOk result (fault_of_references processes.now (Some (said statement.entry)) ≡ None) }
+{
+    if !all_are_known(processes, statement) {
+        return Err(Refusal::Fault(TraceCause::NoSuchOp));
+    }
+    if is_of_one(statement) {
+        return Err(Refusal::Fault(TraceCause::BeforeItself));
+    }
+    Ok(())
+}
+
+/// Looks at the operations that a line names.
+fn check_line(alloc: Global, two: bool, processes: &[Process], line: &[u8]) -> Result<(), Refusal>
+    ensures refused { IfErr result (IsRefusedFor (fault_of_line two processes.now line.now)) }
+    ensures fine { OnOk result (fault_of_line two processes.now line.now ≡ None) }
+{
+    let words = first_words(alloc, line, MOST_WORDS)?;
+    if is_skipped_line(words.as_slice()) {
+        return Ok(());
+    }
+    match read_statement(two, words.as_slice()) {
+        Some(statement) => fault_of_names(processes, statement),
+        None => Ok(()),
+    }
+}
+
+/// Looks at the operations that the lines of a text name, which are to be operations of these processes.
+pub fn check_references(
+    alloc: Global,
+    two: bool,
+    processes: &[Process],
+    text: &[u8],
+) -> Result<(), TraceFault>
+    ensures refused { IfErr result (IsRefusedByReferences two processes.now text.now) }
+    ensures fine { OnOk result (IsFaultless (λ (before : List (List ℕ)) (here : List ℕ). fault_of_line two processes.now here) (lines_of text.now)) }
+{
+    let mut rest = text;
+    let mut next = 1usize;
+    while let Some((line, after)) = cut_line(rest) {
+        if let Err(refusal) = check_line(alloc, two, processes, line) {
+            return Err(refusal.at(next));
+        }
+        rest = after;
+        next += 1;
+    }
+    Ok(())
+}

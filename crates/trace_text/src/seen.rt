@@ -1,0 +1,169 @@
+//! What the earlier lines of a trace text tell of the next one.
+
+ghost use Rattle.std.specs.Prelude.{◌≡◌, ◌≤◌, [], List, ℕ, Some, None, false, OnOk, IfErr};
+ghost use Rattle.trace_text.specs.Tables.{number_of};
+ghost use Rattle.trace_text.specs.Refusal.{IsRefusedFor};
+ghost use Rattle.trace_text.specs.Said.{said};
+ghost use Rattle.trace_text.specs.Statement.{Init, Final, Proc, Write, Before};
+ghost use Rattle.trace_text.specs.Seen.{has, IsSeen, Notes, NotesLocation, fault_behind, fault_of_location, fault_of_operation};
+
+use crate::name_table::NameTable;
+use crate::refusal::Refusal;
+use crate::statement::Statement;
+use crate::trace_fault::TraceCause;
+use std::alloc::Global;
+
+const MOST_PROCESSES: usize = 64;
+
+const MOST_OPERATIONS: usize = 4096;
+
+const MOST_LOCATIONS: usize = 4096;
+
+const MOST_BEFORE_LINES: usize = 4096;
+
+/// What the earlier lines tell of the next one: the names that they name, and how many there are of each kind.
+#[derive(Drop)]
+pub struct Seen<'a> {
+    initial: NameTable<'a>,
+    final_values: NameTable<'a>,
+    processes: NameTable<'a>,
+    locations: NameTable<'a>,
+    process_count: usize,
+    operation_count: usize,
+    before_count: usize,
+    location_count: usize,
+}
+
+fn has_name<'a>(table: &NameTable<'a>, name: &'a [u8]) -> bool
+    ensures { result ≡ has table.now name.now }
+{
+    table.get(name).is_some()
+}
+
+impl<'a> Seen<'a> {
+    /// What no line tells.
+    pub fn new(alloc: Global) -> Seen<'a>
+        ensures { IsSeen [] result }
+    {
+        Seen {
+            initial: NameTable::new(alloc),
+            final_values: NameTable::new(alloc),
+            processes: NameTable::new(alloc),
+            locations: NameTable::new(alloc),
+            process_count: 0,
+            operation_count: 0,
+            before_count: 0,
+            location_count: 0,
+        }
+    }
+
+    /// Takes the location of a line.
+    fn take_location(&mut self, location: &'a [u8]) -> Result<(), Refusal>
+        requires { self.old.location_count ≤ 4096 }
+        ensures refused { IfErr result (IsRefusedFor (fault_of_location self.old location.now)) }
+        ensures fine { OnOk result (fault_of_location self.old location.now ≡ None) }
+        ensures noted { OnOk result (NotesLocation self.old self.new (Some location.now)) }
+        ensures initial { self.new.initial ≡ self.old.initial }
+        ensures final_values { self.new.final_values ≡ self.old.final_values }
+        ensures processes { self.new.processes ≡ self.old.processes }
+        ensures process_count { self.new.process_count ≡ self.old.process_count }
+        ensures operation_count { self.new.operation_count ≡ self.old.operation_count }
+        ensures before_count { self.new.before_count ≡ self.old.before_count }
+    {
+        if has_name(&self.locations, location) {
+            return Ok(());
+        }
+        if self.location_count >= MOST_LOCATIONS {
+            return Err(Refusal::Fault(TraceCause::TooManyLocations));
+        }
+        self.locations.insert(location, 0)?;
+        self.location_count += 1;
+        Ok(())
+    }
+
+    /// Takes an initial value.
+    fn take_initial(&mut self, location: &'a [u8]) -> Result<(), Refusal>
+        requires { self.old.location_count ≤ 4096 }
+        ensures refused { IfErr result (IsRefusedFor (fault_behind self.old (Init location.now []))) }
+        ensures noted { OnOk result (Notes self.old self.new (Init location.now [])) }
+    {
+        if has_name(&self.initial, location) {
+            return Err(Refusal::Fault(TraceCause::InitTwice));
+        }
+        self.initial.insert(location, 0)?;
+        self.take_location(location)
+    }
+
+    /// Takes a final value.
+    fn take_final(&mut self, location: &'a [u8]) -> Result<(), Refusal>
+        requires { self.old.location_count ≤ 4096 }
+        ensures refused { IfErr result (IsRefusedFor (fault_behind self.old (Final location.now []))) }
+        ensures noted { OnOk result (Notes self.old self.new (Final location.now [])) }
+    {
+        if has_name(&self.final_values, location) {
+            return Err(Refusal::Fault(TraceCause::FinalTwice));
+        }
+        self.final_values.insert(location, 0)?;
+        self.take_location(location)
+    }
+
+    /// Takes a process.
+    fn take_process(&mut self, name: &'a [u8]) -> Result<(), Refusal>
+        requires { self.old.location_count ≤ 4096 }
+        ensures refused { IfErr result (IsRefusedFor (fault_behind self.old (Proc name.now))) }
+        ensures noted { OnOk result (Notes self.old self.new (Proc name.now)) }
+    {
+        if has_name(&self.processes, name) {
+            return Err(Refusal::Fault(TraceCause::ProcTwice));
+        }
+        if self.process_count >= MOST_PROCESSES {
+            return Err(Refusal::Fault(TraceCause::TooManyProcs));
+        }
+        self.processes.insert(name, 0)?;
+        self.process_count += 1;
+        Ok(())
+    }
+
+    /// Takes an operation on a location.
+    fn take_operation(&mut self, location: &'a [u8]) -> Result<(), Refusal>
+        requires { self.old.location_count ≤ 4096 }
+        ensures refused { IfErr result (IsRefusedFor (fault_behind self.old (Write location.now []))) }
+        ensures noted { OnOk result (Notes self.old self.new (Write location.now [])) }
+    {
+        if self.operation_count >= MOST_OPERATIONS {
+            return Err(Refusal::Fault(TraceCause::TooManyOps));
+        }
+        self.operation_count += 1;
+        self.take_location(location)
+    }
+
+    /// Takes a `before` line.
+    fn take_before(&mut self) -> Result<(), Refusal>
+        requires { self.old.location_count ≤ 4096 }
+        ensures refused { IfErr result (IsRefusedFor (fault_behind self.old (Before [] [] [] []))) }
+        ensures noted { OnOk result (Notes self.old self.new (Before [] [] [] [])) }
+    {
+        if self.before_count >= MOST_BEFORE_LINES {
+            return Err(Refusal::Fault(TraceCause::TooManyBefore));
+        }
+        self.before_count += 1;
+        Ok(())
+    }
+
+    /// Takes what a line says, unless the lines before it make a fault of it.
+    pub fn take(&mut self, statement: Statement<'a>) -> Result<(), Refusal>
+        requires { self.old.location_count ≤ 4096 }
+        ensures refused { IfErr result (IsRefusedFor (fault_behind self.old (said statement.entry))) }
+        ensures noted { OnOk result (Notes self.old self.new (said statement.entry)) }
+    {
+        match statement {
+            Statement::Init(location, _) => self.take_initial(location),
+            Statement::Final(location, _) => self.take_final(location),
+            Statement::Proc(name) => self.take_process(name),
+            Statement::Read(location, _, _) => self.take_operation(location),
+            Statement::Write(location, _) => self.take_operation(location),
+            Statement::Update(location, _, _, _) => self.take_operation(location),
+            Statement::Before(_, _, _, _) => self.take_before(),
+        }
+    }
+}

@@ -1,0 +1,256 @@
+//! The writer of a trace's text.
+
+ghost use Rattle.std.specs.Prelude.{◌≡◌, ◌∷◌, ◌++◌, map, IfOk, OnOk};
+ghost use Rattle.std.specs.Fmt.{decimal};
+ghost use Rattle.std.specs.List.{list_any, flat_map};
+ghost use Rattle.trace_text.specs.declared.trace.Process.{Process};
+ghost use Rattle.trace_text.specs.TraceText as spelled;
+ghost use Rattle.trace_text.specs.TraceLines.{spaced, entry_line, joined};
+ghost use Rattle.trace_text.specs.TraceWritten.{line_text, canonical_trace};
+
+use crate::name::Name;
+use crate::operation::{Op, OpName, Origin};
+use crate::trace::{Process, Trace};
+use itoa::Buffer;
+use std::alloc::{AllocError, Global};
+
+/// Whether it is said where the value of the operation comes from.
+fn says_origin(op: &Op) -> bool
+    ensures { result ≡ spelled.has_origin op.now }
+{
+    match op {
+        Op::Read {
+            origin: Origin::Any,
+            ..
+        } => false,
+        Op::Read { .. } => true,
+        Op::Write { .. } => false,
+        Op::Update {
+            origin: Origin::Any,
+            ..
+        } => false,
+        Op::Update { .. } => true,
+    }
+}
+
+fn process_says_origin(process: &Process) -> bool
+    ensures { result ≡ list_any spelled.has_origin process.now.operations }
+{
+    process
+        .operations
+        .as_slice()
+        .iter()
+        .any(|op| says_origin(op))
+}
+
+fn any_says_origin(processes: &[Process]) -> bool
+    ensures { result ≡ list_any (λ (p : Process). list_any spelled.has_origin p.operations) processes.now }
+{
+    processes.iter().any(|process| process_says_origin(process))
+}
+
+/// Whether the trace says what version 1 has no line for.
+fn wants_version_2(trace: &Trace) -> bool
+    ensures { result ≡ spelled.needs_version_2 trace.now }
+{
+    !trace.before().is_empty() || any_says_origin(trace.processes())
+}
+
+/// Appends a space and the word.
+fn push_word(text: &mut Vec<u8>, word: &[u8]) -> Result<(), AllocError>
+    ensures { OnOk result (text.new.items ≡ text.old.items ++ 32 ∷ word.now) }
+{
+    text.push(b' ')?;
+    text.extend_from_slice(word)?;
+    Ok(())
+}
+
+/// Appends a space and the number.
+fn push_number(text: &mut Vec<u8>, number: u64) -> Result<(), AllocError>
+    ensures { OnOk result (text.new.items ≡ text.old.items ++ 32 ∷ decimal number) }
+{
+    let mut buffer = Buffer::new();
+    push_word(text, buffer.format(number).as_bytes())
+}
+
+/// Appends the process and the place of the name.
+fn push_op_name(text: &mut Vec<u8>, name: &OpName) -> Result<(), AllocError>
+    ensures { OnOk result (text.new.items ≡ text.old.items ++ 32 ∷ name.now.process ++ 32 ∷ decimal name.now.place) }
+{
+    push_word(text, name.process.as_bytes())?;
+    push_number(text, u64::from(name.place))
+}
+
+/// Appends the words that say where a value comes from.
+fn push_origin(text: &mut Vec<u8>, origin: &Origin) -> Result<(), AllocError>
+    ensures { OnOk result (text.new.items ≡ text.old.items ++ flat_map spaced (spelled.origin_words origin.now)) }
+{
+    match origin {
+        Origin::Any => Ok(()),
+        Origin::Initial => {
+            text.extend_from_slice(b" from init")?;
+            Ok(())
+        }
+        Origin::Operation(name) => {
+            text.extend_from_slice(b" from")?;
+            push_op_name(text, name)
+        }
+    }
+}
+
+/// Appends the first words of a line: its key, a location and a value.
+fn push_entry(text: &mut Vec<u8>, key: &[u8], location: &Name, value: u64) -> Result<(), AllocError>
+    ensures { OnOk result (text.new.items ≡ text.old.items ++ key.now ++ 32 ∷ location.now ++ 32 ∷ decimal value) }
+{
+    text.extend_from_slice(key)?;
+    push_word(text, location.as_bytes())?;
+    push_number(text, value)
+}
+
+/// Appends the words of an operation's line.
+fn push_op_words(text: &mut Vec<u8>, op: &Op) -> Result<(), AllocError>
+    ensures { OnOk result (text.new.items ≡ text.old.items ++ joined (spelled.op_line op.now)) }
+{
+    match op {
+        Op::Read {
+            location,
+            value,
+            origin,
+        } => {
+            push_entry(text, b"R", location, *value)?;
+            push_origin(text, origin)
+        }
+        Op::Write { location, value } => push_entry(text, b"W", location, *value),
+        Op::Update {
+            location,
+            read,
+            left,
+            origin,
+        } => {
+            push_entry(text, b"U", location, *read)?;
+            push_number(text, *left)?;
+            push_origin(text, origin)
+        }
+    }
+}
+
+/// Appends the line of an operation.
+fn push_op(text: &mut Vec<u8>, op: &Op) -> Result<(), AllocError>
+    ensures { OnOk result (text.new.items ≡ text.old.items ++ line_text (spelled.op_line op.now)) }
+{
+    push_op_words(text, op)?;
+    text.push(b'\n')?;
+    Ok(())
+}
+
+/// Appends the lines of a process.
+fn push_process(text: &mut Vec<u8>, process: &Process) -> Result<(), AllocError>
+    ensures { OnOk result (text.new.items ≡ text.old.items ++ flat_map line_text (spelled.process_lines process.now)) }
+{
+    text.extend_from_slice(b"proc")?;
+    push_word(text, process.name.as_bytes())?;
+    text.push(b'\n')?;
+    for op in process.operations.as_slice() {
+        push_op(text, op)?;
+    }
+    Ok(())
+}
+
+/// Appends the lines of the processes.
+fn push_processes(text: &mut Vec<u8>, processes: &[Process]) -> Result<(), AllocError>
+    ensures { OnOk result (text.new.items ≡ text.old.items ++ flat_map line_text (flat_map spelled.process_lines processes.now)) }
+{
+    for process in processes {
+        push_process(text, process)?;
+    }
+    Ok(())
+}
+
+/// Appends a line with this key for each location and value.
+fn push_entries(text: &mut Vec<u8>, key: &[u8], entries: &[(Name, u64)]) -> Result<(), AllocError>
+    ensures { OnOk result (text.new.items ≡ text.old.items ++ flat_map line_text (map (entry_line key.now) entries.now)) }
+{
+    for entry in entries {
+        push_entry(text, key, &entry.0, entry.1)?;
+        text.push(b'\n')?;
+    }
+    Ok(())
+}
+
+/// Appends the line of each pair.
+fn push_pairs(text: &mut Vec<u8>, pairs: &[(OpName, OpName)]) -> Result<(), AllocError>
+    ensures { OnOk result (text.new.items ≡ text.old.items ++ flat_map line_text (map spelled.before_line pairs.now)) }
+{
+    for pair in pairs {
+        text.extend_from_slice(b"before")?;
+        push_op_name(text, &pair.0)?;
+        push_op_name(text, &pair.1)?;
+        text.push(b'\n')?;
+    }
+    Ok(())
+}
+
+/// Appends the header of version 1 or 2.
+fn push_header(text: &mut Vec<u8>, two: bool) -> Result<(), AllocError>
+    ensures { OnOk result (text.new.items ≡ text.old.items ++ line_text (spelled.header_line two)) }
+{
+    text.extend_from_slice(if two { b"vsc 2\n" } else { b"vsc 1\n" })?;
+    Ok(())
+}
+
+/// The canonical text of the trace: the header, of version 2 only where the trace needs it, the initial values,
+/// the final values, the processes with their operations, and the pairs, each in its order, one line each.
+pub fn write_trace(alloc: Global, trace: &Trace) -> Result<Vec<u8>, AllocError>
+    ensures { IfOk result (λ text. text.items ≡ canonical_trace trace.now) }
+{
+    let mut text = Vec::new(alloc);
+    push_header(&mut text, wants_version_2(trace))?;
+    push_entries(&mut text, b"init", trace.initial())?;
+    push_entries(&mut text, b"final", trace.final_values())?;
+    push_processes(&mut text, trace.processes())?;
+    push_pairs(&mut text, trace.before())?;
+    Ok(text)
+}
+
+#[cfg(test)]
+mod tests {
+    use super::*;
+    use crate::trace::Operations;
+    use std::test::Fail;
+
+    #[test]
+    fn writes_operations_and_origins(rt: HostRuntime) -> Result<(), Fail> {
+        let alloc = rt.alloc();
+        let mut ops = Vec::new(alloc);
+        ops.push(Op::Write {
+            location: Name::copy_of(alloc, b"x")?,
+            value: 1,
+        })?;
+        ops.push(Op::Read {
+            location: Name::copy_of(alloc, b"y")?,
+            value: 18446744073709551615,
+            origin: Origin::Initial,
+        })?;
+        let name = OpName {
+            process: Name::copy_of(alloc, b"P0")?,
+            place: 1,
+        };
+        ops.push(Op::Update {
+            location: Name::copy_of(alloc, b"x")?,
+            read: 1,
+            left: 20,
+            origin: Origin::Operation(name),
+        })?;
+        let mut processes = Vec::new(alloc);
+        processes.push(Process {
+            name: Name::copy_of(alloc, b"P0")?,
+            operations: Operations::new(ops),
+        })?;
+        let trace = Trace::new(processes, Vec::new(alloc), Vec::new(alloc), Vec::new(alloc));
+        let text = write_trace(alloc, &trace)?;
+        let expected =
+            b"vsc 2\nproc P0\nW x 1\nR y 18446744073709551615 from init\nU x 1 20 from P0 1\n";
+        assert_eq!(rt; text.as_slice(), expected.as_slice());
+        Ok(())
+    }
+}
