@@ -1,5 +1,6 @@
 pub mod CutLemmas
 pub mod FaultLemmas
+pub mod KeptLemmas
 pub mod LineLemmas
 pub mod NumberLemmas
 pub mod PlainLemmas

@@ -1,5 +1,7 @@
 pub mod FirstFault
+pub mod Kept
 pub mod Lines
 pub mod Numbers
+pub mod Printed
 pub mod SolverNumber
 pub mod Words

@@ -3,6 +3,7 @@
 //! Every reader of a text stands on these definitions.
 #![tactic(auto)]
 
+pub mod comments;
 pub mod first_fault;
 pub mod lines;
 pub mod numbers;

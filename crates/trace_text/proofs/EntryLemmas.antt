@@ -6,18 +6,18 @@ use Rattle.std.proofs.lemmas.List.Folds.{list_all-append}
 use Rattle.trace_text.specs.declared.entry.Entry.{Entry}
 use Rattle.trace_text.specs.declared.entry.Entry.TheVariants.{Initial as InitialEntry, Final as FinalEntry, Process as ProcessEntry, Operation as OperationEntry, Before as BeforeEntry}
 use Rattle.trace_text.specs.declared.gathered.Gathered.{Gathered}
-use Rattle.trace_text.specs.declared.operation.Op.{Op}
-use Rattle.trace_text.specs.declared.operation.Op.TheVariants.{Read as ReadOp, Write as WriteOp, Update as UpdateOp}
-use Rattle.trace_text.specs.declared.operation.OpName.{OpName}
-use Rattle.trace_text.specs.declared.operation.Origin.{Origin}
-use Rattle.trace_text.specs.declared.operation.Origin.TheVariants.{Any, Initial, Operation}
-use Rattle.trace_text.specs.declared.trace.Process.{Process}
+use Rattle.traces.specs.declared.operation.Op.{Op}
+use Rattle.traces.specs.declared.operation.Op.TheVariants.{Read as ReadOp, Write as WriteOp, Update as UpdateOp}
+use Rattle.traces.specs.declared.operation.OpName.{OpName}
+use Rattle.traces.specs.declared.operation.Origin.{Origin}
+use Rattle.traces.specs.declared.operation.Origin.TheVariants.{Any, Initial, Operation}
+use Rattle.traces.specs.declared.trace.Process.{Process}
 use Rattle.trace_text.specs.Entry.{op_statement, source_of, statement_for, fits_value, fits_place, origin_fits, op_fits, entry_fits}
 use Rattle.trace_text.specs.Gathered.{with_operation, processes_of, processes_with, initial_with, final_with, before_with, Adds}
-use Rattle.trace_text.specs.Names.{is_name}
+use Rattle.traces.specs.Names.{is_name}
 use Rattle.trace_text.specs.Progress.{IsWrittenSoFar}
 use Rattle.trace_text.specs.Seen.{names_of_source}
-use Rattle.trace_text.specs.Trace.{is_written_value, is_written_origin, is_written_op, is_written_process, is_written_pair}
+use Rattle.traces.specs.Trace.{is_written_value, is_written_origin, is_written_op, is_written_process, is_written_pair}
 use Rattle.trace_text.specs.TraceFault.{names_of}
 use Rattle.trace_text.proofs.SaidLemmas.{both}
 

@@ -12,17 +12,17 @@ use Rattle.trace_text.specs.declared.entry.Entry.{Entry}
 use Rattle.trace_text.specs.declared.entry.Entry.TheVariants.{Initial as InitialEntry, Final as FinalEntry, Process as ProcessEntry, Operation as OperationEntry, Before as BeforeEntry}
 use Rattle.trace_text.specs.declared.gathered.Gathered.{Gathered}
 use Rattle.trace_text.specs.declared.gathered.OpenProcess.{OpenProcess}
-use Rattle.trace_text.specs.declared.operation.Op.{Op}
-use Rattle.trace_text.specs.declared.operation.Op.TheVariants.{Read as ReadOp, Write as WriteOp, Update as UpdateOp}
-use Rattle.trace_text.specs.declared.operation.OpName.{OpName}
-use Rattle.trace_text.specs.declared.trace.Process.{Process}
+use Rattle.traces.specs.declared.operation.Op.{Op}
+use Rattle.traces.specs.declared.operation.Op.TheVariants.{Read as ReadOp, Write as WriteOp, Update as UpdateOp}
+use Rattle.traces.specs.declared.operation.OpName.{OpName}
+use Rattle.traces.specs.declared.trace.Process.{Process}
 use Rattle.trace_text.specs.Entry.{op_statement, init_statement, final_statement, before_statement, statement_for}
 use Rattle.trace_text.specs.Gathered.{with_operation, open_process, processes_of, processes_with, initial_with, final_with, before_with, is_process_entry, is_init, is_final, is_of_process, process_statements, Adds, IsGathered}
 use Rattle.trace_text.specs.Progress.{IsDistinct}
 use Rattle.trace_text.specs.Statement.{Statement, Init, Final, Proc}
-use Rattle.trace_text.specs.Trace.{IsOneEach}
+use Rattle.traces.specs.Trace.{IsOneEach}
 use Rattle.trace_text.specs.TraceFault.{is_proc, is_operation, is_before, repeats}
-use Rattle.trace_text.proofs.ElementLemmas.{head_in, from_filter, to_map, to_flat_map, passes_some}
+use Rattle.traces.proofs.ElementLemmas.{head_in, from_filter, to_map, to_flat_map, passes_some}
 use Rattle.trace_text.proofs.SeenLemmas.{any_push}
 
 -- the last process gets the operation

@@ -11,29 +11,29 @@ use Rattle.text_lines.specs.FirstFault.{IsFaultless}
 use Rattle.text_lines.specs.Lines.{lines_of}
 use Rattle.text_lines.specs.Words.{words_of}
 use Rattle.text_lines.proofs.PlainLemmas.{decimal_is_plain}
-use Rattle.trace_text.specs.declared.operation.Op.{Op}
-use Rattle.trace_text.specs.declared.operation.Op.TheVariants.{Read as ReadOp, Write as WriteOp, Update as UpdateOp}
-use Rattle.trace_text.specs.declared.operation.OpName.{OpName}
-use Rattle.trace_text.specs.declared.operation.Origin.{Origin}
-use Rattle.trace_text.specs.declared.operation.Origin.TheVariants.{Any, Initial, Operation}
-use Rattle.trace_text.specs.declared.trace.Process.{Process}
+use Rattle.traces.specs.declared.operation.Op.{Op}
+use Rattle.traces.specs.declared.operation.Op.TheVariants.{Read as ReadOp, Write as WriteOp, Update as UpdateOp}
+use Rattle.traces.specs.declared.operation.OpName.{OpName}
+use Rattle.traces.specs.declared.operation.Origin.{Origin}
+use Rattle.traces.specs.declared.operation.Origin.TheVariants.{Any, Initial, Operation}
+use Rattle.traces.specs.declared.trace.Process.{Process}
 use Rattle.trace_text.specs.declared.trace_fault.TraceCause.TheVariants.{NoSuchOp, BeforeItself}
 use Rattle.trace_text.specs.declared.trace_fault.TraceFault.{TraceFault}
 use Rattle.trace_text.specs.declared.trace_fault.TraceFault.TheVariants.{OutOfMemory, Line}
 use Rattle.trace_text.specs.Entry.{before_statement, op_statement, source_of}
 use Rattle.trace_text.specs.Gathered.{is_of_process, process_statements}
-use Rattle.trace_text.specs.Kept.{is_skipped, kept}
-use Rattle.trace_text.specs.Names.{is_name}
-use Rattle.trace_text.specs.Operation.{origin_of}
+use Rattle.text_lines.specs.Kept.{is_skipped, kept}
+use Rattle.traces.specs.Names.{is_name}
+use Rattle.traces.specs.Operation.{origin_of}
 use Rattle.trace_text.specs.Read.{AreSaid}
 use Rattle.trace_text.specs.References.{is_of, is_among, fault_of_references, fault_of_line, IsRefusedByReferences}
 use Rattle.trace_text.specs.Statement.{Statement, Proc, statement_of, words_for}
-use Rattle.trace_text.specs.Trace.{TraceValue, operation_at, at_place, IsKnownOrigin, is_written_name, is_written_origin, is_written_op, is_written_process, is_written_pair}
+use Rattle.traces.specs.Trace.{TraceValue, operation_at, at_place, IsKnownOrigin, is_written_name, is_written_origin, is_written_op, is_written_process, is_written_pair}
 use Rattle.trace_text.specs.TraceFault.{place_of, references_of, references_of_source, is_before, is_before_itself, reference_fault, line_reference_fault, trace_line_fault, statements_of, IsTraceRefusal}
 use Rattle.trace_text.specs.TraceText.{header_line}
-use Rattle.trace_text.proofs.ElementLemmas.{placed, tail_in, from_filter, from_map, to_map, to_flat_map, some_passes, same_from_key, finds, all_pass}
+use Rattle.traces.proofs.ElementLemmas.{placed, tail_in, from_filter, from_map, to_map, to_flat_map, some_passes, same_from_key, finds, all_pass}
 use Rattle.trace_text.proofs.LineLemmas.{version_is}
-use Rattle.trace_text.proofs.NameLemmas.{Named, same_bytes, bytes_same}
+use Rattle.traces.proofs.NameLemmas.{Named, same_bytes, bytes_same}
 use Rattle.trace_text.proofs.ReferenceLemmas.{has_operation-listed}
 use Rattle.trace_text.proofs.SaidLemmas.{both, statements_said}
 use Rattle.trace_text.proofs.SpellLemmas.{said_each}

@@ -16,7 +16,7 @@ use Rattle.trace_text.specs.declared.refusal.Refusal.{Refusal}
 use Rattle.trace_text.specs.declared.refusal.Refusal.TheVariants.{OutOfMemory, Fault}
 use Rattle.trace_text.specs.declared.trace_reader.TraceReader.{TraceReader}
 use Rattle.trace_text.specs.Header.{header_fault, IsHeaderLine}
-use Rattle.trace_text.specs.Kept.{is_skipped, kept}
+use Rattle.text_lines.specs.Kept.{is_skipped, kept}
 use Rattle.trace_text.specs.Progress.{IsProgress}
 use Rattle.trace_text.specs.Read.{saying, AreSaid, TakesLine, TakesWords, HasHeader, IsAllRead}
 use Rattle.trace_text.specs.Refusal.{IsRefusedFor, refusal_at}

@@ -10,13 +10,13 @@ use Rattle.text_lines.specs.Lines.{lines_of, is_line_feed}
 use Rattle.text_lines.specs.Words.{words_of, is_blank, is_empty}
 use Rattle.text_lines.proofs.LineLemmas.{line_ended, one_word, word_ended}
 use Rattle.text_lines.proofs.PlainLemmas.{own}
-use Rattle.trace_text.specs.Kept.{kept, is_skipped}
-use Rattle.trace_text.specs.Names.{is_name, may_begin_name, may_be_in_name}
+use Rattle.text_lines.specs.Kept.{kept, is_skipped}
+use Rattle.traces.specs.Names.{is_name, may_begin_name, may_be_in_name}
 use Rattle.trace_text.specs.TraceWritten.{line_text}
 use Rattle.trace_text.specs.Written.{is_written_value}
-use Rattle.trace_text.proofs.ElementLemmas.{all_pass, pass_all}
-use Rattle.trace_text.proofs.OpNameLemmas.{name_bytes, apart, none_in_name}
-use Rattle.trace_text.proofs.ScheduleLemmas.{kept_more}
+use Rattle.traces.proofs.ElementLemmas.{all_pass, pass_all}
+use Rattle.traces.proofs.NameByteLemmas.{name_bytes, apart, none_in_name}
+use Rattle.text_lines.proofs.KeptLemmas.{kept_more}
 
 -- bytes that are a word
 abbrev pub is_word : List ℕ → Bool

@@ -7,17 +7,17 @@ use Rattle.std.specs.Str.{bytes_eq}
 use Rattle.std.proofs.lemmas.List.Elements.{Contains-append_cases}
 use Rattle.std.proofs.lemmas.List.Sorted.{Contains-permutation, IsPermutation-sym}
 use Rattle.std.proofs.lemmas.Slice.Eq.{bytes_eq-Decides}
-use Rattle.trace_text.specs.declared.operation.Op.{Op}
-use Rattle.trace_text.specs.declared.operation.Op.TheVariants.{Read as ReadOp, Write as WriteOp, Update as UpdateOp}
-use Rattle.trace_text.specs.declared.trace.Process.{Process}
+use Rattle.traces.specs.declared.operation.Op.{Op}
+use Rattle.traces.specs.declared.operation.Op.TheVariants.{Read as ReadOp, Write as WriteOp, Update as UpdateOp}
+use Rattle.traces.specs.declared.trace.Process.{Process}
 use Rattle.trace_text.specs.Entry.{op_statement, init_statement, final_statement}
 use Rattle.trace_text.specs.Gathered.{is_init, is_final, is_of_process, process_statements}
-use Rattle.trace_text.specs.Locations.{distinct, holds_name}
-use Rattle.trace_text.specs.Operation.{location_of}
+use Rattle.traces.specs.Locations.{distinct, holds_name}
+use Rattle.traces.specs.Operation.{location_of}
 use Rattle.trace_text.specs.Statement.{Statement, Proc}
-use Rattle.trace_text.specs.Trace.{TraceValue, locations_of}
+use Rattle.traces.specs.Trace.{TraceValue, locations_of}
 use Rattle.trace_text.specs.TraceFault.{location_named}
-use Rattle.trace_text.proofs.ElementLemmas.{none_in, cases_in, head_in, tail_in, from_filter, from_map, to_map, from_flat_map, to_flat_map, some_passes, passes_some}
+use Rattle.traces.proofs.ElementLemmas.{none_in, cases_in, head_in, tail_in, from_filter, from_map, to_map, from_flat_map, to_flat_map, some_passes, passes_some}
 
 -- the names that are others than this
 abbrev pub without : List ℕ → List (List ℕ) → List (List ℕ)

@@ -9,23 +9,23 @@ use Rattle.std.proofs.lemmas.Bool.{and_parts, ltb-true}
 use Rattle.std.proofs.lemmas.Fmt.{decimal_injective, decimal_is_IsNumeral}
 use Rattle.std.proofs.lemmas.List.Sorted.{IsPermutation-map, IsPermutation-sym, IsPermutation-trans}
 use Rattle.text_lines.specs.Lines.{lines_of}
-use Rattle.trace_text.specs.declared.operation.Op.{Op}
-use Rattle.trace_text.specs.declared.operation.Op.TheVariants.{Read, Write, Update}
-use Rattle.trace_text.specs.declared.operation.OpName.{OpName}
-use Rattle.trace_text.specs.declared.operation.Origin.{Origin}
-use Rattle.trace_text.specs.declared.operation.Origin.TheVariants.{Any, Initial, Operation}
-use Rattle.trace_text.specs.declared.trace.Process.{Process}
-use Rattle.trace_text.specs.Kept.{kept}
-use Rattle.trace_text.specs.Names.{is_name}
+use Rattle.traces.specs.declared.operation.Op.{Op}
+use Rattle.traces.specs.declared.operation.Op.TheVariants.{Read, Write, Update}
+use Rattle.traces.specs.declared.operation.OpName.{OpName}
+use Rattle.traces.specs.declared.operation.Origin.{Origin}
+use Rattle.traces.specs.declared.operation.Origin.TheVariants.{Any, Initial, Operation}
+use Rattle.traces.specs.declared.trace.Process.{Process}
+use Rattle.text_lines.specs.Kept.{kept}
+use Rattle.traces.specs.Names.{is_name}
 use Rattle.trace_text.specs.SameTrace.{IsSameTrace}
-use Rattle.trace_text.specs.ScheduleText.{is_op_name}
-use Rattle.trace_text.specs.Trace.{TraceValue}
+use Rattle.schedule_text.specs.ScheduleText.{is_op_name}
+use Rattle.traces.specs.Trace.{TraceValue}
 use Rattle.trace_text.specs.TraceText.{SpellsTrace, begins, is_process_line, header_line, init_line, final_line, proc_line, origin_words, op_line, process_lines, before_line}
 use Rattle.trace_text.specs.TraceWritten.{canonical_body, canonical_lines, canonical_trace, is_written}
 use Rattle.trace_text.specs.Written.{is_written_value, is_written_entry, is_written_origin, is_written_op, is_written_process, is_written_pair}
-use Rattle.trace_text.proofs.ElementLemmas.{all_pass, from_map, to_map}
+use Rattle.traces.proofs.ElementLemmas.{all_pass, from_map, to_map}
 use Rattle.trace_text.proofs.LineTextLemmas.{written_kept}
-use Rattle.trace_text.proofs.OpNameLemmas.{writable}
+use Rattle.schedule_text.proofs.OpNameLemmas.{writable}
 use Rattle.trace_text.proofs.TraceWrittenLemmas.{written_parts, lines_kept_of, process_part, init_part, final_part, before_part}
 
 -- words tell numbers

@@ -7,14 +7,14 @@ use Rattle.text_lines.specs.FirstFault.{IsFaultless}
 use Rattle.text_lines.specs.Lines.{lines_of}
 use Rattle.text_lines.specs.Words.{words_of}
 use Rattle.text_lines.proofs.FaultLemmas.{faultless_push, faultless_nil}
-use Rattle.trace_text.specs.declared.operation.Op.{Op}
-use Rattle.trace_text.specs.declared.operation.Op.TheVariants.{Read as ReadOp, Write as WriteOp, Update as UpdateOp}
+use Rattle.traces.specs.declared.operation.Op.{Op}
+use Rattle.traces.specs.declared.operation.Op.TheVariants.{Read as ReadOp, Write as WriteOp, Update as UpdateOp}
 use Rattle.trace_text.specs.declared.refusal.Refusal.{Refusal}
 use Rattle.trace_text.specs.declared.refusal.Refusal.TheVariants.{OutOfMemory, Fault}
-use Rattle.trace_text.specs.declared.trace.Process.{Process}
+use Rattle.traces.specs.declared.trace.Process.{Process}
 use Rattle.trace_text.specs.Entry.{op_statement}
 use Rattle.trace_text.specs.Gathered.{is_of_process, process_statements}
-use Rattle.trace_text.specs.Kept.{is_skipped}
+use Rattle.text_lines.specs.Kept.{is_skipped}
 use Rattle.trace_text.specs.References.{is_of, fault_of_references, fault_of_line, IsRefusedByReferences}
 use Rattle.trace_text.specs.Refusal.{IsRefusedFor, refusal_at}
 use Rattle.trace_text.specs.Statement.{Statement, Init, Final, Proc, Read, Write, Update, Before, statement_of}

@@ -5,7 +5,7 @@ use Rattle.text_lines.specs.FirstFault.{IsFaultless, IsFirstFault}
 use Rattle.text_lines.specs.Lines.{lines_of}
 use Rattle.text_lines.proofs.FaultLemmas.{one_first}
 use Rattle.trace_text.specs.declared.trace_fault.TraceCause.{TraceCause}
-use Rattle.trace_text.specs.Kept.{kept}
+use Rattle.text_lines.specs.Kept.{kept}
 use Rattle.trace_text.specs.TraceFault.{trace_line_fault, line_reference_fault, LacksHeader, HasReferenceFault, HasTraceFault}
 
 clash : {A F : Type 0} (fault : List A → A → Option F) (items : List A) (place : ℕ) (found : F) → IsFirstFault fault items place found → IsFaultless fault items → ⊥

@@ -8,13 +8,13 @@ use Rattle.trace_text.specs.declared.entry.Entry.{Entry}
 use Rattle.trace_text.specs.declared.entry.Entry.TheVariants.{Initial, Final as FinalEntry, Process as ProcessEntry, Operation, Before as BeforeEntry}
 use Rattle.trace_text.specs.declared.gathered.OpenProcess.{OpenProcess}
 use Rattle.trace_text.specs.declared.gathered.Gathered.{Gathered}
-use Rattle.trace_text.specs.declared.operation.Op.{Op}
-use Rattle.trace_text.specs.declared.operation.OpName.{OpName}
-use Rattle.trace_text.specs.declared.trace.Process.{Process}
+use Rattle.traces.specs.declared.operation.Op.{Op}
+use Rattle.traces.specs.declared.operation.OpName.{OpName}
+use Rattle.traces.specs.declared.trace.Process.{Process}
 use Rattle.trace_text.specs.Entry.{op_statement, init_statement, final_statement, before_statement}
-use Rattle.trace_text.specs.PairOrder.{ArrangesPairs}
+use Rattle.traces.specs.PairOrder.{ArrangesPairs}
 use Rattle.trace_text.specs.Statement.{Statement, Init, Final, Proc}
-use Rattle.trace_text.specs.Trace.{TraceValue}
+use Rattle.traces.specs.Trace.{TraceValue}
 use Rattle.trace_text.specs.TraceFault.{is_proc, is_operation, is_before}
 
 -- the process whose lines are being read

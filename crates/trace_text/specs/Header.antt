@@ -4,7 +4,7 @@ use Rattle.std.specs.List.{list_any}
 use Rattle.text_lines.specs.Words.{words_of}
 use Rattle.trace_text.specs.declared.trace_fault.TraceCause.{TraceCause}
 use Rattle.trace_text.specs.declared.trace_fault.TraceCause.TheVariants.{NotAscii, Header}
-use Rattle.trace_text.specs.Kept.{is_skipped}
+use Rattle.text_lines.specs.Kept.{is_skipped}
 use Rattle.trace_text.specs.TraceFault.{is_header, is_high}
 use Rattle.trace_text.specs.TraceText.{header_line}
 

@@ -2,12 +2,12 @@
 use Rattle.std.specs.Prelude.{◌≡◌, ◌≢◌, true, is_some, List}
 use Rattle.std.specs.List.{list_any, list_all, AllPairs}
 use Rattle.trace_text.specs.declared.gathered.Gathered.{Gathered}
-use Rattle.trace_text.specs.declared.trace.Process.{Process}
+use Rattle.traces.specs.declared.trace.Process.{Process}
 use Rattle.trace_text.specs.declared.trace_reader.TraceReader.{TraceReader}
 use Rattle.trace_text.specs.Gathered.{processes_of, IsGathered}
 use Rattle.trace_text.specs.Seen.{IsSeen}
 use Rattle.trace_text.specs.Statement.{Statement}
-use Rattle.trace_text.specs.Trace.{IsOneEach, is_written_process, is_written_value, is_written_pair}
+use Rattle.traces.specs.Trace.{IsOneEach, is_written_process, is_written_value, is_written_pair}
 use Rattle.trace_text.specs.TraceFault.{is_proc}
 
 -- no process has the name of another, and no location two initial or two final values

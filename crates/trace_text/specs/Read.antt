@@ -3,7 +3,7 @@ use Rattle.std.specs.Prelude.{◌≡◌, ◌≤◌, ◌+◌, ℕ, Bool, List, []
 use Rattle.text_lines.specs.FirstFault.{IsFaultless}
 use Rattle.text_lines.specs.Lines.{lines_of}
 use Rattle.trace_text.specs.declared.trace_reader.TraceReader.{TraceReader}
-use Rattle.trace_text.specs.Kept.{kept}
+use Rattle.text_lines.specs.Kept.{kept}
 use Rattle.trace_text.specs.Progress.{IsProgress}
 use Rattle.trace_text.specs.Statement.{Statement, words_for, statement_of}
 use Rattle.trace_text.specs.TraceFault.{trace_line_fault, statement_fault}

@@ -6,12 +6,12 @@ use Rattle.std.specs.Str.{bytes_eq}
 use Rattle.text_lines.specs.FirstFault.{IsFirstFault}
 use Rattle.text_lines.specs.Lines.{lines_of}
 use Rattle.text_lines.specs.Words.{words_of}
-use Rattle.trace_text.specs.declared.trace.Process.{Process}
+use Rattle.traces.specs.declared.trace.Process.{Process}
 use Rattle.trace_text.specs.declared.trace_fault.TraceCause.{TraceCause}
 use Rattle.trace_text.specs.declared.trace_fault.TraceCause.TheVariants.{NoSuchOp, BeforeItself}
 use Rattle.trace_text.specs.declared.trace_fault.TraceFault.{TraceFault}
 use Rattle.trace_text.specs.declared.trace_fault.TraceFault.TheVariants.{OutOfMemory, Line}
-use Rattle.trace_text.specs.Kept.{is_skipped}
+use Rattle.text_lines.specs.Kept.{is_skipped}
 use Rattle.trace_text.specs.Statement.{Statement, statement_of}
 use Rattle.trace_text.specs.TraceFault.{place_of, references_of, is_before_itself}
 

@@ -2,8 +2,8 @@
 use Rattle.std.specs.Prelude.{◌≡◌, ◌↔◌}
 use Rattle.std.specs.List.{Contains}
 use Rattle.std.specs.List.Sorted.{IsPermutation}
-use Rattle.trace_text.specs.declared.operation.OpName.{OpName}
-use Rattle.trace_text.specs.Trace.{TraceValue}
+use Rattle.traces.specs.declared.operation.OpName.{OpName}
+use Rattle.traces.specs.Trace.{TraceValue}
 
 -- the same processes, initial and final values in any order, and the same pairs, in any order and repeated or not
 pub record IsSameTrace (s t : TraceValue) : Type 0 where

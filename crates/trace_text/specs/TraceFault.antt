@@ -12,9 +12,9 @@ use Rattle.trace_text.specs.declared.trace_fault.TraceCause.{TraceCause}
 use Rattle.trace_text.specs.declared.trace_fault.TraceCause.TheVariants.{NotAscii, Header, UnknownLine, BadName, BadNumber, InitTwice, FinalTwice, ProcTwice, OpOutsideProc, LateHeaderLine, TooManyProcs, TooManyOps, TooManyLocations, NoSuchOp, BeforeItself, TooManyBefore}
 use Rattle.trace_text.specs.declared.trace_fault.TraceFault.{TraceFault}
 use Rattle.trace_text.specs.declared.trace_fault.TraceFault.TheVariants.{OutOfMemory, Line}
-use Rattle.trace_text.specs.Kept.{kept, is_skipped}
-use Rattle.trace_text.specs.Locations.{distinct, holds_name}
-use Rattle.trace_text.specs.Names.{is_name}
+use Rattle.text_lines.specs.Kept.{kept, is_skipped}
+use Rattle.traces.specs.Locations.{distinct, holds_name}
+use Rattle.traces.specs.Names.{is_name}
 use Rattle.trace_text.specs.Statement.{Source, Unsaid, FromInit, FromOp, Statement, Init, Final, Proc, Read, Write, Update, Before, statement_of}
 use Rattle.trace_text.specs.TraceText.{header_line}
 

@@ -1,7 +1,7 @@
 -- The canonical text of a trace, and which traces can be written.
 use Rattle.std.specs.Prelude.{ℕ, Bool, List, [], ◌∷◌, ◌++◌, map, ◌&&◌}
 use Rattle.std.specs.List.{flat_map, list_all, join_with_byte}
-use Rattle.trace_text.specs.Trace.{TraceValue}
+use Rattle.traces.specs.Trace.{TraceValue}
 use Rattle.trace_text.specs.TraceText.{header_line, init_line, final_line, process_lines, before_line, needs_version_2}
 use Rattle.trace_text.specs.Written.{is_written_entry, is_written_process, is_written_pair}
 

@@ -1,14 +1,14 @@
 -- What can be written: names that are names, values below 2^64, places from 1 to 65535.
 use Rattle.std.specs.Prelude.{◌^◌, ℕ, Bool, true, List, ◌&&◌, nat_lt}
 use Rattle.std.specs.List.{list_all}
-use Rattle.trace_text.specs.declared.operation.Op.{Op}
-use Rattle.trace_text.specs.declared.operation.Op.TheVariants.{Read, Write, Update}
-use Rattle.trace_text.specs.declared.operation.OpName.{OpName}
-use Rattle.trace_text.specs.declared.operation.Origin.{Origin}
-use Rattle.trace_text.specs.declared.operation.Origin.TheVariants.{Any, Initial, Operation}
-use Rattle.trace_text.specs.declared.trace.Process.{Process}
-use Rattle.trace_text.specs.Names.{is_name}
-use Rattle.trace_text.specs.ScheduleText.{is_op_name}
+use Rattle.traces.specs.declared.operation.Op.{Op}
+use Rattle.traces.specs.declared.operation.Op.TheVariants.{Read, Write, Update}
+use Rattle.traces.specs.declared.operation.OpName.{OpName}
+use Rattle.traces.specs.declared.operation.Origin.{Origin}
+use Rattle.traces.specs.declared.operation.Origin.TheVariants.{Any, Initial, Operation}
+use Rattle.traces.specs.declared.trace.Process.{Process}
+use Rattle.traces.specs.Names.{is_name}
+use Rattle.schedule_text.specs.ScheduleText.{is_op_name}
 
 -- a value
 abbrev pub is_written_value : ℕ → Bool

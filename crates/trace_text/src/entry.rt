@@ -7,8 +7,8 @@ ghost use Rattle.trace_text.specs.Said.{said, said_source};
 ghost use Rattle.trace_text.specs.Statement.{Read, Write, Update, Before};
 ghost use Rattle.trace_text.specs.TraceFault.{is_value, is_place, place_of};
 
-use crate::name::Name;
-use crate::operation::{Op, OpName, Origin};
+use traces::name::Name;
+use traces::operation::{Op, OpName, Origin};
 use crate::refusal::Refusal;
 use crate::statement::{Source, Statement};
 use crate::trace_fault::TraceCause;

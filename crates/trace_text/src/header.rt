@@ -6,16 +6,17 @@ ghost use Rattle.std.specs.List.{list_any};
 ghost use Rattle.std.specs.Str.{bytes_eq};
 ghost use Rattle.text_lines.specs.Words.{words_of};
 ghost use Rattle.trace_text.specs.Header.{header_fault, IsHeaderLine};
-ghost use Rattle.trace_text.specs.Kept.{is_skipped};
+ghost use Rattle.text_lines.specs.Kept.{is_skipped};
 ghost use Rattle.trace_text.specs.Read.{HasHeader};
 ghost use Rattle.trace_text.specs.Refusal.{IsRefusedFor};
 ghost use Rattle.trace_text.specs.TraceFault.{is_header, IsTraceRefusal};
 ghost use Rattle.trace_text.specs.TraceText.{header_line};
 
-use crate::line::{has_high_byte, is_skipped_line};
+use crate::line::has_high_byte;
 use crate::refusal::Refusal;
 use crate::trace_fault::{TraceCause, TraceFault};
 use std::alloc::Global;
+use text_lines::comments::is_skipped_line;
 use text_lines::lines::cut_line;
 use text_lines::words::first_words;
 

@@ -2,12 +2,12 @@
 
 ghost use Rattle.std.specs.Prelude.{◌≡◌};
 ghost use Rattle.std.specs.List.{list_all};
-ghost use Rattle.trace_text.specs.Names.{is_name};
+ghost use Rattle.traces.specs.Names.{is_name};
 ghost use Rattle.trace_text.specs.Said.{said, said_source};
 ghost use Rattle.trace_text.specs.Seen.{early_fault, names_of_source};
 ghost use Rattle.trace_text.specs.TraceFault.{is_operation, is_value_line, names_of};
 
-use crate::name::is_name_word;
+use traces::name::is_name_word;
 use crate::statement::{Source, Statement};
 use crate::trace_fault::TraceCause;
 

@@ -11,12 +11,12 @@ ghost use Rattle.trace_text.specs.Said.{said, said_source};
 ghost use Rattle.trace_text.specs.TraceFault.{place_of, references_of, references_of_source, is_before_itself};
 
 use crate::entry::read_place;
-use crate::line::is_skipped_line;
 use crate::refusal::Refusal;
 use crate::statement::{Source, Statement, read_statement};
-use crate::trace::Process;
+use traces::trace::Process;
 use crate::trace_fault::{TraceCause, TraceFault};
 use std::alloc::Global;
+use text_lines::comments::is_skipped_line;
 use text_lines::lines::cut_line;
 use text_lines::words::first_words;
 

@@ -1,13 +1,13 @@
 //! What the earlier lines of a trace text tell of the next one.
 
 ghost use Rattle.std.specs.Prelude.{◌≡◌, ◌≤◌, [], List, ℕ, Some, None, false, OnOk, IfErr};
-ghost use Rattle.trace_text.specs.Tables.{number_of};
+ghost use Rattle.traces.specs.NameNumbers.{number_of};
 ghost use Rattle.trace_text.specs.Refusal.{IsRefusedFor};
 ghost use Rattle.trace_text.specs.Said.{said};
 ghost use Rattle.trace_text.specs.Statement.{Init, Final, Proc, Write, Before};
 ghost use Rattle.trace_text.specs.Seen.{has, IsSeen, Notes, NotesLocation, fault_behind, fault_of_location, fault_of_operation};
 
-use crate::name_table::NameTable;
+use traces::name_table::NameTable;
 use crate::refusal::Refusal;
 use crate::statement::Statement;
 use crate::trace_fault::TraceCause;

@@ -3,7 +3,7 @@
 ghost use Rattle.std.specs.Prelude.{◌≡◌, ℕ, List, true};
 ghost use Rattle.trace_text.specs.declared.trace_fault.TraceCause.{TraceCause};
 ghost use Rattle.trace_text.specs.SameTrace.{IsSameTrace};
-ghost use Rattle.trace_text.specs.Trace.{TraceValue, IsTrace};
+ghost use Rattle.traces.specs.Trace.{TraceValue, IsTrace};
 ghost use Rattle.trace_text.specs.TraceFault.{HasTraceFault};
 ghost use Rattle.trace_text.specs.TraceText.{SpellsTrace};
 ghost use Rattle.trace_text.specs.TraceWritten.{canonical_trace, is_written};

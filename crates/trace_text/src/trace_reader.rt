@@ -12,15 +12,16 @@ ghost use Rattle.trace_text.specs.TraceText.{SpellsTrace};
 use crate::entry::read_entry;
 use crate::gathered::Gathered;
 use crate::header::{Header, read_header};
-use crate::line::{has_high_byte, is_skipped_line};
+use crate::line::has_high_byte;
 use crate::place::fault_of_place;
 use crate::references::check_references;
 use crate::refusal::Refusal;
 use crate::seen::Seen;
 use crate::statement::{Statement, read_statement};
-use crate::trace::Trace;
+use traces::trace::Trace;
 use crate::trace_fault::{TraceCause, TraceFault};
 use std::alloc::Global;
+use text_lines::comments::is_skipped_line;
 use text_lines::lines::cut_line;
 use text_lines::words::first_words;
 

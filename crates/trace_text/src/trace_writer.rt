@@ -3,14 +3,14 @@
 ghost use Rattle.std.specs.Prelude.{◌≡◌, ◌∷◌, ◌++◌, map, IfOk, OnOk};
 ghost use Rattle.std.specs.Fmt.{decimal};
 ghost use Rattle.std.specs.List.{list_any, flat_map};
-ghost use Rattle.trace_text.specs.declared.trace.Process.{Process};
+ghost use Rattle.traces.specs.declared.trace.Process.{Process};
 ghost use Rattle.trace_text.specs.TraceText as spelled;
 ghost use Rattle.trace_text.specs.TraceLines.{spaced, entry_line, joined};
 ghost use Rattle.trace_text.specs.TraceWritten.{line_text, canonical_trace};
 
-use crate::name::Name;
-use crate::operation::{Op, OpName, Origin};
-use crate::trace::{Process, Trace};
+use traces::name::Name;
+use traces::operation::{Op, OpName, Origin};
+use traces::trace::{Process, Trace};
 use itoa::Buffer;
 use std::alloc::{AllocError, Global};
 
@@ -215,7 +215,7 @@ pub fn write_trace(alloc: Global, trace: &Trace) -> Result<Vec<u8>, AllocError>
 #[cfg(test)]
 mod tests {
     use super::*;
-    use crate::trace::Operations;
+    use traces::trace::Operations;
     use std::test::Fail;
 
     #[test]

@@ -1,7 +1,7 @@
 -- How the engine that judges ends, by what becomes of its line.
 use Rattle.std.proofs.Common.{◌≡◌, ℕ, List, inr, subst}
 use Rattle.std.specs.Prelude.{Result, Ok, Err}
-use Rattle.trace_text.specs.declared.judgement.Judgement.{Judgement}
+use Rattle.traces.specs.declared.judgement.Judgement.{Judgement}
 use Rattle.verdict_report.specs.declared.fault.Fault.{Fault}
 use Rattle.verdict_report.specs.declared.fault.Fault.TheVariants.{OutOfMemory, Device, InputTooLong, Trace, Schedule}
 use Rattle.verdict_report.specs.declared.status.Status.{Status}

@@ -2,14 +2,14 @@
 use Rattle.std.specs.Prelude.{◌≡◌, ◌+◌, ℕ, List, ◌++◌, Option, Some, None, Result, Ok, Err, codes}
 use Rattle.dimacs.specs.declared.sink_fault.SinkFault.{SinkFault}
 use Rattle.dimacs.specs.declared.sink_fault.SinkFault.TheVariants.{OutOfMemory as NoRoom, Device as SinkFailed}
-use Rattle.trace_text.specs.declared.judgement.Judgement.{Judgement}
-use Rattle.trace_text.specs.declared.judgement.Judgement.TheVariants.{Legal, Illegal}
-use Rattle.trace_text.specs.declared.schedule_fault.ScheduleFault.{ScheduleFault}
-use Rattle.trace_text.specs.declared.schedule_fault.ScheduleFault.TheVariants.{OutOfMemory as NoScheduleMemory, Line as ScheduleLine}
+use Rattle.traces.specs.declared.judgement.Judgement.{Judgement}
+use Rattle.traces.specs.declared.judgement.Judgement.TheVariants.{Legal, Illegal}
+use Rattle.schedule_text.specs.declared.schedule_fault.ScheduleFault.{ScheduleFault}
+use Rattle.schedule_text.specs.declared.schedule_fault.ScheduleFault.TheVariants.{OutOfMemory as NoScheduleMemory, Line as ScheduleLine}
 use Rattle.trace_text.specs.declared.trace_fault.TraceFault.{TraceFault}
 use Rattle.trace_text.specs.declared.trace_fault.TraceFault.TheVariants.{OutOfMemory as NoTraceMemory, Line as TraceLine}
-use Rattle.trace_text.specs.Printed.{printed_at}
-use Rattle.trace_text.specs.ScheduleFault as schedule
+use Rattle.text_lines.specs.Printed.{printed_at}
+use Rattle.schedule_text.specs.ScheduleFault as schedule
 use Rattle.trace_text.specs.TraceCauses as trace
 use Rattle.verdict_report.specs.declared.fault.Fault.{Fault}
 use Rattle.verdict_report.specs.declared.fault.Fault.TheVariants.{OutOfMemory, Device, InputTooLong, Trace, Schedule}

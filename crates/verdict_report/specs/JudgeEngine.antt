@@ -1,13 +1,13 @@
 -- What the engine that judges schedules answers and writes.
 use Rattle.std.specs.Prelude.{◌≡◌, ◌+◌, ◌≤◌, ◌⊎◌, ⊤, ℕ, List, ◌++◌, length, Bool, true, codes, Result, Ok, Err}
 use Rattle.dimacs.specs.Sink.{AppendsFront}
-use Rattle.trace_text.specs.declared.judgement.Judgement.{Judgement}
-use Rattle.trace_text.specs.declared.operation.OpName.{OpName}
-use Rattle.trace_text.specs.declared.schedule_fault.ScheduleCause.{ScheduleCause}
-use Rattle.trace_text.specs.Judgement.{IsJudgement}
-use Rattle.trace_text.specs.JudgementText as judgement_text
-use Rattle.trace_text.specs.ScheduleText.{SpellsSchedule, HasScheduleFault}
-use Rattle.trace_text.specs.Trace.{TraceValue, IsTrace}
+use Rattle.traces.specs.declared.judgement.Judgement.{Judgement}
+use Rattle.traces.specs.declared.operation.OpName.{OpName}
+use Rattle.schedule_text.specs.declared.schedule_fault.ScheduleCause.{ScheduleCause}
+use Rattle.traces.specs.Judgement.{IsJudgement}
+use Rattle.traces.specs.JudgementText as judgement_text
+use Rattle.schedule_text.specs.ScheduleText.{SpellsSchedule, HasScheduleFault}
+use Rattle.traces.specs.Trace.{TraceValue, IsTrace}
 use Rattle.trace_text.specs.TraceFault.{HasTraceFault}
 use Rattle.trace_text.specs.TraceText.{SpellsTrace}
 use Rattle.verdict_report.specs.declared.fault.Fault.{Fault}

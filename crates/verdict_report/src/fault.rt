@@ -8,7 +8,7 @@ use crate::reading::ReadFault;
 use dimacs::{Failed, Sink, SinkFault, write_whole};
 use std::alloc::{AllocError, Global};
 use std::fmt;
-use trace_text::schedule_fault::{ScheduleCause, ScheduleFault};
+use schedule_text::schedule_fault::{ScheduleCause, ScheduleFault};
 use trace_text::trace_fault::{TraceCause, TraceFault};
 
 /// Why an engine refuses: the first refusal of its parts, in the order of its inputs.

@@ -8,9 +8,9 @@ use crate::source::Source;
 use crate::status::Status;
 use dimacs::{Sink, write_whole};
 use std::alloc::Global;
-use trace_text::judge::judge;
-use trace_text::judgement::Judgement;
-use trace_text::schedule_reader::read_schedule;
+use schedule_judge::judge::judge;
+use traces::judgement::Judgement;
+use schedule_text::schedule_reader::read_schedule;
 use trace_text::trace_reader::read_trace;
 
 /// Judges the schedule of the second source by the trace of the first, and writes `LEGAL`, or `ILLEGAL` with the

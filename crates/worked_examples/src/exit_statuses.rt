@@ -2,7 +2,7 @@
 
 use dimacs::MemorySink;
 use std::test::Fail;
-use trace_text::schedule_fault::ScheduleCause;
+use schedule_text::schedule_fault::ScheduleCause;
 use trace_text::trace_fault::TraceCause;
 use verdict_report::{Fault, Status, exit_status, write_fault};
 

@@ -2,7 +2,7 @@ use Rattle.std.proofs.Common.{◌≡◌, Bool, true, subst}
 use Rattle.std.specs.Prelude.{Option, MatchOption}
 use Rattle.text_lines.specs.Words.{words_of}
 use Rattle.trace_text.specs.Header.{IsHeaderLine}
-use Rattle.trace_text.specs.Kept.{is_skipped}
+use Rattle.text_lines.specs.Kept.{is_skipped}
 use Rattle.trace_text.proofs.LineLemmas.{nothing_read, skipped_line, header_line_read}
 use Rattle.trace_text.proofs.header.read_header.Goals as goal
 

@@ -1,0 +1,5 @@
+pub mod EarlyLemmas
+pub mod MemoryLemmas
+pub mod PlaceLemmas
+pub mod ProgramOrderLemmas
+pub mod WalkLemmas

@@ -1,0 +1,119 @@
+-- The judge's walk: its start, a turn, its exits.
+use Rattle.std.proofs.Common.{◌≡◌, ◌<◌, ◌+◌, ◌-◌, ℕ, suc, List, [], ◌∷◌, ◌++◌, length, take, drop, get_or, Bool, true, false, cond, not, ◌||◌, refl, ap, sym, ◌∙◌, subst, arith, ◌⊎◌, inl, inr}
+use Rattle.std.specs.Prelude.{Option, Some, None}
+use Rattle.std.specs.List.{slice_get, list_all}
+use Rattle.std.proofs.Math.Seq.{drop-cons, take-length}
+use Rattle.std.proofs.lemmas.List.{take_more, length-take-le, take-append-drop}
+use Rattle.std.proofs.lemmas.List.Folds.{list_any-append}
+use Rattle.std.proofs.lemmas.Option.{slice_get_within, get_or_from_slice_get, slice_get_read}
+use Rattle.text_lines.specs.FirstFault.{IsFaultless, IsFirstFault}
+use Rattle.text_lines.proofs.FaultLemmas.{faultless_nil, faultless_push}
+use Rattle.traces.specs.declared.judgement.Cause.{Cause}
+use Rattle.traces.specs.declared.judgement.Cause.TheVariants.{RepeatedOp, OutOfProgramOrder}
+use Rattle.traces.specs.declared.judgement.Judgement.TheVariants.{Legal, Illegal}
+use Rattle.schedule_judge.specs.declared.memory.Memory.{Memory}
+use Rattle.traces.specs.declared.operation.Op.{Op}
+use Rattle.traces.specs.declared.operation.OpName.{OpName}
+use Rattle.schedule_judge.specs.declared.survey.Survey.{Survey}
+use Rattle.traces.specs.Judgement.{has_come, fault_at, fault_of_op, fault_of_named, fault_of_whole, IsJudgement}
+use Rattle.schedule_judge.specs.Memory.{IsMemoryAfter, Runs}
+use Rattle.traces.specs.Operation.{same_op}
+use Rattle.traces.specs.Trace.{TraceValue, operation_at, first_names}
+use Rattle.schedule_judge.specs.Walk.{IsWalk, IsInProgramOrder}
+use Rattle.schedule_judge.proofs.MemoryLemmas.{memory_run}
+use Rattle.schedule_judge.proofs.ProgramOrderLemmas.{first_have_come}
+use Rattle.schedule_judge.proofs.PlaceLemmas.{same_op_true}
+
+-- nothing has been run
+pub walk_none : (s : Survey) (state : Memory) → IsMemoryAfter s.trace.now s.names.now [] state → IsWalk s state 0
+walk_none s state start = record {
+  faultless = faultless_nil (fault_at s.trace.now);
+  in_program_order = λ process k come. absurd (cc);
+  memory = start;
+}
+
+-- an operation without a fault is in program order
+in_order : (a b : Bool) (rest : Option Cause) → cond a (Some RepeatedOp) (cond (not b) (Some OutOfProgramOrder) rest) ≡ None → b ≡ true
+in_order true b rest e = absurd (cc)
+in_order false true rest e = refl
+in_order false false rest e = absurd (cc)
+
+either_true : (b c : Bool) → (b || (c || false)) ≡ true → (b ≡ true) ⊎ (c ≡ true)
+either_true true c e = inl refl
+either_true false true e = inr refl
+either_true false false e = absurd (cc)
+
+come_more : (done : List OpName) (n m : OpName) → has_come done m ≡ true → has_come (done ++ n ∷ []) m ≡ true
+come_more done n m e = list_any-append (same_op m) done (n ∷ []) ∙ ap (λ b. b || (same_op m n || false)) e
+
+order_more : (t : TraceValue) (done : List OpName) (n : OpName) (op : Op) → IsInProgramOrder done → fault_of_op t done n op ≡ None → IsInProgramOrder (done ++ n ∷ [])
+order_more t done n op order right process k come =
+    let next : OpName = record { process = process; place = k + 2 } in
+    let here : OpName = record { process = process; place = k + 1 } in
+    elim (either_true (has_come done next) (same_op next n) (sym (list_any-append (same_op next) done (n ∷ [])) ∙ come)) [
+      | inl before ↦ come_more done n here (order process k before)
+      | inr same ↦
+          let e : next ≡ n = same_op_true next n same in
+          let all : list_all (has_come done) (first_names n.process (n.place - 1)) ≡ true = in_order (has_come done n) (list_all (has_come done) (first_names n.process (n.place - 1))) _ right in
+          let all_of : list_all (has_come done) (first_names process (k + 2 - 1)) ≡ true = ap (λ (m : OpName). list_all (has_come done) (first_names m.process (m.place - 1))) e ∙ all in
+          let one : suc k ≡ k + 2 - 1 = omega arith in
+          let last : suc k ≡ k + 1 = omega arith in
+          come_more done n here (ap (λ j. has_come done (record { process = process; place = j })) (sym last) ∙ sym (first_have_come done process k order) ∙ ap (λ j. list_all (has_come done) (first_names process j)) one ∙ all_of)
+    ]
+
+one_more : (names : List OpName) (i : ℕ) (n : OpName) → slice_get names i ≡ Some n → take (i + 1) names ≡ take i names ++ n ∷ []
+one_more names i n at = take_more names i n (slice_get_within names i n at) ∙ ap (λ m. take i names ++ m ∷ []) (get_or_from_slice_get names i n n at)
+
+-- one more operation, which has no fault, is run
+pub walk_more : (s : Survey) (old new : Memory) (i : ℕ) (n : OpName) (op : Op) → IsWalk s old i → slice_get s.names.now i ≡ Some n → operation_at s.trace.now n ≡ Some op → fault_of_op s.trace.now (take i s.names.now) n op ≡ None → Runs old op i new → IsWalk s new (i + 1)
+walk_more s old new i n op walk at known right runs =
+    let t = s.trace.now in
+    let names = s.names.now in
+    let e : take i names ++ n ∷ [] ≡ take (i + 1) names = sym (one_more names i n at) in
+    record {
+      faultless = subst (λ done. IsFaultless (fault_at t) done) e (faultless_push (fault_at t) (take i names) n walk.faultless (ap (fault_of_named t (take i names) n) known ∙ right));
+      in_program_order = subst (λ done. IsInProgramOrder done) e (order_more t (take i names) n op walk.in_program_order right);
+      memory = subst (λ done. IsMemoryAfter t names done new) e (memory_run t names (take i names) old new n op i walk.memory at known runs);
+    }
+
+parts_at : (names : List OpName) (i : ℕ) (n : OpName) → slice_get names i ≡ Some n → names ≡ take i names ++ n ∷ drop (suc i) names
+parts_at names i n at = sym (take-append-drop i names) ∙ ap (λ rest. take i names ++ rest) (drop-cons names i n (slice_get_within names i n at) ∙ ap (λ m. m ∷ drop (suc i) names) (get_or_from_slice_get names i n n at))
+
+here : (s : Survey) (state : Memory) (i : ℕ) (n : OpName) (cause : Cause) → IsWalk s state i → slice_get s.names.now i ≡ Some n → fault_at s.trace.now (take i s.names.now) n ≡ Some cause → IsFirstFault (fault_at s.trace.now) s.names.now (i + 1) cause
+here s state i n cause walk at wrong = record {
+  before = take i s.names.now;
+  item = n;
+  after = drop (suc i) s.names.now;
+  parts = parts_at s.names.now i n at;
+  counted = let within : i < length s.names.now = slice_get_within s.names.now i n at in ap (λ l. l + 1) (sym (length-take-le i s.names.now (omega arith)));
+  faulty = wrong;
+  first = walk.faultless;
+}
+
+-- the name at this place has a fault
+pub judged_here : (s : Survey) (state : Memory) (i : ℕ) (n : OpName) (cause : Cause) (t : TraceValue) (names : List OpName) → s.trace.now ≡ t → s.names.now ≡ names → IsWalk s state i → slice_get s.names.now i ≡ Some n → fault_at s.trace.now (take i s.names.now) n ≡ Some cause → IsJudgement t names (Illegal cause (i + 1))
+judged_here s state i n cause t names same_trace same_names walk at wrong =
+    inl (subst (λ u. IsFirstFault (fault_at u) names (i + 1) cause) same_trace (subst (λ ms. IsFirstFault (fault_at s.trace.now) ms (i + 1) cause) same_names (here s state i n cause walk at wrong)))
+
+whole : (s : Survey) (state : Memory) → IsWalk s state (length s.names.now) → IsFaultless (fault_at s.trace.now) s.names.now
+whole s state walk = subst (λ done. IsFaultless (fault_at s.trace.now) done) (take-length s.names.now) walk.faultless
+
+-- nothing is wrong
+pub judged_legal : (s : Survey) (state : Memory) (last : ℕ) (t : TraceValue) (names : List OpName) → s.trace.now ≡ t → s.names.now ≡ names → IsWalk s state last → last ≡ length s.names.now → fault_of_whole s.trace.now s.names.now ≡ None → IsJudgement t names Legal
+judged_legal s state last t names same_trace same_names walk all right = (
+  subst (λ u. IsFaultless (fault_at u) names) same_trace (subst (λ ms. IsFaultless (fault_at s.trace.now) ms) same_names (whole s state (subst (λ l. IsWalk s state l) all walk))),
+  (λ i. fault_of_whole (sym same_trace i) (sym same_names i)) ∙ right,
+)
+
+-- no name has a fault, and the whole has
+pub judged_whole : (s : Survey) (state : Memory) (cause : Cause) (last place : ℕ) (t : TraceValue) (names : List OpName) → s.trace.now ≡ t → s.names.now ≡ names → IsWalk s state last → last ≡ length s.names.now → place ≡ last + 1 → fault_of_whole s.trace.now s.names.now ≡ Some cause → IsJudgement t names (Illegal cause place)
+judged_whole s state cause last place t names same_trace same_names walk all here wrong =
+    inr (
+      subst (λ u. IsFaultless (fault_at u) names) same_trace (subst (λ ms. IsFaultless (fault_at s.trace.now) ms) same_names (whole s state (subst (λ l. IsWalk s state l) all walk))),
+      (λ i. fault_of_whole (sym same_trace i) (sym same_names i)) ∙ wrong,
+      here ∙ ap (λ l. l + 1) (all ∙ ap length same_names),
+    )
+
+-- the name that a turn of the loop reads
+pub found : (ms names : List OpName) (i : ℕ) (n : OpName) → ms ≡ names → i < length names → n ≡ get_or names i n → slice_get ms i ≡ Some n
+found ms names i n same within at = ap (λ l. slice_get l i) same ∙ slice_get_read names (length names) i n refl within at

@@ -1,0 +1,4 @@
+pub mod Memory
+pub mod Survey
+pub mod Tables
+pub mod Walk

@@ -1,0 +1,9 @@
+-- What the judge looks up.
+use Rattle.schedule_judge.specs.declared.survey.Survey.{Survey}
+use Rattle.schedule_judge.specs.Tables.{FindsProcesses, FindsFirst, FindsEarly}
+
+-- the tables are those of the trace and the names
+pub record IsSurvey (survey : Survey) : Type 0 where
+  pub processes : FindsProcesses survey.trace.now.processes survey.processes
+  pub places : FindsFirst survey.names.now survey.places
+  pub early : FindsEarly survey.trace.now.before survey.places survey.early

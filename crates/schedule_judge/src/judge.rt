@@ -1,0 +1,123 @@
+//! The judge of a schedule.
+
+ghost use Rattle.std.specs.Prelude.{◌≡◌, List, ℕ, IfOk, take, length};
+ghost use Rattle.std.specs.List.{slice_get, list_all, flat_map};
+ghost use Rattle.traces.specs.Judgement as judgement;
+ghost use Rattle.traces.specs.Judgement.{has_come, IsJudgement};
+ghost use Rattle.schedule_judge.specs.Survey.{IsSurvey};
+ghost use Rattle.traces.specs.NameNumbers.{number_of};
+ghost use Rattle.traces.specs.Trace.{first_names};
+ghost use Rattle.schedule_judge.specs.Walk.{IsWalk, IsInProgramOrder};
+
+use traces::judgement::{Cause, Judgement};
+use crate::memory::Memory;
+use traces::name::Name;
+use traces::operation::{Op, OpName};
+use traces::schedule::Schedule;
+use crate::survey::Survey;
+use traces::trace::{Process, Trace};
+use std::alloc::{AllocError, Global};
+
+/// Whether the first `n` operations of the process are among the first `count` names.
+fn have_come<'a>(survey: &Survey<'a>, process: &'a [u8], n: usize, count: usize) -> bool
+    requires survey { IsSurvey survey.now }
+    requires order { IsInProgramOrder (take count survey.now.names.now) }
+    ensures { result ≡ list_all (has_come (take count survey.now.names.now)) (first_names process.now n) }
+{
+    n == 0 || survey.has_come(process, n, count)
+}
+
+/// What is wrong with an operation after the first `count` names.
+fn fault_of_op<'a>(
+    survey: &Survey<'a>,
+    memory: &Memory<'a>,
+    count: usize,
+    name: &'a OpName,
+    op: &'a Op,
+) -> Option<Cause>
+    requires survey { IsSurvey survey.now }
+    requires walk { IsWalk survey.now memory.now count }
+    requires name { slice_get survey.now.names.now count ≡ Some name.now }
+    ensures { result ≡ judgement.fault_of_op survey.now.trace.now (take count survey.now.names.now) name.now op.now }
+{
+    let process = name.process.as_bytes();
+    let place = name.place as usize;
+    if survey.has_come(process, place, count) {
+        Some(Cause::RepeatedOp)
+    } else if !have_come(survey, process, place.saturating_sub(1), count) {
+        Some(Cause::OutOfProgramOrder)
+    } else if !memory.reads_right(op) {
+        Some(Cause::WrongRead)
+    } else if survey.is_early(name) {
+        Some(Cause::BeforeBroken)
+    } else if !memory.has_right_source(survey.names, op) {
+        Some(Cause::WrongSource)
+    } else {
+        None
+    }
+}
+
+/// Whether all operations of these processes have come.
+fn has_all<'a>(survey: &Survey<'a>, processes: &'a [Process]) -> bool
+    requires survey { IsSurvey survey.now }
+    requires order { IsInProgramOrder survey.now.names.now }
+    ensures { result ≡ list_all (has_come survey.now.names.now) (flat_map (λ p. first_names p.name (length p.operations)) processes.now) }
+{
+    for process in processes {
+        let count = process.operations.as_slice().len();
+        if !have_come(survey, process.name.as_bytes(), count, survey.names.len()) {
+            return false;
+        }
+    }
+    true
+}
+
+/// Whether memory holds each of these values.
+fn holds_all<'a>(memory: &Memory<'a>, values: &'a [(Name, u64)]) -> bool
+    ensures { result ≡ list_all (λ (entry : List ℕ × ℕ). judgement.is_held (number_of memory.now.values entry.0) entry.1) values.now }
+{
+    for entry in values {
+        if !memory.holds(entry.0.as_bytes(), entry.1) {
+            return false;
+        }
+    }
+    true
+}
+
+/// What is wrong with the whole list, where no name has a fault.
+fn fault_of_whole<'a>(survey: &Survey<'a>, memory: &Memory<'a>) -> Option<Cause>
+    requires survey { IsSurvey survey.now }
+    requires walk { IsWalk survey.now memory.now (length survey.now.names.now) }
+    ensures { result ≡ judgement.fault_of_whole survey.now.trace.now survey.now.names.now }
+{
+    if !has_all(survey, survey.trace.processes()) {
+        Some(Cause::MissingOp)
+    } else if !holds_all(memory, survey.trace.final_values()) {
+        Some(Cause::WrongFinal)
+    } else {
+        None
+    }
+}
+
+/// Judges a list of names by the trace: whether it is a legal schedule, or else its first fault.
+pub fn judge(alloc: Global, trace: &Trace, schedule: &Schedule) -> Result<Judgement, AllocError>
+    ensures { IfOk result (λ judgement. IsJudgement trace.now schedule.now judgement) }
+{
+    let names = schedule.names();
+    let survey = Survey::new(alloc, trace, names)?;
+    let mut memory = Memory::new(alloc, trace.initial())?;
+    for i in 0..names.len() {
+        let name = &names[i];
+        let Some(op) = survey.operation_at(name) else {
+            return Ok(Judgement::Illegal(Cause::UnknownOp, i + 1));
+        };
+        if let Some(cause) = fault_of_op(&survey, &memory, i, name, op) {
+            return Ok(Judgement::Illegal(cause, i + 1));
+        }
+        memory.run(op, i)?;
+    }
+    match fault_of_whole(&survey, &memory) {
+        None => Ok(Judgement::Legal),
+        Some(cause) => Ok(Judgement::Illegal(cause, names.len() + 1)),
+    }
+}

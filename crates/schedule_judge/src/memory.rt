@@ -1,0 +1,162 @@
+//! Memory after the first operations of a schedule.
+
+ghost use Rattle.std.specs.Prelude.{◌≡◌, List, ℕ, IfOk, OnOk, []};
+ghost use Rattle.std.specs.List.{slice_get};
+ghost use Rattle.std.specs.Option.{option_copied, option_and_then};
+ghost use Rattle.traces.specs.declared.operation.OpName.{OpName};
+ghost use Rattle.traces.specs.Judgement as judgement;
+ghost use Rattle.schedule_judge.specs.Memory.{IsMemoryAfter, Runs, Writes, writer_of};
+ghost use Rattle.traces.specs.Operation as operation;
+ghost use Rattle.traces.specs.NameNumbers.{number_of};
+ghost use Rattle.traces.specs.Trace.{TraceValue, value_of};
+
+use traces::name::Name;
+use traces::name_table::NameTable;
+use traces::operation::{Op, OpName, Origin};
+use std::alloc::{AllocError, Global};
+
+/// What each location holds, and which name of the schedule wrote it last.
+#[derive(Drop)]
+pub struct Memory<'a> {
+    pub values: NameTable<'a>,
+    pub writers: NameTable<'a>,
+}
+
+/// The values of a list of locations and values.
+fn table_of<'a>(alloc: Global, values: &'a [(Name, u64)]) -> Result<NameTable<'a>, AllocError>
+    ensures { IfOk result (λ table. (location : List ℕ) → number_of table location ≡ value_of values.now location) }
+{
+    let mut table = NameTable::with_capacity(alloc, values.len())?;
+    for k in (0..values.len()).rev() {
+        let entry = &values[k];
+        table.insert(entry.0.as_bytes(), entry.1)?;
+    }
+    Ok(table)
+}
+
+/// Whether this value is held.
+fn is_held(held: Option<u64>, value: u64) -> bool
+    ensures { result ≡ judgement.is_held held value }
+{
+    match held {
+        None => false,
+        Some(other) => other == value,
+    }
+}
+
+/// Whether the location holds what is read, if anything is.
+fn is_right_read(held: Option<u64>, read: Option<u64>) -> bool
+    ensures { result ≡ judgement.is_right_read held read }
+{
+    match read {
+        None => true,
+        Some(value) => is_held(held, value),
+    }
+}
+
+/// Whether two names are the same.
+fn same_op(m: &OpName, n: &OpName) -> bool
+    ensures { result ≡ operation.same_op m.now n.now }
+{
+    m.process.as_bytes() == n.process.as_bytes() && m.place == n.place
+}
+
+/// Whether the operation is this one.
+fn is_the_op(writer: Option<&OpName>, name: &OpName) -> bool
+    ensures { result ≡ judgement.is_the_op (option_copied writer.entry) name.now }
+{
+    match writer {
+        None => false,
+        Some(other) => same_op(other, name),
+    }
+}
+
+/// The name at this place.
+fn name_at(names: &[OpName], place: Option<u64>) -> Option<&OpName>
+    ensures { option_copied result ≡ option_and_then (slice_get names.now) place }
+{
+    match place {
+        Some(k) => names.get(k as usize),
+        None => None,
+    }
+}
+
+impl<'a> Memory<'a> {
+    /// Memory before the first operation.
+    pub fn new(alloc: Global, initial: &'a [(Name, u64)]) -> Result<Memory<'a>, AllocError>
+        ensures { IfOk result (λ memory. (t : TraceValue) (names : List OpName) → t.initial ≡ initial.now → IsMemoryAfter t names [] memory) }
+    {
+        let values = table_of(alloc, initial)?;
+        let writers = NameTable::with_capacity(alloc, initial.len())?;
+        Ok(Memory { values, writers })
+    }
+
+    /// Whether the operation reads here what its location holds.
+    pub fn reads_right(&self, op: &'a Op) -> bool
+        ensures { result ≡ judgement.is_right_read (number_of self.now.values (operation.location_of op.now)) (operation.value_read op.now) }
+    {
+        is_right_read(self.values.get(op.location().as_bytes()), op.value_read())
+    }
+
+    /// The name that wrote the location last.
+    fn last_writer(&self, names: &'a [OpName], location: &'a [u8]) -> Option<&'a OpName>
+        ensures { option_copied result ≡ writer_of names.now self.now location.now }
+    {
+        name_at(names, self.writers.get(location))
+    }
+
+    /// Whether the location was last written by whom the origin says.
+    fn is_from(&self, names: &'a [OpName], location: &'a [u8], origin: &'a Origin) -> bool
+        ensures { result ≡ judgement.is_right_source (writer_of names.now self.now location.now) origin.now }
+    {
+        match origin {
+            Origin::Any => true,
+            Origin::Initial => self.last_writer(names, location).is_none(),
+            Origin::Operation(name) => is_the_op(self.last_writer(names, location), name),
+        }
+    }
+
+    /// Whether the operation reads here from where its origin says.
+    pub fn has_right_source(&self, names: &'a [OpName], op: &'a Op) -> bool
+        ensures { result ≡ judgement.is_right_source (writer_of names.now self.now (operation.location_of op.now)) (operation.origin_of op.now) }
+    {
+        match op {
+            Op::Read {
+                location,
+                origin,
+                ..
+            } => self.is_from(names, location.as_bytes(), origin),
+            Op::Write { .. } => true,
+            Op::Update {
+                location,
+                origin,
+                ..
+            } => self.is_from(names, location.as_bytes(), origin),
+        }
+    }
+
+    /// Whether the location holds the value.
+    pub fn holds(&self, location: &'a [u8], value: u64) -> bool
+        ensures { result ≡ judgement.is_held (number_of self.now.values location.now) value }
+    {
+        is_held(self.values.get(location), value)
+    }
+
+    /// Writes the value to the location, by the name at this place.
+    fn write(&mut self, location: &'a [u8], value: u64, place: usize) -> Result<(), AllocError>
+        ensures { OnOk result (Writes self.old location.now value place self.new) }
+    {
+        self.values.insert(location, value)?;
+        self.writers.insert(location, place as u64)
+    }
+
+    /// Runs the operation, which is the one of the name at this place.
+    pub fn run(&mut self, op: &'a Op, place: usize) -> Result<(), AllocError>
+        ensures { OnOk result (Runs self.old op.now place self.new) }
+    {
+        match op.value_left() {
+            Some(value) => self.write(op.location().as_bytes(), value, place),
+            None => Ok(()),
+        }
+    }
+}

@@ -1,0 +1,180 @@
+//! What the judge looks up: operations by name, where each comes first, and which come before their time.
+
+ghost use Rattle.std.specs.Prelude.{◌≡◌, ℕ, IfOk, take, not, false};
+ghost use Rattle.std.specs.List.{slice_get, list_all};
+ghost use Rattle.std.specs.Option.{option_copied, option_and_then};
+ghost use Rattle.traces.specs.Judgement as judgement;
+ghost use Rattle.schedule_judge.specs.Survey.{IsSurvey};
+ghost use Rattle.schedule_judge.specs.Tables.{number_at, FindsProcesses, FindsFirst, FindsEarly};
+ghost use Rattle.schedule_judge.specs.Tables as tables;
+ghost use Rattle.traces.specs.Trace as trace_value;
+
+use traces::name_table::NameTable;
+use crate::op_table::OpTable;
+use traces::operation::{Op, OpName};
+use traces::trace::{Process, Trace};
+use std::alloc::{AllocError, Global};
+
+/// What is looked up while a schedule is judged.
+#[derive(Drop)]
+pub struct Survey<'a> {
+    pub trace: &'a Trace,
+    pub names: &'a [OpName],
+    pub processes: NameTable<'a>,
+    pub places: OpTable<'a>,
+    pub early: OpTable<'a>,
+}
+
+/// The place of each process, by its name.
+fn places_of_processes<'a>(
+    alloc: Global,
+    processes: &'a [Process],
+) -> Result<NameTable<'a>, AllocError>
+    ensures { IfOk result (FindsProcesses processes.now) }
+{
+    let mut places = NameTable::with_capacity(alloc, processes.len())?;
+    for k in (0..processes.len()).rev() {
+        places.insert(processes[k].name.as_bytes(), k as u64)?;
+    }
+    Ok(places)
+}
+
+/// Where each operation comes first in a schedule.
+fn first_places<'a>(alloc: Global, names: &'a [OpName]) -> Result<OpTable<'a>, AllocError>
+    ensures { IfOk result (FindsFirst names.now) }
+{
+    let mut places = OpTable::with_capacity(alloc, names.len())?;
+    for k in (0..names.len()).rev() {
+        places.insert(&names[k], k)?;
+    }
+    Ok(places)
+}
+
+/// Whether what comes first at this place is among the first `count`.
+fn is_below(first: Option<usize>, count: usize) -> bool
+    ensures { result ≡ tables.is_below first count }
+{
+    match first {
+        Some(k) => k < count,
+        None => false,
+    }
+}
+
+/// Whether what comes first at the second place comes there without the first before it.
+fn is_broken(first: Option<usize>, second: Option<usize>) -> bool
+    ensures { result ≡ tables.is_broken first second }
+{
+    match second {
+        Some(k) => !is_below(first, k),
+        None => false,
+    }
+}
+
+/// Whether the second operation comes, and the first not before it.
+fn breaks<'a>(places: &OpTable<'a>, first: &'a OpName, second: &'a OpName) -> bool
+    ensures { result ≡ tables.is_broken (number_at places.now first.now) (number_at places.now second.now) }
+{
+    is_broken(places.of(first), places.of(second))
+}
+
+/// The operations that come before one that the trace puts before them.
+fn early_ops<'a>(
+    alloc: Global,
+    before: &'a [(OpName, OpName)],
+    places: &OpTable<'a>,
+) -> Result<OpTable<'a>, AllocError>
+    ensures { IfOk result (FindsEarly before.now places.now) }
+{
+    let mut early = OpTable::with_capacity(alloc, 0)?;
+    for pair in before {
+        if breaks(places, &pair.0, &pair.1) {
+            early.insert(&pair.1, 0)?;
+        }
+    }
+    Ok(early)
+}
+
+/// The process at this place.
+fn process_at(processes: &[Process], place: Option<u64>) -> Option<&Process>
+    ensures { option_copied result ≡ option_and_then (slice_get processes.now) place }
+{
+    match place {
+        Some(k) => processes.get(k as usize),
+        None => None,
+    }
+}
+
+/// The operation at this place, counted from 1.
+fn at_place(operations: &[Op], place: usize) -> Option<&Op>
+    ensures { option_copied result ≡ trace_value.at_place operations.now place }
+{
+    if place == 0 {
+        return None;
+    }
+    operations.get(place - 1)
+}
+
+/// The operation at this place of the process, if there is one.
+fn op_of(process: Option<&Process>, place: usize) -> Option<&Op>
+    ensures { option_copied result ≡ option_and_then (λ p. trace_value.at_place p.operations place) (option_copied process.entry) }
+{
+    match process {
+        Some(process) => at_place(process.operations.as_slice(), place),
+        None => None,
+    }
+}
+
+impl<'a> Survey<'a> {
+    /// The survey of a trace and some names.
+    pub fn new(
+        alloc: Global,
+        trace: &'a Trace,
+        names: &'a [OpName],
+    ) -> Result<Survey<'a>, AllocError>
+        ensures trace { IfOk result (λ survey. survey.trace.now ≡ trace.now) }
+        ensures names { IfOk result (λ survey. survey.names.now ≡ names.now) }
+        ensures tables { IfOk result IsSurvey }
+    {
+        let processes = places_of_processes(alloc, trace.processes())?;
+        let places = first_places(alloc, names)?;
+        let pairs = trace.before();
+        let early = early_ops(alloc, pairs, &places)?;
+        Ok(Survey {
+            trace,
+            names,
+            processes,
+            places,
+            early,
+        })
+    }
+
+    /// The operation of this name.
+    pub fn operation_at(&self, name: &'a OpName) -> Option<&'a Op>
+        requires { IsSurvey self.now }
+        ensures { option_copied result ≡ trace_value.operation_at self.now.trace.now name.now }
+    {
+        let place = self.processes.get(name.process.as_bytes());
+        op_of(
+            process_at(self.trace.processes(), place),
+            name.place as usize,
+        )
+    }
+
+    /// Whether the operation at this place of this process is among the first `count` names.
+    pub fn has_come(&self, process: &'a [u8], place: usize, count: usize) -> bool
+        requires { IsSurvey self.now }
+        ensures { result ≡ judgement.has_come (take count self.now.names.now) (record { process = process.now; place = place }) }
+    {
+        is_below(self.places.get(process, place), count)
+    }
+
+    /// Whether the operation, where it comes first, comes before one that the trace puts before it.
+    pub fn is_early(&self, name: &'a OpName) -> bool
+        requires { IsSurvey self.now }
+        ensures { (count : ℕ) → slice_get self.now.names.now count ≡ Some name.now
+            → judgement.has_come (take count self.now.names.now) name.now ≡ false
+            → result ≡ not (list_all (judgement.has_come (take count self.now.names.now)) (judgement.put_before self.now.trace.now name.now)) }
+    {
+        self.early.of(name).is_some()
+    }
+}

@@ -1,0 +1,4 @@
+pub mod OpNameLemmas
+pub mod ScheduleLemmas
+pub mod ScheduleTextLemmas
+pub mod ScheduleWrittenLemmas

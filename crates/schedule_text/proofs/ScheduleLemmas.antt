@@ -1,0 +1,133 @@
+-- The lines of a schedule's text and the names that they spell.
+use Rattle.std.proofs.Common.{◌≡◌, ℕ, ◌+◌, ◌<◌, ◌≤◌, List, [], ◌∷◌, ◌++◌, length, map, true, false, cond, not, refl, ap, sym, ◌∙◌, subst, arith, append_assoc, append-nil}
+use Rattle.std.specs.Prelude.{None}
+use Rattle.std.specs.List.{list_all, filter}
+use Rattle.std.specs.Fmt.{decimal}
+use Rattle.std.proofs.lemmas.Bool.{and_from, cond-true, cond-false}
+use Rattle.std.proofs.lemmas.List.{map-append, map_push, length-map, length_push}
+use Rattle.std.proofs.lemmas.List.Elements.{filter-append}
+use Rattle.std.proofs.lemmas.List.Folds.{list_all-append}
+use Rattle.text_lines.specs.FirstFault.{IsFaultless}
+use Rattle.text_lines.specs.Lines.{lines_of}
+use Rattle.text_lines.specs.Words.{words_of}
+use Rattle.text_lines.proofs.FaultLemmas.{faultless_nil, faultless_push}
+use Rattle.text_lines.proofs.KeptLemmas.{kept_append, kept_skipped, kept_more}
+use Rattle.traces.specs.declared.operation.OpName.{OpName}
+use Rattle.schedule_text.specs.declared.schedule_fault.ScheduleFault.{ScheduleFault}
+use Rattle.schedule_text.specs.declared.schedule_fault.ScheduleFault.TheVariants.{OutOfMemory, Line}
+use Rattle.text_lines.specs.Kept.{kept, is_skipped}
+use Rattle.schedule_text.specs.ScheduleLine.{IsSkippedLine, IsNameLine, line_fault, IsLineRefusal}
+use Rattle.schedule_text.specs.ScheduleRefusal.{IsScheduleRefusal}
+use Rattle.schedule_text.specs.ScheduleText.{SpellsSchedule, name_word, is_op_name, schedule_words_fault, schedule_line_fault}
+use Rattle.schedule_text.proofs.OpNameLemmas.{writable, name_clear}
+use Rattle.traces.proofs.NameByteLemmas.{begins_no_comment}
+
+-- the line of each name
+abbrev pub name_lines : List OpName → List (List (List ℕ))
+name_lines names = map (λ n. name_word n ∷ []) names
+
+-- the lines are these names, and none has a fault
+pub record AreNames (lines : List (List ℕ)) (names : List OpName) : Type 0 where
+  pub spelled : kept lines ≡ name_lines names
+  pub written : list_all is_op_name names ≡ true
+  pub few : length names ≤ 4096
+  pub faultless : IsFaultless schedule_line_fault lines
+
+pub no_lines : AreNames [] []
+no_lines = record { spelled = refl; written = refl; few = omega arith; faultless = faultless_nil schedule_line_fault }
+
+-- as many lines as names
+pub counted : (lines : List (List ℕ)) (names : List OpName) → AreNames lines names → length (kept lines) ≡ length names
+counted lines names h = ap length h.spelled ∙ length-map names (λ n. name_word n ∷ [])
+
+-- what is wrong with the next line
+pub fault_here : (lines : List (List ℕ)) (names : List OpName) (line : List ℕ) → AreNames lines names → schedule_line_fault lines line ≡ line_fault (length names) line
+fault_here lines names line h = ap (λ k. line_fault k line) (counted lines names h)
+
+-- one more line that is skipped
+pub push_skipped : (lines : List (List ℕ)) (names : List OpName) (line : List ℕ) → AreNames lines names → IsSkippedLine line → AreNames (lines ++ line ∷ []) names
+push_skipped lines names line h skipped =
+    record {
+      spelled = kept_append lines (line ∷ []) ∙ ap (λ l. kept lines ++ l) (kept_skipped line [] skipped) ∙ append-nil (kept lines) ∙ h.spelled;
+      written = h.written;
+      few = h.few;
+      faultless = faultless_push schedule_line_fault lines line h.faultless (cond-true (is_skipped (words_of line)) None (schedule_words_fault (length (kept lines)) (words_of line)) skipped);
+    }
+
+-- the line of a name is not skipped, and has no fault
+pub name_kept : (earlier : ℕ) (line : List ℕ) (n : OpName) → IsNameLine earlier line n → is_skipped (words_of line) ≡ false
+name_kept earlier line n h = ap is_skipped h.word ∙ begins_no_comment n.process (46 ∷ decimal n.place) (writable n h.written).name
+
+pub name_line_clear : (earlier : ℕ) (line : List ℕ) (n : OpName) → IsNameLine earlier line n → line_fault earlier line ≡ None
+name_line_clear earlier line n h =
+    cond-false (is_skipped (words_of line)) None (schedule_words_fault earlier (words_of line)) (name_kept earlier line n h)
+    ∙ ap (schedule_words_fault earlier) h.word ∙ name_clear earlier n h.written h.room
+
+-- one more line that is a name
+pub push_name : (lines : List (List ℕ)) (names : List OpName) (line : List ℕ) (n : OpName) → AreNames lines names → IsNameLine (length names) line n → AreNames (lines ++ line ∷ []) (names ++ n ∷ [])
+push_name lines names line n h new =
+    record {
+      spelled = kept_append lines (line ∷ []) ∙ (λ i. h.spelled i ++ (kept_more line [] (name_kept (length names) line n new) ∙ ap (λ ws. ws ∷ []) new.word) i) ∙ sym (map_push (λ m. name_word m ∷ []) names n);
+      written = list_all-append is_op_name names (n ∷ []) ∙ and_from _ _ h.written (and_from _ true new.written refl);
+      few = omega (arith, new.room, length_push names n);
+      faultless = faultless_push schedule_line_fault lines line h.faultless (fault_here lines names line h ∙ name_line_clear (length names) line n new);
+    }
+
+-- what a reader has read of the text
+pub record IsReadSoFar (text : List ℕ) (number : ℕ) (rest : List ℕ) (names : List OpName) : Type 0 where
+  pub done : List (List ℕ)
+  pub parts : lines_of text ≡ done ++ lines_of rest
+  pub counted : number ≡ length done
+  pub spelled : AreNames done names
+  pub behind : number + length rest ≤ length text
+
+pub at_start : (text : List ℕ) → IsReadSoFar text 0 text []
+at_start text = record { done = []; parts = refl; counted = refl; spelled = no_lines; behind = omega arith }
+
+next_parts : (all done : List (List ℕ)) (line : List ℕ) (rest after : List (List ℕ)) → all ≡ done ++ rest → rest ≡ line ∷ after → all ≡ (done ++ line ∷ []) ++ after
+next_parts all done line rest after e f = e ∙ ap (λ l. done ++ l) f ∙ sym (append_assoc done (line ∷ []) after)
+
+pub turn_skipped : (text : List ℕ) (number : ℕ) (rest : List ℕ) (names : List OpName) (line after : List ℕ) → IsReadSoFar text number rest names →
+    lines_of rest ≡ line ∷ lines_of after → length after < length rest → IsSkippedLine line → IsReadSoFar text (number + 1) after names
+turn_skipped text number rest names line after h cut shorter skipped =
+    record {
+      done = h.done ++ line ∷ [];
+      parts = next_parts (lines_of text) h.done line (lines_of rest) (lines_of after) h.parts cut;
+      counted = omega (arith, h.counted, length_push h.done line);
+      spelled = push_skipped h.done names line h.spelled skipped;
+      behind = omega (arith, h.behind, shorter);
+    }
+
+pub turn_name : (text : List ℕ) (number : ℕ) (rest : List ℕ) (names : List OpName) (line after : List ℕ) (n : OpName) → IsReadSoFar text number rest names →
+    lines_of rest ≡ line ∷ lines_of after → length after < length rest → IsNameLine (length names) line n → IsReadSoFar text (number + 1) after (names ++ n ∷ [])
+turn_name text number rest names line after n h cut shorter new =
+    record {
+      done = h.done ++ line ∷ [];
+      parts = next_parts (lines_of text) h.done line (lines_of rest) (lines_of after) h.parts cut;
+      counted = omega (arith, h.counted, length_push h.done line);
+      spelled = push_name h.done names line n h.spelled new;
+      behind = omega (arith, h.behind, shorter);
+    }
+
+-- a refusal of the next line is one of the text
+pub refused : (text : List ℕ) (number : ℕ) (rest : List ℕ) (names : List OpName) (line after : List ℕ) (fault : ScheduleFault) → IsReadSoFar text number rest names →
+    lines_of rest ≡ line ∷ lines_of after → IsLineRefusal (length names) line (number + 1) fault → IsScheduleRefusal text fault
+refused text number rest names line after OutOfMemory h cut refusal = tt
+refused text number rest names line after (Line cause place) h cut refusal =
+    record {
+      before = h.done;
+      item = line;
+      after = lines_of after;
+      parts = h.parts ∙ ap (λ l. h.done ++ l) cut;
+      counted = refusal.1 ∙ ap (λ k. k + 1) h.counted;
+      faulty = fault_here h.done names line h.spelled ∙ refusal.0;
+      first = h.spelled.faultless;
+    }
+
+-- names of all lines are the schedule
+pub spelled_by : (text : List ℕ) (names : List OpName) → AreNames (lines_of text) names → SpellsSchedule text names
+spelled_by text names h = record { lines = h.spelled; written = h.written; few = h.few }
+
+pub at_end : (text : List ℕ) (number : ℕ) (rest : List ℕ) (names : List OpName) → IsReadSoFar text number rest names → lines_of rest ≡ [] → SpellsSchedule text names
+at_end text number rest names h none =
+    spelled_by text names (subst (λ (lines : List (List ℕ)). AreNames lines names) (sym (h.parts ∙ ap (λ l. h.done ++ l) none ∙ append-nil h.done)) h.spelled)

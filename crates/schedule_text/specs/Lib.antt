@@ -1,0 +1,5 @@
+pub mod ScheduleFault
+pub mod ScheduleLine
+pub mod ScheduleRefusal
+pub mod ScheduleText
+pub mod ScheduleWritten

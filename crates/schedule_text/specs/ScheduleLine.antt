@@ -1,0 +1,28 @@
+-- What one line of a schedule's text says.
+use Rattle.std.specs.Prelude.{◌≡◌, ◌<◌, ⊤, ℕ, true, List, [], ◌∷◌, Option, Some, None, if◌then◌else◌}
+use Rattle.text_lines.specs.Words.{words_of}
+use Rattle.traces.specs.declared.operation.OpName.{OpName}
+use Rattle.schedule_text.specs.declared.schedule_fault.ScheduleCause.{ScheduleCause}
+use Rattle.schedule_text.specs.declared.schedule_fault.ScheduleFault.{ScheduleFault}
+use Rattle.schedule_text.specs.declared.schedule_fault.ScheduleFault.TheVariants.{OutOfMemory, Line}
+use Rattle.text_lines.specs.Kept.{is_skipped}
+use Rattle.schedule_text.specs.ScheduleText.{name_word, is_op_name, schedule_words_fault}
+
+-- the line says nothing
+abbrev pub IsSkippedLine : List ℕ → Type 0
+IsSkippedLine line = is_skipped (words_of line) ≡ true
+
+-- the line is this name, and after that many names there is room for it
+pub record IsNameLine (earlier : ℕ) (line : List ℕ) (n : OpName) : Type 0 where
+  pub word : words_of line ≡ name_word n ∷ []
+  pub written : is_op_name n ≡ true
+  pub room : earlier < 4096
+
+-- what is wrong with a line after that many names
+abbrev pub line_fault : ℕ → List ℕ → Option ScheduleCause
+line_fault earlier line = if is_skipped (words_of line) then None else schedule_words_fault earlier (words_of line)
+
+-- a refusal of the line of this number tells what is wrong with it, or that there was no memory
+abbrev pub IsLineRefusal : ℕ → List ℕ → ℕ → ScheduleFault → Type 0
+IsLineRefusal earlier line number OutOfMemory = ⊤
+IsLineRefusal earlier line number (Line cause place) = (line_fault earlier line ≡ Some cause) × (place ≡ number)

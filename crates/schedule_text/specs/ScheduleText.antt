@@ -1,0 +1,56 @@
+-- The text of a schedule.
+use Rattle.std.specs.Prelude.{◌≡◌, ◌≤◌, ℕ, Bool, true, not, List, [], ◌∷◌, ◌++◌, length, map, Option, Some, None, is_none, ◌==◌, ◌&&◌, nat_le, option_and_then, if◌then◌else◌}
+use Rattle.std.specs.List.{list_any, list_all, before_first, after_first}
+use Rattle.std.specs.Fmt.{decimal}
+use Rattle.text_lines.specs.FirstFault.{IsFirstFault}
+use Rattle.text_lines.specs.Lines.{lines_of}
+use Rattle.text_lines.specs.Numbers.{plain_number_up_to}
+use Rattle.text_lines.specs.Words.{words_of}
+use Rattle.traces.specs.declared.operation.OpName.{OpName}
+use Rattle.schedule_text.specs.declared.schedule_fault.ScheduleCause.{ScheduleCause}
+use Rattle.schedule_text.specs.declared.schedule_fault.ScheduleCause.TheVariants.{BadName, BadNumber, TooMany}
+use Rattle.text_lines.specs.Kept.{kept, is_skipped}
+use Rattle.traces.specs.Names.{is_name}
+
+-- how an operation's name is written: its process, a dot and its place
+abbrev pub name_word : OpName → List ℕ
+name_word n = n.process ++ 46 ∷ decimal n.place
+
+-- a name that can be written: a process name, and a place from 1 to 65535
+abbrev pub is_op_name : OpName → Bool
+is_op_name n = is_name n.process && nat_le 1 n.place && nat_le n.place 65535
+
+-- the lines that are not skipped are the names, one a line
+pub record SpellsSchedule (text : List ℕ) (names : List OpName) : Type 0 where
+  pub lines : kept (lines_of text) ≡ map (λ n. name_word n ∷ []) names
+  pub written : list_all is_op_name names ≡ true
+  pub few : length names ≤ 4096
+
+-- the byte `.`
+abbrev pub is_dot : ℕ → Bool
+is_dot byte = byte == 46
+
+-- a place as it is written, from 1 to 65535
+abbrev pub place_of : List ℕ → Option ℕ
+place_of word = option_and_then (λ n. if nat_le 1 n then Some n else None) (plain_number_up_to 65535 word)
+
+-- what is wrong with the word of a line, after that many names
+abbrev pub name_fault : ℕ → List ℕ → Option ScheduleCause
+name_fault earlier word =
+    if not (list_any is_dot word && is_name (before_first is_dot word)) then Some BadName
+    else if is_none (place_of (after_first is_dot word)) then Some BadNumber
+    else if nat_le 4096 earlier then Some TooMany
+    else None
+
+-- what is wrong with the words of a line
+abbrev pub schedule_words_fault : ℕ → List (List ℕ) → Option ScheduleCause
+schedule_words_fault earlier (word ∷ []) = name_fault earlier word
+schedule_words_fault earlier words = Some BadName
+
+-- what is wrong with a line after the lines before it
+abbrev pub schedule_line_fault : List (List ℕ) → List ℕ → Option ScheduleCause
+schedule_line_fault before line = if is_skipped (words_of line) then None else schedule_words_fault (length (kept before)) (words_of line)
+
+-- the text has its first fault at this line, counted from 1
+abbrev pub HasScheduleFault : List ℕ → ScheduleCause → ℕ → Type 0
+HasScheduleFault text cause line = IsFirstFault schedule_line_fault (lines_of text) line cause

@@ -1,0 +1,134 @@
+//! The reader of a schedule's text.
+
+ghost use Rattle.std.specs.Prelude.{◌≡◌, ◌==◌, true, false, position, slice_index, MatchOption, MatchResult, IfOk, IfErr};
+ghost use Rattle.std.specs.List.{before_first, after_first, list_any};
+ghost use Rattle.schedule_text.specs.ScheduleLine.{IsSkippedLine, IsNameLine, line_fault, IsLineRefusal};
+ghost use Rattle.schedule_text.specs.ScheduleRefusal.{IsScheduleRefusal};
+ghost use Rattle.schedule_text.specs.ScheduleText.{SpellsSchedule, is_dot, place_of, name_fault};
+
+use traces::name::{Name, is_name_word};
+use traces::operation::OpName;
+use traces::schedule::Schedule;
+use crate::schedule_fault::{ScheduleCause, ScheduleFault};
+use std::alloc::{AllocError, Global};
+use text_lines::comments::begins_comment;
+use text_lines::lines::cut_line;
+use text_lines::numbers::read_plain;
+use text_lines::words::cut_word;
+
+/// The most names of a schedule.
+const MOST_NAMES: usize = 4096;
+
+fn find_dot(word: &[u8]) -> Option<usize>
+    ensures { result ≡ position is_dot word.now }
+{
+    word.iter().position(|byte| *byte == b'.')
+}
+
+/// What stands before the first dot, and what stands after it.
+fn cut_at_dot(word: &[u8]) -> Option<(&[u8], &[u8])>
+    ensures { MatchOption result (list_any is_dot word.now ≡ false)
+        (λ cut. (list_any is_dot word.now ≡ true) × (cut.0.now ≡ before_first is_dot word.now) × (cut.1.now ≡ after_first is_dot word.now)) }
+{
+    let dot = find_dot(word)?;
+    Some((&word[..dot], &word[dot + 1..]))
+}
+
+/// The place that the word writes, from 1 to 65535.
+fn read_place(word: &[u8]) -> Option<u16>
+    ensures { result ≡ place_of word.now }
+{
+    let place = read_plain(word, 65535)?;
+    if place == 0 {
+        return None;
+    }
+    Some(place as u16)
+}
+
+/// The process and the place of a name, after that many names.
+fn read_name(word: &[u8], earlier: usize) -> Result<(&[u8], u16), ScheduleCause>
+    ensures { MatchResult result
+        (λ name. (name_fault earlier word.now ≡ None) × (name.0.now ≡ before_first is_dot word.now) × (place_of (after_first is_dot word.now) ≡ Some name.1))
+        (λ cause. name_fault earlier word.now ≡ Some cause) }
+{
+    let Some((process, place)) = cut_at_dot(word) else {
+        return Err(ScheduleCause::BadName);
+    };
+    if !is_name_word(process) {
+        return Err(ScheduleCause::BadName);
+    }
+    let Some(place) = read_place(place) else {
+        return Err(ScheduleCause::BadNumber);
+    };
+    if earlier >= MOST_NAMES {
+        return Err(ScheduleCause::TooMany);
+    }
+    Ok((process, place))
+}
+
+/// The process and the place of the name on the line, after that many names; nothing where the line is skipped.
+fn read_line(line: &[u8], earlier: usize) -> Result<Option<(&[u8], u16)>, ScheduleCause>
+    ensures { MatchResult result
+        (λ found. MatchOption found (IsSkippedLine line.now) (λ name. IsNameLine earlier line.now (record { process = name.0.now; place = name.1 })))
+        (λ cause. line_fault earlier line.now ≡ Some cause) }
+{
+    let Some((word, rest)) = cut_word(line) else {
+        return Ok(None);
+    };
+    if begins_comment(word) {
+        return Ok(None);
+    }
+    if cut_word(rest).is_some() {
+        return Err(ScheduleCause::BadName);
+    }
+    match read_name(word, earlier) {
+        Ok(name) => Ok(Some(name)),
+        Err(cause) => Err(cause),
+    }
+}
+
+/// The name on the line of this number, after that many names; nothing where the line is skipped.
+fn name_on_line(
+    alloc: Global,
+    line: &[u8],
+    number: usize,
+    earlier: usize,
+) -> Result<Option<OpName>, ScheduleFault>
+    ensures { MatchResult result
+        (λ found. MatchOption found (IsSkippedLine line.now) (λ n. IsNameLine earlier line.now n))
+        (λ fault. IsLineRefusal earlier line.now number fault) }
+{
+    match read_line(line, earlier) {
+        Ok(None) => Ok(None),
+        Ok(Some((process, place))) => {
+            let process = Name::copy_of(alloc, process)?;
+            Ok(Some(OpName { process, place }))
+        }
+        Err(cause) => Err(ScheduleFault::Line(cause, number)),
+    }
+}
+
+/// The schedule that the text spells, in one pass; memory is taken for the names alone.
+///
+/// A line has one word, the name of an operation as in `P.1`. Blank lines and lines whose first word begins with `#` are
+/// skipped, whatever they hold. The error is the first fault of the text, with its line, counted from 1, or
+/// `OutOfMemory`, which tells nothing of the text.
+pub fn read_schedule(alloc: Global, text: &[u8]) -> Result<Schedule, ScheduleFault>
+    ensures spelled { IfOk result (λ schedule. SpellsSchedule text.now schedule) }
+    ensures faulty { IfErr result (λ fault. IsScheduleRefusal text.now fault) }
+{
+    let mut names = Vec::new(alloc);
+    let mut number = 0usize;
+    let mut rest = text;
+    while let Some((line, after)) = cut_line(rest) {
+        number += 1;
+        if let Some(name) = name_on_line(alloc, line, number, names.len())? {
+            names.push(name)?;
+        }
+        rest = after;
+    }
+    Ok(Schedule::new(names))
+}
+
+#[cfg(test)]
+mod tests;

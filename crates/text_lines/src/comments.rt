@@ -1,0 +1,18 @@
+//! Lines that say nothing: those without words, and comments.
+
+ghost use Rattle.std.specs.Prelude.{◌≡◌, ◌==◌, map, slice_index};
+ghost use Rattle.text_lines.specs.Kept.{is_skipped};
+
+/// Whether the line is skipped: it has no words, or is a comment.
+pub fn is_skipped_line(words: &[&[u8]]) -> bool
+    ensures { result ≡ is_skipped (map (λ word. word.now) words.now) }
+{
+    words.is_empty() || begins_comment(words[0])
+}
+
+/// Whether the first word of a line begins a comment.
+pub fn begins_comment(word: &[u8]) -> bool
+    ensures { result ≡ (slice_index word.now 0 == 35) }
+{
+    !word.is_empty() && word[0] == b'#'
+}

@@ -1,8 +1,0 @@
-use Rattle.std.proofs.Common.{◌≡◌, ℕ, List, true, take}
-use Rattle.std.specs.List.{list_all}
-use Rattle.trace_text.specs.Judgement.{is_held}
-use Rattle.trace_text.specs.Tables.{number_of}
-use Rattle.trace_text.proofs.judge.holds_all.Given as goal
-
-abbrev pub invariant-loop-entry : goal.invariant-loop-entry
-invariant-loop-entry l = list_all (λ (entry : List ℕ × ℕ). is_held (number_of l.memory.values entry.0) entry.1) (take l.entry-index l.values) ≡ true

@@ -1,7 +1,0 @@
-use Rattle.std.proofs.Common.{◌≡◌, ℕ, List, drop}
-use Rattle.trace_text.specs.Tables.{number_of}
-use Rattle.trace_text.specs.Trace.{value_of}
-use Rattle.trace_text.proofs.memory.table_of.Given as goal
-
-abbrev pub invariant-loop-k : goal.invariant-loop-k
-invariant-loop-k l = (location : List ℕ) → number_of l.table location ≡ value_of (drop l.k l.values) location

@@ -1,5 +1,0 @@
-use Rattle.trace_text.proofs.ScheduleTextLemmas.{one_refused}
-use Rattle.trace_text.proofs.schedule_laws.one_schedule_fault.Goals as goal
-
-pub returns : goal.returns
-returns c = one_refused

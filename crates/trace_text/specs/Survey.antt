@@ -1,9 +1,0 @@
--- What the judge looks up.
-use Rattle.trace_text.specs.declared.survey.Survey.{Survey}
-use Rattle.trace_text.specs.Tables.{FindsProcesses, FindsFirst, FindsEarly}
-
--- the tables are those of the trace and the names
-pub record IsSurvey (survey : Survey) : Type 0 where
-  pub processes : FindsProcesses survey.trace.now.processes survey.processes
-  pub places : FindsFirst survey.names.now survey.places
-  pub early : FindsEarly survey.trace.now.before survey.places survey.early

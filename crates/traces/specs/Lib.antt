@@ -1,0 +1,11 @@
+pub mod Interleaving
+pub mod Judgement
+pub mod JudgementText
+pub mod Legal
+pub mod Locations
+pub mod NameNumbers
+pub mod Names
+pub mod Operation
+pub mod PairOrder
+pub mod Trace
+pub mod ValueAfter

@@ -1,0 +1,13 @@
+//! Traces of memory operations, schedules of them, and what a legal schedule is.
+//!
+//! Sequential consistency is Lamport's (1979), read and write operations are those of Gibbons and Korach
+//! ("Testing Shared Memories", 1997).
+#![tactic(auto)]
+
+pub mod judgement;
+pub mod laws;
+pub mod name;
+pub mod name_table;
+pub mod operation;
+pub mod schedule;
+pub mod trace;

@@ -1,0 +1,48 @@
+//! Numbers by name.
+
+use std::alloc::{AllocError, Global};
+use std::collections::HashMap;
+
+/// A number for each of some names.
+#[derive(Drop)]
+pub struct NameTable<'a> {
+    numbers: HashMap<&'a [u8], u64>,
+}
+
+impl<'a> NameTable<'a> {
+    ghost use Rattle.std.specs.Prelude.{◌≡◌, List, ℕ, IfOk, OnOk, cond};
+    ghost use Rattle.std.specs.Str.{bytes_eq};
+    ghost use Rattle.traces.specs.NameNumbers.{number_of};
+
+    /// A table of no names.
+    pub fn new(alloc: Global) -> NameTable<'a>
+        ensures { (name : List ℕ) → number_of result name ≡ None }
+    {
+        NameTable {
+            numbers: HashMap::new(alloc),
+        }
+    }
+
+    /// A table of no names, with room for some.
+    pub fn with_capacity(alloc: Global, capacity: usize) -> Result<NameTable<'a>, AllocError>
+        ensures { IfOk result (λ table. (name : List ℕ) → number_of table name ≡ None) }
+    {
+        let numbers = HashMap::with_capacity(alloc, capacity)?;
+        Ok(NameTable { numbers })
+    }
+
+    /// The number of this name, if it has one.
+    pub fn get(&self, name: &'a [u8]) -> Option<u64>
+        ensures { result ≡ number_of self.now name.now }
+    {
+        self.numbers.get(&name).copied()
+    }
+
+    /// Gives the name this number.
+    pub fn insert(&mut self, name: &'a [u8], number: u64) -> Result<(), AllocError>
+        ensures { OnOk result ((q : List ℕ) → number_of self.new q ≡ cond (bytes_eq name.now q) (Some number) (number_of self.old q)) }
+    {
+        self.numbers.insert(name, number)?;
+        Ok(())
+    }
+}
