@@ -9,14 +9,14 @@ ghost use Rattle.traces.specs.NameNumbers.{number_of};
 ghost use Rattle.traces.specs.Trace.{first_names};
 ghost use Rattle.schedule_judge.specs.Walk.{IsWalk, IsInProgramOrder};
 
-use traces::judgement::{Cause, Judgement};
 use crate::memory::Memory;
+use crate::survey::Survey;
+use std::alloc::{AllocError, Global};
+use traces::judgement::{Cause, Judgement};
 use traces::name::Name;
 use traces::operation::{Op, OpName};
 use traces::schedule::Schedule;
-use crate::survey::Survey;
 use traces::trace::{Process, Trace};
-use std::alloc::{AllocError, Global};
 
 /// Whether the first `n` operations of the process are among the first `count` names.
 fn have_come<'a>(survey: &Survey<'a>, process: &'a [u8], n: usize, count: usize) -> bool

@@ -10,10 +10,10 @@ ghost use Rattle.traces.specs.Operation as operation;
 ghost use Rattle.traces.specs.NameNumbers.{number_of};
 ghost use Rattle.traces.specs.Trace.{TraceValue, value_of};
 
+use std::alloc::{AllocError, Global};
 use traces::name::Name;
 use traces::name_table::NameTable;
 use traces::operation::{Op, OpName, Origin};
-use std::alloc::{AllocError, Global};
 
 /// What each location holds, and which name of the schedule wrote it last.
 #[derive(Drop)]

@@ -1,8 +1,8 @@
 //! Numbers by operation.
 
-use traces::operation::OpName;
 use std::alloc::{AllocError, Global};
 use std::collections::HashMap;
+use traces::operation::OpName;
 
 /// A number for each of some operations.
 #[derive(Drop)]

@@ -9,11 +9,11 @@ ghost use Rattle.schedule_judge.specs.Tables.{number_at, FindsProcesses, FindsFi
 ghost use Rattle.schedule_judge.specs.Tables as tables;
 ghost use Rattle.traces.specs.Trace as trace_value;
 
-use traces::name_table::NameTable;
 use crate::op_table::OpTable;
+use std::alloc::{AllocError, Global};
+use traces::name_table::NameTable;
 use traces::operation::{Op, OpName};
 use traces::trace::{Process, Trace};
-use std::alloc::{AllocError, Global};
 
 /// What is looked up while a schedule is judged.
 #[derive(Drop)]

@@ -1,10 +1,10 @@
 -- How the name of an operation is written and read.
-use Rattle.std.proofs.Common.{◌≡◌, ℕ, ◌+◌, ◌^◌, ◌<◌, ◌≤◌, List, [], ◌∷◌, ◌++◌, length, take, drop, get_or, Bool, true, false, cond, not, ◌&&◌, ◌||◌, eqb, ltb, leb, suc, refl, ap, sym, ◌∙◌, arith, append_assoc}
+use Rattle.std.proofs.Common.{◌≡◌, ℕ, ◌+◌, ◌^◌, ◌<◌, ◌≤◌, List, [], ◌∷◌, ◌++◌, length, take, drop, get_or, Bool, true, false, cond, not, ◌&&◌, ◌||◌, ltb, leb, suc, refl, ap, sym, ◌∙◌, arith, append_assoc}
 use Rattle.std.specs.Prelude.{Option, Some, None, is_none, position}
 use Rattle.std.specs.List.{list_all, list_any, before_first, after_first, position_or_len}
 use Rattle.std.specs.Option.{option_and_then}
 use Rattle.std.specs.Fmt.{decimal}
-use Rattle.std.proofs.lemmas.Bool.{and_parts, and_from, or_parts, or_from, or_right, eqb-true, ne_eqb, ltb-true, ltb-false, le-leb, lt-leb, leb-true, leb-false, cond-true, false≢true, false_from_ne_true}
+use Rattle.std.proofs.lemmas.Bool.{and_parts, and_from, or_parts, or_right, eqb-true, ltb-true, ltb-false, le-leb, lt-leb, leb-true, leb-false, cond-true, false≢true, false_from_ne_true}
 use Rattle.std.proofs.lemmas.Fmt.{decimal_injective}
 use Rattle.std.proofs.lemmas.Option.{cond_some, none-some, option_and_then_some}
 use Rattle.std.proofs.lemmas.List.{take_at, drop_at, length_push}
@@ -16,7 +16,7 @@ use Rattle.traces.specs.declared.operation.OpName.{OpName}
 use Rattle.schedule_text.specs.declared.schedule_fault.ScheduleCause.{ScheduleCause}
 use Rattle.schedule_text.specs.declared.schedule_fault.ScheduleCause.TheVariants.{BadName, BadNumber, TooMany}
 use Rattle.traces.proofs.NameByteLemmas.{apart, none_in_name, name_bytes}
-use Rattle.traces.specs.Names.{is_name, may_begin_name, may_be_in_name}
+use Rattle.traces.specs.Names.{is_name, may_be_in_name}
 use Rattle.schedule_text.specs.ScheduleText.{name_word, is_op_name, is_dot, place_of, name_fault}
 
 -- an element passes exactly where the first place that passes is within the list

@@ -6,15 +6,15 @@ ghost use Rattle.schedule_text.specs.ScheduleLine.{IsSkippedLine, IsNameLine, li
 ghost use Rattle.schedule_text.specs.ScheduleRefusal.{IsScheduleRefusal};
 ghost use Rattle.schedule_text.specs.ScheduleText.{SpellsSchedule, is_dot, place_of, name_fault};
 
-use traces::name::{Name, is_name_word};
-use traces::operation::OpName;
-use traces::schedule::Schedule;
 use crate::schedule_fault::{ScheduleCause, ScheduleFault};
 use std::alloc::{AllocError, Global};
 use text_lines::comments::begins_comment;
 use text_lines::lines::cut_line;
 use text_lines::numbers::read_plain;
 use text_lines::words::cut_word;
+use traces::name::{Name, is_name_word};
+use traces::operation::OpName;
+use traces::schedule::Schedule;
 
 /// The most names of a schedule.
 const MOST_NAMES: usize = 4096;

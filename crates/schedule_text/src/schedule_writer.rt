@@ -3,10 +3,10 @@
 ghost use Rattle.std.specs.Prelude.{◌≡◌, ◌++◌, IfOk, OnOk};
 ghost use Rattle.schedule_text.specs.ScheduleWritten.{name_line, canonical_schedule};
 
-use traces::operation::OpName;
-use traces::schedule::Schedule;
 use itoa::Buffer;
 use std::alloc::{AllocError, Global};
+use traces::operation::OpName;
+use traces::schedule::Schedule;
 
 /// Appends the name as its line: its process, a dot, its place and a line feed.
 fn push_name_line(text: &mut Vec<u8>, name: &OpName) -> Result<(), AllocError>

@@ -7,13 +7,13 @@ ghost use Rattle.trace_text.specs.Said.{said, said_source};
 ghost use Rattle.trace_text.specs.Statement.{Read, Write, Update, Before};
 ghost use Rattle.trace_text.specs.TraceFault.{is_value, is_place, place_of};
 
-use traces::name::Name;
-use traces::operation::{Op, OpName, Origin};
 use crate::refusal::Refusal;
 use crate::statement::{Source, Statement};
 use crate::trace_fault::TraceCause;
 use std::alloc::Global;
 use text_lines::numbers::read_plain;
+use traces::name::Name;
+use traces::operation::{Op, OpName, Origin};
 
 /// What a line adds to the trace.
 #[derive(Drop)]

@@ -7,9 +7,9 @@ ghost use Rattle.trace_text.specs.Said.{said, said_source};
 ghost use Rattle.trace_text.specs.Seen.{early_fault, names_of_source};
 ghost use Rattle.trace_text.specs.TraceFault.{is_operation, is_value_line, names_of};
 
-use traces::name::is_name_word;
 use crate::statement::{Source, Statement};
 use crate::trace_fault::TraceCause;
+use traces::name::is_name_word;
 
 fn is_of_value(statement: Statement<'_>) -> bool
     ensures { result ≡ is_value_line (said statement.entry) }

@@ -13,12 +13,12 @@ ghost use Rattle.trace_text.specs.TraceFault.{place_of, references_of, reference
 use crate::entry::read_place;
 use crate::refusal::Refusal;
 use crate::statement::{Source, Statement, read_statement};
-use traces::trace::Process;
 use crate::trace_fault::{TraceCause, TraceFault};
 use std::alloc::Global;
 use text_lines::comments::is_skipped_line;
 use text_lines::lines::cut_line;
 use text_lines::words::first_words;
+use traces::trace::Process;
 
 /// No line of any form has as many words.
 const MOST_WORDS: usize = 8;

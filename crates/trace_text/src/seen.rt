@@ -7,11 +7,11 @@ ghost use Rattle.trace_text.specs.Said.{said};
 ghost use Rattle.trace_text.specs.Statement.{Init, Final, Proc, Write, Before};
 ghost use Rattle.trace_text.specs.Seen.{has, IsSeen, Notes, NotesLocation, fault_behind, fault_of_location, fault_of_operation};
 
-use traces::name_table::NameTable;
 use crate::refusal::Refusal;
 use crate::statement::Statement;
 use crate::trace_fault::TraceCause;
 use std::alloc::Global;
+use traces::name_table::NameTable;
 
 const MOST_PROCESSES: usize = 64;
 

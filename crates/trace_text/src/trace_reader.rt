@@ -8,6 +8,7 @@ ghost use Rattle.trace_text.specs.Said.{said};
 ghost use Rattle.trace_text.specs.Statement.{Statement as Said, statement_of};
 ghost use Rattle.trace_text.specs.TraceFault.{statement_fault, said_fault, trace_line_fault, IsTraceRefusal};
 ghost use Rattle.trace_text.specs.TraceText.{SpellsTrace};
+ghost use Rattle.traces.specs.Trace.{IsTrace};
 
 use crate::entry::read_entry;
 use crate::gathered::Gathered;
@@ -18,12 +19,12 @@ use crate::references::check_references;
 use crate::refusal::Refusal;
 use crate::seen::Seen;
 use crate::statement::{Statement, read_statement};
-use traces::trace::Trace;
 use crate::trace_fault::{TraceCause, TraceFault};
 use std::alloc::Global;
 use text_lines::comments::is_skipped_line;
 use text_lines::lines::cut_line;
 use text_lines::words::first_words;
+use traces::trace::Trace;
 
 /// No line of any form has as many words.
 const MOST_WORDS: usize = 8;
@@ -136,6 +137,7 @@ fn finish(
 ///
 /// The answer is the trace that the text spells, or else the first fault of the text with its line.
 pub fn read_trace(alloc: Global, text: &[u8]) -> Result<Trace, TraceFault>
+    ensures trace { IfOk result IsTrace }
     ensures spelled { IfOk result (SpellsTrace text.now) }
     ensures refused { IfErr result (IsTraceRefusal text.now) }
 {

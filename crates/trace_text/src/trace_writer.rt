@@ -8,11 +8,11 @@ ghost use Rattle.trace_text.specs.TraceText as spelled;
 ghost use Rattle.trace_text.specs.TraceLines.{spaced, entry_line, joined};
 ghost use Rattle.trace_text.specs.TraceWritten.{line_text, canonical_trace};
 
+use itoa::Buffer;
+use std::alloc::{AllocError, Global};
 use traces::name::Name;
 use traces::operation::{Op, OpName, Origin};
 use traces::trace::{Process, Trace};
-use itoa::Buffer;
-use std::alloc::{AllocError, Global};
 
 /// Whether it is said where the value of the operation comes from.
 fn says_origin(op: &Op) -> bool
@@ -215,8 +215,8 @@ pub fn write_trace(alloc: Global, trace: &Trace) -> Result<Vec<u8>, AllocError>
 #[cfg(test)]
 mod tests {
     use super::*;
-    use traces::trace::Operations;
     use std::test::Fail;
+    use traces::trace::Operations;
 
     #[test]
     fn writes_operations_and_origins(rt: HostRuntime) -> Result<(), Fail> {

@@ -14,7 +14,7 @@ use Rattle.verdict_report.specs.declared.fault.Fault.{Fault}
 use Rattle.verdict_report.specs.declared.fault.Fault.TheVariants.{OutOfMemory, Device, InputTooLong, Trace, Schedule}
 use Rattle.verdict_report.specs.declared.status.Status.{Status}
 use Rattle.verdict_report.specs.Fault.{status_after}
-use Rattle.verdict_report.specs.Reading.{AppendsMoreThan}
+use Rattle.verdict_report.specs.Reading.{AppendsMoreThan, AppendsAtMost}
 
 -- what a source did in a call: the bytes that it had handed out before and has now, whether it is at its end, and its failures before and now
 pub record SourceRun : Type 0 where
@@ -43,7 +43,7 @@ pub record NothingFailed (trace schedule : SourceRun) (out : SinkRun) : Type 0 w
   pub schedule_unfailing : schedule.failures_now ≡ schedule.failures_before
   pub out_unfailing : out.failures_now ≡ out.failures_before
 
--- the source was not asked for anything
+-- the source handed out nothing, and did not fail
 abbrev pub IsUntouched : SourceRun → Type 0
 IsUntouched source = (source.now ≡ source.before) × (source.failures_now ≡ source.failures_before)
 
@@ -105,19 +105,41 @@ pub record Answers (trace schedule : SourceRun) (out : SinkRun) (status : Status
   pub status_is : status ≡ status_after judgement
   pub unfailing : NothingFailed trace schedule out
 
--- the first input is past the limit, or the second one where the first is not
+-- the first input is past the limit, and the second one was not asked for; or the second one is where the first is not
 abbrev pub IsTooLong : SourceRun → SourceRun → Type 0
-IsTooLong trace schedule = AppendsMoreThan 268435456 trace.before trace.now
+IsTooLong trace schedule = (AppendsMoreThan 268435456 trace.before trace.now × IsUntouched schedule)
     ⊎ ((text : List ℕ) × HandsOut trace text × AppendsMoreThan 268435456 schedule.before schedule.now)
 
--- One of the three failed, once. Where it is the first source, nothing else was asked; where it is the second one, the first text was handed out
--- whole; where it is the sink, both were, and the sink took a front of the line that answers them.
-pub data FailsOnce (trace schedule : SourceRun) (out : SinkRun) : Type 0 where
-  TraceFails : trace.failures_now ≡ trace.failures_before + 1 → IsUntouched schedule → TakesNothing out → out.failures_now ≡ out.failures_before → FailsOnce trace schedule out
-  ScheduleFails : (text : List ℕ) → HandsOut trace text → trace.failures_now ≡ trace.failures_before → schedule.failures_now ≡ schedule.failures_before + 1 →
-      TakesNothing out → out.failures_now ≡ out.failures_before → FailsOnce trace schedule out
-  OutFails : (judgement : Judgement) → Reads trace schedule (Ok judgement) → trace.failures_now ≡ trace.failures_before → schedule.failures_now ≡ schedule.failures_before →
-      out.failures_now ≡ out.failures_before + 1 → AppendsFront out.before out.now (judgement_line judgement) → FailsOnce trace schedule out
+-- the first source failed, within the limit, and nothing else was asked
+pub record TraceFails (trace schedule : SourceRun) (out : SinkRun) : Type 0 where
+  pub failed : trace.failures_now ≡ trace.failures_before + 1
+  pub within_limit : AppendsAtMost 268435456 trace.before trace.now
+  pub schedule_untouched : IsUntouched schedule
+  pub nothing_taken : TakesNothing out
+  pub out_unfailing : out.failures_now ≡ out.failures_before
+
+-- the first text was handed out whole, and the second source failed, within the limit
+pub record ScheduleFails (trace schedule : SourceRun) (out : SinkRun) : Type 0 where
+  pub text : List ℕ
+  pub handed : HandsOut trace text
+  pub trace_unfailing : trace.failures_now ≡ trace.failures_before
+  pub failed : schedule.failures_now ≡ schedule.failures_before + 1
+  pub within_limit : AppendsAtMost 268435456 schedule.before schedule.now
+  pub nothing_taken : TakesNothing out
+  pub out_unfailing : out.failures_now ≡ out.failures_before
+
+-- both texts were handed out whole, and the sink failed, after a front of the line that answers them
+pub record OutFails (trace schedule : SourceRun) (out : SinkRun) : Type 0 where
+  pub judgement : Judgement
+  pub reads : Reads trace schedule (Ok judgement)
+  pub trace_unfailing : trace.failures_now ≡ trace.failures_before
+  pub schedule_unfailing : schedule.failures_now ≡ schedule.failures_before
+  pub failed : out.failures_now ≡ out.failures_before + 1
+  pub front : AppendsFront out.before out.now (judgement_line judgement)
+
+-- one of the three failed, once
+abbrev pub FailsOnce : SourceRun → SourceRun → SinkRun → Type 0
+FailsOnce trace schedule out = TraceFails trace schedule out ⊎ (ScheduleFails trace schedule out ⊎ OutFails trace schedule out)
 
 -- a refusal before anything is written, where nothing failed
 abbrev pub Refuses : SourceRun → SourceRun → SinkRun → Type 0 → Type 0

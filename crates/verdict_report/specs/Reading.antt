@@ -1,5 +1,5 @@
 -- What a clause says of reading a text whole.
-use Rattle.std.specs.Prelude.{◌≡◌, ◌+◌, ◌<◌, ℕ, List, ◌++◌, length, Result, Ok, Err}
+use Rattle.std.specs.Prelude.{◌≡◌, ◌+◌, ◌<◌, ◌≤◌, ℕ, List, ◌++◌, length, Result, Ok, Err}
 use Rattle.verdict_report.specs.declared.reading.ReadFault.{ReadFault}
 use Rattle.verdict_report.specs.declared.reading.ReadFault.TheVariants.{OutOfMemory, Device, TooLong}
 
@@ -14,4 +14,10 @@ CountsFailures (Ok _) old new = new ≡ old
 pub record AppendsMoreThan (limit : ℕ) (old new : List ℕ) : Type 0 where
   pub more : List ℕ
   pub past : limit < length more
+  pub appended : new ≡ old ++ more
+
+-- the new list is the old one and then at most so many bytes
+pub record AppendsAtMost (limit : ℕ) (old new : List ℕ) : Type 0 where
+  pub more : List ℕ
+  pub within : length more ≤ limit
   pub appended : new ≡ old ++ more

@@ -6,9 +6,9 @@ ghost use Rattle.verdict_report.specs.Fault.{area_of, number_of, name_of, place_
 
 use crate::reading::ReadFault;
 use dimacs::{Failed, Sink, SinkFault, write_whole};
+use schedule_text::schedule_fault::{ScheduleCause, ScheduleFault};
 use std::alloc::{AllocError, Global};
 use std::fmt;
-use schedule_text::schedule_fault::{ScheduleCause, ScheduleFault};
 use trace_text::trace_fault::{TraceCause, TraceFault};
 
 /// Why an engine refuses: the first refusal of its parts, in the order of its inputs.

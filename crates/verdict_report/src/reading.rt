@@ -1,6 +1,6 @@
 //! Reading a text whole.
 ghost use Rattle.std.specs.Prelude.{◌≡◌, ◌≤◌, ◌++◌, IfOk, OnOk, IsTrue, vec_len};
-ghost use Rattle.verdict_report.specs.Reading.{CountsFailures, AppendsMoreThan};
+ghost use Rattle.verdict_report.specs.Reading.{CountsFailures, AppendsMoreThan, AppendsAtMost};
 
 use crate::source::Source;
 use std::alloc::{AllocError, Global};
@@ -37,6 +37,8 @@ pub fn read_whole<S: Source>(alloc: Global, source: &mut S) -> Result<Vec<u8>, R
     ensures within_limit { IfOk result (λ text. vec_len text ≤ INPUT_LIMIT) }
     ensures too_long { result ≡ Err ReadFault.TooLong →
         AppendsMoreThan INPUT_LIMIT (S.handed_out source.old) (S.handed_out source.new) }
+    ensures device { result ≡ Err ReadFault.Device →
+        AppendsAtMost INPUT_LIMIT (S.handed_out source.old) (S.handed_out source.new) }
     ensures failures { CountsFailures result (S.failures source.old) (S.failures source.new) }
 {
     let Ok(mut chunk) = blank(alloc, CHUNK) else {

@@ -60,4 +60,4 @@ returns-in_err-schedule_text g c =
     } in
     let handed : HandsOut trace c.in_ok-trace_text.trace_text.items = record { handed = search rules; ended = search rules; within_limit = search rules } in
     let p = err_from_is_err_and c.from_residual-in_err-schedule_text.result c.from_residual-in_err-schedule_text.ensures.1 in
-    rw (p.1, p.2) (unread trace schedule out c.in_ok-trace_text.trace_text.items handed (search rules) refl refl c.read_whole-2.result c.in_err-schedule_text.field-0.0 c.in_err-schedule_text.was c.read_whole-2.ensures.failures c.read_whole-2.ensures.too_long)
+    rw (p.1, p.2) (unread trace schedule out c.in_ok-trace_text.trace_text.items handed (search rules) refl refl c.read_whole-2.result c.in_err-schedule_text.field-0.0 c.in_err-schedule_text.was c.read_whole-2.ensures.failures c.read_whole-2.ensures.too_long c.read_whole-2.ensures.device)
