@@ -110,8 +110,8 @@ fn check_line(alloc: Global, two: bool, processes: &[Process], line: &[u8]) -> R
     }
 }
 
-/// Looks at the operations that the lines of a text name, which are to be operations of these processes.
-pub fn check_references(
+/// Looks at each line of a text.
+fn check_lines(
     alloc: Global,
     two: bool,
     processes: &[Process],
@@ -130,4 +130,21 @@ pub fn check_references(
         next += 1;
     }
     Ok(())
+}
+
+/// Looks at the operations that the lines of a text name, which are to be operations of these processes. A text of
+/// version 1 names none.
+pub fn check_references(
+    alloc: Global,
+    two: bool,
+    processes: &[Process],
+    text: &[u8],
+) -> Result<(), TraceFault>
+    ensures refused { IfErr result (IsRefusedByReferences two processes.now text.now) }
+    ensures fine { OnOk result (IsFaultless (λ (before : List (List ℕ)) (here : List ℕ). fault_of_line two processes.now here) (lines_of text.now)) }
+{
+    if !two {
+        return Ok(());
+    }
+    check_lines(alloc, two, processes, text)
 }

@@ -1,5 +1,5 @@
 use Rattle.trace_text.proofs.ReferenceLemmas.{nothing_looked_at, one_more_looked_at}
-use Rattle.trace_text.proofs.references.check_references.Goals as goal
+use Rattle.trace_text.proofs.references.check_lines.Goals as goal
 
 pub loop-line-init : goal.loop-line-init
 loop-line-init c = nothing_looked_at c.args.two c.args.processes.now c.args.text.now

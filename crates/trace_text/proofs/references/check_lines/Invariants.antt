@@ -1,6 +1,6 @@
 use Rattle.std.proofs.Common.{length}
 use Rattle.trace_text.proofs.ReferenceLemmas.{IsLookedAt}
-use Rattle.trace_text.proofs.references.check_references.Given as goal
+use Rattle.trace_text.proofs.references.check_lines.Given as goal
 
 abbrev pub invariant-loop-line : goal.invariant-loop-line
 invariant-loop-line l = IsLookedAt l.fn.two l.fn.processes l.fn.text l.next l.rest
