@@ -17,7 +17,8 @@ use Rattle.schedule_text.specs.declared.schedule_fault.ScheduleCause.{ScheduleCa
 use Rattle.schedule_text.specs.declared.schedule_fault.ScheduleCause.TheVariants.{BadName, BadNumber, TooMany}
 use Rattle.traces.proofs.NameByteLemmas.{apart, none_in_name, name_bytes}
 use Rattle.traces.specs.Names.{is_name, may_be_in_name}
-use Rattle.schedule_text.specs.ScheduleText.{name_word, is_op_name, is_dot, place_of, name_fault}
+use Rattle.traces.specs.Place.{place_of}
+use Rattle.schedule_text.specs.ScheduleText.{name_word, is_op_name, is_dot, name_fault}
 
 -- an element passes exactly where the first place that passes is within the list
 found_within_of : (b any : Bool) (m n : ℕ) → (b || any) ≡ true → (any ≡ true → m < n) → cond (not b) (1 + m) 0 < suc n

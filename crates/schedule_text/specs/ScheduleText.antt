@@ -6,6 +6,7 @@ use Rattle.text_lines.specs.FirstFault.{IsFirstFault}
 use Rattle.text_lines.specs.Lines.{lines_of}
 use Rattle.text_lines.specs.Numbers.{plain_number_up_to}
 use Rattle.text_lines.specs.Words.{words_of}
+use Rattle.traces.specs.Place.{place_of}
 use Rattle.traces.specs.declared.operation.OpName.{OpName}
 use Rattle.schedule_text.specs.declared.schedule_fault.ScheduleCause.{ScheduleCause}
 use Rattle.schedule_text.specs.declared.schedule_fault.ScheduleCause.TheVariants.{BadName, BadNumber, TooMany}
@@ -29,10 +30,6 @@ pub record SpellsSchedule (text : List ℕ) (names : List OpName) : Type 0 where
 -- the byte `.`
 abbrev pub is_dot : ℕ → Bool
 is_dot byte = byte == 46
-
--- a place as it is written, from 1 to 65535
-abbrev pub place_of : List ℕ → Option ℕ
-place_of word = option_and_then (λ n. if nat_le 1 n then Some n else None) (plain_number_up_to 65535 word)
 
 -- what is wrong with the word of a line, after that many names
 abbrev pub name_fault : ℕ → List ℕ → Option ScheduleCause

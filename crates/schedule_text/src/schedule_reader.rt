@@ -4,7 +4,8 @@ ghost use Rattle.std.specs.Prelude.{◌≡◌, ◌==◌, true, false, position, 
 ghost use Rattle.std.specs.List.{before_first, after_first, list_any};
 ghost use Rattle.schedule_text.specs.ScheduleLine.{IsSkippedLine, IsNameLine, line_fault, IsLineRefusal};
 ghost use Rattle.schedule_text.specs.ScheduleRefusal.{IsScheduleRefusal};
-ghost use Rattle.schedule_text.specs.ScheduleText.{SpellsSchedule, is_dot, place_of, name_fault};
+ghost use Rattle.traces.specs.Place.{place_of};
+ghost use Rattle.schedule_text.specs.ScheduleText.{SpellsSchedule, is_dot, name_fault};
 
 use crate::schedule_fault::{ScheduleCause, ScheduleFault};
 use std::alloc::{AllocError, Global};

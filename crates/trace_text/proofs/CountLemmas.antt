@@ -10,7 +10,7 @@ use Rattle.trace_text.specs.Gathered.{is_of_process, process_statements}
 use Rattle.trace_text.specs.Statement.{Statement, Init, Final, Proc, Read, Write, Update, Before}
 use Rattle.trace_text.specs.TraceFault.{is_proc, is_operation}
 
-procs_within : (ss : List Statement) → filter is_proc ss ≡ filter is_proc (filter is_of_process ss)
+pub procs_within : (ss : List Statement) → filter is_proc ss ≡ filter is_proc (filter is_of_process ss)
 procs_within [] = refl
 procs_within (Init a d ∷ ss) = procs_within ss
 procs_within (Final a d ∷ ss) = procs_within ss
@@ -30,7 +30,7 @@ operations_within (Write a d ∷ ss) = ap (λ t. Write a d ∷ t) (operations_wi
 operations_within (Update a d e source ∷ ss) = ap (λ t. Update a d e source ∷ t) (operations_within ss)
 operations_within (Before p i q j ∷ ss) = operations_within ss
 
-no_proc : (ops : List Op) (ss : List Statement) → filter is_proc (map op_statement ops ++ ss) ≡ filter is_proc ss
+pub no_proc : (ops : List Op) (ss : List Statement) → filter is_proc (map op_statement ops ++ ss) ≡ filter is_proc ss
 no_proc [] ss = refl
 no_proc (ReadOp a d o ∷ ops) ss = no_proc ops ss
 no_proc (WriteOp a d ∷ ops) ss = no_proc ops ss

@@ -57,28 +57,28 @@ written_with (p ∷ q ∷ ps) op w o =
     let parts = both (is_written_process p) (list_all is_written_process (q ∷ ps)) w in
     and_both (is_written_process p) (list_all is_written_process (with_operation (q ∷ ps) op)) parts.0 (written_with (q ∷ ps) op parts.1 o)
 
-processes_written : (e : Entry) (ps : List Process) → list_all is_name (names_of (statement_for e)) ≡ true → entry_fits e ≡ true → list_all is_written_process ps ≡ true → list_all is_written_process (processes_with ps e) ≡ true
+pub processes_written : (e : Entry) (ps : List Process) → list_all is_name (names_of (statement_for e)) ≡ true → entry_fits e ≡ true → list_all is_written_process ps ≡ true → list_all is_written_process (processes_with ps e) ≡ true
 processes_written (InitialEntry a d) ps h k w = w
 processes_written (FinalEntry a d) ps h k w = w
 processes_written (ProcessEntry name) ps h k w = all_push is_written_process ps (record { name = name; operations = [] }) w (and_both (is_name name) true (both (is_name name) true h).0 refl)
 processes_written (OperationEntry op) ps h k w = written_with ps op w (op_written op h k)
 processes_written (BeforeEntry m n) ps h k w = w
 
-initial_written : (e : Entry) (xs : List (List ℕ × ℕ)) → list_all is_name (names_of (statement_for e)) ≡ true → entry_fits e ≡ true → list_all is_written_value xs ≡ true → list_all is_written_value (initial_with xs e) ≡ true
+pub initial_written : (e : Entry) (xs : List (List ℕ × ℕ)) → list_all is_name (names_of (statement_for e)) ≡ true → entry_fits e ≡ true → list_all is_written_value xs ≡ true → list_all is_written_value (initial_with xs e) ≡ true
 initial_written (InitialEntry a d) xs h k w = all_push is_written_value xs (a, d) w (and_both (is_name a) (nat_lt d (2 ^ 64)) (both (is_name a) true h).0 k)
 initial_written (FinalEntry a d) xs h k w = w
 initial_written (ProcessEntry name) xs h k w = w
 initial_written (OperationEntry op) xs h k w = w
 initial_written (BeforeEntry m n) xs h k w = w
 
-final_written : (e : Entry) (xs : List (List ℕ × ℕ)) → list_all is_name (names_of (statement_for e)) ≡ true → entry_fits e ≡ true → list_all is_written_value xs ≡ true → list_all is_written_value (final_with xs e) ≡ true
+pub final_written : (e : Entry) (xs : List (List ℕ × ℕ)) → list_all is_name (names_of (statement_for e)) ≡ true → entry_fits e ≡ true → list_all is_written_value xs ≡ true → list_all is_written_value (final_with xs e) ≡ true
 final_written (InitialEntry a d) xs h k w = w
 final_written (FinalEntry a d) xs h k w = all_push is_written_value xs (a, d) w (and_both (is_name a) (nat_lt d (2 ^ 64)) (both (is_name a) true h).0 k)
 final_written (ProcessEntry name) xs h k w = w
 final_written (OperationEntry op) xs h k w = w
 final_written (BeforeEntry m n) xs h k w = w
 
-before_written : (e : Entry) (xs : List (OpName × OpName)) → list_all is_name (names_of (statement_for e)) ≡ true → entry_fits e ≡ true → list_all is_written_pair xs ≡ true → list_all is_written_pair (before_with xs e) ≡ true
+pub before_written : (e : Entry) (xs : List (OpName × OpName)) → list_all is_name (names_of (statement_for e)) ≡ true → entry_fits e ≡ true → list_all is_written_pair xs ≡ true → list_all is_written_pair (before_with xs e) ≡ true
 before_written (InitialEntry a d) xs h k w = w
 before_written (FinalEntry a d) xs h k w = w
 before_written (ProcessEntry name) xs h k w = w

@@ -73,28 +73,28 @@ op_kind (ReadOp a d o) = record { of_process = refl; no_init = refl; no_final = 
 op_kind (WriteOp a d) = record { of_process = refl; no_init = refl; no_final = refl; no_before = refl; no_proc = refl; operation = refl }
 op_kind (UpdateOp a d e o) = record { of_process = refl; no_init = refl; no_final = refl; no_before = refl; no_proc = refl; operation = refl }
 
-processes_push : (ss : List Statement) (e : Entry) (ps : List Process) → (is_operation (statement_for e) ≡ true → 0 < length ps) → filter is_of_process ss ≡ flat_map process_statements ps → filter is_of_process (ss ++ statement_for e ∷ []) ≡ flat_map process_statements (processes_with ps e)
+pub processes_push : (ss : List Statement) (e : Entry) (ps : List Process) → (is_operation (statement_for e) ≡ true → 0 < length ps) → filter is_of_process ss ≡ flat_map process_statements ps → filter is_of_process (ss ++ statement_for e ∷ []) ≡ flat_map process_statements (processes_with ps e)
 processes_push ss (InitialEntry a d) ps l h = dropped_push is_of_process ss (flat_map process_statements ps) (Init a (decimal d)) refl h
 processes_push ss (FinalEntry a d) ps l h = dropped_push is_of_process ss (flat_map process_statements ps) (Final a (decimal d)) refl h
 processes_push ss (ProcessEntry name) ps l h = passed_push is_of_process ss (flat_map process_statements ps) (Proc name) refl h ∙ sym (flat_map-append process_statements ps (record { name = name; operations = [] } ∷ []))
 processes_push ss (OperationEntry op) ps l h = passed_push is_of_process ss (flat_map process_statements ps) (op_statement op) (op_kind op).of_process h ∙ sym (flat_with ps op (l (op_kind op).operation))
 processes_push ss (BeforeEntry m n) ps l h = dropped_push is_of_process ss (flat_map process_statements ps) (before_statement (m, n)) refl h
 
-initial_push : (ss : List Statement) (e : Entry) (xs : List (List ℕ × ℕ)) → filter is_init ss ≡ map init_statement xs → filter is_init (ss ++ statement_for e ∷ []) ≡ map init_statement (initial_with xs e)
+pub initial_push : (ss : List Statement) (e : Entry) (xs : List (List ℕ × ℕ)) → filter is_init ss ≡ map init_statement xs → filter is_init (ss ++ statement_for e ∷ []) ≡ map init_statement (initial_with xs e)
 initial_push ss (InitialEntry a d) xs h = mapped_push is_init init_statement ss xs (a, d) refl h
 initial_push ss (FinalEntry a d) xs h = dropped_push is_init ss (map init_statement xs) (Final a (decimal d)) refl h
 initial_push ss (ProcessEntry name) xs h = dropped_push is_init ss (map init_statement xs) (Proc name) refl h
 initial_push ss (OperationEntry op) xs h = dropped_push is_init ss (map init_statement xs) (op_statement op) (op_kind op).no_init h
 initial_push ss (BeforeEntry m n) xs h = dropped_push is_init ss (map init_statement xs) (before_statement (m, n)) refl h
 
-final_push : (ss : List Statement) (e : Entry) (xs : List (List ℕ × ℕ)) → filter is_final ss ≡ map final_statement xs → filter is_final (ss ++ statement_for e ∷ []) ≡ map final_statement (final_with xs e)
+pub final_push : (ss : List Statement) (e : Entry) (xs : List (List ℕ × ℕ)) → filter is_final ss ≡ map final_statement xs → filter is_final (ss ++ statement_for e ∷ []) ≡ map final_statement (final_with xs e)
 final_push ss (InitialEntry a d) xs h = dropped_push is_final ss (map final_statement xs) (Init a (decimal d)) refl h
 final_push ss (FinalEntry a d) xs h = mapped_push is_final final_statement ss xs (a, d) refl h
 final_push ss (ProcessEntry name) xs h = dropped_push is_final ss (map final_statement xs) (Proc name) refl h
 final_push ss (OperationEntry op) xs h = dropped_push is_final ss (map final_statement xs) (op_statement op) (op_kind op).no_final h
 final_push ss (BeforeEntry m n) xs h = dropped_push is_final ss (map final_statement xs) (before_statement (m, n)) refl h
 
-before_push : (ss : List Statement) (e : Entry) (xs : List (OpName × OpName)) → filter is_before ss ≡ map before_statement xs → filter is_before (ss ++ statement_for e ∷ []) ≡ map before_statement (before_with xs e)
+pub before_push : (ss : List Statement) (e : Entry) (xs : List (OpName × OpName)) → filter is_before ss ≡ map before_statement xs → filter is_before (ss ++ statement_for e ∷ []) ≡ map before_statement (before_with xs e)
 before_push ss (InitialEntry a d) xs h = dropped_push is_before ss (map before_statement xs) (Init a (decimal d)) refl h
 before_push ss (FinalEntry a d) xs h = dropped_push is_before ss (map before_statement xs) (Final a (decimal d)) refl h
 before_push ss (ProcessEntry name) xs h = dropped_push is_before ss (map before_statement xs) (Proc name) refl h
@@ -136,7 +136,7 @@ distinct_by_names ps qs e apart i j d before l same =
     sym (get_or-map (λ (p : Process). p.name) ps k d d.name m) ∙ ap (λ t. get_or t k d.name) e ∙ get_or-map (λ (p : Process). p.name) qs k d d.name (omega (arith, m, long)) in
     apart i j d before (omega (arith, l, long)) (sym (at i (omega (arith, before, l))) ∙ same ∙ at j l)
 
-processes_apart : (ss : List Statement) (e : Entry) (ps : List Process) → list_any (repeats (statement_for e)) ss ≡ false → filter is_of_process ss ≡ flat_map process_statements ps → AllPairs (λ (p q : Process). p.name ≢ q.name) ps → AllPairs (λ (p q : Process). p.name ≢ q.name) (processes_with ps e)
+pub processes_apart : (ss : List Statement) (e : Entry) (ps : List Process) → list_any (repeats (statement_for e)) ss ≡ false → filter is_of_process ss ≡ flat_map process_statements ps → AllPairs (λ (p q : Process). p.name ≢ q.name) ps → AllPairs (λ (p q : Process). p.name ≢ q.name) (processes_with ps e)
 processes_apart ss (InitialEntry a d) ps n h apart = apart
 processes_apart ss (FinalEntry a d) ps n h apart = apart
 processes_apart ss (ProcessEntry name) ps n h apart = all_pairs_push (λ (p q : Process). p.name ≢ q.name) ps (record { name = name; operations = [] }) apart
@@ -157,14 +157,14 @@ values_apart ss p f xs a d r n h apart = all_pairs_push (λ (x y : List ℕ × �
     let there : Contains ss (f x) = (from_filter p ss (f x) (subst (λ (l : List Statement). Contains l (f x)) (sym h) listed)).0 in
     unrepeated ss (f (a, d)) (f x) n there (r x same))
 
-initial_apart : (ss : List Statement) (e : Entry) (xs : List (List ℕ × ℕ)) → list_any (repeats (statement_for e)) ss ≡ false → filter is_init ss ≡ map init_statement xs → IsOneEach xs → IsOneEach (initial_with xs e)
+pub initial_apart : (ss : List Statement) (e : Entry) (xs : List (List ℕ × ℕ)) → list_any (repeats (statement_for e)) ss ≡ false → filter is_init ss ≡ map init_statement xs → IsOneEach xs → IsOneEach (initial_with xs e)
 initial_apart ss (InitialEntry a d) xs n h apart = values_apart ss is_init init_statement xs a d (λ x same. (bytes_eq-Decides x.0 a).1 same) n h apart
 initial_apart ss (FinalEntry a d) xs n h apart = apart
 initial_apart ss (ProcessEntry name) xs n h apart = apart
 initial_apart ss (OperationEntry op) xs n h apart = apart
 initial_apart ss (BeforeEntry m o) xs n h apart = apart
 
-final_apart : (ss : List Statement) (e : Entry) (xs : List (List ℕ × ℕ)) → list_any (repeats (statement_for e)) ss ≡ false → filter is_final ss ≡ map final_statement xs → IsOneEach xs → IsOneEach (final_with xs e)
+pub final_apart : (ss : List Statement) (e : Entry) (xs : List (List ℕ × ℕ)) → list_any (repeats (statement_for e)) ss ≡ false → filter is_final ss ≡ map final_statement xs → IsOneEach xs → IsOneEach (final_with xs e)
 final_apart ss (InitialEntry a d) xs n h apart = apart
 final_apart ss (FinalEntry a d) xs n h apart = values_apart ss is_final final_statement xs a d (λ x same. (bytes_eq-Decides x.0 a).1 same) n h apart
 final_apart ss (ProcessEntry name) xs n h apart = apart

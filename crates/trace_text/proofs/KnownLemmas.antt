@@ -29,7 +29,8 @@ use Rattle.trace_text.specs.Read.{AreSaid}
 use Rattle.trace_text.specs.References.{is_of, is_among, fault_of_references, fault_of_line, IsRefusedByReferences}
 use Rattle.trace_text.specs.Statement.{Statement, Proc, statement_of, words_for}
 use Rattle.traces.specs.Trace.{TraceValue, operation_at, at_place, IsKnownOrigin, is_written_name, is_written_origin, is_written_op, is_written_process, is_written_pair}
-use Rattle.trace_text.specs.TraceFault.{place_of, references_of, references_of_source, is_before, is_before_itself, reference_fault, line_reference_fault, trace_line_fault, statements_of, IsTraceRefusal}
+use Rattle.traces.specs.Place.{place_of}
+use Rattle.trace_text.specs.TraceFault.{references_of, references_of_source, is_before, is_before_itself, reference_fault, line_reference_fault, trace_line_fault, statements_of, IsTraceRefusal}
 use Rattle.trace_text.specs.TraceText.{header_line}
 use Rattle.traces.proofs.ElementLemmas.{placed, tail_in, from_filter, from_map, to_map, to_flat_map, some_passes, same_from_key, finds, all_pass}
 use Rattle.trace_text.proofs.LineLemmas.{version_is}

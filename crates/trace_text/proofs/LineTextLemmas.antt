@@ -3,7 +3,7 @@ use Rattle.std.proofs.Common.{◌≡◌, ℕ, ◌^◌, ◌<◌, List, [], ◌∷
 use Rattle.std.specs.Char.{is_ascii_digit}
 use Rattle.std.specs.Fmt.{decimal}
 use Rattle.std.specs.List.{list_all, list_any, flat_map, join_with_byte}
-use Rattle.std.proofs.lemmas.Bool.{and_parts, and_from, or_from, or_right, not-true, not_from_false, ltb-true, eqb-false, ne_eqb}
+use Rattle.std.proofs.lemmas.Bool.{and_parts, and_from, or_from, or_right, not-true, not_from_false, eqb-false, ne_eqb}
 use Rattle.std.proofs.lemmas.Fmt.{decimal_is_IsNumeral, decimal_nonempty}
 use Rattle.std.proofs.lemmas.List.Folds.{list_any-append}
 use Rattle.text_lines.specs.Lines.{lines_of, is_line_feed}
@@ -13,7 +13,6 @@ use Rattle.text_lines.proofs.PlainLemmas.{own}
 use Rattle.text_lines.specs.Kept.{kept, is_skipped}
 use Rattle.traces.specs.Names.{is_name, may_begin_name, may_be_in_name}
 use Rattle.trace_text.specs.TraceWritten.{line_text}
-use Rattle.trace_text.specs.Written.{is_written_value}
 use Rattle.traces.proofs.ElementLemmas.{all_pass, pass_all}
 use Rattle.traces.proofs.NameByteLemmas.{name_bytes, apart, none_in_name}
 use Rattle.text_lines.proofs.KeptLemmas.{kept_more}
@@ -53,9 +52,6 @@ pub number_is_word : (n : ℕ) → n < 2 ^ 64 → is_word (decimal n) ≡ true
 number_is_word n small =
     let digits = own.from (decimal n) (decimal_is_IsNumeral n small).0.1 in
     name_bytes_are_word (decimal n) (decimal_nonempty n small) (pass_all may_be_in_name (decimal n) (λ x c. or_right (may_begin_name x) (is_ascii_digit x) (all_pass is_ascii_digit (decimal n) digits x c)))
-
-pub value_is_word : (n : ℕ) → is_written_value n ≡ true → is_word (decimal n) ≡ true
-value_is_word n h = number_is_word n (ltb-true _ _ h)
 
 -- the words of a line that says something
 abbrev pub is_line : List (List ℕ) → Bool

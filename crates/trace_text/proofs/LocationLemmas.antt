@@ -102,7 +102,7 @@ to_filter_map {A} {B} f (z ∷ zs) x y c e = elim (cases_in z zs x c) [
     behind None ys y c = c
     behind (Some z) ys y c = tail_in z ys y c
 
-op_named : (op : Op) → location_named (op_statement op) ≡ Some (location_of op)
+pub op_named : (op : Op) → location_named (op_statement op) ≡ Some (location_of op)
 op_named (ReadOp a d o) = refl
 op_named (WriteOp a d) = refl
 op_named (UpdateOp a d e o) = refl

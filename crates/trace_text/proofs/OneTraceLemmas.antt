@@ -1,11 +1,11 @@
 -- The lines of a trace tell it.
-use Rattle.std.proofs.Common.{◌≡◌, ℕ, List, [], ◌∷◌, ◌++◌, map, get_or, true, ◌&&◌, refl, ap, sym, ◌∙◌, subst, arith}
+use Rattle.std.proofs.Common.{◌≡◌, ℕ, List, [], ◌∷◌, ◌++◌, map, get_or, true, refl, ap, sym, ◌∙◌, subst, arith}
 use Rattle.std.specs.Prelude.{◌↔◌, codes}
 use Rattle.std.specs.Fmt.{decimal}
 use Rattle.std.specs.List.{list_all, filter, flat_map, Contains}
 use Rattle.std.specs.List.Sorted.{IsPermutation}
 use Rattle.std.specs.Str.Parse.{digits_value}
-use Rattle.std.proofs.lemmas.Bool.{and_parts, ltb-true}
+use Rattle.std.proofs.lemmas.Bool.{and_parts}
 use Rattle.std.proofs.lemmas.Fmt.{decimal_injective, decimal_is_IsNumeral}
 use Rattle.std.proofs.lemmas.List.Sorted.{IsPermutation-map, IsPermutation-sym, IsPermutation-trans}
 use Rattle.text_lines.specs.Lines.{lines_of}
@@ -17,25 +17,21 @@ use Rattle.traces.specs.declared.operation.Origin.TheVariants.{Any, Initial, Ope
 use Rattle.traces.specs.declared.trace.Process.{Process}
 use Rattle.text_lines.specs.Kept.{kept}
 use Rattle.traces.specs.Names.{is_name}
-use Rattle.trace_text.specs.SameTrace.{IsSameTrace}
-use Rattle.schedule_text.specs.ScheduleText.{is_op_name}
-use Rattle.traces.specs.Trace.{TraceValue}
+use Rattle.traces.specs.PairOrder.{ArePairsRising}
+use Rattle.traces.specs.Trace.{TraceValue, IsTrace, IsWritten, is_written_value, is_written_name, is_written_origin, is_written_op, is_written_process, is_written_pair}
 use Rattle.trace_text.specs.TraceText.{SpellsTrace, begins, is_process_line, header_line, init_line, final_line, proc_line, origin_words, op_line, process_lines, before_line}
-use Rattle.trace_text.specs.TraceWritten.{canonical_body, canonical_lines, canonical_trace, is_written}
-use Rattle.trace_text.specs.Written.{is_written_value, is_written_entry, is_written_origin, is_written_op, is_written_process, is_written_pair}
+use Rattle.trace_text.specs.TraceWritten.{canonical_body, canonical_lines, canonical_trace}
 use Rattle.traces.proofs.ElementLemmas.{all_pass, from_map, to_map}
 use Rattle.trace_text.proofs.LineTextLemmas.{written_kept}
-use Rattle.schedule_text.proofs.OpNameLemmas.{writable}
-use Rattle.trace_text.proofs.TraceWrittenLemmas.{written_parts, lines_kept_of, process_part, init_part, final_part, before_part}
+use Rattle.trace_text.proofs.RisingLemmas.{values_same, pairs_same}
+use Rattle.trace_text.proofs.TraceWrittenLemmas.{lines_kept_of, process_part, init_part, final_part, before_part}
+use Rattle.trace_text.proofs.WritableLemmas.{name_parts, value_parts, read_parts, update_parts}
 
--- words tell numbers
-same_value : (m n : ℕ) → is_written_value m ≡ true → is_written_value n ≡ true → decimal m ≡ decimal n → m ≡ n
-same_value m n h k e = decimal_injective m n (ltb-true _ _ h) (ltb-true _ _ k) e
-
-same_op_name : (m n : OpName) → is_op_name m ≡ true → is_op_name n ≡ true → m.process ≡ n.process → decimal m.place ≡ decimal n.place → m ≡ n
+-- words tell operations' names
+same_op_name : (m n : OpName) → is_written_name m ≡ true → is_written_name n ≡ true → m.process ≡ n.process → decimal m.place ≡ decimal n.place → m ≡ n
 same_op_name m n h k process digits =
-    let first = (writable m h).high in
-    let second = (writable n k).high in
+    let first = (name_parts m h).most in
+    let second = (name_parts n k).most in
     let place = decimal_injective m.place n.place (omega (arith, first)) (omega (arith, second)) digits in
     (λ i. record { process = process i; place = place i })
 
@@ -64,13 +60,13 @@ same_first a b e = ap first_byte e
 -- a line tells the operation
 same_op : (a b : Op) → is_written_op a ≡ true → is_written_op b ≡ true → op_line a ≡ op_line b → a ≡ b
 same_op (Read l v o) (Read m w p) h k e =
-    let first = and_parts (is_name l && is_written_value v) (is_written_origin o) h in
-    let second = and_parts (is_name m && is_written_value w) (is_written_origin p) k in
+    let first = read_parts l v o h in
+    let second = read_parts m w p k in
     let location : l ≡ m = cc in
     let digits : decimal v ≡ decimal w = cc in
     let words : origin_words o ≡ origin_words p = cc in
-    let value = same_value v w (and_parts (is_name l) (is_written_value v) first.0).1 (and_parts (is_name m) (is_written_value w) second.0).1 digits in
-    let origin = same_origin o p first.1 second.1 words in
+    let value = decimal_injective v w first.small second.small digits in
+    let origin = same_origin o p first.origin_is second.origin_is words in
     (λ i. Read (location i) (value i) (origin i))
 same_op (Read l v o) (Write m w) h k e = let bytes = same_first (op_line (Read l v o)) (op_line (Write m w)) e in absurd (omega (arith, bytes))
 same_op (Read l v o) (Update m w x p) h k e = let bytes = same_first (op_line (Read l v o)) (op_line (Update m w x p)) e in absurd (omega (arith, bytes))
@@ -78,23 +74,21 @@ same_op (Write l v) (Read m w p) h k e = let bytes = same_first (op_line (Write 
 same_op (Write l v) (Write m w) h k e =
     let location : l ≡ m = cc in
     let digits : decimal v ≡ decimal w = cc in
-    let value = same_value v w (and_parts (is_name l) (is_written_value v) h).1 (and_parts (is_name m) (is_written_value w) k).1 digits in
+    let value = decimal_injective v w (value_parts l v h).1 (value_parts m w k).1 digits in
     (λ i. Write (location i) (value i))
 same_op (Write l v) (Update m w x p) h k e = let bytes = same_first (op_line (Write l v)) (op_line (Update m w x p)) e in absurd (omega (arith, bytes))
 same_op (Update l u v o) (Read m w p) h k e = let bytes = same_first (op_line (Update l u v o)) (op_line (Read m w p)) e in absurd (omega (arith, bytes))
 same_op (Update l u v o) (Write m w) h k e = let bytes = same_first (op_line (Update l u v o)) (op_line (Write m w)) e in absurd (omega (arith, bytes))
 same_op (Update l u v o) (Update m w x p) h k e =
-    let first = and_parts (is_name l && is_written_value u && is_written_value v) (is_written_origin o) h in
-    let second = and_parts (is_name m && is_written_value w && is_written_value x) (is_written_origin p) k in
-    let first_values = and_parts (is_name l && is_written_value u) (is_written_value v) first.0 in
-    let second_values = and_parts (is_name m && is_written_value w) (is_written_value x) second.0 in
+    let first = update_parts l u v o h in
+    let second = update_parts m w x p k in
     let location : l ≡ m = cc in
     let read_digits : decimal u ≡ decimal w = cc in
     let left_digits : decimal v ≡ decimal x = cc in
     let words : origin_words o ≡ origin_words p = cc in
-    let read = same_value u w (and_parts (is_name l) (is_written_value u) first_values.0).1 (and_parts (is_name m) (is_written_value w) second_values.0).1 read_digits in
-    let left = same_value v x first_values.1 second_values.1 left_digits in
-    let origin = same_origin o p first.1 second.1 words in
+    let read = decimal_injective u w first.read_small second.read_small read_digits in
+    let left = decimal_injective v x first.left_small second.left_small left_digits in
+    let origin = same_origin o p first.origin_is second.origin_is words in
     (λ i. Update (location i) (read i) (left i) (origin i))
 
 -- no line of an operation begins a process
@@ -139,8 +133,8 @@ same_processes (p ∷ ps) (q ∷ qs) h k e =
 -- a line tells the pair
 same_pair : (a b : OpName × OpName) → is_written_pair a ≡ true → is_written_pair b ≡ true → before_line a ≡ before_line b → a ≡ b
 same_pair a b h k e =
-    let first = and_parts (is_op_name a.0) (is_op_name a.1) h in
-    let second = and_parts (is_op_name b.0) (is_op_name b.1) k in
+    let first = and_parts (is_written_name a.0) (is_written_name a.1) h in
+    let second = and_parts (is_written_name b.0) (is_written_name b.1) k in
     let front : a.0.process ≡ b.0.process = cc in
     let front_place : decimal a.0.place ≡ decimal b.0.place = cc in
     let back : a.1.process ≡ b.1.process = cc in
@@ -154,22 +148,22 @@ abbrev entry_of : List (List ℕ) → List ℕ × ℕ
 entry_of words = (get_or words 1 [], digits_value 10 (get_or words 2 []))
 
 told_back : (line : List ℕ × ℕ → List (List ℕ)) → ((entry : List ℕ × ℕ) → entry_of (line entry) ≡ (entry.0, digits_value 10 (decimal entry.1))) →
-    (entries : List (List ℕ × ℕ)) → list_all is_written_entry entries ≡ true → map entry_of (map line entries) ≡ entries
+    (entries : List (List ℕ × ℕ)) → list_all is_written_value entries ≡ true → map entry_of (map line entries) ≡ entries
 told_back line tells [] h = refl
 told_back line tells (entry ∷ entries) h =
-    let parts = and_parts (is_written_entry entry) (list_all is_written_entry entries) h in
-    let small = ltb-true _ _ (and_parts (is_name entry.0) (is_written_value entry.1) parts.0).1 in
+    let parts = and_parts (is_written_value entry) (list_all is_written_value entries) h in
+    let small = (value_parts entry.0 entry.1 parts.0).1 in
     let value = (decimal_is_IsNumeral entry.1 small).1 in
     let rest = told_back line tells entries parts.1 in
     let here : entry_of (line entry) ≡ entry = tells entry ∙ (λ i. (entry.0, value i)) in
     (λ i. here i ∷ rest i)
 
 same_entries : (line : List ℕ × ℕ → List (List ℕ)) → ((entry : List ℕ × ℕ) → entry_of (line entry) ≡ (entry.0, digits_value 10 (decimal entry.1))) →
-    (xs ys : List (List ℕ × ℕ)) → list_all is_written_entry xs ≡ true → list_all is_written_entry ys ≡ true → map line xs ≡ map line ys → xs ≡ ys
+    (xs ys : List (List ℕ × ℕ)) → list_all is_written_value xs ≡ true → list_all is_written_value ys ≡ true → map line xs ≡ map line ys → xs ≡ ys
 same_entries line tells xs ys h k e = sym (told_back line tells xs h) ∙ ap (map entry_of) e ∙ told_back line tells ys k
 
-permuted_entries : (line : List ℕ × ℕ → List (List ℕ)) → ((entry : List ℕ × ℕ) → entry_of (line entry) ≡ (entry.0, digits_value 10 (decimal entry.1))) →
-    (xs ys : List (List ℕ × ℕ)) → list_all is_written_entry xs ≡ true → list_all is_written_entry ys ≡ true → IsPermutation (map line xs) (map line ys) → IsPermutation xs ys
+pub permuted_entries : (line : List ℕ × ℕ → List (List ℕ)) → ((entry : List ℕ × ℕ) → entry_of (line entry) ≡ (entry.0, digits_value 10 (decimal entry.1))) →
+    (xs ys : List (List ℕ × ℕ)) → list_all is_written_value xs ≡ true → list_all is_written_value ys ≡ true → IsPermutation (map line xs) (map line ys) → IsPermutation xs ys
 permuted_entries line tells xs ys h k moved =
     subst (λ (l : List (List ℕ × ℕ)). IsPermutation l ys) (told_back line tells xs h)
     (subst (λ (l : List (List ℕ × ℕ)). IsPermutation (map entry_of (map line xs)) l) (told_back line tells ys k)
@@ -189,16 +183,14 @@ same_pairs (x ∷ xs) (y ∷ ys) h k e =
     (λ i. head i ∷ tail i)
 
 -- a canonical text is of one trace
-pub one_canonical : (s t : TraceValue) → is_written s ≡ true → is_written t ≡ true → canonical_trace s ≡ canonical_trace t → s ≡ t
+pub one_canonical : (s t : TraceValue) → IsWritten s → IsWritten t → canonical_trace s ≡ canonical_trace t → s ≡ t
 one_canonical s t h k e =
-    let first = written_parts s h in
-    let second = written_parts t k in
     let lines = sym (written_kept (canonical_lines s) (lines_kept_of s h)) ∙ ap (λ text. kept (lines_of text)) e ∙ written_kept (canonical_lines t) (lines_kept_of t k) in
     let body : canonical_body s ≡ canonical_body t = cc in
-    let processes = same_processes s.processes t.processes first.processes second.processes (sym (process_part s) ∙ ap (filter is_process_line) body ∙ process_part t) in
-    let initial = same_entries init_line (λ entry. refl) s.initial t.initial first.initial second.initial (sym (init_part s) ∙ ap (filter (begins (codes "init"))) body ∙ init_part t) in
-    let final_values = same_entries final_line (λ entry. refl) s.final_values t.final_values first.final_values second.final_values (sym (final_part s) ∙ ap (filter (begins (codes "final"))) body ∙ final_part t) in
-    let before = same_pairs s.before t.before first.pairs second.pairs (sym (before_part s) ∙ ap (filter (begins (codes "before"))) body ∙ before_part t) in
+    let processes = same_processes s.processes t.processes h.processes k.processes (sym (process_part s) ∙ ap (filter is_process_line) body ∙ process_part t) in
+    let initial = same_entries init_line (λ entry. refl) s.initial t.initial h.initial k.initial (sym (init_part s) ∙ ap (filter (begins (codes "init"))) body ∙ init_part t) in
+    let final_values = same_entries final_line (λ entry. refl) s.final_values t.final_values h.final_values k.final_values (sym (final_part s) ∙ ap (filter (begins (codes "final"))) body ∙ final_part t) in
+    let before = same_pairs s.before t.before h.before k.before (sym (before_part s) ∙ ap (filter (begins (codes "before"))) body ∙ before_part t) in
     (λ i. record { processes = processes i; initial = initial i; final_values = final_values i; before = before i })
 
 -- both are the same lines in another order
@@ -216,21 +208,17 @@ pairs_told xs ys lines others h k e first second pair c =
     subst (λ (p : OpName × OpName). Contains ys p) same found.1
 
 -- a text spells one trace
-pub one_spelled : (text : List ℕ) (s t : TraceValue) → is_written s ≡ true → is_written t ≡ true → SpellsTrace text s → SpellsTrace text t → IsSameTrace s t
+pub one_spelled : (text : List ℕ) (s t : TraceValue) → IsTrace s → IsTrace t → SpellsTrace text s → SpellsTrace text t → s ≡ t
 one_spelled text s t h k first second =
-    let one = written_parts s h in
-    let other = written_parts t k in
     let lines : header_line first.two ∷ first.body ≡ header_line second.two ∷ second.body = sym first.lines ∙ second.lines in
     let body : first.body ≡ second.body = cc in
     let pairs : filter (begins (codes "before")) first.body ≡ filter (begins (codes "before")) second.body = ap (filter (begins (codes "before"))) body in
-    record {
-      processes = same_processes s.processes t.processes one.processes other.processes (sym first.processes ∙ ap (filter is_process_line) body ∙ second.processes);
-      initial = permuted_entries init_line (λ entry. refl) s.initial t.initial one.initial other.initial
-          (both_permuted (map init_line s.initial) (map init_line t.initial) (filter (begins (codes "init")) first.body) (filter (begins (codes "init")) second.body) first.initial second.initial (ap (filter (begins (codes "init"))) body));
-      final_values = permuted_entries final_line (λ entry. refl) s.final_values t.final_values one.final_values other.final_values
-          (both_permuted (map final_line s.final_values) (map final_line t.final_values) (filter (begins (codes "final")) first.body) (filter (begins (codes "final")) second.body) first.final_values second.final_values (ap (filter (begins (codes "final"))) body));
-      before = λ pair. (
-        pairs_told s.before t.before (filter (begins (codes "before")) first.body) (filter (begins (codes "before")) second.body) one.pairs other.pairs pairs first.before second.before pair,
-        pairs_told t.before s.before (filter (begins (codes "before")) second.body) (filter (begins (codes "before")) first.body) other.pairs one.pairs (sym pairs) second.before first.before pair,
-      );
-    }
+    let processes = same_processes s.processes t.processes h.written.processes k.written.processes (sym first.processes ∙ ap (filter is_process_line) body ∙ second.processes) in
+    let initial = values_same s.initial t.initial h.initial_order k.initial_order (permuted_entries init_line (λ entry. refl) s.initial t.initial h.written.initial k.written.initial
+    (both_permuted (map init_line s.initial) (map init_line t.initial) (filter (begins (codes "init")) first.body) (filter (begins (codes "init")) second.body) first.initial second.initial (ap (filter (begins (codes "init"))) body))) in
+    let final_values = values_same s.final_values t.final_values h.final_order k.final_order (permuted_entries final_line (λ entry. refl) s.final_values t.final_values h.written.final_values k.written.final_values
+    (both_permuted (map final_line s.final_values) (map final_line t.final_values) (filter (begins (codes "final")) first.body) (filter (begins (codes "final")) second.body) first.final_values second.final_values (ap (filter (begins (codes "final"))) body))) in
+    let before = pairs_same s.processes s.before t.before h.before_order (subst (λ (ps : List Process). ArePairsRising ps t.before) (sym processes) k.before_order)
+    (pairs_told s.before t.before (filter (begins (codes "before")) first.body) (filter (begins (codes "before")) second.body) h.written.before k.written.before pairs first.before second.before)
+    (pairs_told t.before s.before (filter (begins (codes "before")) second.body) (filter (begins (codes "before")) first.body) k.written.before h.written.before (sym pairs) second.before first.before) in
+    (λ i. record { processes = processes i; initial = initial i; final_values = final_values i; before = before i })

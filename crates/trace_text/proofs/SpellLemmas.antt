@@ -90,7 +90,7 @@ of_value (Update a d e source) = refl
 of_value (Before p i q j) = refl
 
 -- the words of what an operation says are its line
-op_words : (op : Op) → words_for (op_statement op) ≡ op_line op
+pub op_words : (op : Op) → words_for (op_statement op) ≡ op_line op
 op_words (ReadOp a d Any) = refl
 op_words (ReadOp a d Initial) = refl
 op_words (ReadOp a d (Operation n)) = refl

@@ -1,5 +1,5 @@
 -- The canonical text of a trace spells it.
-use Rattle.std.proofs.Common.{◌≡◌, ℕ, List, [], ◌∷◌, ◌++◌, length, map, Bool, true, false, cond, ◌||◌, ◌&&◌, refl, ap, sym, ◌∙◌, subst, arith, append_assoc, append-nil}
+use Rattle.std.proofs.Common.{◌≡◌, ℕ, ◌^◌, ◌<◌, List, [], ◌∷◌, ◌++◌, length, map, Bool, true, false, cond, ◌||◌, refl, ap, sym, ◌∙◌, subst, arith, append_assoc, append-nil}
 use Rattle.std.specs.Prelude.{◌↔◌, codes}
 use Rattle.std.specs.Fmt.{decimal}
 use Rattle.std.specs.List.{list_all, list_any, filter, flat_map, Contains}
@@ -16,13 +16,11 @@ use Rattle.traces.specs.declared.operation.Origin.{Origin}
 use Rattle.traces.specs.declared.operation.Origin.TheVariants.{Any, Initial, Operation}
 use Rattle.traces.specs.declared.trace.Process.{Process}
 use Rattle.traces.specs.Names.{is_name}
-use Rattle.schedule_text.specs.ScheduleText.{is_op_name}
-use Rattle.traces.specs.Trace.{TraceValue, IsTrace}
+use Rattle.traces.specs.Trace.{TraceValue, IsTrace, IsWritten, is_written_value, is_written_name, is_written_origin, is_written_op, is_written_process, is_written_pair}
 use Rattle.trace_text.specs.TraceText.{SpellsTrace, begins, is_process_line, header_line, init_line, final_line, proc_line, origin_words, op_line, process_lines, before_line, needs_version_2}
-use Rattle.trace_text.specs.TraceWritten.{canonical_body, canonical_lines, canonical_trace, is_written}
-use Rattle.trace_text.specs.Written.{is_written_value, is_written_entry, is_written_origin, is_written_op, is_written_process, is_written_pair}
-use Rattle.trace_text.proofs.LineTextLemmas.{is_word, is_line, name_is_word, number_is_word, value_is_word, written_kept}
-use Rattle.schedule_text.proofs.OpNameLemmas.{writable}
+use Rattle.trace_text.specs.TraceWritten.{canonical_body, canonical_lines, canonical_trace}
+use Rattle.trace_text.proofs.LineTextLemmas.{is_word, is_line, name_is_word, number_is_word, written_kept}
+use Rattle.trace_text.proofs.WritableLemmas.{name_parts, value_parts, read_parts, update_parts}
 
 -- tests over lists that are made of others
 all_map : {A B : Type 0} (p : B → Bool) (q : A → Bool) (f : A → B) → ((x : A) → q x ≡ true → p (f x) ≡ true) → (xs : List A) → list_all q xs ≡ true → list_all p (map f xs) ≡ true
@@ -38,14 +36,13 @@ all_flat_map p q f each (x ∷ xs) h =
     list_all-append p (f x) (flat_map f xs) ∙ and_from (list_all p (f x)) (list_all p (flat_map f xs)) (each x parts.0) (all_flat_map p q f each xs parts.1)
 
 -- words of lines
-place_is_word : (n : OpName) → is_op_name n ≡ true → is_word (decimal n.place) ≡ true
-place_is_word n h = let high = (writable n h).high in number_is_word n.place (omega (arith, high))
+named : (n : OpName) → is_written_name n ≡ true → (rest : List (List ℕ)) → list_all is_word rest ≡ true → list_all is_word (n.process ∷ decimal n.place ∷ rest) ≡ true
+named n h rest more =
+    let parts = name_parts n h in
+    and_from _ _ (name_is_word n.process parts.named) (and_from _ _ (number_is_word n.place (omega (arith, parts.most))) more)
 
-named : (n : OpName) → is_op_name n ≡ true → (rest : List (List ℕ)) → list_all is_word rest ≡ true → list_all is_word (n.process ∷ decimal n.place ∷ rest) ≡ true
-named n h rest more = and_from _ _ (name_is_word n.process (writable n h).name) (and_from _ _ (place_is_word n h) more)
-
-valued : (location : List ℕ) (value : ℕ) (rest : List (List ℕ)) → is_name location ≡ true → is_written_value value ≡ true → list_all is_word rest ≡ true → list_all is_word (location ∷ decimal value ∷ rest) ≡ true
-valued location value rest name small more = and_from _ _ (name_is_word location name) (and_from _ _ (value_is_word value small) more)
+valued : (location : List ℕ) (value : ℕ) (rest : List (List ℕ)) → is_name location ≡ true → value < 2 ^ 64 → list_all is_word rest ≡ true → list_all is_word (location ∷ decimal value ∷ rest) ≡ true
+valued location value rest name small more = and_from _ _ (name_is_word location name) (and_from _ _ (number_is_word value small) more)
 
 origin_are_words : (origin : Origin) → is_written_origin origin ≡ true → list_all is_word (origin_words origin) ≡ true
 origin_are_words Any h = refl
@@ -57,28 +54,25 @@ header_is_line : (two : Bool) → is_line (header_line two) ≡ true
 header_is_line true = refl
 header_is_line false = refl
 
-entry_words : (entry : List ℕ × ℕ) → is_written_entry entry ≡ true → list_all is_word (entry.0 ∷ decimal entry.1 ∷ []) ≡ true
-entry_words entry h = let parts = and_parts (is_name entry.0) (is_written_value entry.1) h in valued entry.0 entry.1 [] parts.0 parts.1 refl
+entry_words : (entry : List ℕ × ℕ) → is_written_value entry ≡ true → list_all is_word (entry.0 ∷ decimal entry.1 ∷ []) ≡ true
+entry_words entry h = let parts = value_parts entry.0 entry.1 h in valued entry.0 entry.1 [] parts.0 parts.1 refl
 
-init_is_line : (entry : List ℕ × ℕ) → is_written_entry entry ≡ true → is_line (init_line entry) ≡ true
+init_is_line : (entry : List ℕ × ℕ) → is_written_value entry ≡ true → is_line (init_line entry) ≡ true
 init_is_line entry h = and_from _ true (entry_words entry h) refl
 
-final_is_line : (entry : List ℕ × ℕ) → is_written_entry entry ≡ true → is_line (final_line entry) ≡ true
+final_is_line : (entry : List ℕ × ℕ) → is_written_value entry ≡ true → is_line (final_line entry) ≡ true
 final_is_line entry h = and_from _ true (entry_words entry h) refl
 
 op_is_line : (op : Op) → is_written_op op ≡ true → is_line (op_line op) ≡ true
 op_is_line (Read location value origin) h =
-    let outer = and_parts (is_name location && is_written_value value) (is_written_origin origin) h in
-    let inner = and_parts (is_name location) (is_written_value value) outer.0 in
-    and_from _ true (valued location value (origin_words origin) inner.0 inner.1 (origin_are_words origin outer.1)) refl
+    let parts = read_parts location value origin h in
+    and_from _ true (valued location value (origin_words origin) parts.named parts.small (origin_are_words origin parts.origin_is)) refl
 op_is_line (Write location value) h =
-    let parts = and_parts (is_name location) (is_written_value value) h in
+    let parts = value_parts location value h in
     and_from _ true (valued location value [] parts.0 parts.1 refl) refl
 op_is_line (Update location read left origin) h =
-    let outer = and_parts (is_name location && is_written_value read && is_written_value left) (is_written_origin origin) h in
-    let middle = and_parts (is_name location && is_written_value read) (is_written_value left) outer.0 in
-    let inner = and_parts (is_name location) (is_written_value read) middle.0 in
-    and_from _ true (valued location read (decimal left ∷ origin_words origin) inner.0 inner.1 (and_from _ _ (value_is_word left middle.1) (origin_are_words origin outer.1))) refl
+    let parts = update_parts location read left origin h in
+    and_from _ true (valued location read (decimal left ∷ origin_words origin) parts.named parts.read_small (and_from _ _ (number_is_word left parts.left_small) (origin_are_words origin parts.origin_is))) refl
 
 process_are_lines : (p : Process) → is_written_process p ≡ true → list_all is_line (process_lines p) ≡ true
 process_are_lines p h =
@@ -89,32 +83,17 @@ process_are_lines p h =
 
 before_is_line : (pair : OpName × OpName) → is_written_pair pair ≡ true → is_line (before_line pair) ≡ true
 before_is_line pair h =
-    let parts = and_parts (is_op_name pair.0) (is_op_name pair.1) h in
+    let parts = and_parts (is_written_name pair.0) (is_written_name pair.1) h in
     and_from _ true (named pair.0 parts.0 (pair.1.process ∷ decimal pair.1.place ∷ []) (named pair.1 parts.1 [] refl)) refl
 
--- the parts of a trace that can be written
-pub record WrittenParts (t : TraceValue) : Type 0 where
-  pub initial : list_all is_written_entry t.initial ≡ true
-  pub final_values : list_all is_written_entry t.final_values ≡ true
-  pub processes : list_all is_written_process t.processes ≡ true
-  pub pairs : list_all is_written_pair t.before ≡ true
-
-pub written_parts : (t : TraceValue) → is_written t ≡ true → WrittenParts t
-written_parts t h =
-    let outer = and_parts (list_all is_written_entry t.initial && list_all is_written_entry t.final_values && list_all is_written_process t.processes) (list_all is_written_pair t.before) h in
-    let middle = and_parts (list_all is_written_entry t.initial && list_all is_written_entry t.final_values) (list_all is_written_process t.processes) outer.0 in
-    let inner = and_parts (list_all is_written_entry t.initial) (list_all is_written_entry t.final_values) middle.0 in
-    record { initial = inner.0; final_values = inner.1; processes = middle.1; pairs = outer.1 }
-
-body_are_lines : (t : TraceValue) → is_written t ≡ true → list_all is_line (canonical_body t) ≡ true
+body_are_lines : (t : TraceValue) → IsWritten t → list_all is_line (canonical_body t) ≡ true
 body_are_lines t h =
-    let parts = written_parts t h in
-    list_all-append is_line (map init_line t.initial) _ ∙ and_from _ _ (all_map is_line is_written_entry init_line init_is_line t.initial parts.initial)
-    (list_all-append is_line (map final_line t.final_values) _ ∙ and_from _ _ (all_map is_line is_written_entry final_line final_is_line t.final_values parts.final_values)
+    list_all-append is_line (map init_line t.initial) _ ∙ and_from _ _ (all_map is_line is_written_value init_line init_is_line t.initial h.initial)
+    (list_all-append is_line (map final_line t.final_values) _ ∙ and_from _ _ (all_map is_line is_written_value final_line final_is_line t.final_values h.final_values)
     (list_all-append is_line (flat_map process_lines t.processes) _
-    ∙ and_from _ _ (all_flat_map is_line is_written_process process_lines process_are_lines t.processes parts.processes) (all_map is_line is_written_pair before_line before_is_line t.before parts.pairs)))
+    ∙ and_from _ _ (all_flat_map is_line is_written_process process_lines process_are_lines t.processes h.processes) (all_map is_line is_written_pair before_line before_is_line t.before h.before)))
 
-pub lines_kept_of : (t : TraceValue) → is_written t ≡ true → list_all is_line (canonical_lines t) ≡ true
+pub lines_kept_of : (t : TraceValue) → IsWritten t → list_all is_line (canonical_lines t) ≡ true
 lines_kept_of t h = and_from _ _ (header_is_line (needs_version_2 t)) (body_are_lines t h)
 
 -- which lines a test keeps
@@ -245,13 +224,13 @@ same_permutation {A} xs ys e = subst (λ (l : List A). IsPermutation l xs) e (Is
 same_elements : {A : Type 0} (xs ys : List A) → xs ≡ ys → (x : A) → Contains xs x ↔ Contains ys x
 same_elements {A} xs ys e x = (subst (λ (l : List A). Contains l x) e, subst (λ (l : List A). Contains l x) (sym e))
 
-pub written_spells : (t : TraceValue) → IsTrace t → is_written t ≡ true → SpellsTrace (canonical_trace t) t
-written_spells t ok h =
+pub written_spells : (t : TraceValue) → IsTrace t → SpellsTrace (canonical_trace t) t
+written_spells t ok =
     let pairs = before_part t in
     record {
       two = needs_version_2 t;
       body = canonical_body t;
-      lines = written_kept (canonical_lines t) (lines_kept_of t h);
+      lines = written_kept (canonical_lines t) (lines_kept_of t ok.written);
       processes = process_part t;
       initial = same_permutation (filter (begins (codes "init")) (canonical_body t)) (map init_line t.initial) (init_part t);
       final_values = same_permutation (filter (begins (codes "final")) (canonical_body t)) (map final_line t.final_values) (final_part t);

@@ -6,7 +6,6 @@ pub mod Read
 pub mod References
 pub mod Refusal
 pub mod Said
-pub mod SameTrace
 pub mod Seen
 pub mod Statement
 pub mod TraceCauses
@@ -14,4 +13,3 @@ pub mod TraceFault
 pub mod TraceLines
 pub mod TraceText
 pub mod TraceWritten
-pub mod Written

@@ -13,7 +13,8 @@ use Rattle.trace_text.specs.declared.trace_fault.TraceFault.{TraceFault}
 use Rattle.trace_text.specs.declared.trace_fault.TraceFault.TheVariants.{OutOfMemory, Line}
 use Rattle.text_lines.specs.Kept.{is_skipped}
 use Rattle.trace_text.specs.Statement.{Statement, statement_of}
-use Rattle.trace_text.specs.TraceFault.{place_of, references_of, is_before_itself}
+use Rattle.traces.specs.Place.{place_of}
+use Rattle.trace_text.specs.TraceFault.{references_of, is_before_itself}
 
 -- this process has this name, and an operation at this place
 abbrev pub is_of : List ℕ → ℕ → Process → Bool

@@ -8,6 +8,7 @@ use Rattle.text_lines.specs.FirstFault.{IsFaultless, IsFirstFault}
 use Rattle.text_lines.specs.Lines.{lines_of}
 use Rattle.text_lines.specs.Numbers.{plain_number_up_to}
 use Rattle.text_lines.specs.Words.{words_of}
+use Rattle.traces.specs.Place.{place_of}
 use Rattle.trace_text.specs.declared.trace_fault.TraceCause.{TraceCause}
 use Rattle.trace_text.specs.declared.trace_fault.TraceCause.TheVariants.{NotAscii, Header, UnknownLine, BadName, BadNumber, InitTwice, FinalTwice, ProcTwice, OpOutsideProc, LateHeaderLine, TooManyProcs, TooManyOps, TooManyLocations, NoSuchOp, BeforeItself, TooManyBefore}
 use Rattle.trace_text.specs.declared.trace_fault.TraceFault.{TraceFault}
@@ -84,10 +85,6 @@ values_of (Before process place other other_place) = []
 -- a value is a plain number below 2^64
 abbrev pub is_value : List ℕ → Bool
 is_value word = not (is_none (plain_number_up_to (2 ^ 64 - 1) word))
-
--- a place as it is written, from 1 to 65535
-abbrev pub place_of : List ℕ → Option ℕ
-place_of word = option_and_then (λ n. if nat_le 1 n then Some n else None) (plain_number_up_to 65535 word)
 
 abbrev pub is_place : List ℕ → Bool
 is_place word = not (is_none (place_of word))

@@ -1,9 +1,8 @@
--- The canonical text of a trace, and which traces can be written.
-use Rattle.std.specs.Prelude.{ℕ, Bool, List, [], ◌∷◌, ◌++◌, map, ◌&&◌}
-use Rattle.std.specs.List.{flat_map, list_all, join_with_byte}
+-- The canonical text of a trace.
+use Rattle.std.specs.Prelude.{ℕ, List, [], ◌∷◌, ◌++◌, map}
+use Rattle.std.specs.List.{flat_map, join_with_byte}
 use Rattle.traces.specs.Trace.{TraceValue}
 use Rattle.trace_text.specs.TraceText.{header_line, init_line, final_line, process_lines, before_line, needs_version_2}
-use Rattle.trace_text.specs.Written.{is_written_entry, is_written_process, is_written_pair}
 
 -- a line: its words, a space between each two, and a line feed
 abbrev pub line_text : List (List ℕ) → List ℕ
@@ -20,7 +19,3 @@ canonical_lines t = header_line (needs_version_2 t) ∷ canonical_body t
 -- the text of these lines
 abbrev pub canonical_trace : TraceValue → List ℕ
 canonical_trace t = flat_map line_text (canonical_lines t)
-
--- a trace that can be written
-abbrev pub is_written : TraceValue → Bool
-is_written t = list_all is_written_entry t.initial && list_all is_written_entry t.final_values && list_all is_written_process t.processes && list_all is_written_pair t.before

@@ -5,7 +5,8 @@ ghost use Rattle.trace_text.specs.Entry.{source_of, statement_for, op_statement,
 ghost use Rattle.trace_text.specs.Refusal.{IsRefusedFor};
 ghost use Rattle.trace_text.specs.Said.{said, said_source};
 ghost use Rattle.trace_text.specs.Statement.{Read, Write, Update, Before};
-ghost use Rattle.trace_text.specs.TraceFault.{is_value, is_place, place_of};
+ghost use Rattle.traces.specs.Place.{place_of};
+ghost use Rattle.trace_text.specs.TraceFault.{is_value, is_place};
 
 use crate::refusal::Refusal;
 use crate::statement::{Source, Statement};

@@ -8,7 +8,8 @@ ghost use Rattle.text_lines.specs.Lines.{lines_of};
 ghost use Rattle.trace_text.specs.Refusal.{IsRefusedFor};
 ghost use Rattle.trace_text.specs.References.{is_of, is_among, fault_of_references, fault_of_line, IsRefusedByReferences};
 ghost use Rattle.trace_text.specs.Said.{said, said_source};
-ghost use Rattle.trace_text.specs.TraceFault.{place_of, references_of, references_of_source, is_before_itself};
+ghost use Rattle.traces.specs.Place.{place_of};
+ghost use Rattle.trace_text.specs.TraceFault.{references_of, references_of_source, is_before_itself};
 
 use crate::entry::read_place;
 use crate::refusal::Refusal;

@@ -7,5 +7,6 @@ pub mod NameNumbers
 pub mod Names
 pub mod Operation
 pub mod PairOrder
+pub mod Place
 pub mod Trace
 pub mod ValueAfter
