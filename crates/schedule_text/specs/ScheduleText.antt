@@ -1,10 +1,9 @@
 -- The text of a schedule.
-use Rattle.std.specs.Prelude.{◌≡◌, ◌≤◌, ℕ, Bool, true, not, List, [], ◌∷◌, ◌++◌, length, map, Option, Some, None, is_none, ◌==◌, ◌&&◌, nat_le, option_and_then, if◌then◌else◌}
+use Rattle.std.specs.Prelude.{◌≡◌, ◌≤◌, ℕ, Bool, true, not, List, [], ◌∷◌, ◌++◌, length, map, Option, Some, None, is_none, ◌==◌, ◌&&◌, nat_le, if◌then◌else◌}
 use Rattle.std.specs.List.{list_any, list_all, before_first, after_first}
 use Rattle.std.specs.Fmt.{decimal}
 use Rattle.text_lines.specs.FirstFault.{IsFirstFault}
 use Rattle.text_lines.specs.Lines.{lines_of}
-use Rattle.text_lines.specs.Numbers.{plain_number_up_to}
 use Rattle.text_lines.specs.Words.{words_of}
 use Rattle.traces.specs.Place.{place_of}
 use Rattle.traces.specs.declared.operation.OpName.{OpName}

@@ -2,7 +2,7 @@
 use Rattle.std.specs.Prelude.{◌≡◌, ◌⊎◌, ⊤, ◌+◌, ◌-◌, ◌^◌, ℕ, Bool, true, false, not, List, [], ◌∷◌, ◌++◌, length, map, Option, Some, None, is_none, ◌&&◌, ◌||◌, nat_le, nat_lt, if◌then◌else◌}
 use Rattle.std.specs.Cmp.Lexicographic.{pointwise}
 use Rattle.std.specs.List.{filter, filter_map, list_any, list_all}
-use Rattle.std.specs.Option.{option_and_then, unwrap_or}
+use Rattle.std.specs.Option.{unwrap_or}
 use Rattle.std.specs.Str.{bytes_eq}
 use Rattle.text_lines.specs.FirstFault.{IsFaultless, IsFirstFault}
 use Rattle.text_lines.specs.Lines.{lines_of}

@@ -1,7 +1,7 @@
 //! A run of the engine that judges, over texts in memory.
 
 use dimacs::MemorySink;
-use std::alloc::Global;
+use std::alloc::{AllocError, Global};
 use std::process::Abort;
 use verdict_report::{ShortSource, exit_status, run_judge, write_fault};
 
@@ -77,4 +77,34 @@ pub fn assert_ends(rt: &impl Abort, alloc: Global, texts: Texts<'_>, ending: End
     for most in [1, 7, usize::MAX] {
         assert_ends_by(rt, alloc, texts, most, ending);
     }
+}
+
+/// Asserts what is said of a schedule: `LEGAL`, or its first fault.
+pub fn assert_judged(
+    rt: &impl Abort,
+    alloc: Global,
+    trace: &str,
+    schedule: &str,
+    said: &str,
+) -> Result<(), AllocError> {
+    let status = if said == "LEGAL" { 0 } else { 1 };
+    let line = format!(in alloc; "{said}\n")?;
+    let texts = texts_of(trace, schedule);
+    assert_ends(rt, alloc, texts, answered(status, line.as_str()));
+    Ok(())
+}
+
+/// Asserts that the trace is refused with this fault, whether the schedule is faulty or not.
+pub fn assert_trace_refused(
+    rt: &impl Abort,
+    alloc: Global,
+    trace: &[u8],
+    fault: &str,
+) -> Result<(), AllocError> {
+    let line = format!(in alloc; "refused: trace {fault}\n")?;
+    for schedule in [b"".as_slice(), b"P.0\n".as_slice()] {
+        let texts = Texts { trace, schedule };
+        assert_ends(rt, alloc, texts, refused(line.as_str()));
+    }
+    Ok(())
 }
