@@ -85,6 +85,13 @@ impl Trace {
         }
     }
 
+    /// It is a trace. This says what each trace keeps, and does nothing.
+    pub fn is_trace(&self)
+        ensures { IsTrace self.now }
+    {
+        let _ = &self.processes;
+    }
+
     /// The processes, in order.
     pub fn processes(&self) -> &[Process]
         ensures { result.now ≡ self.now.processes }

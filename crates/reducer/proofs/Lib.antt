@@ -1,0 +1,16 @@
+pub mod BoundsLemmas
+pub mod CopyLemmas
+pub mod DistinctLemmas
+pub mod ExpandLemmas
+pub mod InterleavingLemmas
+pub mod KeptLemmas
+pub mod NamedLemmas
+pub mod PairLemmas
+pub mod PlaceLemmas
+pub mod ReadLemmas
+pub mod RenamedLemmas
+pub mod RunLemmas
+pub mod ScheduleLemmas
+pub mod StandsLemmas
+pub mod TraceLemmas
+pub mod ValueLemmas

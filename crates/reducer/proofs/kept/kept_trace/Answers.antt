@@ -1,0 +1,15 @@
+use Rattle.std.proofs.Common.{sym, ◌∙◌, subst}
+use Rattle.traces.specs.Trace.{IsTrace}
+use Rattle.reducer.proofs.TraceLemmas.{kept_is_trace}
+use Rattle.reducer.proofs.kept.kept_trace.Goals as goal
+
+pub new-requires : goal.new-requires
+new-requires c =
+    subst IsTrace
+    (λ i. record {
+      processes = sym c.in_ok-processes.ensures i;
+      initial = sym (c.in_ok-initial.ensures ∙ c.initial.ensures) i;
+      final_values = sym (c.in_ok-final_values.ensures ∙ c.final_values.ensures) i;
+      before = sym c.in_ok-before.ensures i;
+    })
+    (kept_is_trace c.args.trace.now c.is_trace.ensures)

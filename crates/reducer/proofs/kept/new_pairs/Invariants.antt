@@ -1,0 +1,6 @@
+use Rattle.std.proofs.Common.{◌≡◌, map, take}
+use Rattle.reducer.specs.Reduction.{new_pair}
+use Rattle.reducer.proofs.kept.new_pairs.Given as goal
+
+abbrev pub invariant-loop-k : goal.invariant-loop-k
+invariant-loop-k l = l.new.items ≡ map (new_pair l.trace) (take l.k l.pairs)

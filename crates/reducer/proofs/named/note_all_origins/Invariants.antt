@@ -1,0 +1,12 @@
+use Rattle.std.proofs.Common.{◌≡◌, ◌||◌, take}
+use Rattle.std.specs.List.{list_any}
+use Rattle.traces.specs.declared.operation.Op.{Op}
+use Rattle.traces.specs.declared.operation.OpName.{OpName}
+use Rattle.traces.specs.declared.trace.Process.{Process}
+use Rattle.traces.specs.Operation.{origin_of}
+use Rattle.reducer.specs.Named.{has}
+use Rattle.reducer.specs.Reduction.{is_from}
+use Rattle.reducer.proofs.named.note_all_origins.Given as goal
+
+abbrev pub invariant-loop-process : goal.invariant-loop-process
+invariant-loop-process l = (n : OpName) → has l.set n ≡ (list_any (λ (p : Process). list_any (λ (op : Op). is_from n (origin_of op)) p.operations) (take l.process-index l.processes) || has l.initial.set n)

@@ -1,0 +1,11 @@
+use Rattle.std.proofs.Common.{◌≡◌, ◌||◌, take}
+use Rattle.std.specs.List.{list_any}
+use Rattle.traces.specs.declared.operation.Op.{Op}
+use Rattle.traces.specs.declared.operation.OpName.{OpName}
+use Rattle.traces.specs.Operation.{origin_of}
+use Rattle.reducer.specs.Named.{has}
+use Rattle.reducer.specs.Reduction.{is_from}
+use Rattle.reducer.proofs.named.note_origins.Given as goal
+
+abbrev pub invariant-loop-op : goal.invariant-loop-op
+invariant-loop-op l = (n : OpName) → has l.set n ≡ (list_any (λ (op : Op). is_from n (origin_of op)) (take l.op-index l.operations) || has l.initial.set n)

@@ -1,0 +1,93 @@
+-- The reduction of a trace: the trace without repeated local reads.
+use Rattle.std.specs.Prelude.{ℕ, List, length, map, Option, Some, None, Bool, false, not, ◌==◌, ◌&&◌, ◌||◌, ◌-◌}
+use Rattle.std.specs.List.{filter, filter_map, list_any}
+use Rattle.std.specs.Str.{bytes_eq}
+use Rattle.traces.specs.declared.operation.Op.{Op}
+use Rattle.traces.specs.declared.operation.Op.TheVariants.{Read, Write, Update}
+use Rattle.traces.specs.declared.operation.OpName.{OpName}
+use Rattle.traces.specs.declared.operation.Origin.{Origin}
+use Rattle.traces.specs.declared.operation.Origin.TheVariants.{Any, Initial, Operation}
+use Rattle.traces.specs.declared.trace.Process.{Process}
+use Rattle.traces.specs.Operation.{location_of, origin_of, same_op}
+use Rattle.traces.specs.Trace.{TraceValue, operation_at, first_names}
+
+-- what its location holds directly after an operation: what it leaves, or else what it reads
+abbrev pub value_behind : Op → ℕ
+value_behind (Read location value origin) = value
+value_behind (Write location value) = value
+value_behind (Update location read left origin) = left
+
+-- a plain read, of any origin, of what its location holds directly after the earlier operation on it
+abbrev pub is_repeat : Op → Op → Bool
+is_repeat earlier (Read location value Any) = bytes_eq (location_of earlier) location && (value_behind earlier == value)
+is_repeat earlier op = false
+
+-- both operations exist, and the second repeats the first
+abbrev pub repeats : Option Op → Option Op → Bool
+repeats None op = false
+repeats (Some earlier) None = false
+repeats (Some earlier) (Some op) = is_repeat earlier op
+
+-- the name of the operation directly before it in its process
+abbrev pub previous : OpName → OpName
+previous n = record { process = n.process; place = n.place - 1 }
+
+-- the origin is this operation
+abbrev pub is_from : OpName → Origin → Bool
+is_from n Any = false
+is_from n Initial = false
+is_from n (Operation m) = same_op m n
+
+-- a before pair names the operation
+abbrev pub is_in_pair : TraceValue → OpName → Bool
+is_in_pair t n = list_any (λ (pair : OpName × OpName). same_op pair.0 n || same_op pair.1 n) t.before
+
+-- the origin of some operation names the operation
+abbrev pub is_an_origin : TraceValue → OpName → Bool
+is_an_origin t n = list_any (λ (p : Process). list_any (λ (op : Op). is_from n (origin_of op)) p.operations) t.processes
+
+-- the operation is dropped: it repeats the one directly before it, and neither a before pair nor an origin names it
+abbrev pub is_dropped : TraceValue → OpName → Bool
+is_dropped t n = repeats (operation_at t (previous n)) (operation_at t n) && not (is_in_pair t n || is_an_origin t n)
+
+abbrev pub is_kept : TraceValue → OpName → Bool
+is_kept t n = not (is_dropped t n)
+
+-- the names of the operations of a process, in program order
+abbrev pub names_of : Process → List OpName
+names_of p = first_names p.name (length p.operations)
+
+-- those of them that are kept
+abbrev pub kept_names : TraceValue → Process → List OpName
+kept_names t p = filter (is_kept t) (names_of p)
+
+-- the name in the kept trace: its place is how many operations are kept of its process up to it
+abbrev pub new_name : TraceValue → OpName → OpName
+new_name t n = record { process = n.process; place = length (filter (is_kept t) (first_names n.process n.place)) }
+
+abbrev pub new_origin : TraceValue → Origin → Origin
+new_origin t Any = Any
+new_origin t Initial = Initial
+new_origin t (Operation n) = Operation (new_name t n)
+
+-- the operation as it stands in the kept trace
+abbrev pub new_op : TraceValue → Op → Op
+new_op t (Read location value origin) = Read location value (new_origin t origin)
+new_op t (Write location value) = Write location value
+new_op t (Update location read left origin) = Update location read left (new_origin t origin)
+
+-- the process with its kept operations
+abbrev pub kept_process : TraceValue → Process → Process
+kept_process t p = record { name = p.name; operations = map (new_op t) (filter_map (operation_at t) (kept_names t p)) }
+
+abbrev pub new_pair : TraceValue → OpName × OpName → OpName × OpName
+new_pair t pair = (new_name t pair.0, new_name t pair.1)
+
+-- the reduction of a trace: the kept operations, by their new names
+abbrev pub kept_trace : TraceValue → TraceValue
+kept_trace t = record {
+  processes = map (kept_process t) t.processes;
+  initial = t.initial;
+  final_values = t.final_values;
+  before = map (new_pair t) t.before;
+}

@@ -1,0 +1,69 @@
+//! Schedules of the whole trace.
+
+ghost use Rattle.std.specs.Prelude.{◌≡◌, ◌++◌, ◌-◌, IfOk, IsSome, OnOk};
+ghost use Rattle.traces.specs.Interleaving.{IsInterleaving};
+ghost use Rattle.traces.specs.Trace.{operation_at};
+ghost use Rattle.reducer.specs.Expansion.{expanded, expansion};
+ghost use Rattle.reducer.specs.Runs.{names_from};
+
+use crate::reduced::Reduced;
+use crate::renamed::bounds_at;
+use std::alloc::{AllocError, Global};
+use traces::name::Name;
+use traces::operation::OpName;
+use traces::schedule::Schedule;
+
+/// Appends the names of a process from one place on, before another.
+fn push_names(
+    alloc: Global,
+    names: &mut Vec<OpName>,
+    process: &[u8],
+    first: u16,
+    end: u16,
+) -> Result<(), AllocError>
+    ensures { OnOk result (names.new.items ≡ names.old.items ++ names_from process.now first (end - first)) }
+{
+    for place in first..end {
+        names.push(OpName {
+            process: Name::copy_of(alloc, process)?,
+            place,
+        })?;
+    }
+    Ok(())
+}
+
+/// Appends the first name of a kept name, and the run behind it.
+fn push_run(
+    alloc: Global,
+    names: &mut Vec<OpName>,
+    reduced: &Reduced,
+    name: &OpName,
+) -> Result<(), AllocError>
+    requires { IsSome (operation_at reduced.now.kept name.now) }
+    ensures { OnOk result (names.new.items ≡ names.old.items ++ expanded reduced.now.whole name.now) }
+{
+    let processes = reduced.kept().processes();
+    let process = name.process.as_bytes();
+    match bounds_at(processes, reduced.bounds(), process) {
+        Some(bounds) => {
+            let places = bounds.as_slice();
+            let place = name.place as usize;
+            push_names(alloc, names, process, places[place - 1], places[place])
+        }
+        None => Ok(()),
+    }
+}
+
+/// The schedule with the dropped reads put back: each name becomes its name in the whole trace, followed by the names of the
+/// run of dropped reads that stands directly behind it.
+pub fn expand(alloc: Global, reduced: &Reduced, schedule: &Schedule) -> Result<Schedule, AllocError>
+    requires { IsInterleaving reduced.now.kept schedule.now }
+    ensures { IfOk result (λ whole. whole ≡ expansion reduced.now.whole schedule.now) }
+{
+    let old = schedule.names();
+    let mut names = Vec::with_capacity(alloc, old.len())?;
+    for k in 0..old.len() {
+        push_run(alloc, &mut names, reduced, &old[k])?;
+    }
+    Ok(Schedule::new(names))
+}

@@ -1,0 +1,128 @@
+//! The kept trace.
+
+ghost use Rattle.std.specs.Prelude.{◌≡◌, ◌≤◌, List, ℕ, map, IfOk};
+ghost use Rattle.std.specs.List.{Contains};
+ghost use Rattle.reducer.specs.Reduced.{operation_count};
+ghost use Rattle.reducer.specs.Reduction as reduction;
+ghost use Rattle.reducer.specs.Runs.{bounds_of, AreBounds};
+
+use crate::bounds::Bounds;
+use crate::renamed::{new_name, new_op};
+use std::alloc::{AllocError, Global};
+use traces::name::Name;
+use traces::operation::{Op, OpName};
+use traces::trace::{Operations, Process, Trace};
+
+/// How many operations are kept.
+pub fn count_kept(trace: &Trace, all: &[Bounds]) -> usize
+    requires { AreBounds trace.now all.now }
+    ensures { result ≡ operation_count (reduction.kept_trace trace.now) }
+{
+    trace.is_trace();
+    let mut count = 0;
+    for bounds in all {
+        count += bounds.as_slice().len() - 1;
+    }
+    count
+}
+
+/// The kept operations of a process.
+fn kept_operations(
+    alloc: Global,
+    trace: &Trace,
+    all: &[Bounds],
+    process: &Process,
+    places: &[u16],
+) -> Result<Vec<Op>, AllocError>
+    requires bounds { AreBounds trace.now all.now }
+    requires listed { Contains trace.now.processes process.now }
+    requires places { places.now ≡ bounds_of trace.now process.now }
+    ensures { IfOk result (λ ops. ops.items ≡ (reduction.kept_process trace.now process.now).operations) }
+{
+    trace.is_trace();
+    let old = process.operations.as_slice();
+    let count = places.len() - 1;
+    let mut ops = Vec::with_capacity(alloc, count)?;
+    for k in 0..count {
+        let op = &old[places[k] as usize - 1];
+        ops.push(new_op(alloc, trace, all, op)?)?;
+    }
+    Ok(ops)
+}
+
+/// The process with its kept operations.
+fn kept_process(
+    alloc: Global,
+    trace: &Trace,
+    all: &[Bounds],
+    process: &Process,
+    bounds: &Bounds,
+) -> Result<Process, AllocError>
+    requires bounds { AreBounds trace.now all.now }
+    requires listed { Contains trace.now.processes process.now }
+    requires places { bounds.now ≡ bounds_of trace.now process.now }
+    ensures { IfOk result (λ new. new ≡ reduction.kept_process trace.now process.now) }
+{
+    let name = Name::copy_of(alloc, process.name.as_bytes())?;
+    let ops = kept_operations(alloc, trace, all, process, bounds.as_slice())?;
+    Ok(Process {
+        name,
+        operations: Operations::new(ops),
+    })
+}
+
+fn kept_processes(alloc: Global, trace: &Trace, all: &[Bounds]) -> Result<Vec<Process>, AllocError>
+    requires { AreBounds trace.now all.now }
+    ensures { IfOk result (λ new. new.items ≡ map (reduction.kept_process trace.now) trace.now.processes) }
+{
+    let processes = trace.processes();
+    let mut new = Vec::with_capacity(alloc, processes.len())?;
+    for k in 0..processes.len() {
+        new.push(kept_process(alloc, trace, all, &processes[k], &all[k])?)?;
+    }
+    Ok(new)
+}
+
+/// The before pairs, by the new names.
+fn new_pairs(
+    alloc: Global,
+    trace: &Trace,
+    all: &[Bounds],
+) -> Result<Vec<(OpName, OpName)>, AllocError>
+    requires { AreBounds trace.now all.now }
+    ensures { IfOk result (λ new. new.items ≡ map (reduction.new_pair trace.now) trace.now.before) }
+{
+    trace.is_trace();
+    let pairs = trace.before();
+    let mut new = Vec::with_capacity(alloc, pairs.len())?;
+    for k in 0..pairs.len() {
+        let pair = &pairs[k];
+        let first = new_name(alloc, trace, all, &pair.0)?;
+        let second = new_name(alloc, trace, all, &pair.1)?;
+        new.push((first, second))?;
+    }
+    Ok(new)
+}
+
+fn copy_of(alloc: Global, values: &[(Name, u64)]) -> Result<Vec<(Name, u64)>, AllocError>
+    ensures { IfOk result (λ new. new.items ≡ values.now) }
+{
+    let mut new = Vec::with_capacity(alloc, values.len())?;
+    for entry in values {
+        new.push((Name::copy_of(alloc, entry.0.as_bytes())?, entry.1))?;
+    }
+    Ok(new)
+}
+
+/// The kept trace, by the bounds of the runs.
+pub fn kept_trace(alloc: Global, trace: &Trace, all: &[Bounds]) -> Result<Trace, AllocError>
+    requires { AreBounds trace.now all.now }
+    ensures { IfOk result (λ kept. kept ≡ reduction.kept_trace trace.now) }
+{
+    trace.is_trace();
+    let processes = kept_processes(alloc, trace, all)?;
+    let initial = copy_of(alloc, trace.initial())?;
+    let final_values = copy_of(alloc, trace.final_values())?;
+    let before = new_pairs(alloc, trace, all)?;
+    Ok(Trace::new(processes, initial, final_values, before))
+}

@@ -1,0 +1,16 @@
+//! The reducer of traces: repeated local reads are dropped, and put back into a schedule.
+//!
+//! A process that reads again what it has just read or written at the same location learns nothing from it. Without these
+//! reads the trace has a legal schedule exactly where it has one with them, since each can stand directly behind the
+//! operation that it repeats.
+#![tactic(auto)]
+
+mod bounds;
+pub mod expand;
+mod kept;
+pub mod laws;
+mod named;
+mod op_set;
+pub mod reduce_fault;
+pub mod reduced;
+mod renamed;

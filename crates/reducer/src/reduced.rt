@@ -1,0 +1,80 @@
+//! Reduced traces.
+
+ghost use Rattle.std.specs.Prelude.{◌≡◌, ◌≤◌, IfOk, IfErr};
+ghost use Rattle.reducer.specs.Reduced.{IsReduced, IsReduceRefusal, operation_count};
+ghost use Rattle.reducer.specs.Reduction as reduction;
+ghost use Rattle.reducer.specs.Runs.{AreBounds};
+
+use crate::bounds::{Bounds, all_bounds};
+use crate::kept::{count_kept, kept_trace};
+use crate::named::named_ops;
+use crate::reduce_fault::ReduceFault;
+use std::alloc::Global;
+use std::marker::Model;
+use std::snapshot::Snapshot;
+use traces::trace::Trace;
+
+/// As many operations are kept at most.
+const MOST_KEPT: usize = 160;
+
+/// A trace without its repeated local reads, and where these belong. The whole trace is seen by clauses alone.
+#[derive(Drop)]
+pub struct Reduced {
+    whole: Snapshot<Trace>,
+    kept: Trace,
+    bounds: Vec<Bounds>,
+}
+
+impl Model for Reduced {
+    ghost use Rattle.reducer.specs.Reduced.{ReducedValue, IsReduced};
+    ghost use Rattle.reducer.specs.Runs.{AreBounds};
+
+    ghost Value = { ReducedValue };
+
+    ghost view = { λ r. record { whole = r.whole.value; kept = r.kept } };
+
+    ghost invariant = { λ r. IsReduced (record { whole = r.whole.value; kept = r.kept }) × AreBounds r.whole.value r.bounds.items };
+}
+
+impl Reduced {
+    ghost use Rattle.std.specs.Prelude.{◌≡◌};
+    ghost use Rattle.reducer.specs.Reduced.{IsReduced};
+    ghost use Rattle.reducer.specs.Runs.{AreBounds};
+
+    /// The kept trace.
+    pub fn kept(&self) -> &Trace
+        ensures trace { result.now ≡ self.now.kept }
+        ensures reduced { IsReduced self.now }
+    {
+        &self.kept
+    }
+
+    /// The bounds of the runs of dropped reads, for each process.
+    pub fn bounds(&self) -> &[Bounds]
+        ensures { AreBounds self.now.whole result.now }
+    {
+        self.bounds.as_slice()
+    }
+}
+
+/// The trace without its repeated local reads. A plain read, of any origin, is dropped where the operation directly before it
+/// in its process leaves or reads the same value at the same location, and where no before pair and no origin names it.
+pub fn reduce(alloc: Global, trace: &Trace) -> Result<Reduced, ReduceFault>
+    ensures whole { IfOk result (λ reduced. reduced.whole ≡ trace.now) }
+    ensures reduced { IfOk result IsReduced }
+    ensures refused { IfErr result (IsReduceRefusal trace.now) }
+{
+    trace.is_trace();
+    let set = named_ops(alloc, trace)?;
+    let bounds = all_bounds(alloc, &set, trace)?;
+    let left = count_kept(trace, bounds.as_slice());
+    if left > MOST_KEPT {
+        return Err(ReduceFault::StillTooLarge(left));
+    }
+    let kept = kept_trace(alloc, trace, bounds.as_slice())?;
+    Ok(Reduced {
+        whole: Snapshot::of(trace),
+        kept,
+        bounds,
+    })
+}
