@@ -7,4 +7,6 @@ pub mod comments;
 pub mod first_fault;
 pub mod lines;
 pub mod numbers;
+#[cfg(test)]
+mod tests;
 pub mod words;

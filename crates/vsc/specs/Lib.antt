@@ -1,1 +1,3 @@
 pub mod BufferedSink
+pub mod ExitStatus
+pub mod FileSource

@@ -1,5 +1,6 @@
 //! A file as a source.
-ghost use Rattle.std.specs.Prelude.{◌≡◌, ◌≤◌, [], false, length, IfOk};
+ghost use Rattle.std.specs.Prelude.{◌≡◌, ◌≤◌, [], false, length, IfOk, IsSome, OnOk};
+ghost use Rattle.vsc.specs.FileSource.{path_of};
 
 use dimacs::{Failed, FailureCount, Transcript};
 use std::fs::File;
@@ -22,6 +23,7 @@ pub struct FileSource<'a, R> {
 impl<'a, R: Files<File = File>> FileSource<'a, R> {
     /// The file at this path, of which nothing is read yet.
     pub fn new(rt: &'a R, path: &'a str) -> FileSource<'a, R>
+        ensures path { path_of result ≡ path.now }
         ensures handed_out { ⟦<FileSource<'a, R> as Source>⟧.handed_out result ≡ [] }
         ensures is_at_end { ⟦<FileSource<'a, R> as Source>⟧.is_at_end result ≡ false }
         ensures failures { ⟦<FileSource<'a, R> as Source>⟧.failures result ≡ 0 }
@@ -44,7 +46,8 @@ fn read_file<R: Files<File = File>>(
     file: &mut Option<File>,
     buffer: &mut [u8],
 ) -> Result<usize, Failed>
-    ensures { IfOk result (λ count. count ≤ length buffer.old) }
+    ensures within { IfOk result (λ count. count ≤ length buffer.old) }
+    ensures is_open { OnOk result (IsSome file.new) }
 {
     if file.is_none() {
         match File::open(rt, path) {

@@ -1,14 +1,18 @@
 //! The program `vsc`: its files, its standard streams and its exit status.
 #![tactic(auto)]
 
-ghost use Rattle.std.specs.Prelude.{◌≡◌, ◌⊎◌, IfOk, map, string_bytes};
+ghost use Rattle.std.specs.Prelude.{◌≡◌, ◌⊎◌, IfOk, Ok, map, string_bytes};
 ghost use Rattle.verdict_report.specs.LineFault.{status_of};
+ghost use Rattle.verdict_report.specs.declared.status.Status.TheVariants.{Unknown};
+ghost use Rattle.vsc.specs.ExitStatus.{IsExitStatus};
 
+mod buffered_judge;
 mod buffered_sink;
 mod file_source;
 mod standard_output;
 mod stream_sink;
 
+use buffered_judge::judge_buffered;
 use file_source::FileSource;
 use standard_output::standard_output;
 use std::alloc::{AllocError, Global};
@@ -16,9 +20,7 @@ use std::env;
 use std::io::ErrorKind;
 use std::process::ExitCode;
 use stream_sink::StreamSink;
-use verdict_report::{
-    Fault, Line, LineFault, Status, exit_status, read_line, run_judge, write_fault,
-};
+use verdict_report::{Fault, Line, LineFault, Status, exit_status, read_line, write_fault};
 
 /// The exit status of a command line that is refused.
 const REFUSED: u8 = 2;
@@ -27,18 +29,20 @@ const REFUSED: u8 = 2;
 const DEVICE: u8 = 4;
 
 /// Judges the files at these paths, and writes the answer to the standard output.
-fn judge_files(rt: &HostRuntime, trace: &str, schedule: &str) -> Result<Status, Fault> {
+fn judge_files(rt: &HostRuntime, trace: &str, schedule: &str) -> Result<Status, Fault>
+    ensures { result ≡ Ok Unknown → ⊥ }
+{
     let alloc = rt.alloc();
     let mut output = standard_output(alloc, rt.stdout())?;
     let mut trace = FileSource::new(rt, trace);
     let mut schedule = FileSource::new(rt, schedule);
-    let status = run_judge(alloc, &mut trace, &mut schedule, &mut output)?;
-    output.flush()?;
-    Ok(status)
+    judge_buffered(alloc, &mut trace, &mut schedule, &mut output)
 }
 
 /// Does what the command line asks for.
-fn run_line(rt: &HostRuntime, line: Line<'_>) -> u8 {
+fn run_line(rt: &HostRuntime, line: Line<'_>) -> u8
+    ensures { IsExitStatus result }
+{
     let Line::Judge { trace, schedule } = line;
     let outcome = judge_files(rt, trace, schedule);
     if let Err(fault) = &outcome {
@@ -80,7 +84,10 @@ fn words_of<'t>(alloc: Global, texts: &'t Vec<String>) -> Result<Vec<&'t str>, A
     Ok(words)
 }
 
-fn run(rt: &HostRuntime) -> u8 {
+/// Does what the arguments ask for, and gives the exit status.
+fn run(rt: &HostRuntime) -> u8
+    ensures { IsExitStatus result }
+{
     let alloc = rt.alloc();
     let arguments = match env::args(rt) {
         Ok(arguments) => arguments,

@@ -25,6 +25,7 @@ use Rattle.dimacs.specs.declared.transcript.FailureCount.{FailureCount}
 use Rattle.dimacs.specs.contracts.transcript.FailureCount as T
 use Rattle.dimacs.specs.contracts.transcript.FailureCount.new.Key.{name as #it}
 use Rattle.dimacs.specs.contracts.transcript.FailureCount.new as it
+use Rattle.dimacs.proofs.TranscriptValues.{no_failure}
 use Rattle.dimacs.proofs.transcript.FailureCount.new.Statement as stated
 use Rattle.dimacs.proofs.transcript.FailureCount.new.Code as code
 
@@ -32,7 +33,7 @@ abbrev v : Val
 v = vstruct (vcons (vstruct vnil) vnil)
 
 abbrev r : FailureCount
-r = record { marker = record {}; count = 0 }
+r = no_failure
 
 meets : {M : Type 1} {𝓤 : Ura M} (𝓛 : Logic 𝓤) → (at_mem : Memory → SProp 𝓤) (run : Routine → Fun 𝓤) (𝓣 : Tables 𝓤 𝓛.H)
     → Meets 𝓛 it.signature (WpFn 𝓤 𝓛.H 𝓣.C 𝓣.Λ code.function) (it.spec 𝓛 at_mem run)

@@ -1,5 +1,5 @@
 -- An empty body. The borrow is opened, and closed at another ghost value.
-use Rattle.std.proofs.Common.{ℕ, ◌+◌, List, [], ◌∷◌, refl, MutBor}
+use Rattle.std.proofs.Common.{ℕ, List, [], ◌∷◌, refl, MutBor}
 use seplogic.Ra.Ura.{Ura}
 use mir.Syntax.{named}
 use mir.Val.{Val, vunit, vptr}
@@ -29,6 +29,7 @@ use Rattle.dimacs.specs.declared.transcript.FailureCount.{FailureCount}
 use Rattle.dimacs.specs.contracts.transcript.FailureCount as T
 use Rattle.dimacs.specs.contracts.transcript.FailureCount.rise.Key.{name as #it}
 use Rattle.dimacs.specs.contracts.transcript.FailureCount.rise as it
+use Rattle.dimacs.proofs.TranscriptValues.{risen}
 use Rattle.dimacs.proofs.transcript.FailureCount.rise.Statement as stated
 use Rattle.dimacs.proofs.transcript.FailureCount.rise.Code as code
 
@@ -46,7 +47,7 @@ module _ {M : Type 1} {𝓤 : Ura M} (𝓛 : Logic 𝓤) (at_mem : Memory → SP
 
   -- one more
   abbrev h' : FailureCount
-  h' = record { marker = h.marker; count = h.count + 1 }
+  h' = risen h
 
   abbrev at : List Val × Unit {0}
   at = (vptr b o ∷ [], tt)

@@ -1,5 +1,5 @@
 -- An empty body. The borrow is opened, and closed at another ghost value.
-use Rattle.std.proofs.Common.{ℕ, List, [], ◌∷◌, ◌++◌, ◌<◌, ◌^◌, length, refl, MutBor}
+use Rattle.std.proofs.Common.{ℕ, List, [], ◌∷◌, ◌<◌, ◌^◌, length, refl, MutBor}
 use seplogic.Ra.Ura.{Ura}
 use mir.Syntax.{named}
 use mir.Val.{Val, vunit, vptr}
@@ -32,6 +32,7 @@ use Rattle.dimacs.specs.declared.transcript.Transcript.{Transcript}
 use Rattle.dimacs.specs.contracts.transcript.Transcript as T
 use Rattle.dimacs.specs.contracts.transcript.Transcript.extend.Key.{name as #it}
 use Rattle.dimacs.specs.contracts.transcript.Transcript.extend as it
+use Rattle.dimacs.proofs.TranscriptValues.{extended}
 use Rattle.dimacs.proofs.transcript.Transcript.extend.Statement as stated
 use Rattle.dimacs.proofs.transcript.Transcript.extend.Code as code
 
@@ -49,7 +50,7 @@ module _ {M : Type 1} {𝓤 : Ura M} (𝓛 : Logic 𝓤) (at_mem : Memory → SP
 
   -- the transcript with the bytes at its end
   abbrev h' : Transcript
-  h' = record { marker = h.marker; bytes = h.bytes ++ s.now }
+  h' = extended h s.now
 
   abbrev at : List Val × (List Val × Unit {0})
   at = (vptr b o ∷ [], (slice_val s.ref_ptr (length s.now) ∷ [], tt))

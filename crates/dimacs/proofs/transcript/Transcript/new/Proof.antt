@@ -25,6 +25,7 @@ use Rattle.dimacs.specs.declared.transcript.Transcript.{Transcript}
 use Rattle.dimacs.specs.contracts.transcript.Transcript as T
 use Rattle.dimacs.specs.contracts.transcript.Transcript.new.Key.{name as #it}
 use Rattle.dimacs.specs.contracts.transcript.Transcript.new as it
+use Rattle.dimacs.proofs.TranscriptValues.{empty_transcript}
 use Rattle.dimacs.proofs.transcript.Transcript.new.Statement as stated
 use Rattle.dimacs.proofs.transcript.Transcript.new.Code as code
 
@@ -32,7 +33,7 @@ abbrev v : Val
 v = vstruct (vcons (vstruct vnil) vnil)
 
 abbrev r : Transcript
-r = record { marker = record {}; bytes = [] }
+r = empty_transcript
 
 meets : {M : Type 1} {𝓤 : Ura M} (𝓛 : Logic 𝓤) → (at_mem : Memory → SProp 𝓤) (run : Routine → Fun 𝓤) (𝓣 : Tables 𝓤 𝓛.H)
     → Meets 𝓛 it.signature (WpFn 𝓤 𝓛.H 𝓣.C 𝓣.Λ code.function) (it.spec 𝓛 at_mem run)

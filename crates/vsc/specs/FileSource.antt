@@ -1,0 +1,7 @@
+-- What a file as a source shows.
+use Rattle.std.specs.Prelude.{ℕ, List}
+use Rattle.vsc.specs.declared.file_source.FileSource.{FileSource}
+
+-- the path of the file
+abbrev pub path_of : {R : Type 0} → FileSource R → List ℕ
+path_of source = source.path.now
