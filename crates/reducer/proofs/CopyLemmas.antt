@@ -3,7 +3,7 @@ use Rattle.std.proofs.Common.{◌≡◌, ◌<◌, ◌≤◌, ◌+◌, ◌-◌, �
 use Rattle.std.specs.Prelude.{Option, Some, None, IsSome}
 use Rattle.std.specs.List.{Contains, filter_map, cons_option, sum_by}
 use Rattle.std.specs.Option.{option_and_then}
-use Rattle.std.proofs.lemmas.List.{length-map, length-append, get_or-map, get_or_append_left, take_more, map_push, take_all}
+use Rattle.std.proofs.lemmas.List.{length-map, length-append, get_or-map, get_or_append_left, take_more, map_push, take_all, get_or_default}
 use Rattle.std.proofs.lemmas.List.Elements.{Contains-get_or, filter_map-append}
 use Rattle.std.proofs.lemmas.List.Sums.{sum_by-cons, sum_by_more_le}
 use Rattle.std.proofs.lemmas.Option.{slice_get-get_or}
@@ -97,18 +97,13 @@ op_here t p places k e l =
     record {
       name = name;
       within = m;
-      named = default (kept_names t p) k d name m;
+      named = get_or_default (kept_names t p) k name d m;
       place = ap (λ l. get_or l k 0) e ∙ get_or_append_left (map (λ (n : OpName). n.place) (kept_names t p)) ((length p.operations + 1) ∷ []) 0 k (omega (arith, m, mapped))
           ∙ get_or-map (λ (n : OpName). n.place) (kept_names t p) k d 0 m;
       least = listed.1;
       most = listed.2;
       called = listed.0;
     }
-  where
-    default : {A : Type 0} (xs : List A) (i : ℕ) (a b : A) → i < length xs → get_or xs i b ≡ get_or xs i a
-    default [] i a b l = absurd (omega (arith, l))
-    default (x ∷ xs) zero a b l = refl
-    default (x ∷ xs) (suc i) a b l = default xs i a b (omega (arith, l))
 
 place_before : {X : Type 0} (xs : List X) (k : ℕ) (x : X) → 1 ≤ k → k ≤ length xs → x ≡ get_or xs (k - 1) x → at_place xs k ≡ Some x
 place_before xs zero x low high e = absurd (omega (arith, low))

@@ -92,7 +92,7 @@ run_here t ok x n first places e =
     let parts : places ≡ low ++ n.place ∷ high =
     e ∙ ap (λ l. map (λ (m : OpName). m.place) l ++ (length p.operations + 1) ∷ []) kept
     ∙ ap (λ l. l ++ (length p.operations + 1) ∷ []) (map-append (λ (m : OpName). m.place) front (n ∷ back))
-    ∙ joined low (n.place ∷ map (λ (m : OpName). m.place) back) ((length p.operations + 1) ∷ []) in
+    ∙ append_assoc low (n.place ∷ map (λ (m : OpName). m.place) back) ((length p.operations + 1) ∷ []) in
     let here : n.place - 1 + 1 ≡ n.place = omega (arith, s.least) in
     let name : record { process = p.name; place = n.place - 1 + 1 } ≡ n = λ i. record { process = s.called i; place = here i } in
     let place : x.place ≡ length front + 1 =
@@ -119,10 +119,6 @@ run_here t ok x n first places e =
           ∙ ap (λ l. n ∷ take_while (is_dropped t) l) (sym (behind_it t x n p s))
           ∙ sym (expanded_first t x n first);
     }
-  where
-    joined : (xs ys zs : List ℕ) → (xs ++ ys) ++ zs ≡ xs ++ (ys ++ zs)
-    joined [] ys zs = refl
-    joined (y ∷ xs) ys zs = ap (λ l. y ∷ l) (joined xs ys zs)
 
 -- of a reduced trace
 first_of : (r : ReducedValue) → IsReduced r → (x : OpName) → IsSome (operation_at r.kept x) → (n : OpName) × IsFirst r.whole x n

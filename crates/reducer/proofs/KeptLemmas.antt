@@ -14,7 +14,7 @@ use Rattle.traces.proofs.ElementLemmas.{found, finds, same_from_key, from_filter
 use Rattle.traces.proofs.NameLemmas.{same_bytes, bytes_same, from_first, known_named, named_known}
 use Rattle.reducer.specs.Reduction.{is_kept, names_of, kept_names, new_name, new_op, kept_process, kept_trace}
 use Rattle.reducer.specs.Runs.{names_from}
-use Rattle.reducer.proofs.PlaceLemmas.{joined_names, one_more_name, cut_names, filter_append, chosen, choose, place_more, value_at}
+use Rattle.reducer.proofs.PlaceLemmas.{joined_names, one_more_name, cut_names, filter_append, chosen, choose, place_more, value_at, in_list}
 
 -- the process of a name, in the trace and in the kept one
 pub found_process : (t : TraceValue) (name : List ℕ) (p : Process) → process_named t name ≡ Some p → Contains t.processes p × (p.name ≡ name)
@@ -93,19 +93,10 @@ first_known t ok x n first =
     ∙ ap (λ k. k + 1) counted ∙ sym at.1 in
     let process : (new_name t n).process ≡ x.process = ap (λ (m : OpName). m.process) name ∙ listed.1 in
     record {
-      known = listed_name t ok p listed.0 n (from_filter (is_kept t) (names_of p) n (in_filter p n x.place first.placed)).0;
+      known = listed_name t ok p listed.0 n (from_filter (is_kept t) (names_of p) n (in_list (kept_names t p) x.place n first.placed)).0;
       kept = here.passes;
       renamed = λ i. record { process = process i; place = place i };
     }
-  where
-    in_list : {X : Type 0} (xs : List X) (k : ℕ) (y : X) → at_place xs k ≡ Some y → Contains xs y
-    in_list xs zero y e = absurd (cc)
-    in_list [] (suc k) y e = absurd (cc)
-    in_list (z ∷ zs) (suc zero) y e = (zero, omega arith, cc)
-    in_list (z ∷ zs) (suc (suc k)) y e = let more = in_list zs (suc k) y e in (suc more.0, omega (arith, more.1), more.2)
-
-    in_filter : (p : Process) (m : OpName) (k : ℕ) → at_place (kept_names t p) k ≡ Some m → Contains (kept_names t p) m
-    in_filter p m k e = in_list (kept_names t p) k m e
 
 -- a kept operation has its new name
 pub known_first : (t : TraceValue) → IsTrace t → (n : OpName) → IsSome (operation_at t n) → is_kept t n ≡ true → IsFirst t (new_name t n) n

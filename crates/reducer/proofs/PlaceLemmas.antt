@@ -1,5 +1,5 @@
 -- The names of a process by place, and how a list of them is cut.
-use Rattle.std.proofs.Common.{◌≡◌, ◌+◌, ℕ, zero, suc, List, [], ◌∷◌, ◌++◌, length, Bool, true, false, cond, refl, ap, sym, ◌∙◌, arith}
+use Rattle.std.proofs.Common.{◌≡◌, ◌≤◌, ◌+◌, ℕ, zero, suc, List, [], ◌∷◌, ◌++◌, length, Bool, true, false, cond, refl, ap, sym, ◌∙◌, arith}
 use Rattle.std.specs.Prelude.{Option, Some, None, IsSome}
 use Rattle.std.specs.List.{Contains, filter, filter_map, cons_option, slice_get}
 use Rattle.std.specs.Option.{option_and_then}
@@ -73,6 +73,14 @@ filter_append {A} p (x ∷ xs) ys = at (p x) (filter_append p xs ys)
     at true e = ap (λ l. x ∷ l) e
     at false e = e
 
+pub few_filtered : {A : Type 0} (p : A → Bool) (xs : List A) → length (filter p xs) ≤ length xs
+few_filtered p [] = omega arith
+few_filtered {A} p (x ∷ xs) = at (p x) (few_filtered p xs)
+  where
+    at : (b : Bool) → length (filter p xs) ≤ length xs → length (cond b (x ∷ filter p xs) (filter p xs)) ≤ length (x ∷ xs)
+    at true l = omega (arith, l)
+    at false l = omega (arith, l)
+
 pub record Chosen {A : Type 0} (p : A → Bool) (xs : List A) (i : ℕ) (x : A) : Type 0 where
   pub front : List A
   pub back : List A
@@ -115,6 +123,12 @@ pub choose : {A : Type 0} (p : A → Bool) (front : List A) (x : A) (back : List
 choose p front x back h =
     ap (λ l. slice_get l (length (filter p front))) (filter_append p front (x ∷ back) ∙ ap (λ b. filter p front ++ cond b (x ∷ filter p back) (filter p back)) h)
     ∙ get_behind (filter p front) x (filter p back)
+
+pub in_list : {X : Type 0} (xs : List X) (k : ℕ) (y : X) → at_place xs k ≡ Some y → Contains xs y
+in_list xs zero y e = absurd (cc)
+in_list [] (suc k) y e = absurd (cc)
+in_list (z ∷ zs) (suc zero) y e = (zero, omega arith, cc)
+in_list (z ∷ zs) (suc (suc k)) y e = let more = in_list zs (suc k) y e in (suc more.0, omega (arith, more.1), more.2)
 
 pub place_more : {X : Type 0} (xs : List X) (i : ℕ) → at_place xs (i + 1) ≡ slice_get xs i
 place_more xs i = let e : i + 1 ≡ suc i = omega arith in ap (at_place xs) e

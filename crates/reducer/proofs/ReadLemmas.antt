@@ -1,5 +1,5 @@
 -- What reads right with the dropped reads and without them.
-use Rattle.std.proofs.Common.{◌≡◌, ℕ, zero, suc, List, [], ◌∷◌, ◌++◌, true, cond, refl, ap, sym, ◌∙◌, arith, subst}
+use Rattle.std.proofs.Common.{◌≡◌, ℕ, List, [], ◌∷◌, ◌++◌, true, cond, refl, ap, sym, ◌∙◌, subst}
 use Rattle.std.specs.Prelude.{Option, Some, None, IsSome}
 use Rattle.std.specs.List.{All, Contains, filter_map, cons_option, last_or, list_any}
 use Rattle.std.specs.Option.{option_and_then, option_map}
@@ -22,18 +22,13 @@ use Rattle.reducer.specs.Reduction.{value_behind, is_from, previous, is_dropped,
 use Rattle.reducer.proofs.InterleavingLemmas.{reduced, kept_as_origin}
 use Rattle.reducer.proofs.KeptLemmas.{IsFirst, one_first, known_first}
 use Rattle.reducer.proofs.ValueLemmas.{AreKnown, left_by, dropped_repeats, same_location, same_read, same_origin, values_alike, last_alike, writer_listed}
+use Rattle.reducer.proofs.PlaceLemmas.{in_list}
 
 -- an operation of the trace is one of a process
 pub record Listed (t : TraceValue) (op : Op) : Type 0 where
   pub process : Process
   pub listed : Contains t.processes process
   pub there : Contains process.operations op
-
-in_list : {X : Type 0} (xs : List X) (k : ℕ) (y : X) → at_place xs k ≡ Some y → Contains xs y
-in_list xs zero y e = absurd (cc)
-in_list [] (suc k) y e = absurd (cc)
-in_list (z ∷ zs) (suc zero) y e = (zero, omega arith, cc)
-in_list (z ∷ zs) (suc (suc k)) y e = let more = in_list zs (suc k) y e in (suc more.0, omega (arith, more.1), more.2)
 
 pub op_listed : (t : TraceValue) (n : OpName) (op : Op) → operation_at t n ≡ Some op → Listed t op
 op_listed t n op e =

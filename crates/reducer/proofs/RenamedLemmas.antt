@@ -1,5 +1,5 @@
 -- A new place, by the bounds of the runs.
-use Rattle.std.proofs.Common.{◌≡◌, ◌<◌, ◌≤◌, ◌+◌, ◌-◌, ℕ, zero, suc, List, [], ◌∷◌, ◌++◌, length, map, get_or, Bool, true, false, cond, not, ltb, leb, refl, ap, sym, ◌∙◌, arith, inl, inr, subst}
+use Rattle.std.proofs.Common.{◌≡◌, ◌<◌, ◌≤◌, ◌+◌, ◌-◌, ℕ, suc, List, [], ◌∷◌, ◌++◌, length, map, get_or, Bool, true, false, cond, not, ltb, leb, refl, ap, sym, ◌∙◌, arith, inl, inr, subst, append_assoc}
 use Rattle.std.specs.Prelude.{Option, Some, None, IsSome, position}
 use Rattle.std.specs.List.{Contains, filter, find, slice_get, position_or_len}
 use Rattle.std.specs.List.Sorted.{IsPartitionedBy, IsPartitionPoint}
@@ -18,7 +18,7 @@ use Rattle.reducer.specs.Reduction.{is_kept, names_of, new_name}
 use Rattle.reducer.specs.Runs.{names_from, bounds_of, AreBounds}
 use Rattle.reducer.proofs.BoundsLemmas.{few_listed}
 use Rattle.reducer.proofs.KeptLemmas.{found_process, process_of}
-use Rattle.reducer.proofs.PlaceLemmas.{joined_names, filter_append}
+use Rattle.reducer.proofs.PlaceLemmas.{joined_names, filter_append, few_filtered, length_names}
 use Rattle.reducer.proofs.RunLemmas.{in_names}
 
 -- what stands at the place of the first that passes
@@ -111,7 +111,7 @@ bounds_parted t p place l =
     record {
       low = first;
       high = second ++ last;
-      parts = ap (λ l. l ++ last) cut ∙ joined first second last;
+      parts = ap (λ l. l ++ last) cut ∙ append_assoc first second last;
       below = λ x c. let at = places_in (is_kept t) p.name 1 place x c in omega (arith, at.1);
       above = λ x c. elim (Contains-append_cases second last x c) [
         | inl d ↦ (let at = places_in (is_kept t) p.name (1 + place) rest x d in omega (arith, at.0))
@@ -121,10 +121,6 @@ bounds_parted t p place l =
         ]
       ];
     }
-  where
-    joined : (xs ys zs : List ℕ) → (xs ++ ys) ++ zs ≡ xs ++ (ys ++ zs)
-    joined [] ys zs = refl
-    joined (x ∷ xs) ys zs = ap (λ l. x ∷ l) (joined xs ys zs)
 
 -- the bounds of a known operation's process
 pub record BoundsHere (t : TraceValue) (n : OpName) (bounds : List ℕ) : Type 0 where
@@ -164,19 +160,7 @@ few_bounds : (t : TraceValue) (p : Process) → length (bounds_of t p) ≤ lengt
 few_bounds t p =
     let all = length-append (map (λ (m : OpName). m.place) (filter (is_kept t) (names_of p))) ((length p.operations + 1) ∷ []) in
     let mapped = length-map (filter (is_kept t) (names_of p)) (λ (m : OpName). m.place) in
-    omega (arith, all, mapped, few (is_kept t) (names_of p), long p.name 1 (length p.operations))
-  where
-    few : (q : OpName → Bool) (xs : List OpName) → length (filter q xs) ≤ length xs
-    few q [] = omega arith
-    few q (x ∷ xs) = one (q x) (few q xs)
-      where
-        one : (b : Bool) → length (filter q xs) ≤ length xs → length (cond b (x ∷ filter q xs) (filter q xs)) ≤ length (x ∷ xs)
-        one true l = omega (arith, l)
-        one false l = omega (arith, l)
-
-    long : (process : List ℕ) (low n : ℕ) → length (names_from process low n) ≡ n
-    long process low zero = refl
-    long process low (suc n) = ap suc (long process (low + 1) n)
+    omega (arith, all, mapped, few_filtered (is_kept t) (names_of p), length_names p.name 1 (length p.operations))
 
 pub few_here : (t : TraceValue) → IsTrace t → (n : OpName) (bounds : List ℕ) → BoundsHere t n bounds → length bounds ≤ 4097
 few_here t ok n bounds at =

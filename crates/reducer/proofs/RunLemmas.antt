@@ -1,5 +1,5 @@
 -- What a name of the kept trace expands to: the names of the whole trace that have it as their new name.
-use Rattle.std.proofs.Common.{◌≡◌, ◌≢◌, ◌<◌, ◌≤◌, ◌+◌, ◌-◌, ◌==◌, ℕ, zero, suc, List, [], ◌∷◌, ◌++◌, length, drop, Bool, true, false, cond, not, ◌&&◌, ◌||◌, refl, ap, sym, ◌∙◌, arith, inl, inr, subst}
+use Rattle.std.proofs.Common.{◌≡◌, ◌≢◌, ◌<◌, ◌≤◌, ◌+◌, ◌-◌, ◌==◌, ℕ, zero, suc, List, [], ◌∷◌, ◌++◌, length, drop, Bool, true, false, cond, not, ◌&&◌, ◌||◌, refl, ap, sym, ◌∙◌, arith, inl, inr, subst, append_assoc}
 use Rattle.std.specs.Prelude.{Option, Some, None, IsSome, is_some}
 use Rattle.std.specs.List.{Contains, filter, take_while}
 use Rattle.std.proofs.lemmas.Bool.{eqb-true, eq-eqb, ne_eqb, cases_lt}
@@ -145,12 +145,8 @@ pub behind_it : (t : TraceValue) (x n : OpName) (p : Process) → Standing t x n
 behind_it t x n p s =
     let front : List OpName = first_names p.name (n.place - 1) ++ n ∷ [] in
     let long : length front ≡ n.place = length-append (first_names p.name (n.place - 1)) (n ∷ []) ∙ omega (arith, length_names p.name 1 (n.place - 1), s.least) in
-    ap (drop n.place) (s.parts ∙ joined (first_names p.name (n.place - 1)) n (names_from p.name (n.place + 1) (length p.operations - n.place)))
+    ap (drop n.place) (s.parts ∙ sym (append_assoc (first_names p.name (n.place - 1)) (n ∷ []) (names_from p.name (n.place + 1) (length p.operations - n.place))))
     ∙ drop_at front (names_from p.name (n.place + 1) (length p.operations - n.place)) n.place long
-  where
-    joined : (xs : List OpName) (y : OpName) (ys : List OpName) → xs ++ y ∷ ys ≡ (xs ++ y ∷ []) ++ ys
-    joined [] y ys = refl
-    joined (z ∷ zs) y ys = ap (λ l. z ∷ l) (joined zs y ys)
 
 pub expanded_first : (t : TraceValue) (x n : OpName) (first : IsFirst t x n) → expanded t x ≡ n ∷ take_while (is_dropped t) (drop n.place (names_of first.process))
 expanded_first t x n first = ap (run_at t x) first.found ∙ ap (with_run t first.process) first.placed

@@ -1,9 +1,9 @@
 -- What is kept of a trace is a trace.
-use Rattle.std.proofs.Common.{◌≡◌, ◌≢◌, ◌<◌, ◌≤◌, ◌^◌, ℕ, List, [], ◌∷◌, ◌++◌, length, map, get_or, Bool, true, false, cond, ◌&&◌, refl, ap, sym, ◌∙◌, arith, inl, inr, subst}
+use Rattle.std.proofs.Common.{◌≡◌, ◌≢◌, ◌<◌, ◌≤◌, ◌^◌, ℕ, List, [], ◌∷◌, ◌++◌, length, map, get_or, true, ◌&&◌, refl, ap, sym, ◌∙◌, arith, inl, inr, subst}
 use Rattle.std.specs.Prelude.{Option, Some, None, IsSome, nat_le, nat_lt}
 use Rattle.std.specs.Cmp.Lexicographic.{slice_cmp}
 use Rattle.std.specs.declared.cmp.Ordering.TheVariants.{Less}
-use Rattle.std.specs.List.{All, AllPairs, Contains, filter, filter_map, cons_option, flat_map, list_all, sum_by}
+use Rattle.std.specs.List.{All, AllPairs, Contains, filter_map, cons_option, flat_map, list_all, sum_by}
 use Rattle.std.specs.Ordering.{nat_cmp}
 use Rattle.std.proofs.lemmas.Bool.{and_parts, and_from, le-leb, leb-true}
 use Rattle.std.proofs.lemmas.List.{length-map, get_or-map}
@@ -25,7 +25,7 @@ use Rattle.reducer.proofs.DistinctLemmas.{few_named}
 use Rattle.reducer.proofs.InterleavingLemmas.{first_in_pair, second_in_pair}
 use Rattle.reducer.proofs.KeptLemmas.{IsFirst, one_first, known_first, first_kept}
 use Rattle.reducer.proofs.PairLemmas.{pairs_less}
-use Rattle.reducer.proofs.PlaceLemmas.{length_names}
+use Rattle.reducer.proofs.PlaceLemmas.{length_names, few_filtered}
 use Rattle.reducer.proofs.ReadLemmas.{Listed, op_listed, named_by_origin, origin_known}
 use Rattle.reducer.proofs.RunLemmas.{some_kept}
 use Rattle.reducer.proofs.ValueLemmas.{same_location, same_origin}
@@ -60,14 +60,6 @@ few_mapped {A} {B} f (x ∷ xs) = at (f x) (few_mapped f xs)
     at : (o : Option B) → length (filter_map f xs) ≤ length xs → length (cons_option o (filter_map f xs)) ≤ length (x ∷ xs)
     at None l = omega (arith, l)
     at (Some y) l = omega (arith, l)
-
-few_filtered : {A : Type 0} (p : A → Bool) (xs : List A) → length (filter p xs) ≤ length xs
-few_filtered p [] = omega arith
-few_filtered {A} p (x ∷ xs) = at (p x) (few_filtered p xs)
-  where
-    at : (b : Bool) → length (filter p xs) ≤ length xs → length (cond b (x ∷ filter p xs) (filter p xs)) ≤ length (x ∷ xs)
-    at true l = omega (arith, l)
-    at false l = omega (arith, l)
 
 few_kept : (t : TraceValue) (p : Process) → length (kept_process t p).operations ≤ length p.operations
 few_kept t p =

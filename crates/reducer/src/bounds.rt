@@ -46,7 +46,7 @@ fn value_behind(op: &Op) -> u64
     }
 }
 
-/// Whether the second is a plain read, of any origin, of what its location holds directly after the first.
+/// Whether the second is a plain read, of which no origin is said, of what its location holds directly after the first.
 fn is_repeat(earlier: &Op, op: &Op) -> bool
     ensures { result ≡ reduction.is_repeat earlier.now op.now }
 {

@@ -50,15 +50,17 @@ impl Reduced {
     }
 
     /// The bounds of the runs of dropped reads, for each process.
-    pub fn bounds(&self) -> &[Bounds]
+    pub(crate) fn bounds(&self) -> &[Bounds]
         ensures { AreBounds self.now.whole result.now }
     {
         self.bounds.as_slice()
     }
 }
 
-/// The trace without its repeated local reads. A plain read, of any origin, is dropped where the operation directly before it
-/// in its process leaves or reads the same value at the same location, and where no before pair and no origin names it.
+/// The trace without its repeated local reads.
+///
+/// A plain read is dropped where the operation directly before it in its process leaves or reads the same value at the
+/// same location, where nothing is said of its origin, and where no before pair and no origin names it.
 pub fn reduce(alloc: Global, trace: &Trace) -> Result<Reduced, ReduceFault>
     ensures whole { IfOk result (λ reduced. reduced.whole ≡ trace.now) }
     ensures reduced { IfOk result IsReduced }

@@ -18,6 +18,8 @@ mod limits;
 #[cfg(test)]
 mod named_operations;
 #[cfg(test)]
+mod reductions;
+#[cfg(test)]
 mod refusals;
 #[cfg(test)]
 mod run;
