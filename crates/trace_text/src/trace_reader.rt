@@ -129,7 +129,7 @@ fn finish(
     let TraceReader { mut gathered, .. } = reader;
     gathered.close_process()?;
     check_references(alloc, two, gathered.processes(), text)?;
-    gathered.arrange();
+    gathered.arrange()?;
     Ok(gathered.into_trace())
 }
 

@@ -20,7 +20,11 @@ pub enum ReadFault {
 pub const INPUT_LIMIT: usize = 268_435_456;
 
 /// The room for the bytes of one call.
-const CHUNK: usize = 65_536;
+const CHUNK: usize = 16_384;
+
+/// The room for a text before it grows. Most texts fit, so that their bytes are not copied again; room that no byte
+/// fills is asked of the system and never touched.
+const ROOM: usize = 262_144;
 
 // A buffer of so many bytes.
 fn blank(alloc: Global, size: usize) -> Result<Vec<u8>, AllocError>
@@ -44,7 +48,9 @@ pub fn read_whole<S: Source>(alloc: Global, source: &mut S) -> Result<Vec<u8>, R
     let Ok(mut chunk) = blank(alloc, CHUNK) else {
         return Err(ReadFault::OutOfMemory);
     };
-    let mut text = Vec::new(alloc);
+    let Ok(mut text) = Vec::with_capacity(alloc, ROOM) else {
+        return Err(ReadFault::OutOfMemory);
+    };
     loop {
         let Ok(count) = source.read(chunk.as_mut_slice()) else {
             return Err(ReadFault::Device);

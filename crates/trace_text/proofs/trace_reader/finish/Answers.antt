@@ -21,12 +21,12 @@ returns-in_err-check_references-clause-refused c =
 pub into_trace-requires-clause-trace : goal.into_trace-requires-clause-trace
 into_trace-requires-clause-trace c =
     let all = same_trace c.args.reader.gathered c.close_process.new.self c.in_ok-close_process.ensures.processes c.close_process.ensures.initial c.close_process.ensures.final_values c.close_process.ensures.before in
-    is_trace c.args.text.now c.args.two c.args.reader (trace_of c.arrange.new.self) c.requires (subst (λ (u : TraceValue). IsArranged u (trace_of c.arrange.new.self)) all c.arrange.ensures.arranged)
-    (subst (λ (ps : List Process). IsFaultless (λ (before : List (List ℕ)) (here : List ℕ). fault_of_line c.args.two ps here) (lines_of c.args.text.now)) (c.processes.ensures ∙ sym c.arrange.ensures.arranged.processes) c.in_ok-check_references.ensures.fine)
+    is_trace c.args.text.now c.args.two c.args.reader (trace_of c.arrange.new.self) c.requires (subst (λ (u : TraceValue). IsArranged u (trace_of c.arrange.new.self)) all c.in_ok-arrange.ensures.arranged)
+    (subst (λ (ps : List Process). IsFaultless (λ (before : List (List ℕ)) (here : List ℕ). fault_of_line c.args.two ps here) (lines_of c.args.text.now)) (c.processes.ensures ∙ sym c.in_ok-arrange.ensures.arranged.processes) c.in_ok-check_references.ensures.fine)
 
 pub returns-clause-spelled : goal.returns-clause-spelled
 returns-clause-spelled c =
     let all = same_trace c.args.reader.gathered c.close_process.new.self c.in_ok-close_process.ensures.processes c.close_process.ensures.initial c.close_process.ensures.final_values c.close_process.ensures.before in
     subst (λ (t : TraceValue). SpellsTrace c.args.text.now t) (sym c.into_trace.ensures) (spells c.args.text.now c.args.two c.args.reader (trace_of c.arrange.new.self) c.requires
-    (subst (λ (u : TraceValue). IsArranged u (trace_of c.arrange.new.self)) all c.arrange.ensures.arranged)
-    (subst (λ (ps : List Process). IsFaultless (λ (before : List (List ℕ)) (here : List ℕ). fault_of_line c.args.two ps here) (lines_of c.args.text.now)) (c.processes.ensures ∙ sym c.arrange.ensures.arranged.processes) c.in_ok-check_references.ensures.fine))
+    (subst (λ (u : TraceValue). IsArranged u (trace_of c.arrange.new.self)) all c.in_ok-arrange.ensures.arranged)
+    (subst (λ (ps : List Process). IsFaultless (λ (before : List (List ℕ)) (here : List ℕ). fault_of_line c.args.two ps here) (lines_of c.args.text.now)) (c.processes.ensures ∙ sym c.in_ok-arrange.ensures.arranged.processes) c.in_ok-check_references.ensures.fine))
