@@ -17,7 +17,7 @@ value_behind (Read location value origin) = value
 value_behind (Write location value) = value
 value_behind (Update location read left origin) = left
 
--- a plain read, of which no origin is said, of what its location holds directly after the earlier operation on it
+-- a plain read of what its location holds directly after the earlier operation on it, where nothing is said of its source
 abbrev pub is_repeat : Op → Op → Bool
 is_repeat earlier (Read location value Any) = bytes_eq (location_of earlier) location && (value_behind earlier == value)
 is_repeat earlier op = false

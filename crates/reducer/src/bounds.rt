@@ -46,7 +46,7 @@ fn value_behind(op: &Op) -> u64
     }
 }
 
-/// Whether the second is a plain read, of which no origin is said, of what its location holds directly after the first.
+/// Whether the second is a plain read of what its location holds directly after the first, and nothing is said of its source.
 fn is_repeat(earlier: &Op, op: &Op) -> bool
     ensures { result ≡ reduction.is_repeat earlier.now op.now }
 {
