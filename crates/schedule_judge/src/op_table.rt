@@ -2,12 +2,13 @@
 
 use std::alloc::{AllocError, Global};
 use std::collections::HashMap;
+use traces::name_key::NameKey;
 use traces::operation::OpName;
 
 /// A number for each of some operations.
 #[derive(Drop)]
 pub struct OpTable<'a> {
-    numbers: HashMap<(&'a [u8], usize), usize>,
+    numbers: HashMap<(NameKey<'a>, usize), usize>,
 }
 
 impl<'a> OpTable<'a> {
@@ -28,7 +29,7 @@ impl<'a> OpTable<'a> {
     pub fn get(&self, process: &'a [u8], place: usize) -> Option<usize>
         ensures { result ≡ number_at self.now (record { process = process.now; place = place }) }
     {
-        self.numbers.get(&(process, place)).copied()
+        self.numbers.get(&(NameKey::new(process), place)).copied()
     }
 
     /// The number of this operation, if it has one.
@@ -43,7 +44,7 @@ impl<'a> OpTable<'a> {
         ensures { OnOk result ((n : OpName) → number_at self.new n ≡ cond (same_op name.now n) (Some number) (number_at self.old n)) }
     {
         self.numbers
-            .insert((name.process.as_bytes(), name.place as usize), number)?;
+            .insert((NameKey::new(name.process.as_bytes()), name.place as usize), number)?;
         Ok(())
     }
 }

@@ -7,6 +7,7 @@
 pub mod judgement;
 pub mod laws;
 pub mod name;
+pub mod name_key;
 pub mod name_table;
 pub mod operation;
 pub mod schedule;

@@ -1,12 +1,13 @@
 //! Numbers by name.
 
+use crate::name_key::NameKey;
 use std::alloc::{AllocError, Global};
 use std::collections::HashMap;
 
 /// A number for each of some names.
 #[derive(Drop)]
 pub struct NameTable<'a> {
-    numbers: HashMap<&'a [u8], u64>,
+    numbers: HashMap<NameKey<'a>, u64>,
 }
 
 impl<'a> NameTable<'a> {
@@ -35,14 +36,14 @@ impl<'a> NameTable<'a> {
     pub fn get(&self, name: &'a [u8]) -> Option<u64>
         ensures { result ≡ number_of self.now name.now }
     {
-        self.numbers.get(&name).copied()
+        self.numbers.get(&NameKey::new(name)).copied()
     }
 
     /// Gives the name this number.
     pub fn insert(&mut self, name: &'a [u8], number: u64) -> Result<(), AllocError>
         ensures { OnOk result ((q : List ℕ) → number_of self.new q ≡ cond (bytes_eq name.now q) (Some number) (number_of self.old q)) }
     {
-        self.numbers.insert(name, number)?;
+        self.numbers.insert(NameKey::new(name), number)?;
         Ok(())
     }
 }
