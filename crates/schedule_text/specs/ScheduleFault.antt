@@ -29,10 +29,10 @@ name_of OutOfMemory = codes "OutOfMemory"
 name_of (Line cause line) = cause_name cause
 
 -- the line of a fault, where it has one
-abbrev pub line_of : ScheduleFault → Option ℕ
-line_of OutOfMemory = None
-line_of (Line cause line) = Some line
+abbrev pub line_number_of : ScheduleFault → Option ℕ
+line_number_of OutOfMemory = None
+line_number_of (Line cause line) = Some line
 
 -- a fault as it is printed, as `2 BadName at 1`
 abbrev pub printed : ScheduleFault → List ℕ
-printed fault = printed_at (number_of fault) (name_of fault) (line_of fault)
+printed fault = printed_at (number_of fault) (name_of fault) (line_number_of fault)

@@ -52,7 +52,7 @@ impl ScheduleCause {
 
 impl ScheduleFault {
     ghost use Rattle.std.specs.Prelude.{◌≡◌};
-    ghost use Rattle.schedule_text.specs.ScheduleFault.{number_of, name_of, line_of};
+    ghost use Rattle.schedule_text.specs.ScheduleFault.{number_of, name_of, line_number_of};
 
     /// Its number: 1 where there was no memory, else its cause's.
     pub fn number(&self) -> u8
@@ -76,7 +76,7 @@ impl ScheduleFault {
 
     /// The line at which it stands, counted from 1, where it has one.
     pub fn place(&self) -> Option<usize>
-        ensures { result ≡ line_of self.now }
+        ensures { result ≡ line_number_of self.now }
     {
         match self {
             ScheduleFault::OutOfMemory => None,

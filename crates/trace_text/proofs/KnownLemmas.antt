@@ -3,7 +3,7 @@ use Rattle.std.proofs.Common.{◌≡◌, ◌≢◌, ℕ, zero, suc, ◌^◌, ◌
 use Rattle.std.specs.Prelude.{Option, Some, None, IsSome, is_some, nat_le, nat_lt, if◌then◌else◌}
 use Rattle.std.specs.Fmt.{decimal}
 use Rattle.std.specs.List.{AllPairs, Contains, filter, flat_map, list_any, list_all}
-use Rattle.std.specs.Option.{option_and_then, unwrap_or}
+use Rattle.std.specs.Option.{option_and_then}
 use Rattle.std.specs.Str.{bytes_eq}
 use Rattle.std.proofs.lemmas.Bool.Decides.{nat_tests}
 use Rattle.std.proofs.lemmas.Option.{slice_get-get_or}
@@ -26,11 +26,11 @@ use Rattle.text_lines.specs.Kept.{is_skipped, kept}
 use Rattle.traces.specs.Names.{is_name}
 use Rattle.traces.specs.Operation.{origin_of}
 use Rattle.trace_text.specs.Read.{AreSaid}
-use Rattle.trace_text.specs.References.{is_of, is_among, fault_of_references, fault_of_line, IsRefusedByReferences}
+use Rattle.trace_text.specs.References.{is_of, some_is_of, is_among, fault_of_references, fault_of_line, IsRefusedByReferences}
 use Rattle.trace_text.specs.Statement.{Statement, Proc, statement_of, words_for}
 use Rattle.traces.specs.Trace.{TraceValue, operation_at, at_place, IsKnownOrigin, is_written_name, is_written_origin, is_written_op, is_written_process, is_written_pair}
 use Rattle.traces.specs.Place.{place_of}
-use Rattle.trace_text.specs.TraceFault.{references_of, references_of_source, is_before, is_before_itself, reference_fault, line_reference_fault, trace_line_fault, statements_of, IsTraceRefusal}
+use Rattle.trace_text.specs.TraceFault.{has_operation_at, references_of, references_of_source, is_before, is_before_itself, reference_fault, line_reference_fault, trace_line_fault, statements_of, IsTraceRefusal}
 use Rattle.trace_text.specs.TraceText.{header_line}
 use Rattle.traces.proofs.ElementLemmas.{placed, tail_in, from_filter, from_map, to_map, to_flat_map, some_passes, same_from_key, finds, all_pass}
 use Rattle.trace_text.proofs.LineLemmas.{version_is}
@@ -63,7 +63,7 @@ named_known t distinct n at =
 pub among_known : (t : TraceValue) → AllPairs (λ (p q : Process). p.name ≢ q.name) t.processes → (n : OpName) → is_written_name n ≡ true → is_among t.processes (n.process, decimal n.place) ≡ true → IsSome (operation_at t n)
 among_known t distinct n w h =
     let range = both (nat_le 1 n.place) (nat_le n.place 65535) (both (is_name n.process) (nat_le 1 n.place && nat_le n.place 65535) w).1 in
-    let there : list_any (is_of n.process n.place) t.processes ≡ true = ap (λ o. list_any (is_of n.process (unwrap_or o 0)) t.processes) (sym (place_read n.place range.0 range.1)) ∙ h in
+    let there : list_any (is_of n.process n.place) t.processes ≡ true = ap (some_is_of t.processes n.process) (sym (place_read n.place range.0 range.1)) ∙ h in
     let at = some_passes (is_of n.process n.place) t.processes there in
     let parts = both (bytes_eq at.0.name n.process) (nat_le n.place (length at.0.operations)) at.2 in
     named_known t distinct n (record {
@@ -147,10 +147,15 @@ origins_known t two lines ss distinct a e w f p c op d =
     let written = both (is_name p.name) (list_all is_written_op p.operations) (all_pass is_written_process t.processes w p c) in
     op_known t distinct op (all_pass is_written_op p.operations written.1 op d) known
 
+-- statements have an operation where their processes have it, at a place that is written or is none
+same_place : (ss : List Statement) (ps : List Process) (process : List ℕ) (place : Option ℕ) → filter is_of_process ss ≡ flat_map process_statements ps → has_operation_at ss process place ≡ some_is_of ps process place
+same_place ss ps process None h = refl
+same_place ss ps process (Some place) h = has_operation-listed ss ps process place h
+
 -- the faults of references are those of the text
 same_references : (ss : List Statement) (ps : List Process) (o : Option Statement) → filter is_of_process ss ≡ flat_map process_statements ps → reference_fault ss o ≡ fault_of_references ps o
 same_references ss ps None h = refl
-same_references ss ps (Some s) h = λ i. if not (list_all (λ (r : List ℕ × List ℕ). has_operation-listed ss ps r.0 (unwrap_or (place_of r.1) 0) h i) (references_of s)) then Some NoSuchOp else if is_before_itself s then Some BeforeItself else None
+same_references ss ps (Some s) h = λ i. if not (list_all (λ (r : List ℕ × List ℕ). same_place ss ps r.0 (place_of r.1) h i) (references_of s)) then Some NoSuchOp else if is_before_itself s then Some BeforeItself else None
 
 pub same_fault : (two : Bool) (lines : List (List ℕ)) (ss : List Statement) (ps : List Process) (line : List ℕ) → AreSaid two lines ss → filter is_of_process ss ≡ flat_map process_statements ps →
     line_reference_fault (kept lines) line ≡ fault_of_line two ps line

@@ -2,8 +2,7 @@
 use Rattle.std.proofs.Common.{◌≡◌, [], ◌∷◌, length, true, false, not, ◌&&◌, refl, ap, sym, ◌∙◌, arith}
 use Rattle.std.specs.Prelude.{Some, None, IsSome, nat_le, if◌then◌else◌}
 use Rattle.std.specs.Fmt.{decimal}
-use Rattle.std.specs.List.{All, list_all, list_any}
-use Rattle.std.specs.Option.{unwrap_or}
+use Rattle.std.specs.List.{All, list_all}
 use Rattle.std.specs.Str.{bytes_eq}
 use Rattle.std.proofs.lemmas.Bool.{and_parts, and_from, le-leb, false_from_ne_true}
 use Rattle.std.proofs.lemmas.Fmt.{decimal_injective}
@@ -19,7 +18,7 @@ use Rattle.traces.specs.declared.trace.Process.{Process}
 use Rattle.trace_text.specs.declared.trace_fault.TraceCause.TheVariants.{NoSuchOp, BeforeItself}
 use Rattle.trace_text.specs.Entry.{op_statement, source_of, statement_for}
 use Rattle.traces.specs.Operation.{origin_of}
-use Rattle.trace_text.specs.References.{is_of, is_among, fault_of_references}
+use Rattle.trace_text.specs.References.{is_of, some_is_of, is_among, fault_of_references}
 use Rattle.trace_text.specs.Statement.{Statement}
 use Rattle.traces.specs.Trace.{TraceValue, IsTrace, operation_at, IsKnownOrigin, is_written_name, is_written_origin, is_written_op}
 use Rattle.trace_text.specs.TraceFault.{references_of, references_of_source, is_before_itself}
@@ -34,7 +33,7 @@ among : (t : TraceValue) (n : OpName) → is_written_name n ≡ true → IsSome 
 among t n w h =
     let parts = name_parts n w in
     let at = known_named t n h in
-    ap (λ o. list_any (is_of n.process (unwrap_or o 0)) t.processes) (place_decimal n parts)
+    ap (some_is_of t.processes n.process) (place_decimal n parts)
     ∙ passes_some (is_of n.process n.place) t.processes at.process at.listed
     (and_from (bytes_eq at.process.name n.process) (nat_le n.place (length at.process.operations)) (bytes_same at.process.name n.process at.called) (le-leb n.place (length at.process.operations) at.most))
 

@@ -1,7 +1,6 @@
 -- The operations that lines name.
-use Rattle.std.specs.Prelude.{⊤, ℕ, Bool, not, ◌&&◌, List, length, Option, Some, None, nat_le, if◌then◌else◌}
+use Rattle.std.specs.Prelude.{⊤, ℕ, Bool, false, not, ◌&&◌, List, length, Option, Some, None, nat_le, if◌then◌else◌}
 use Rattle.std.specs.List.{list_any, list_all}
-use Rattle.std.specs.Option.{unwrap_or}
 use Rattle.std.specs.Str.{bytes_eq}
 use Rattle.text_lines.specs.FirstFault.{IsFirstFault}
 use Rattle.text_lines.specs.Lines.{lines_of}
@@ -20,9 +19,14 @@ use Rattle.trace_text.specs.TraceFault.{references_of, is_before_itself}
 abbrev pub is_of : List ℕ → ℕ → Process → Bool
 is_of name place p = bytes_eq p.name name && nat_le place (length p.operations)
 
+-- one of these processes has this name and an operation at the place that a word writes, if it writes one
+abbrev pub some_is_of : List Process → List ℕ → Option ℕ → Bool
+some_is_of processes name None = false
+some_is_of processes name (Some place) = list_any (is_of name place) processes
+
 -- one of these processes has the operation that is named
 abbrev pub is_among : List Process → List ℕ × List ℕ → Bool
-is_among processes r = list_any (is_of r.0 (unwrap_or (place_of r.1) 0)) processes
+is_among processes r = some_is_of processes r.0 (place_of r.1)
 
 -- what is wrong with the operations that a line of these words names
 abbrev pub fault_of_references : List Process → Option Statement → Option TraceCause

@@ -53,10 +53,10 @@ name_of OutOfMemory = codes "OutOfMemory"
 name_of (Line cause line) = cause_name cause
 
 -- the line of a fault, where it has one
-abbrev pub line_of : TraceFault → Option ℕ
-line_of OutOfMemory = None
-line_of (Line cause line) = Some line
+abbrev pub line_number_of : TraceFault → Option ℕ
+line_number_of OutOfMemory = None
+line_number_of (Line cause line) = Some line
 
 -- a fault as it is printed, as `13 TooManyOps at 4099`
 abbrev pub printed : TraceFault → List ℕ
-printed fault = printed_at (number_of fault) (name_of fault) (line_of fault)
+printed fault = printed_at (number_of fault) (name_of fault) (line_number_of fault)

@@ -2,7 +2,6 @@
 use Rattle.std.specs.Prelude.{◌≡◌, ◌⊎◌, ⊤, ◌+◌, ◌-◌, ◌^◌, ℕ, Bool, true, false, not, List, [], ◌∷◌, ◌++◌, length, map, Option, Some, None, is_none, ◌&&◌, ◌||◌, nat_le, nat_lt, if◌then◌else◌}
 use Rattle.std.specs.Cmp.Lexicographic.{pointwise}
 use Rattle.std.specs.List.{filter, filter_map, list_any, list_all}
-use Rattle.std.specs.Option.{unwrap_or}
 use Rattle.std.specs.Str.{bytes_eq}
 use Rattle.text_lines.specs.FirstFault.{IsFaultless, IsFirstFault}
 use Rattle.text_lines.specs.Lines.{lines_of}
@@ -181,9 +180,14 @@ has_operation [] process place = false
 has_operation (Proc name ∷ ss) process place = (bytes_eq name process && nat_le place (operations_up_to_proc ss)) || has_operation ss process place
 has_operation (s ∷ ss) process place = has_operation ss process place
 
+-- the same of the place that a word writes, if it writes one
+abbrev pub has_operation_at : List Statement → List ℕ → Option ℕ → Bool
+has_operation_at ss process None = false
+has_operation_at ss process (Some place) = has_operation ss process place
+
 -- the operation that is named is one of these statements
 abbrev pub is_known : List Statement → List ℕ × List ℕ → Bool
-is_known all r = has_operation all r.0 (unwrap_or (place_of r.1) 0)
+is_known all r = has_operation_at all r.0 (place_of r.1)
 
 -- a `before` line of an operation and itself
 abbrev pub is_before_itself : Statement → Bool

@@ -1,6 +1,6 @@
 //! The operations that the lines of a trace text name.
 
-ghost use Rattle.std.specs.Prelude.{◌≡◌, ◌&&◌, ℕ, List, None, OnOk, IfErr, nat_le, length, map, option_map, unwrap_or};
+ghost use Rattle.std.specs.Prelude.{◌≡◌, ◌&&◌, ℕ, List, None, OnOk, IfErr, nat_le, length, map, option_map};
 ghost use Rattle.std.specs.List.{list_all, list_any};
 ghost use Rattle.std.specs.Str.{bytes_eq};
 ghost use Rattle.text_lines.specs.FirstFault.{IsFaultless};
@@ -41,9 +41,12 @@ fn some_has_place(processes: &[Process], name: &[u8], place: u16) -> bool
 
 /// Whether one of the processes has the operation that is named.
 fn has_named(processes: &[Process], name: &[u8], place: &[u8]) -> bool
-    ensures { result ≡ list_any (is_of name.now (unwrap_or (place_of place.now) 0)) processes.now }
+    ensures { result ≡ is_among processes.now (name.now, place.now) }
 {
-    some_has_place(processes, name, read_place(place).unwrap_or(0))
+    match read_place(place) {
+        Some(place) => some_has_place(processes, name, place),
+        None => false,
+    }
 }
 
 fn source_is_known(processes: &[Process], source: Source<'_>) -> bool

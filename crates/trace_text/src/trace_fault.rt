@@ -104,7 +104,7 @@ impl TraceCause {
 
 impl TraceFault {
     ghost use Rattle.std.specs.Prelude.{◌≡◌};
-    ghost use Rattle.trace_text.specs.TraceCauses.{number_of, name_of, line_of};
+    ghost use Rattle.trace_text.specs.TraceCauses.{number_of, name_of, line_number_of};
 
     /// Its number: 1 where there was no memory, else its cause's.
     pub fn number(&self) -> u8
@@ -128,7 +128,7 @@ impl TraceFault {
 
     /// The line at which it stands, counted from 1, where it has one.
     pub fn place(&self) -> Option<usize>
-        ensures { result ≡ line_of self.now }
+        ensures { result ≡ line_number_of self.now }
     {
         match self {
             TraceFault::OutOfMemory => None,

@@ -102,7 +102,7 @@ locations_of t = map (λ (entry : List ℕ × ℕ). entry.0) t.initial ++ (map (
 abbrev pub location_count : TraceValue → ℕ
 location_count t = length (distinct (locations_of t))
 
--- what each trace keeps
+-- what each trace keeps; that no location stands twice follows from the order of the values
 pub record IsTrace (t : TraceValue) : Type 0 where
   pub distinct : AllPairs (λ (p q : Process). p.name ≢ q.name) t.processes
   pub few_processes : length t.processes ≤ 64
