@@ -58,8 +58,8 @@ impl Reduced {
 }
 
 /// The trace without its repeated local reads. A plain read is dropped where the operation directly before it in its process
-/// leaves or reads the same value at the same location, where nothing is said of its source, and where no before pair and no
-/// origin names it.
+/// leaves its value at its location or is a plain read of it there, where nothing is said of its source, and where no before
+/// pair and no origin names it.
 pub fn reduce(alloc: Global, trace: &Trace) -> Result<Reduced, ReduceFault>
     ensures whole { IfOk result (λ reduced. reduced.whole ≡ trace.now) }
     ensures reduced { IfOk result IsReduced }

@@ -29,7 +29,9 @@ fn with_digit(value: u64, digit: u8) -> Option<u64>
     shifted.checked_add(u64::from(digit - b'0'))
 }
 
-/// The value of a word of digits, where it is below 2^64.
+/// The value of a word of digits, where it is below 2^64. Within a large function the loop would keep the value on the
+/// stack, which makes each digit wait for the one before it.
+#[inline(never)]
 fn value_of_digits(digits: &[u8]) -> Option<u64>
     requires { list_all is_ascii_digit digits.now ≡ true }
     ensures { result ≡ (if nat_lt (digits_value 10 digits.now) (2 ^ 64) then Some (digits_value 10 digits.now) else None) }

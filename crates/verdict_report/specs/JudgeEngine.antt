@@ -105,12 +105,12 @@ pub record Answers (trace schedule : SourceRun) (out : SinkRun) (status : Status
   pub status_is : status ≡ status_after judgement
   pub unfailing : NothingFailed trace schedule out
 
--- the first input is past the limit, and the second one was not asked for; or the second one is where the first is not
+-- the first input is past the limit, and the second source handed out nothing; or the second input is past it where the first is not
 abbrev pub IsTooLong : SourceRun → SourceRun → Type 0
 IsTooLong trace schedule = (AppendsMoreThan 268435456 trace.before trace.now × IsUntouched schedule)
     ⊎ ((text : List ℕ) × HandsOut trace text × AppendsMoreThan 268435456 schedule.before schedule.now)
 
--- the first source failed, within the limit, and nothing else was asked
+-- the first source failed, within the limit, and the second one handed out nothing and did not fail
 pub record TraceFails (trace schedule : SourceRun) (out : SinkRun) : Type 0 where
   pub failed : trace.failures_now ≡ trace.failures_before + 1
   pub within_limit : AppendsAtMost 268435456 trace.before trace.now
