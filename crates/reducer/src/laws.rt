@@ -1,16 +1,28 @@
 //! Laws of reduction and expansion.
 
-ghost use Rattle.std.specs.Prelude.{◌≡◌, ◌↔◌, List};
+ghost use Rattle.std.specs.Prelude.{◌≡◌, ◌↔◌, true, List, IsSome};
+ghost use Rattle.std.specs.List.{Contains};
+ghost use Rattle.std.specs.Option.{option_map};
 ghost use Rattle.traces.specs.declared.operation.OpName.{OpName};
 ghost use Rattle.traces.specs.Interleaving.{IsInterleaving};
 ghost use Rattle.traces.specs.Legal.{IsLegal};
-ghost use Rattle.traces.specs.Trace.{TraceValue, IsTrace};
-ghost use Rattle.reducer.specs.Expansion.{expansion};
-ghost use Rattle.reducer.specs.Reduction.{kept_trace};
+ghost use Rattle.traces.specs.Trace.{TraceValue, IsTrace, operation_at};
+ghost use Rattle.reducer.specs.Expansion.{expanded, expansion};
+ghost use Rattle.reducer.specs.Reduction.{is_kept, new_name, new_op, kept_trace};
 
 /// What is kept of a trace is a trace.
 pub fn kept_is_a_trace()
     ensures { (t : TraceValue) → IsTrace t → IsTrace (kept_trace t) }
+{}
+
+/// The kept trace has each kept operation under its new name.
+pub fn kept_has_its_new_name()
+    ensures { (t : TraceValue) (n : OpName) → IsTrace t → IsSome (operation_at t n) → is_kept t n ≡ true → operation_at (kept_trace t) (new_name t n) ≡ option_map (new_op t) (operation_at t n) }
+{}
+
+/// A name of the kept trace expands to the operations of the whole one that have it as their new name, dropped ones included.
+pub fn expands_to_those_of_its_new_name()
+    ensures { (t : TraceValue) (x m : OpName) → IsTrace t → IsSome (operation_at (kept_trace t) x) → Contains (expanded t x) m ↔ (IsSome (operation_at t m) × (new_name t m ≡ x)) }
 {}
 
 /// With the dropped reads put back, an interleaving of the kept trace is one of the whole trace.
