@@ -43,8 +43,10 @@ impl<'a> OpTable<'a> {
     pub fn insert(&mut self, name: &'a OpName, number: usize) -> Result<(), AllocError>
         ensures { OnOk result ((n : OpName) → number_at self.new n ≡ cond (same_op name.now n) (Some number) (number_at self.old n)) }
     {
-        self.numbers
-            .insert((NameKey::new(name.process.as_bytes()), name.place as usize), number)?;
+        self.numbers.insert(
+            (NameKey::new(name.process.as_bytes()), name.place as usize),
+            number,
+        )?;
         Ok(())
     }
 }
