@@ -1,11 +1,11 @@
 //! The texts of traces and schedules that are read and written back.
 
 use crate::whole_traces::UPDATES;
+use schedule_text::schedule_reader::read_schedule;
+use schedule_text::schedule_writer::write_schedule;
 use std::alloc::{AllocError, Global};
 use std::process::Abort;
 use std::test::Fail;
-use schedule_text::schedule_reader::read_schedule;
-use schedule_text::schedule_writer::write_schedule;
 use trace_text::trace_reader::read_trace;
 use trace_text::trace_writer::write_trace;
 

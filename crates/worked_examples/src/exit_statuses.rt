@@ -1,8 +1,8 @@
 //! The exit status of each outcome, and the line of each kind of fault.
 
 use dimacs::MemorySink;
-use std::test::Fail;
 use schedule_text::schedule_fault::ScheduleCause;
+use std::test::Fail;
 use trace_text::trace_fault::TraceCause;
 use verdict_report::{Fault, Status, exit_status, write_fault};
 

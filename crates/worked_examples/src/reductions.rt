@@ -4,18 +4,18 @@ use reducer::expand::expand;
 use reducer::laws::kept_is_a_trace;
 use reducer::reduce_fault::ReduceFault;
 use reducer::reduced::{Reduced, reduce};
+use schedule_judge::judge::judge;
+use schedule_text::schedule_reader::read_schedule;
+use schedule_text::schedule_writer::write_schedule;
 use std::alloc::{AllocError, Global};
 use std::process::Abort;
 use std::test::Fail;
-use schedule_judge::judge::judge;
+use trace_text::trace_reader::read_trace;
+use trace_text::trace_writer::write_trace;
 use traces::judgement::Judgement;
 use traces::laws::legal_exactly_where_faultless;
 use traces::schedule::Schedule;
-use schedule_text::schedule_reader::read_schedule;
-use schedule_text::schedule_writer::write_schedule;
 use traces::trace::Trace;
-use trace_text::trace_reader::read_trace;
-use trace_text::trace_writer::write_trace;
 
 /// A write, a read of it, and a write elsewhere.
 const READ_BETWEEN: &str = "vsc 1\nproc P\nW x 1\nR x 1\nW y 1\n";
@@ -90,7 +90,10 @@ fn assert_expands(
         panic!(rt; "the schedule is refused");
     };
     let names = expanded(rt, alloc, &reduced, &kept)?;
-    assert!(rt; write_schedule(alloc, &names)?.as_slice() == whole, "{schedule}");
+    assert!(rt;
+        write_schedule(alloc, &names)?.as_slice() == whole,
+        "{schedule}"
+    );
     let judgement = judge(alloc, &trace, &names)?;
     assert_eq!(rt; judgement, Judgement::Legal);
     Ok(())
@@ -136,14 +139,16 @@ fn drops_repeated_reads_alone(rt: HostRuntime) -> Result<(), Fail> {
 fn puts_dropped_reads_back(rt: HostRuntime) -> Result<(), Fail> {
     for (trace, schedule, whole) in [
         (READ_BETWEEN, "P.1\nP.2\n", "P.1\nP.2\nP.3\n"),
-        (
-            TIED,
-            "P.1\nP.2\nQ.1\n",
-            "P.1\nP.2\nP.3\nP.4\nP.5\nQ.1\n",
-        ),
+        (TIED, "P.1\nP.2\nQ.1\n", "P.1\nP.2\nP.3\nP.4\nP.5\nQ.1\n"),
         ("vsc 1\n", "", ""),
     ] {
-        assert_expands(&rt, rt.alloc(), trace.as_bytes(), schedule, whole.as_bytes())?;
+        assert_expands(
+            &rt,
+            rt.alloc(),
+            trace.as_bytes(),
+            schedule,
+            whole.as_bytes(),
+        )?;
     }
     Ok(())
 }
