@@ -1,1 +1,3 @@
+pub mod ChunkLemmas
+pub mod ModelLemmas
 pub mod SinkLemmas
