@@ -1,5 +1,5 @@
 -- Literals and models over lists that the code walks along.
-use Rattle.std.proofs.Common.{◌≡◌, ℕ, zero, suc, ◌+◌, ◌<◌, ◌≤◌, ℤ, Bool, true, false, not, Some, None, List, [], ◌∷◌, ◌++◌, length, take, drop, get_or, refl, sym, ◌∙◌, ap, cond, position, inl, inr, arith}
+use Rattle.std.proofs.Common.{◌≡◌, ℕ, zero, suc, ◌+◌, ◌<◌, ◌≤◌, ℤ, pos, negsuc, neg_ℤ, Bool, true, false, not, Some, None, List, [], ◌∷◌, ◌++◌, length, take, drop, get_or, refl, sym, ◌∙◌, ap, cond, position, inl, inr, arith}
 use Rattle.std.specs.List.{list_all, position_or_len}
 use Rattle.std.proofs.lemmas.Bool.{and_from, and_parts, not-true, not-false, true≢false, lt-ltb, cases_lt}
 use Rattle.std.proofs.lemmas.Option.{none-some}
@@ -7,7 +7,8 @@ use Rattle.std.proofs.lemmas.List.{take-append-drop, length-take-le, drop_more, 
 use Rattle.std.proofs.lemmas.List.Folds.{list_all_more, list_all-append}
 use Rattle.std.proofs.lemmas.List.Quantifiers.{position-Some}
 use Rattle.std.proofs.lemmas.List.Sums.{fails_before_first}
-use Rattle.dimacs.specs.Assignment.{makes_some}
+use Rattle.dimacs.specs.Assignment.{makes_true, makes_some}
+use Rattle.dimacs.specs.Literal.{is_literal}
 use Rattle.dimacs.specs.Models.{IsModel, IsFirstFalse}
 
 -- one more element that passes
@@ -55,3 +56,13 @@ no_model value clauses place f m =
     let whole : list_all (makes_some value) (f.before ++ f.clause ∷ f.after) ≡ true = ap (list_all (makes_some value)) (sym f.parts) ∙ m in
     let rest = (and_parts _ _ (sym (list_all-append (makes_some value) f.before (f.clause ∷ f.after)) ∙ whole)).1 in
     true≢false (sym ((and_parts _ _ rest).0) ∙ f.untrue)
+
+twice_not : (b : Bool) → b ≡ not (not b)
+twice_not true = refl
+twice_not false = refl
+
+-- a literal and its negation have opposite truth values
+pub opposite : (value : ℕ → Bool) (z : ℤ) → is_literal z ≡ true → makes_true value (neg_ℤ z) ≡ not (makes_true value z)
+opposite value (pos zero) h = absurd cc
+opposite value (pos (suc n)) h = refl
+opposite value (negsuc n) h = twice_not (value (suc n))

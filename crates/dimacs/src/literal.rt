@@ -1,6 +1,7 @@
 //! Literals: a variable or its negation.
-ghost use Rattle.std.specs.Prelude.{◌≡◌, ◌≤◌, ◌↔◌, pos, neg_ℤ, nat_abs, IsTrue, IsSome, IfSome};
+ghost use Rattle.std.specs.Prelude.{◌≡◌, ◌≤◌, ◌↔◌, ℕ, pos, neg_ℤ, nat_abs, Bool, not, IsTrue, IsSome, IfSome};
 ghost use Rattle.std.specs.Int.{is_positive};
+ghost use Rattle.dimacs.specs.Assignment.{makes_true};
 ghost use Rattle.dimacs.specs.Literal.{is_literal, is_literal_up_to};
 
 use std::marker::Model;
@@ -52,7 +53,8 @@ impl Lit {
 
     /// The opposite literal, of the same variable.
     pub fn negated(self) -> Lit
-        ensures { result ≡ neg_ℤ self }
+        ensures number { result ≡ neg_ℤ self }
+        ensures opposite { (value : ℕ → Bool) → makes_true value result ≡ not (makes_true value self) }
     {
         Lit {
             number: -self.number,
