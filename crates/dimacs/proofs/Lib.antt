@@ -1,2 +1,4 @@
+pub mod ChunkLemmas
+pub mod ModelLemmas
 pub mod SinkLemmas
 pub mod TranscriptValues

@@ -1,2 +1,7 @@
+pub mod Assignment
+pub mod CnfText
+pub mod Formula
+pub mod Literal
+pub mod Models
 pub mod Sink
 pub mod SinkFault

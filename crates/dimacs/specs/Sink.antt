@@ -7,3 +7,9 @@ pub record AppendsFront (old new bytes : List ℕ) : Type 0 where
   pub back : List ℕ
   pub parts : front ++ back ≡ bytes
   pub appended : new ≡ old ++ front
+
+-- the new list is the old one and then a front of the bytes, and the rest of them is still kept
+pub record IsSent (old new kept bytes : List ℕ) : Type 0 where
+  pub front : List ℕ
+  pub parts : front ++ kept ≡ bytes
+  pub appended : new ≡ old ++ front

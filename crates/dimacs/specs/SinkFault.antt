@@ -17,3 +17,8 @@ name_of Device = codes "Device"
 -- a fault as it is printed: its number, a blank and its name
 abbrev pub line_of : SinkFault → List ℕ
 line_of fault = decimal (number_of fault) ++ 32 ∷ name_of fault
+
+-- how many failures of the sink a fault tells
+abbrev pub failures_told : SinkFault → ℕ
+failures_told OutOfMemory = 0
+failures_told Device = 1

@@ -1,0 +1,74 @@
+-- A text that goes to its sink in pieces: what the sink has taken, and what is still kept.
+use Rattle.std.proofs.Common.{◌≡◌, ℕ, ◌+◌, ◌<◌, List, [], ◌++◌, length, take, drop, get_or, refl, sym, ap, ◌∙◌, OnErr, Result, Ok, Err}
+use Rattle.std.specs.List.{flat_map}
+use Rattle.std.proofs.lemmas.List.{append_assoc, append-nil, take-append-drop, take_more, flat_map_more}
+use Rattle.std.proofs.lemmas.Grind.{flat_map-append}
+use Rattle.dimacs.specs.Sink.{AppendsFront, IsSent}
+use Rattle.dimacs.proofs.SinkLemmas.{front-append, front-after}
+
+-- nothing was taken
+pub sent_none : (old bytes : List ℕ) → IsSent old old bytes bytes
+sent_none old bytes = record { front = []; parts = refl; appended = sym (append-nil old) }
+
+-- all was taken
+pub sent_all : (old new bytes : List ℕ) → new ≡ old ++ bytes → IsSent old new [] bytes
+sent_all old new bytes e = record { front = bytes; parts = append-nil bytes; appended = e }
+
+-- more was made and is kept
+pub sent_more : (old new kept bytes kept' more : List ℕ) → IsSent old new kept bytes → kept' ≡ kept ++ more → IsSent old new kept' (bytes ++ more)
+sent_more old new kept bytes kept' more s e = record {
+  front = s.front;
+  parts = rw (e, ← append_assoc, s.parts);
+  appended = s.appended;
+}
+
+-- of what was kept, a front was taken too
+pub sent_on : (old between kept bytes new kept' : List ℕ) → IsSent old between kept bytes → IsSent between new kept' kept → IsSent old new kept' bytes
+sent_on old between kept bytes new kept' s t = record {
+  front = s.front ++ t.front;
+  parts = rw (append_assoc, t.parts, s.parts);
+  appended = rw (t.appended, s.appended, append_assoc);
+}
+
+-- what was kept was taken
+pub sent_whole : (old between kept bytes new : List ℕ) → IsSent old between kept bytes → new ≡ between ++ kept → new ≡ old ++ bytes
+sent_whole old between kept bytes new s e = rw (e, s.appended, append_assoc, s.parts)
+
+-- what the sink has taken is a front of the whole
+pub sent_front : (old new kept bytes rest : List ℕ) → IsSent old new kept bytes → AppendsFront old new (bytes ++ rest)
+sent_front old new kept bytes rest s = record {
+  front = s.front;
+  back = kept ++ rest;
+  parts = rw (← append_assoc, s.parts);
+  appended = s.appended;
+}
+
+-- so it is where the sink takes a front of what was kept
+pub sent_part : (old between kept bytes new rest : List ℕ) → IsSent old between kept bytes → AppendsFront between new kept → AppendsFront old new (bytes ++ rest)
+sent_part old between kept bytes new rest s f =
+    let h : AppendsFront old new (s.front ++ kept) = front-after old between new s.front kept s.appended f in
+    front-append old new bytes rest (rw s.parts at h)
+
+module _ {X : Type 0} (head : List ℕ) (line : X → List ℕ) (items : List X) where
+  -- the lines of the items before a place, and the rest
+  lines_parted : (k : ℕ) → (head ++ flat_map line (take k items)) ++ flat_map line (drop k items) ≡ head ++ flat_map line items
+  lines_parted k = append_assoc head _ _ ∙ ap (λ lines. head ++ lines) (sym (flat_map-append line (take k items) (drop k items)) ∙ ap (flat_map line) (take-append-drop k items))
+
+  -- one more line
+  pub line_sent : (old new kept kept' : List ℕ) (k : ℕ) (x : X) → k < length items → x ≡ get_or items k x → IsSent old new kept (head ++ flat_map line (take k items)) → kept' ≡ kept ++ line x → IsSent old new kept' (head ++ flat_map line (take (k + 1) items))
+  line_sent old new kept kept' k x within read s e =
+      let more : kept' ≡ kept ++ line (get_or items k x) = e ∙ ap (λ y. kept ++ line y) read in
+      rw (take_more items k x within, ← flat_map_more) (sent_more old new kept (head ++ flat_map line (take k items)) kept' (line (get_or items k x)) s more)
+
+  -- what the sink has taken after some lines
+  pub lines_front : (old new kept : List ℕ) (k : ℕ) → IsSent old new kept (head ++ flat_map line (take k items)) → AppendsFront old new (head ++ flat_map line items)
+  lines_front old new kept k s = rw (← lines_parted k) (sent_front old new kept _ (flat_map line (drop k items)) s)
+
+  -- so it is where the sink takes a front of what was kept
+  pub lines_part : (old between kept new : List ℕ) (k : ℕ) → IsSent old between kept (head ++ flat_map line (take k items)) → AppendsFront between new kept → AppendsFront old new (head ++ flat_map line items)
+  lines_part old between kept new k s f = rw (← lines_parted k) (sent_part old between kept _ new (flat_map line (drop k items)) s f)
+
+-- what holds anyway holds of an error
+pub on_err : {A E : Type 0} {P : Type 0} (r : Result A E) → P → OnErr r P
+on_err (Ok x) p = tt
+on_err (Err e) p = p

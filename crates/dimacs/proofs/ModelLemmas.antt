@@ -1,0 +1,68 @@
+-- Literals and models over lists that the code walks along.
+use Rattle.std.proofs.Common.{◌≡◌, ℕ, zero, suc, ◌+◌, ◌<◌, ◌≤◌, ℤ, pos, negsuc, neg_ℤ, Bool, true, false, not, Some, None, List, [], ◌∷◌, ◌++◌, length, take, drop, get_or, refl, sym, ◌∙◌, ap, cond, position, inl, inr, arith}
+use Rattle.std.specs.List.{list_all, position_or_len}
+use Rattle.std.proofs.lemmas.Bool.{and_from, and_parts, not-true, not-false, true≢false, lt-ltb, cases_lt}
+use Rattle.std.proofs.lemmas.Option.{none-some}
+use Rattle.std.proofs.lemmas.List.{take-append-drop, length-take-le, drop_more, take_all}
+use Rattle.std.proofs.lemmas.List.Folds.{list_all_more, list_all-append}
+use Rattle.std.proofs.lemmas.List.Quantifiers.{position-Some}
+use Rattle.std.proofs.lemmas.List.Sums.{fails_before_first}
+use Rattle.dimacs.specs.Assignment.{makes_true, makes_some}
+use Rattle.dimacs.specs.Literal.{is_literal}
+use Rattle.dimacs.specs.Models.{IsModel, IsFirstFalse}
+
+-- one more element that passes
+pub all_take_more : {X : Type 0} (test : X → Bool) (xs : List X) (k : ℕ) (d : X) → k < length xs → list_all test (take k xs) ≡ true → test (get_or xs k d) ≡ true → list_all test (take (k + 1) xs) ≡ true
+all_take_more test xs k d within h g = list_all_more test xs k d within ∙ and_from _ _ h g
+
+-- all elements before a place pass
+all_before : {X : Type 0} (test : X → Bool) (xs : List X) (k : ℕ) (d : X) → ((j : ℕ) → j < k → not (test (get_or xs j d)) ≡ false) → list_all test (take k xs) ≡ true
+all_before test xs zero d h = refl
+all_before test [] (suc k) d h = refl
+all_before test (x ∷ xs) (suc k) d h = and_from _ _ (not-false _ (h 0 (omega arith))) (all_before test xs k d (λ j l. h (suc j) (omega (arith, l))))
+
+-- a list is what stands before a place, the element there, and the rest
+parted : {X : Type 0} (xs : List X) (k : ℕ) (d : X) → k < length xs → xs ≡ take k xs ++ get_or xs k d ∷ drop (k + 1) xs
+parted xs k d within = sym (take-append-drop k xs) ∙ ap (λ rest. take k xs ++ rest) (drop_more xs k d within)
+
+-- the first place at which no literal is true
+pub first_at : (value : ℕ → Bool) (clauses : List (List ℤ)) (k : ℕ) → position (λ clause. not (makes_some value clause)) clauses ≡ Some k → IsFirstFalse value clauses (k + 1)
+first_at value clauses k e =
+    let s = position-Some (λ clause. not (makes_some value clause)) clauses k [] e in
+    record {
+      before = take k clauses;
+      clause = get_or clauses k [];
+      after = drop (k + 1) clauses;
+      parts = parted clauses k [] s.0;
+      counted = ap (λ n. n + 1) (sym (length-take-le k clauses (omega (arith, s.0))));
+      untrue = not-true _ s.1;
+      first = all_before (makes_some value) clauses k [] s.2;
+    }
+
+-- none is found only past the end
+past_end : {X : Type 0} (test : X → Bool) (xs : List X) → position test xs ≡ None → length xs ≤ position_or_len test xs
+past_end test xs e = elim (cases_lt (position_or_len test xs) (length xs)) [ inl l ↦ absurd (none-some _ (sym e ∙ ap (λ b. cond b (Some (position_or_len test xs)) None) (lt-ltb _ _ l))) | inr l ↦ l ]
+
+-- where no such place is found
+pub model_at : (value : ℕ → Bool) (clauses : List (List ℤ)) → position (λ clause. not (makes_some value clause)) clauses ≡ None → IsModel value clauses
+model_at value clauses e =
+    let end = past_end (λ clause. not (makes_some value clause)) clauses e in
+    ap (list_all (makes_some value)) (sym (take_all (length clauses) clauses (omega arith)))
+    ∙ all_before (makes_some value) clauses (length clauses) [] (λ j l. fails_before_first (λ clause. not (makes_some value clause)) clauses j [] (omega (arith, l, end)))
+
+-- no model has a first false clause
+pub no_model : (value : ℕ → Bool) (clauses : List (List ℤ)) (place : ℕ) → IsFirstFalse value clauses place → IsModel value clauses → ⊥
+no_model value clauses place f m =
+    let whole : list_all (makes_some value) (f.before ++ f.clause ∷ f.after) ≡ true = ap (list_all (makes_some value)) (sym f.parts) ∙ m in
+    let rest = (and_parts _ _ (sym (list_all-append (makes_some value) f.before (f.clause ∷ f.after)) ∙ whole)).1 in
+    true≢false (sym ((and_parts _ _ rest).0) ∙ f.untrue)
+
+twice_not : (b : Bool) → b ≡ not (not b)
+twice_not true = refl
+twice_not false = refl
+
+-- a literal and its negation have opposite truth values
+pub opposite : (value : ℕ → Bool) (z : ℤ) → is_literal z ≡ true → makes_true value (neg_ℤ z) ≡ not (makes_true value z)
+opposite value (pos zero) h = absurd cc
+opposite value (pos (suc n)) h = refl
+opposite value (negsuc n) h = twice_not (value (suc n))

@@ -1,0 +1,160 @@
+//! Literals, clauses, formulas and their text, with ample memory: what the calls answer then.
+use crate::{
+    Assignment, Clause, FirstFalse, Formula, Lit, MAX_VARIABLE, ShortSink, SinkFault, write_cnf,
+};
+use std::alloc::{AllocError, Global};
+use std::test::Fail;
+
+fn literals_of(alloc: Global, numbers: &[i32]) -> Result<Vec<Lit>, AllocError> {
+    let mut literals = Vec::new(alloc);
+    for number in numbers {
+        literals.push(Lit::new(*number).unwrap_or_default())?;
+    }
+    Ok(literals)
+}
+
+/// The formula of these clauses, if they are over its variables.
+fn formula_of(
+    alloc: Global,
+    variables: u32,
+    lists: &[&[i32]],
+) -> Result<Option<Formula>, AllocError> {
+    let mut clauses = Vec::new(alloc);
+    for numbers in lists {
+        let literals = literals_of(alloc, numbers)?;
+        clauses.push(Clause::from_slice(alloc, literals.as_slice())?)?;
+    }
+    if !Formula::fits(variables, clauses.as_slice()) {
+        return Ok(None);
+    }
+    Ok(Some(Formula::new(variables, clauses)))
+}
+
+#[test]
+fn writes_formulas(rt: HostRuntime) -> Result<(), Fail> {
+    let cases: [(u32, &[&[i32]], &[u8]); 4] = [
+        (0, &[], b"p cnf 0 0\n"),
+        (2, &[&[2], &[-2, 1]], b"p cnf 2 2\n2 0\n-2 1 0\n"),
+        (1, &[&[1], &[-1]], b"p cnf 1 2\n1 0\n-1 0\n"),
+        (
+            4_194_304,
+            &[&[], &[4, -4, 4_194_304, -4_194_304, 10, -9]],
+            b"p cnf 4194304 2\n0\n4 -4 4194304 -4194304 10 -9 0\n",
+        ),
+    ];
+    for (variables, lists, text) in cases {
+        let formula = formula_of(rt.alloc(), variables, lists)?.ok_or("not over its variables")?;
+        for most in [1, 7, usize::MAX] {
+            let mut sink = ShortSink::new(rt.alloc(), most);
+            assert_eq!(rt; write_cnf(rt.alloc(), &formula, &mut sink), Ok(()));
+            assert_eq!(rt; sink.as_slice(), text);
+        }
+    }
+    Ok(())
+}
+
+#[test]
+fn writes_a_front_where_the_sink_fails(rt: HostRuntime) -> Result<(), Fail> {
+    let formula = formula_of(rt.alloc(), 2, &[&[2], &[-2, 1]])?.ok_or("not over its variables")?;
+    let mut sink = ShortSink::new(rt.alloc(), 1).failing_at(20);
+    assert_eq!(rt;
+        write_cnf(rt.alloc(), &formula, &mut sink),
+        Err(SinkFault::Device)
+    );
+    assert_eq!(rt; sink.as_slice(), b"p cnf 2 2\n2 0\n-2 1 ".as_slice());
+    Ok(())
+}
+
+#[test]
+fn writes_long_texts_in_pieces(rt: HostRuntime) -> Result<(), Fail> {
+    let mut clauses = Vec::new(rt.alloc());
+    for _ in 0..10_000 {
+        let clause = Clause::ternary(
+            rt.alloc(),
+            Lit::positive(1),
+            Lit::positive(2),
+            Lit::positive(3),
+        );
+        clauses.push(clause).map_err(|_| "memory")?;
+    }
+    assert!(rt; Formula::fits(3, clauses.as_slice()));
+    let formula = Formula::new(3, clauses);
+    let mut sink = ShortSink::new(rt.alloc(), usize::MAX).failing_at(3);
+    assert_eq!(rt;
+        write_cnf(rt.alloc(), &formula, &mut sink),
+        Err(SinkFault::Device)
+    );
+    let mut whole = ShortSink::new(rt.alloc(), usize::MAX);
+    assert_eq!(rt; write_cnf(rt.alloc(), &formula, &mut whole), Ok(()));
+    assert_eq!(rt; whole.as_slice().len(), 80_014);
+    assert!(rt; whole.as_slice().starts_with(sink.as_slice()));
+    assert!(rt; whole.as_slice().ends_with(b"\n1 2 3 0\n"));
+    Ok(())
+}
+
+#[test]
+fn finds_the_first_false_clause(rt: HostRuntime) -> Result<(), Fail> {
+    let formula = formula_of(rt.alloc(), 2, &[&[2], &[-2, 1]])?.ok_or("not over its variables")?;
+    let cases: [(&[bool], Option<usize>); 5] = [
+        (&[true, true], None),
+        (&[true, true, false], None),
+        (&[false, true], Some(2)),
+        (&[true, false], Some(1)),
+        (&[], Some(1)),
+    ];
+    for (values, first) in cases {
+        let assignment = Assignment::new(Vec::from_slice(rt.alloc(), values)?);
+        let found = formula
+            .eval(&assignment)
+            .err()
+            .map(|FirstFalse { clause }| clause);
+        assert_eq!(rt; found, first);
+    }
+    assert!(rt; formula_of(rt.alloc(), 1, &[&[2]])?.is_none());
+    Ok(())
+}
+
+#[test]
+fn gives_values_to_variables(rt: HostRuntime) -> Result<(), Fail> {
+    let assignment = Assignment::new(Vec::from_slice(rt.alloc(), &[true, false])?);
+    for (variable, value) in [
+        (0, false),
+        (1, true),
+        (2, false),
+        (3, false),
+        (u32::MAX, false),
+    ] {
+        assert_eq!(rt; assignment.value(variable), value, "at {variable}");
+    }
+    let cases: [(&[i32], bool); 5] = [
+        (&[], true),
+        (&[1, -2, -3], true),
+        (&[1, 2], false),
+        (&[-1], false),
+        (&[1, 3], false),
+    ];
+    for (numbers, made) in cases {
+        let literals = literals_of(rt.alloc(), numbers)?;
+        assert_eq!(rt; assignment.makes(literals.as_slice()), made);
+    }
+    assert!(rt; assignment.satisfies(&[Lit::positive(2), Lit::positive(1)]));
+    Ok(())
+}
+
+#[test]
+fn keeps_literals_in_clauses(rt: HostRuntime) -> Result<(), Fail> {
+    for number in [0, 4_194_305, -4_194_305, i32::MIN] {
+        assert!(rt; Lit::new(number).is_none(), "at {number}");
+    }
+    let last = Lit::new(-4_194_304).ok_or("no literal")?;
+    assert_eq!(rt; last.variable(), MAX_VARIABLE);
+    assert_eq!(rt; last.number(), -4_194_304);
+    assert!(rt; !last.is_positive() && last.negated() == Lit::positive(MAX_VARIABLE));
+    let [first, second] = [Lit::positive(7), Lit::positive(9).negated()];
+    assert!(rt; Clause::unit(rt.alloc(), first).as_slice() == [first].as_slice());
+    assert!(rt; Clause::binary(rt.alloc(), first, second).as_slice() == [first, second].as_slice());
+    let clause = Clause::ternary(rt.alloc(), first, second, last);
+    assert!(rt; clause.as_slice() == [first, second, last].as_slice());
+    assert!(rt; clause.is_over(MAX_VARIABLE) && !clause.is_over(9));
+    Ok(())
+}
