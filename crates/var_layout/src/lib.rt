@@ -1,0 +1,8 @@
+//! The variables of a trace's formula: what each stands for, and its number.
+//!
+//! There are three kinds. An order variable says which of two operations stands before the other. A choice variable says
+//! from where a reading operation has its value. A final variable says which writer of a location is the last one.
+#![tactic(auto)]
+
+pub mod candidate;
+pub mod laws;
