@@ -1,3 +1,3 @@
 pub mod Blocks
 pub mod Clauses
-pub mod StoreBuffering
+pub mod Examples

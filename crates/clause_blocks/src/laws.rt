@@ -1,12 +1,14 @@
 //! Laws of the clauses.
 
 ghost use Rattle.std.specs.Prelude.{◌≡◌};
-ghost use Rattle.clause_blocks.specs.Clauses.{clauses_of, formula_of};
-ghost use Rattle.clause_blocks.specs.StoreBuffering.{store_buffering_clauses};
+ghost use Rattle.clause_blocks.specs.Clauses.{formula_of};
+ghost use Rattle.clause_blocks.specs.Examples.{store_buffering_formula, two_updates, two_updates_formula, late_read, late_read_formula, lost_values, lost_values_formula};
 ghost use Rattle.var_layout.specs.StoreBuffering.{store_buffering};
 
-/// The clauses of store buffering, over its variables.
-pub fn store_buffering_has_these_clauses()
-    ensures listed { clauses_of store_buffering ≡ store_buffering_clauses }
-    ensures formula { formula_of store_buffering ≡ record { variables = 8; clauses = store_buffering_clauses } }
+/// The formulas of small traces.
+pub fn small_traces_have_these_formulas()
+    ensures store_buffering { formula_of store_buffering ≡ store_buffering_formula }
+    ensures two_updates { formula_of two_updates ≡ two_updates_formula }
+    ensures late_read { formula_of late_read ≡ late_read_formula }
+    ensures lost_values { formula_of lost_values ≡ lost_values_formula }
 {}
