@@ -19,11 +19,14 @@ process_of name op = record { name = name; operations = op ∷ [] }
 -- Order variables: 1 is 0 before 1, 2 is 0 before 2, 3 is 0 before 3, 4 is 1 before 2, 5 is 1 before 3, 6 is 2 before 3.
 -- Choice variables: 7 is that 1 reads the initial value, 8 that 3 does.
 abbrev pub store_buffering_formula : FormulaValue
-store_buffering_formula = record { variables = 8; clauses = (pos 1 ∷ []) ∷ (pos 6 ∷ []) ∷ (negated 1 ∷ negated 4 ∷ pos 2 ∷ []) ∷ (pos 1 ∷ pos 4 ∷ negated 2 ∷ []) ∷
-    (negated 1 ∷ negated 5 ∷ pos 3 ∷ []) ∷ (pos 1 ∷ pos 5 ∷ negated 3 ∷ []) ∷
-    (negated 2 ∷ negated 6 ∷ pos 3 ∷ []) ∷ (pos 2 ∷ pos 6 ∷ negated 3 ∷ []) ∷
-    (negated 4 ∷ negated 6 ∷ pos 5 ∷ []) ∷ (pos 4 ∷ pos 6 ∷ negated 5 ∷ []) ∷ (pos 7 ∷ []) ∷
-    (negated 7 ∷ pos 4 ∷ []) ∷ (pos 8 ∷ []) ∷ (negated 8 ∷ negated 3 ∷ []) ∷ [] }
+store_buffering_formula = record {
+  variables = 8;
+  clauses = (pos 1 ∷ []) ∷ (pos 6 ∷ []) ∷ (negated 1 ∷ negated 4 ∷ pos 2 ∷ []) ∷ (pos 1 ∷ pos 4 ∷ negated 2 ∷ []) ∷
+      (negated 1 ∷ negated 5 ∷ pos 3 ∷ []) ∷ (pos 1 ∷ pos 5 ∷ negated 3 ∷ []) ∷
+      (negated 2 ∷ negated 6 ∷ pos 3 ∷ []) ∷ (pos 2 ∷ pos 6 ∷ negated 3 ∷ []) ∷
+      (negated 4 ∷ negated 6 ∷ pos 5 ∷ []) ∷ (pos 4 ∷ pos 6 ∷ negated 5 ∷ []) ∷ (pos 7 ∷ []) ∷
+      (negated 7 ∷ pos 4 ∷ []) ∷ (pos 8 ∷ []) ∷ (negated 8 ∷ negated 3 ∷ []) ∷ [];
+}
 
 -- one update undoes the other, and the final value is the initial one
 abbrev pub two_updates : TraceValue
@@ -35,8 +38,11 @@ two_updates = record {
 }
 
 abbrev pub two_updates_formula : FormulaValue
-two_updates_formula = record { variables = 5; clauses = (pos 2 ∷ pos 3 ∷ []) ∷ (negated 2 ∷ pos 1 ∷ []) ∷ (negated 3 ∷ negated 1 ∷ []) ∷ (pos 4 ∷ []) ∷
-    (negated 4 ∷ pos 1 ∷ []) ∷ (pos 5 ∷ []) ∷ (negated 5 ∷ pos 1 ∷ []) ∷ [] }
+two_updates_formula = record {
+  variables = 5;
+  clauses = (pos 2 ∷ pos 3 ∷ []) ∷ (negated 2 ∷ pos 1 ∷ []) ∷ (negated 3 ∷ negated 1 ∷ []) ∷ (pos 4 ∷ []) ∷
+      (negated 4 ∷ pos 1 ∷ []) ∷ (pos 5 ∷ []) ∷ (negated 5 ∷ pos 1 ∷ []) ∷ [];
+}
 
 abbrev pub name_of : List ℕ → OpName
 name_of process = record { process = process; place = 1 }
