@@ -19,7 +19,7 @@ pub record HasParts (word : List ℕ) (minus : Bool) (absolute : ℕ) : Type 0 w
   pub size : nat_abs number ≡ absolute
 
 -- the sign as it is, the digits as they are
-chosen : (word : List ℕ) (minus : Bool) → has_minus word ≡ minus → is_digits (digits_after_sign word) ≡ true → (minus && (digits_value 10 (digits_after_sign word) == 0)) ≡ false →
+pub chosen : (word : List ℕ) (minus : Bool) → has_minus word ≡ minus → is_digits (digits_after_sign word) ≡ true → (minus && (digits_value 10 (digits_after_sign word) == 0)) ≡ false →
     solver_number word ≡ Some (if minus then neg_ℤ (pos (digits_value 10 (drop 1 word))) else pos (digits_value 10 word))
 chosen word minus e digits some =
     let good : is_solver_number word ≡ true = (λ i. digits i && not (e i && (digits_value 10 (digits_after_sign word) == 0))) ∙ ap not some in

@@ -10,6 +10,10 @@ use Rattle.text_lines.specs.Words.{is_empty}
 abbrev pub is_digits : List ℕ → Bool
 is_digits word = not (is_empty word) && list_all is_ascii_digit word
 
+-- the value of a word of digits alone, leading zeros allowed, where it is at most this
+abbrev pub digits_up_to : ℕ → List ℕ → Option ℕ
+digits_up_to most word = option_and_then (λ n. if nat_le n most then Some n else None) (if is_digits word then Some (digits_value 10 word) else None)
+
 -- `0`, or a digit from 1 to 9 followed by digits
 abbrev pub is_plain : List ℕ → Bool
 is_plain word = is_digits word && (is_empty (drop 1 word) || not (slice_index word 0 == 48))

@@ -5,7 +5,7 @@ ghost use Rattle.std.specs.Char.{is_ascii_digit, digit_value};
 ghost use Rattle.std.specs.List.{list_all};
 ghost use Rattle.std.specs.Str.Parse.{digits_value};
 ghost use Rattle.text_lines.specs.SolverNumber.{IsNumber};
-ghost use Rattle.text_lines.specs.Numbers.{is_digits, plain_number, plain_number_up_to, has_minus, digits_after_sign, solver_number};
+ghost use Rattle.text_lines.specs.Numbers.{is_digits, digits_up_to, plain_number, plain_number_up_to, has_minus, digits_after_sign, solver_number};
 
 fn all_digits(word: &[u8]) -> bool
     ensures { result ≡ list_all is_ascii_digit word.now }
@@ -48,6 +48,16 @@ pub fn read_plain(word: &[u8], most: u64) -> Option<u64>
     ensures { result ≡ plain_number_up_to most word.now }
 {
     if !has_digits_alone(word) || (word.len() > 1 && word[0] == b'0') {
+        return None;
+    }
+    value_of_digits(word).filter(|value| *value <= most)
+}
+
+/// Reads a word of digits alone, leading zeros allowed, whose value is at most `most`.
+pub fn read_digits(word: &[u8], most: u64) -> Option<u64>
+    ensures { result ≡ digits_up_to most word.now }
+{
+    if !has_digits_alone(word) {
         return None;
     }
     value_of_digits(word).filter(|value| *value <= most)

@@ -1,6 +1,6 @@
 //! What no clause says: that calls succeed with ample memory, and that the clauses say what was meant.
 use crate::lines::cut_line;
-use crate::numbers::{SolverNumber, read_plain, read_solver_number};
+use crate::numbers::{SolverNumber, read_digits, read_plain, read_solver_number};
 use crate::words::{cut_word, first_words, is_blank_byte};
 use std::process::Abort;
 use std::test::Fail;
@@ -94,6 +94,22 @@ fn reads_plain_numbers(rt: HostRuntime) {
         (b"1x".as_slice(), u64::MAX, None),
     ] {
         assert_eq!(rt; read_plain(word, most), value, "at {word:?}");
+    }
+}
+
+#[test]
+fn reads_digits_alone(rt: HostRuntime) {
+    for (word, most, value) in [
+        (b"0".as_slice(), 0, Some(0)),
+        (b"007".as_slice(), 7, Some(7)),
+        (b"007".as_slice(), 6, None),
+        (b"18446744073709551616".as_slice(), u64::MAX, None),
+        (b"".as_slice(), u64::MAX, None),
+        (b"-1".as_slice(), u64::MAX, None),
+        (b"+1".as_slice(), u64::MAX, None),
+        (b"1x".as_slice(), u64::MAX, None),
+    ] {
+        assert_eq!(rt; read_digits(word, most), value, "at {word:?}");
     }
 }
 
