@@ -2,7 +2,7 @@
 use Rattle.std.proofs.Common.{◌≡◌, ◌<◌, ◌≤◌, ◌+◌, ◌-◌, ℕ, zero, suc, List, [], ◌∷◌, length, take, drop, get_or, Bool, true, false, cond, ◌&&◌, ◌||◌, nat_lt, nat_eq, refl, ap, sym, ◌∙◌, arith}
 use Rattle.std.specs.Prelude.{Option, Some, None, find}
 use Rattle.std.specs.List.{slice_get, position_from, list_any}
-use Rattle.std.specs.Option.{option_and_then, option_map}
+use Rattle.std.specs.Option.{option_and_then}
 use Rattle.std.specs.Str.{bytes_eq}
 use Rattle.std.proofs.Math.Seq.{drop-cons, drop-length}
 use Rattle.std.proofs.lemmas.Bool.Decides.{nat_tests, Decides-eqb}
@@ -13,7 +13,6 @@ use Rattle.traces.specs.declared.operation.OpName.{OpName}
 use Rattle.traces.specs.declared.trace.Process.{Process}
 use Rattle.traces.specs.Operation.{same_op}
 use Rattle.schedule_judge.specs.Tables.{is_below}
-use Rattle.traces.specs.Trace.{value_of}
 
 eqb_sym : (x y : ℕ) → nat_eq x y ≡ nat_eq y x
 eqb_sym x y = grind (arith, nat_tests)
@@ -41,10 +40,6 @@ first_none names n = ap (position_from (same_op n) (length names)) (drop-length 
 pub process_none : (processes : List Process) (name : List ℕ) (found : Option ℕ) → found ≡ None → option_and_then (slice_get processes) found ≡ find (λ p. bytes_eq p.name name) (drop (length processes) processes)
 process_none processes name found e = ap (option_and_then (slice_get processes)) e ∙ sym (ap (find (λ p. bytes_eq p.name name)) (drop-length processes))
 
--- no value yet
-pub value_none : (values : List (List ℕ × ℕ)) (location : List ℕ) → value_of (drop (length values) values) location ≡ None
-value_none values location = ap (λ entries. value_of entries location) (drop-length values)
-
 -- one more name in front
 pub first_step : (names : List OpName) (k : ℕ) (x n : OpName) (old new : Option ℕ) → 0 < k → k ≤ length names → x ≡ get_or names (k - 1) x → new ≡ cond (same_op x n) (Some (k - 1)) old → old ≡ position_from (same_op n) k (drop k names) → new ≡ position_from (same_op n) (k - 1) (drop (k - 1) names)
 first_step names k x n old new p l e here there =
@@ -61,15 +56,6 @@ process_step processes k x name old new p l e s named here there =
     chosen : (b : Bool) → slice_get processes (k - 1) ≡ Some x → option_and_then (slice_get processes) (cond b (Some (k - 1)) old) ≡ cond b (Some x) (find (λ p. bytes_eq p.name name) (drop k processes))
     chosen true at = at
     chosen false at = there
-
--- one more value in front
-pub value_step : (values : List (List ℕ × ℕ)) (k : ℕ) (x : List ℕ × ℕ) (location : List ℕ) (old new : Option ℕ) → 0 < k → k ≤ length values → x ≡ get_or values (k - 1) x → (s : List ℕ) → s ≡ x.0 → new ≡ cond (bytes_eq s location) (Some x.1) old → old ≡ value_of (drop k values) location → new ≡ value_of (drop (k - 1) values) location
-value_step values k x location old new p l e s named here there =
-    here ∙ ap (λ n. cond (bytes_eq n location) (Some x.1) old) named ∙ chosen (bytes_eq x.0 location) ∙ sym (ap (λ entries. value_of entries location) (drop_front values k x p l e))
-  where
-    chosen : (b : Bool) → cond b (Some x.1) old ≡ option_map (λ (entry : List ℕ × ℕ). entry.1) (cond b (Some x) (find (λ (entry : List ℕ × ℕ). bytes_eq entry.0 location) (drop k values)))
-    chosen true = refl
-    chosen false = there
 
 below_chosen : (b : Bool) (j i : ℕ) (o : Option ℕ) (r : Bool) → (b ≡ true → nat_lt j i ≡ (b || r)) → is_below o i ≡ r → is_below (cond b (Some j) o) i ≡ (b || r)
 below_chosen true j i o r h rest = h refl

@@ -8,7 +8,7 @@ ghost use Rattle.traces.specs.Judgement as judgement;
 ghost use Rattle.schedule_judge.specs.Memory.{IsMemoryAfter, Runs, Writes, writer_of};
 ghost use Rattle.traces.specs.Operation as operation;
 ghost use Rattle.traces.specs.NameNumbers.{number_of};
-ghost use Rattle.traces.specs.Trace.{TraceValue, value_of};
+ghost use Rattle.traces.specs.Trace.{TraceValue};
 
 use std::alloc::{AllocError, Global};
 use traces::name::Name;
@@ -20,18 +20,6 @@ use traces::operation::{Op, OpName, Origin};
 pub struct Memory<'a> {
     pub values: NameTable<'a>,
     pub writers: NameTable<'a>,
-}
-
-/// The values of a list of locations and values.
-fn table_of<'a>(alloc: Global, values: &'a [(Name, u64)]) -> Result<NameTable<'a>, AllocError>
-    ensures { IfOk result (λ table. (location : List ℕ) → number_of table location ≡ value_of values.now location) }
-{
-    let mut table = NameTable::with_capacity(alloc, values.len())?;
-    for k in (0..values.len()).rev() {
-        let entry = &values[k];
-        table.insert(entry.0.as_bytes(), entry.1)?;
-    }
-    Ok(table)
 }
 
 /// Whether this value is held.
@@ -86,7 +74,7 @@ impl<'a> Memory<'a> {
     pub fn new(alloc: Global, initial: &'a [(Name, u64)]) -> Result<Memory<'a>, AllocError>
         ensures { IfOk result (λ memory. (t : TraceValue) (names : List OpName) → t.initial ≡ initial.now → IsMemoryAfter t names [] memory) }
     {
-        let values = table_of(alloc, initial)?;
+        let values = NameTable::of_values(alloc, initial)?;
         let writers = NameTable::with_capacity(alloc, initial.len())?;
         Ok(Memory { values, writers })
     }

@@ -70,7 +70,8 @@ abbrev pub needs_version_2 : TraceValue → Bool
 needs_version_2 t = not (length t.before == 0) || list_any (λ (p : Process). list_any has_origin p.operations) t.processes
 
 -- The lines that are not skipped are a header and a body. In the body stand the lines of the processes, in order;
--- before the first of them, in any order, those of the initial and the final values; and anywhere those of the pairs, which may be repeated.
+-- before the first of them, in any order, those of the initial and the final values; and anywhere those of the pairs, which may
+-- be repeated.
 pub record SpellsTrace (text : List ℕ) (t : TraceValue) : Type 0 where
   pub two : Bool
   pub body : List (List (List ℕ))

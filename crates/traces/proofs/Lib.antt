@@ -6,3 +6,4 @@ pub mod LegalLemmas
 pub mod NameByteLemmas
 pub mod NameLemmas
 pub mod OrderLemmas
+pub mod ValueLemmas

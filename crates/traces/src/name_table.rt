@@ -1,5 +1,6 @@
 //! Numbers by name.
 
+use crate::name::Name;
 use crate::name_key::NameKey;
 use std::alloc::{AllocError, Global};
 use std::collections::HashMap;
@@ -14,6 +15,7 @@ impl<'a> NameTable<'a> {
     ghost use Rattle.std.specs.Prelude.{◌≡◌, List, ℕ, IfOk, OnOk, cond};
     ghost use Rattle.std.specs.Str.{bytes_eq};
     ghost use Rattle.traces.specs.NameNumbers.{number_of};
+    ghost use Rattle.traces.specs.Trace.{value_of};
 
     /// A table of no names.
     pub fn new(alloc: Global) -> NameTable<'a>
@@ -30,6 +32,18 @@ impl<'a> NameTable<'a> {
     {
         let numbers = HashMap::with_capacity(alloc, capacity)?;
         Ok(NameTable { numbers })
+    }
+
+    /// The table of a list of locations and values.
+    pub fn of_values(alloc: Global, values: &'a [(Name, u64)]) -> Result<NameTable<'a>, AllocError>
+        ensures { IfOk result (λ table. (location : List ℕ) → number_of table location ≡ value_of values.now location) }
+    {
+        let mut table = NameTable::with_capacity(alloc, values.len())?;
+        for k in (0..values.len()).rev() {
+            let entry = &values[k];
+            table.insert(entry.0.as_bytes(), entry.1)?;
+        }
+        Ok(table)
     }
 
     /// The number of this name, if it has one.

@@ -1,7 +1,7 @@
 use Rattle.std.proofs.Common.{sym, ◌∙◌, arith}
 use Rattle.traces.specs.NameNumbers.{number_of}
-use Rattle.schedule_judge.proofs.PlaceLemmas.{value_none, value_step}
-use Rattle.schedule_judge.proofs.memory.table_of.Goals as goal
+use Rattle.traces.proofs.ValueLemmas.{value_none, value_step}
+use Rattle.traces.proofs.name_table.NameTable.of_values.Goals as goal
 
 pub loop-k-init : goal.loop-k-init
 loop-k-init c = λ location. c.in_ok-table.ensures location ∙ sym (value_none c.args.values.now location)
