@@ -1,5 +1,5 @@
 -- A text that goes to its sink in pieces: what the sink has taken, and what is still kept.
-use Rattle.std.proofs.Common.{◌≡◌, ℕ, ◌+◌, ◌<◌, List, [], ◌++◌, length, take, drop, get_or, refl, sym, ap, ◌∙◌, OnErr, Result, Ok, Err}
+use Rattle.std.proofs.Common.{◌≡◌, ℕ, ◌+◌, ◌<◌, List, [], ◌++◌, length, take, drop, get_or, refl, sym, ap, ◌∙◌, subst, OnErr, Result, Ok, Err}
 use Rattle.std.specs.List.{flat_map}
 use Rattle.std.proofs.lemmas.List.{append_assoc, append-nil, take-append-drop, take_more, flat_map_more}
 use Rattle.std.proofs.lemmas.Grind.{flat_map-append}
@@ -68,7 +68,20 @@ module _ {X : Type 0} (head : List ℕ) (line : X → List ℕ) (items : List X)
   pub lines_part : (old between kept new : List ℕ) (k : ℕ) → IsSent old between kept (head ++ flat_map line (take k items)) → AppendsFront between new kept → AppendsFront old new (head ++ flat_map line items)
   lines_part old between kept new k s f = rw (← lines_parted k) (sent_part old between kept _ new (flat_map line (drop k items)) s f)
 
+  -- so it is where more follows the lines
+  pub lines_part_on : (old between kept new more : List ℕ) (k : ℕ) → IsSent old between kept (head ++ flat_map line (take k items)) → AppendsFront between new kept → AppendsFront old new (head ++ (flat_map line items ++ more))
+  lines_part_on old between kept new more k s f = rw (← append_assoc) (front-append old new _ more (lines_part old between kept new k s f))
+
 -- what holds anyway holds of an error
 pub on_err : {A E : Type 0} {P : Type 0} (r : Result A E) → P → OnErr r P
 on_err (Ok x) p = tt
 on_err (Err e) p = p
+
+-- so it is where one thing holds wherever another does
+pub on_err_map : {A E : Type 0} {P Q : Type 0} (r : Result A E) → (P → Q) → OnErr r P → OnErr r Q
+on_err_map (Ok x) f p = tt
+on_err_map (Err e) f p = f p
+
+-- a front of what was kept was taken, and no more follows
+pub sent_last : (old between kept bytes new : List ℕ) → IsSent old between kept bytes → AppendsFront between new kept → AppendsFront old new bytes
+sent_last old between kept bytes new s f = subst (λ whole. AppendsFront old new whole) (append-nil bytes) (sent_part old between kept bytes new [] s f)

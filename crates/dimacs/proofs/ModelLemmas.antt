@@ -1,5 +1,5 @@
 -- Literals and models over lists that the code walks along.
-use Rattle.std.proofs.Common.{◌≡◌, ℕ, zero, suc, ◌+◌, ◌<◌, ◌≤◌, ℤ, pos, negsuc, neg_ℤ, Bool, true, false, not, Some, None, List, [], ◌∷◌, ◌++◌, length, take, drop, get_or, refl, sym, ◌∙◌, ap, cond, position, inl, inr, arith}
+use Rattle.std.proofs.Common.{◌≡◌, ℕ, zero, suc, ◌+◌, ◌<◌, ◌≤◌, ℤ, pos, negsuc, neg_ℤ, Bool, true, false, not, IsFalse, Option, Some, None, ◌⊎◌, List, [], ◌∷◌, ◌++◌, length, take, drop, get_or, refl, sym, ◌∙◌, ap, cond, position, inl, inr, arith}
 use Rattle.std.specs.List.{list_all, position_or_len}
 use Rattle.std.proofs.lemmas.Bool.{and_from, and_parts, not-true, not-false, true≢false, lt-ltb, cases_lt}
 use Rattle.std.proofs.lemmas.Option.{none-some}
@@ -10,6 +10,7 @@ use Rattle.std.proofs.lemmas.List.Sums.{fails_before_first}
 use Rattle.dimacs.specs.Assignment.{makes_true, makes_some}
 use Rattle.dimacs.specs.Literal.{is_literal}
 use Rattle.dimacs.specs.Models.{IsModel, IsFirstFalse}
+use Rattle.text_lines.proofs.FaultLemmas.{compared}
 
 -- one more element that passes
 pub all_take_more : {X : Type 0} (test : X → Bool) (xs : List X) (k : ℕ) (d : X) → k < length xs → list_all test (take k xs) ≡ true → test (get_or xs k d) ≡ true → list_all test (take (k + 1) xs) ≡ true
@@ -56,6 +57,29 @@ no_model value clauses place f m =
     let whole : list_all (makes_some value) (f.before ++ f.clause ∷ f.after) ≡ true = ap (list_all (makes_some value)) (sym f.parts) ∙ m in
     let rest = (and_parts _ _ (sym (list_all-append (makes_some value) f.before (f.clause ∷ f.after)) ∙ whole)).1 in
     true≢false (sym ((and_parts _ _ rest).0) ∙ f.untrue)
+
+-- there is such a place, or there is none
+by_position : (value : ℕ → Bool) (clauses : List (List ℤ)) (found : Option ℕ) → position (λ clause. not (makes_some value clause)) clauses ≡ found → IsModel value clauses ⊎ ((place : ℕ) × IsFirstFalse value clauses place)
+by_position value clauses None e = inl (model_at value clauses e)
+by_position value clauses (Some k) e = inr (k + 1, first_at value clauses k e)
+
+pub model_or_first : (value : ℕ → Bool) (clauses : List (List ℤ)) → IsModel value clauses ⊎ ((place : ℕ) × IsFirstFalse value clauses place)
+model_or_first value clauses = by_position value clauses (position (λ clause. not (makes_some value clause)) clauses) refl
+
+-- a false clause does not stand among true ones
+never_within : (value : ℕ → Bool) (before rest : List (List ℤ)) (clause : List ℤ) (front : List (List ℤ)) → IsFalse (makes_some value clause) → IsModel value front → front ≡ before ++ clause ∷ rest → ⊥
+never_within value before rest clause front untrue model e =
+    let whole : list_all (makes_some value) (before ++ clause ∷ rest) ≡ true = ap (list_all (makes_some value)) (sym e) ∙ model in
+    let there = (and_parts _ _ (sym (list_all-append (makes_some value) before (clause ∷ rest)) ∙ whole)).1 in
+    true≢false (sym ((and_parts _ _ there).0) ∙ untrue)
+
+pub one_first_false : (value : ℕ → Bool) (clauses : List (List ℤ)) (p q : ℕ) → IsFirstFalse value clauses p → IsFirstFalse value clauses q → p ≡ q
+one_first_false value clauses p q f g =
+    elim (compared f.before g.before f.clause g.clause f.after g.after (sym f.parts ∙ g.parts)) [
+      | inl same ↦ f.counted ∙ ap (λ l. length l + 1) same.0 ∙ sym g.counted
+      | inr (inl (m, e)) ↦ absurd (never_within value f.before m f.clause g.before f.untrue g.first e)
+      | inr (inr (m, e)) ↦ absurd (never_within value g.before m g.clause f.before g.untrue f.first e)
+    ]
 
 twice_not : (b : Bool) → b ≡ not (not b)
 twice_not true = refl

@@ -27,6 +27,14 @@ impl Assignment {
         Assignment { values }
     }
 
+    /// The values of the variables 1, 2 and so on.
+    pub fn into_values(self) -> Vec<bool>
+        ensures { result.items ≡ self }
+    {
+        let Self { values } = self;
+        values
+    }
+
     /// The value of the variable.
     pub fn value(&self, variable: u32) -> bool
         ensures { result ≡ value_of self.now variable }

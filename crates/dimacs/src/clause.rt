@@ -27,8 +27,8 @@ impl Model for Clause {
     ghost invariant = { λ clause. IsTrue (is_clause clause.literals.items) };
 }
 
-/// Each literal is one. This says what literals keep, and does nothing.
-fn are_literals(literals: &[Lit])
+/// Each literal is one, so none is 0. This says what literals keep, and does nothing.
+pub fn are_literals(literals: &[Lit])
     ensures { IsTrue (is_clause literals.now) }
 {
     for literal in literals {

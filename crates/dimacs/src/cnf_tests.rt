@@ -1,6 +1,7 @@
 //! Literals, clauses, formulas and their text, with ample memory: what the calls answer then.
 use crate::{
-    Assignment, Clause, FirstFalse, Formula, Lit, MAX_VARIABLE, ShortSink, SinkFault, write_cnf,
+    Assignment, Clause, FirstFalse, Formula, Lit, MAX_VARIABLE, ShortSink, SinkFault, are_literals,
+    write_cnf,
 };
 use std::alloc::{AllocError, Global};
 use std::test::Fail;
@@ -68,7 +69,7 @@ fn writes_a_front_where_the_sink_fails(rt: HostRuntime) -> Result<(), Fail> {
 #[test]
 fn writes_long_texts_in_pieces(rt: HostRuntime) -> Result<(), Fail> {
     let mut clauses = Vec::new(rt.alloc());
-    for _ in 0..10_000 {
+    for _ in 0..20_000 {
         let clause = Clause::ternary(
             rt.alloc(),
             Lit::positive(1),
@@ -86,7 +87,7 @@ fn writes_long_texts_in_pieces(rt: HostRuntime) -> Result<(), Fail> {
     );
     let mut whole = ShortSink::new(rt.alloc(), usize::MAX);
     assert_eq!(rt; write_cnf(rt.alloc(), &formula, &mut whole), Ok(()));
-    assert_eq!(rt; whole.as_slice().len(), 80_014);
+    assert_eq!(rt; whole.as_slice().len(), 160_014);
     assert!(rt; whole.as_slice().starts_with(sink.as_slice()));
     assert!(rt; whole.as_slice().ends_with(b"\n1 2 3 0\n"));
     Ok(())
@@ -111,6 +112,27 @@ fn finds_the_first_false_clause(rt: HostRuntime) -> Result<(), Fail> {
         assert_eq!(rt; found, first);
     }
     assert!(rt; formula_of(rt.alloc(), 1, &[&[2]])?.is_none());
+    Ok(())
+}
+
+#[test]
+fn gives_its_parts_back(rt: HostRuntime) -> Result<(), Fail> {
+    let formula = formula_of(rt.alloc(), 2, &[&[2], &[-2, 1]])?.ok_or("not over its variables")?;
+    formula.is_formula();
+    assert_eq!(rt; formula.variables(), 2);
+    assert_eq!(rt; formula.clauses().len(), 2);
+    let clauses = formula.into_clauses();
+    assert_eq!(rt; clauses.len(), 2);
+    assert!(rt; Formula::fits(MAX_VARIABLE, clauses.as_slice()));
+    let again = Formula::new(MAX_VARIABLE, clauses);
+    let mut sink = ShortSink::new(rt.alloc(), usize::MAX);
+    assert_eq!(rt; write_cnf(rt.alloc(), &again, &mut sink), Ok(()));
+    assert_eq!(rt;
+        sink.as_slice(),
+        b"p cnf 4194304 2\n2 0\n-2 1 0\n".as_slice()
+    );
+    let assignment = Assignment::new(Vec::from_slice(rt.alloc(), &[true, false])?);
+    assert!(rt; assignment.into_values().as_slice() == [true, false].as_slice());
     Ok(())
 }
 
@@ -153,6 +175,7 @@ fn keeps_literals_in_clauses(rt: HostRuntime) -> Result<(), Fail> {
     let [first, second] = [Lit::positive(7), Lit::positive(9).negated()];
     assert!(rt; Clause::unit(rt.alloc(), first).as_slice() == [first].as_slice());
     assert!(rt; Clause::binary(rt.alloc(), first, second).as_slice() == [first, second].as_slice());
+    are_literals(&[first, second, last]);
     let clause = Clause::ternary(rt.alloc(), first, second, last);
     assert!(rt; clause.as_slice() == [first, second, last].as_slice());
     assert!(rt; clause.is_over(MAX_VARIABLE) && !clause.is_over(9));

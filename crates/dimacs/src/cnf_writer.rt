@@ -1,63 +1,200 @@
 //! The writer of a formula's text.
-ghost use Rattle.std.specs.Prelude.{◌≡◌, ◌+◌, ◌++◌, OnOk, OnErr, IfErr};
-ghost use Rattle.dimacs.specs.CnfText.{header_line, literal_text, clause_line, cnf_text};
+ghost use Rattle.std.specs.Prelude.{◌≡◌, ◌+◌, ◌≤◌, ◌++◌, length, take, IfOk, OnOk, OnErr, IfErr};
+ghost use Rattle.std.specs.List.{flat_map};
+ghost use Rattle.dimacs.specs.CnfText.{header_line, clause_line, cnf_text};
 ghost use Rattle.dimacs.specs.Sink.{AppendsFront, IsSent};
 ghost use Rattle.dimacs.specs.SinkFault.{failures_told};
 
 use crate::clause::Clause;
 use crate::formula::Formula;
+use crate::line_buffer::{HEADER, LITERAL, put_bytes, put_header, put_literal};
 use crate::literal::Lit;
 use crate::sink::{Failed, Sink, write_whole};
 use crate::sink_fault::SinkFault;
-use itoa::Buffer;
+use crate::variable_table::VariableTable;
 use std::alloc::{AllocError, Global};
+use std::marker::Model;
 
-/// From so many bytes on, the text so far goes to the sink.
-const CHUNK: usize = 32_768;
+/// So many bytes of the text are made before they go to the sink.
+const BUFFER: usize = 65_536;
 
-/// Appends the literal and a space.
-fn push_literal(text: &mut Vec<u8>, literal: Lit) -> Result<(), AllocError>
-    ensures { OnOk result (text.new.items ≡ text.old.items ++ literal_text literal) }
+/// A clause of so many literals is short.
+const SHORT: usize = 4;
+
+/// No short clause's line is longer.
+const SHORT_LINE: usize = 42;
+
+/// A buffer of that size.
+fn new_buffer(alloc: Global) -> Result<Vec<u8>, AllocError>
+    ensures { IfOk result (λ buffer. length buffer.items ≡ BUFFER) }
 {
-    let mut buffer = Buffer::new();
-    text.extend_from_slice(buffer.format(literal.number()).as_bytes())?;
-    text.extend_from_slice(b" ")
+    vec![in alloc; 0; BUFFER]
 }
 
-/// Appends the clause as its line.
-fn push_clause(text: &mut Vec<u8>, clause: &Clause) -> Result<(), AllocError>
-    ensures { OnOk result (text.new.items ≡ text.old.items ++ clause_line clause.now) }
-{
-    for literal in clause.as_slice() {
-        push_literal(text, *literal)?;
-    }
-    text.extend_from_slice(b"0\n")
-}
-
-/// Appends the first line.
-fn push_header(text: &mut Vec<u8>, formula: &Formula) -> Result<(), AllocError>
-    ensures { OnOk result (text.new.items ≡ text.old.items ++ header_line formula.now) }
-{
-    let mut buffer = Buffer::new();
-    text.extend_from_slice(b"p cnf ")?;
-    text.extend_from_slice(buffer.format(formula.variables()).as_bytes())?;
-    text.extend_from_slice(b" ")?;
-    text.extend_from_slice(buffer.format(formula.clauses().len()).as_bytes())?;
-    text.extend_from_slice(b"\n")
-}
-
-/// Where the text so far is long, the sink takes it.
-fn send_long<W: Sink>(text: &mut Vec<u8>, sink: &mut W) -> Result<(), Failed>
-    ensures sent { OnOk result (IsSent (W.written sink.old) (W.written sink.new) text.new.items text.old.items) }
+/// Where the buffer has no room for a literal any more, the sink takes what was made. Says how many bytes the buffer
+/// keeps.
+#[inline(always)]
+fn make_room<W: Sink>(buffer: &[u8], end: usize, sink: &mut W) -> Result<usize, Failed>
+    requires within { end ≤ length buffer.now }
+    requires room { LITERAL ≤ length buffer.now }
+    ensures room { IfOk result (λ kept. kept + LITERAL ≤ length buffer.now) }
+    ensures sent { IfOk result (λ kept. IsSent (W.written sink.old) (W.written sink.new) (take kept buffer.now) (take end buffer.now)) }
     ensures well { OnOk result (W.failures sink.new ≡ W.failures sink.old) }
-    ensures front { OnErr result (AppendsFront (W.written sink.old) (W.written sink.new) text.old.items) }
+    ensures front { OnErr result (AppendsFront (W.written sink.old) (W.written sink.new) (take end buffer.now)) }
     ensures failed { OnErr result (W.failures sink.new ≡ W.failures sink.old + 1) }
 {
-    if text.len() >= CHUNK {
-        write_whole(sink, text.as_slice())?;
-        text.clear();
+    if buffer.len() - end >= LITERAL {
+        return Ok(end);
     }
-    Ok(())
+    write_whole(sink, &buffer[..end])?;
+    Ok(0)
+}
+
+/// Writes the line of a clause that needs no more room than the buffer has.
+fn put_short_clause(literals: &[Lit], table: &VariableTable, buffer: &mut [u8], at: usize) -> usize
+    requires short { length literals.now ≤ SHORT }
+    requires room { at + SHORT_LINE ≤ length buffer.old }
+    ensures within { result ≤ length buffer.new }
+    ensures written { take result buffer.new ≡ take at buffer.old ++ clause_line literals.now }
+{
+    let mut end = at;
+    for literal in literals {
+        end = put_literal(*literal, table, buffer, end);
+    }
+    put_bytes(b"0\n", buffer, end)
+}
+
+/// Writes the clause's line behind what the buffer has. Where the buffer is full, the sink takes it.
+fn put_long_clause<W: Sink>(
+    literals: &[Lit],
+    table: &VariableTable,
+    buffer: &mut [u8],
+    at: usize,
+    sink: &mut W,
+) -> Result<usize, Failed>
+    requires within { at ≤ length buffer.old }
+    requires room { LITERAL ≤ length buffer.old }
+    ensures within { IfOk result (λ end. end ≤ length buffer.new) }
+    ensures sent { IfOk result (λ end. IsSent (W.written sink.old) (W.written sink.new) (take end buffer.new) (take at buffer.old ++ clause_line literals.now)) }
+    ensures well { OnOk result (W.failures sink.new ≡ W.failures sink.old) }
+    ensures front { OnErr result (AppendsFront (W.written sink.old) (W.written sink.new) (take at buffer.old ++ clause_line literals.now)) }
+    ensures failed { OnErr result (W.failures sink.new ≡ W.failures sink.old + 1) }
+{
+    let mut end = at;
+    for literal in literals {
+        let start = make_room(buffer, end, sink)?;
+        end = put_literal(*literal, table, buffer, start);
+    }
+    let start = make_room(buffer, end, sink)?;
+    Ok(put_bytes(b"0\n", buffer, start))
+}
+
+/// Writes the clause's line behind what the buffer has. Where the buffer is full, the sink takes it.
+#[inline(always)]
+fn put_clause<W: Sink>(
+    clause: &Clause,
+    table: &VariableTable,
+    buffer: &mut [u8],
+    at: usize,
+    sink: &mut W,
+) -> Result<usize, Failed>
+    requires within { at ≤ length buffer.old }
+    requires room { LITERAL ≤ length buffer.old }
+    ensures within { IfOk result (λ end. end ≤ length buffer.new) }
+    ensures sent { IfOk result (λ end. IsSent (W.written sink.old) (W.written sink.new) (take end buffer.new) (take at buffer.old ++ clause_line clause.now)) }
+    ensures well { OnOk result (W.failures sink.new ≡ W.failures sink.old) }
+    ensures front { OnErr result (AppendsFront (W.written sink.old) (W.written sink.new) (take at buffer.old ++ clause_line clause.now)) }
+    ensures failed { OnErr result (W.failures sink.new ≡ W.failures sink.old + 1) }
+{
+    let literals = clause.as_slice();
+    if literals.len() <= SHORT && buffer.len() - at >= SHORT_LINE {
+        return Ok(put_short_clause(literals, table, buffer, at));
+    }
+    put_long_clause(literals, table, buffer, at, sink)
+}
+
+/// Writes the clauses' lines behind what the buffer has. Where the buffer is full, the sink takes it.
+fn put_clauses<W: Sink>(
+    clauses: &[Clause],
+    table: &VariableTable,
+    buffer: &mut [u8],
+    at: usize,
+    sink: &mut W,
+) -> Result<usize, Failed>
+    requires within { at ≤ length buffer.old }
+    requires room { LITERAL ≤ length buffer.old }
+    ensures within { IfOk result (λ end. end ≤ length buffer.new) }
+    ensures sent { IfOk result (λ end. IsSent (W.written sink.old) (W.written sink.new) (take end buffer.new) (take at buffer.old ++ flat_map clause_line clauses.now)) }
+    ensures well { OnOk result (W.failures sink.new ≡ W.failures sink.old) }
+    ensures front { OnErr result (AppendsFront (W.written sink.old) (W.written sink.new) (take at buffer.old ++ flat_map clause_line clauses.now)) }
+    ensures failed { OnErr result (W.failures sink.new ≡ W.failures sink.old + 1) }
+{
+    let mut end = at;
+    for clause in clauses {
+        end = put_clause(clause, table, buffer, end, sink)?;
+    }
+    Ok(end)
+}
+
+/// A formula's text, which goes to a sink piece by piece: its header, and then its clauses' lines.
+#[derive(Drop)]
+pub struct CnfWriter {
+    table: VariableTable,
+    buffer: Vec<u8>,
+    end: usize,
+}
+
+impl Model for CnfWriter {
+    ghost use Rattle.std.specs.Prelude.{◌≡◌, ◌≤◌, ℕ, List, length, take};
+    ghost use Rattle.dimacs.specs.declared.cnf_writer.TheConstants.{BUFFER};
+
+    /// What was made and has not gone to the sink yet.
+    ghost Value = { List ℕ };
+
+    ghost view = { λ writer. take writer.end writer.buffer.items };
+
+    ghost invariant = { λ writer. (length writer.buffer.items ≡ BUFFER) × (writer.end ≤ BUFFER) };
+}
+
+impl CnfWriter {
+    /// The text's header, for so many variables and clauses.
+    pub fn begin(alloc: Global, variables: u32, clauses: usize) -> Result<CnfWriter, AllocError>
+        ensures { IfOk result (λ writer. writer ≡ header_line variables clauses) }
+    {
+        let table = VariableTable::of(alloc, variables)?;
+        let mut buffer = new_buffer(alloc)?;
+        let end = put_header(variables, clauses, buffer.as_mut_slice());
+        Ok(CnfWriter { table, buffer, end })
+    }
+
+    /// Writes the lines of the next clauses. The writer keeps some of them.
+    pub fn put<W: Sink>(&mut self, clauses: &[Clause], sink: &mut W) -> Result<(), Failed>
+        ensures sent { OnOk result (IsSent (W.written sink.old) (W.written sink.new) self.new (self.old ++ flat_map clause_line clauses.now)) }
+        ensures well { OnOk result (W.failures sink.new ≡ W.failures sink.old) }
+        ensures front { OnErr result (AppendsFront (W.written sink.old) (W.written sink.new) (self.old ++ flat_map clause_line clauses.now)) }
+        ensures failed { OnErr result (W.failures sink.new ≡ W.failures sink.old + 1) }
+    {
+        let end = put_clauses(
+            clauses,
+            &self.table,
+            self.buffer.as_mut_slice(),
+            self.end,
+            sink,
+        )?;
+        self.end = end;
+        Ok(())
+    }
+
+    /// Writes what the writer keeps.
+    pub fn finish<W: Sink>(self, sink: &mut W) -> Result<(), Failed>
+        ensures whole { OnOk result (W.written sink.new ≡ W.written sink.old ++ self) }
+        ensures well { OnOk result (W.failures sink.new ≡ W.failures sink.old) }
+        ensures front { OnErr result (AppendsFront (W.written sink.old) (W.written sink.new) self) }
+        ensures failed { OnErr result (W.failures sink.new ≡ W.failures sink.old + 1) }
+    {
+        let rest = &self.buffer.as_slice()[..self.end];
+        write_whole(sink, rest)
+    }
 }
 
 /// Writes the formula's text. Where memory runs out or the sink fails, the sink has taken a front of it.
@@ -67,12 +204,9 @@ pub fn write_cnf<W: Sink>(alloc: Global, formula: &Formula, sink: &mut W) -> Res
     ensures front { OnErr result (AppendsFront (W.written sink.old) (W.written sink.new) (cnf_text formula.now)) }
     ensures failed { IfErr result (λ fault. W.failures sink.new ≡ W.failures sink.old + failures_told fault) }
 {
-    let mut text = Vec::with_capacity(alloc, 2 * CHUNK)?;
-    push_header(&mut text, formula)?;
-    for clause in formula.clauses() {
-        push_clause(&mut text, clause)?;
-        send_long(&mut text, sink)?;
-    }
-    write_whole(sink, text.as_slice())?;
+    let clauses = formula.clauses();
+    let mut writer = CnfWriter::begin(alloc, formula.variables(), clauses.len())?;
+    writer.put(clauses, sink)?;
+    writer.finish(sink)?;
     Ok(())
 }

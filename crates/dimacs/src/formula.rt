@@ -1,6 +1,8 @@
 //! Formulas in conjunctive normal form.
 ghost use Rattle.std.specs.Prelude.{◌≡◌, ◌↔◌, not, position, IsTrue, IsOk, IfErr};
+ghost use Rattle.std.specs.List.{list_all};
 ghost use Rattle.dimacs.specs.Formula.{is_formula};
+ghost use Rattle.dimacs.specs.Literal.{is_clause};
 ghost use Rattle.dimacs.specs.Assignment.{value_of, makes_some};
 ghost use Rattle.dimacs.specs.Models.{IsModel, IsFirstFalse};
 
@@ -34,12 +36,21 @@ pub struct FirstFalse {
 }
 
 /// The first clause of which the assignment makes no literal true, counted from 0.
-fn first_false(clauses: &[Clause], assignment: &Assignment) -> Option<usize>
+pub fn first_false(clauses: &[Clause], assignment: &Assignment) -> Option<usize>
     ensures { result ≡ position (λ clause. not (makes_some (value_of assignment.now) clause)) clauses.now }
 {
     clauses
         .iter()
         .position(|clause| !assignment.satisfies(clause.as_slice()))
+}
+
+/// Each clause is a clause of literals. This says what clauses keep, and does nothing.
+fn are_clauses(clauses: &[Clause])
+    ensures { IsTrue (list_all is_clause clauses.now) }
+{
+    for clause in clauses {
+        let _literals = clause.as_slice();
+    }
 }
 
 impl Formula {
@@ -58,11 +69,13 @@ impl Formula {
         Formula { variables, clauses }
     }
 
-    /// Its clauses are over its variables. This says what each formula keeps, and does nothing.
+    /// Its clauses are over its variables, and each of them is a clause of literals. This says what each formula keeps,
+    /// and does nothing.
     pub fn is_formula(&self)
-        ensures { IsTrue (is_formula self.now) }
+        ensures formula { IsTrue (is_formula self.now) }
+        ensures clauses { IsTrue (list_all is_clause self.now.clauses) }
     {
-        let _ = &self.clauses;
+        are_clauses(self.clauses.as_slice());
     }
 
     /// How many variables it has.
@@ -77,6 +90,14 @@ impl Formula {
         ensures { result.now ≡ self.now.clauses }
     {
         self.clauses.as_slice()
+    }
+
+    /// Its clauses, in order, and no formula any more.
+    pub fn into_clauses(self) -> Vec<Clause>
+        ensures { result.items ≡ self.clauses }
+    {
+        let Formula { clauses, .. } = self;
+        clauses
     }
 
     /// Whether the assignment is a model: it makes a literal of each clause true. If not, the first clause of which

@@ -1,4 +1,5 @@
-//! Literals, clauses and formulas, the text of a formula, and where a text goes: sinks, and what clauses know of them.
+//! Literals, clauses, formulas and models, the text of a formula as it is written, and where texts go: sinks, with what
+//! contracts alone see of them.
 #![tactic(auto)]
 
 mod assignment;
@@ -7,19 +8,22 @@ mod clause;
 mod cnf_tests;
 mod cnf_writer;
 mod formula;
+mod line_buffer;
 mod literal;
 mod memory_sink;
+pub mod model_laws;
 mod short_sink;
 mod sink;
 mod sink_fault;
 #[cfg(test)]
 mod tests;
 mod transcript;
+mod variable_table;
 
 pub use assignment::Assignment;
-pub use clause::Clause;
-pub use cnf_writer::write_cnf;
-pub use formula::{FirstFalse, Formula};
+pub use clause::{Clause, are_literals};
+pub use cnf_writer::{CnfWriter, write_cnf};
+pub use formula::{FirstFalse, Formula, first_false};
 pub use literal::{Lit, MAX_VARIABLE};
 pub use memory_sink::MemorySink;
 pub use short_sink::ShortSink;

@@ -36,6 +36,37 @@ fn writes_a_front_where_a_call_fails(rt: HostRuntime) -> Result<(), Fail> {
 }
 
 #[test]
+fn takes_so_many_bytes_a_call(rt: HostRuntime) -> Result<(), Fail> {
+    let cases: [(usize, &[usize]); 4] = [
+        (0, &[1, 1, 1, 1, 1, 1, 0]),
+        (1, &[1, 1, 1, 1, 1, 1, 0]),
+        (4, &[4, 2, 0, 0]),
+        (usize::MAX, &[6, 0]),
+    ];
+    for (most, counts) in cases {
+        let mut sink = ShortSink::new(rt.alloc(), most);
+        let mut rest = b"1 2 0\n".as_slice();
+        for count in counts {
+            let taken = sink.write(rest).map_err(|_| "the sink fails")?;
+            assert_eq!(rt; taken, *count, "at {most}");
+            rest = &rest[taken..];
+        }
+        assert!(rt; rest.is_empty(), "at {most}");
+    }
+    Ok(())
+}
+
+#[test]
+fn takes_nothing_at_the_failing_call(rt: HostRuntime) {
+    let mut sink = ShortSink::new(rt.alloc(), 4).failing_at(2);
+    assert_eq!(rt; sink.write(b"1 2 0\n").ok(), Some(4));
+    assert!(rt; sink.write(b"0\n").is_err());
+    assert_eq!(rt; sink.as_slice(), b"1 2 ".as_slice());
+    assert_eq!(rt; sink.write(b"0\n").ok(), Some(2));
+    assert_eq!(rt; sink.as_slice(), b"1 2 0\n".as_slice());
+}
+
+#[test]
 fn keeps_bytes_in_memory(rt: HostRuntime) -> Result<(), Fail> {
     let mut sink = MemorySink::new(rt.alloc());
     assert_eq!(rt; sink.write(b"1 2 0\n").ok(), Some(6));

@@ -1,30 +1,16 @@
-use Rattle.std.proofs.Common.{rules, ◌∙◌, ◌+◌, ◌<◌, length}
-use Rattle.dimacs.specs.CnfText.{header_line, clause_line}
-use Rattle.dimacs.proofs.ChunkLemmas.{line_sent, lines_front, lines_part, sent_on, on_err}
+use Rattle.std.proofs.Common.{◌≡◌, ◌++◌, ◌∙◌, length, ap, subst}
+use Rattle.std.specs.List.{flat_map}
+use Rattle.dimacs.specs.CnfText.{header_line, clause_line, cnf_text}
+use Rattle.dimacs.specs.Sink.{AppendsFront}
+use Rattle.dimacs.proofs.ChunkLemmas.{sent_last, on_err}
 use Rattle.dimacs.proofs.cnf_writer.write_cnf.Goals as goal
 
-pub returns-in_err-push_clause-clause-front : goal.returns-in_err-push_clause-clause-front
-returns-in_err-push_clause-clause-front g c =
-    on_err c.from_residual-in_err-push_clause.result
-    (lines_front (header_line c.args.formula.now) clause_line c.args.formula.now.clauses _ _ c.loop-clause.text.items c.loop-clause.clause-index (rw c.clauses-clause-items.ensures at c.loop-clause.invariant.sent))
-
-pub returns-in_err-send_long-clause-front : goal.returns-in_err-send_long-clause-front
-returns-in_err-send_long-clause-front g c =
-    let within : c.loop-clause.clause-index < length c.args.formula.now.clauses = search rules in
-    let sent = line_sent (header_line c.args.formula.now) clause_line c.args.formula.now.clauses (g.W.Sink.written c.args.sink.now) (g.W.Sink.written c.loop-clause.sink) c.loop-clause.text.items c.push_clause.new.text.items c.loop-clause.clause-index c.clause-item.result within (rw c.clauses-clause-items.ensures at c.clause-item.is) (rw c.clauses-clause-items.ensures at c.loop-clause.invariant.sent) c.in_ok-push_clause.ensures in
-    on_err c.from_residual-in_err-send_long.result
-    (lines_part (header_line c.args.formula.now) clause_line c.args.formula.now.clauses _ _ c.push_clause.new.text.items _ (c.loop-clause.clause-index + 1) sent c.in_err-send_long.ensures.front)
-
-pub loop-clause-preserved : goal.loop-clause-preserved
-loop-clause-preserved g c =
-    let within : c.loop-clause.clause-index < length c.clauses-clause-items.result.now = search rules in
-    let sent = line_sent (header_line c.args.formula.now) clause_line c.clauses-clause-items.result.now (g.W.Sink.written c.args.sink.now) (g.W.Sink.written c.loop-clause.sink) c.loop-clause.text.items c.push_clause.new.text.items c.loop-clause.clause-index c.clause-item.result within c.clause-item.is c.loop-clause.invariant.sent c.in_ok-push_clause.ensures in
-    record {
-      sent = sent_on _ _ _ _ _ _ sent c.in_ok-send_long.ensures.sent;
-      failures = c.in_ok-send_long.ensures.well ∙ c.loop-clause.invariant.failures;
-    }
-
-pub returns-in_err-write_whole-clause-front : goal.returns-in_err-write_whole-clause-front
-returns-in_err-write_whole-clause-front g c =
-    on_err c.from_residual-in_err-write_whole.result
-    (lines_part (header_line c.args.formula.now) clause_line c.args.formula.now.clauses _ _ c.loop-clause.text.items _ c.loop-clause.clause-index (rw c.clauses-clause-items.ensures at c.loop-clause.invariant.sent) (rw c.as_slice.ensures.value at c.in_err-write_whole.ensures.front))
+pub returns-in_err-finish-clause-front : goal.returns-in_err-finish-clause-front
+returns-in_err-finish-clause-front g c =
+    let lines = flat_map clause_line c.clauses-clauses.result.now in
+    let text : c.in_ok-writer.writer ++ lines ≡ cnf_text c.args.formula.now =
+    ap (λ head. head ++ lines) c.in_ok-writer.ensures
+    ∙ (λ p. header_line (c.variables.ensures p) (length (c.clauses-clauses.ensures p)) ++ flat_map clause_line (c.clauses-clauses.ensures p)) in
+    on_err c.from_residual-in_err-finish.result
+    (subst (λ whole. AppendsFront (g.W.Sink.written c.args.sink.now) (g.W.Sink.written c.finish.new.sink) whole) text
+    (sent_last _ _ _ _ _ c.in_ok-put.ensures.sent c.in_err-finish.ensures.front))

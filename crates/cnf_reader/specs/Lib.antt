@@ -1,0 +1,5 @@
+pub mod CnfFault
+pub mod CnfLines
+pub mod CnfProgress
+pub mod CnfReading
+pub mod CnfRefusal

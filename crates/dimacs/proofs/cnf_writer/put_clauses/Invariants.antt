@@ -1,0 +1,12 @@
+use Rattle.std.proofs.Common.{◌≡◌, ◌≤◌, ◌++◌, length, take}
+use Rattle.std.specs.List.{flat_map}
+use Rattle.dimacs.specs.CnfText.{clause_line}
+use Rattle.dimacs.specs.Sink.{IsSent}
+use Rattle.dimacs.proofs.cnf_writer.put_clauses.Given as goal
+
+abbrev pub invariant-loop-clause : goal.invariant-loop-clause
+invariant-loop-clause g l = record {
+  within : l.end ≤ length l.buffer;
+  sent : IsSent (g.W.Sink.written l.fn.sink) (g.W.Sink.written l.sink) (take l.end l.buffer) (take l.at l.fn.buffer ++ flat_map clause_line (take l.clause-index l.clauses));
+  failures : g.W.Sink.failures l.sink ≡ g.W.Sink.failures l.fn.sink;
+}

@@ -1,0 +1,3 @@
+pub mod ModelNumberLemmas
+pub mod ModelReadLemmas
+pub mod ModelTextLemmas

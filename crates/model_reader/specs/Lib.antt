@@ -1,0 +1,4 @@
+pub mod ModelFault
+pub mod ModelFirstFault
+pub mod ModelProgress
+pub mod ModelText
