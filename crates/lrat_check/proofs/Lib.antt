@@ -1,0 +1,13 @@
+pub mod PropagationLemmas
+pub mod RefuteLemmas
+pub mod ActiveLemmas
+pub mod CheckLemmas
+pub mod SoundLemmas
+pub mod RefusalLemmas
+pub mod ListLemmas
+pub mod LratLineLemmas
+pub mod ClearLemmas
+pub mod DerivationTextLemmas
+pub mod LratLawLemmas
+pub mod LratStepLemmas
+pub mod LratWrittenLemmas

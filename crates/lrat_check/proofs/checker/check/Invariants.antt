@@ -1,0 +1,8 @@
+use Rattle.std.proofs.Common.{◌+◌, drop}
+use Rattle.lrat_check.specs.Active.{at_start}
+use Rattle.lrat_check.specs.ClauseAt.{clause_at}
+use Rattle.lrat_check.proofs.CheckLemmas.{IsWalked}
+use Rattle.lrat_check.proofs.checker.check.Given as goal
+
+abbrev pub invariant-loop-i : goal.invariant-loop-i
+invariant-loop-i l = IsWalked (at_start l.formula.clauses l.cube) l.derivation (clause_at l.active) (l.i + 1) (drop l.i l.steps)

@@ -1,0 +1,5 @@
+use Rattle.lrat_check.proofs.LratLawLemmas.{one_spelled}
+use Rattle.lrat_check.proofs.lrat_laws.one_derivation.Goals as goal
+
+pub returns : goal.returns
+returns c = one_spelled

@@ -1,0 +1,16 @@
+pub mod Active
+pub mod Checked
+pub mod ClauseAt
+pub mod Derivation
+pub mod Justified
+pub mod ListFault
+pub mod LratFault
+pub mod LratFaults
+pub mod LratRead
+pub mod LratText
+pub mod LratWritten
+pub mod Marks
+pub mod Propagation
+pub mod Refusal
+pub mod Sound
+pub mod Standing

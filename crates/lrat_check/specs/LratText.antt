@@ -1,0 +1,53 @@
+-- The text of a derivation (LRAT).
+use Rattle.std.specs.Prelude.{◌≡◌, ℕ, ℤ, pos, Bool, true, not, List, [], ◌∷◌, ◌++◌, map, Some, ◌==◌, ◌&&◌, nat_lt, nat_le, codes, slice_index}
+use Rattle.std.specs.List.{list_all, filter, AllZip}
+use Rattle.dimacs.specs.Literal.{is_clause}
+use Rattle.text_lines.specs.Lines.{lines_of}
+use Rattle.text_lines.specs.Numbers.{solver_number}
+use Rattle.text_lines.specs.Words.{words_of}
+use Rattle.lrat_check.specs.declared.derivation.Step.{Step}
+use Rattle.lrat_check.specs.declared.derivation.Step.TheVariants.{Addition, Deletion}
+
+-- the largest id
+abbrev pub most_id : ℕ
+most_id = 9223372036854775807
+
+-- an id of a clause
+abbrev pub is_id : ℕ → Bool
+is_id n = nat_lt 0 n && nat_le n most_id
+
+-- a step that can be written
+abbrev pub is_lrat_step : Step → Bool
+is_lrat_step (Addition id literals hints) = is_id id && (is_clause literals && list_all is_id hints)
+is_lrat_step (Deletion first ids) = nat_le first most_id && list_all is_id ids
+
+-- a line without words, or a comment, whose first word begins with `c`
+abbrev pub is_skipped : List (List ℕ) → Bool
+is_skipped [] = true
+is_skipped (word ∷ words) = slice_index word 0 == 99
+
+-- the words of each line that is not skipped
+abbrev pub kept : List (List ℕ) → List (List (List ℕ))
+kept lines = filter (λ words. not (is_skipped words)) (map words_of lines)
+
+-- the words are these numbers
+abbrev pub Says : List (List ℕ) → List ℤ → Type 0
+Says words numbers = map solver_number words ≡ map Some numbers
+
+-- the numbers, and 0 at the end
+abbrev pub ended : List ℤ → List ℤ
+ended numbers = numbers ++ pos 0 ∷ []
+
+-- The words are this step: an id, literals, 0, hints and 0; or a number, the word `d`, ids and 0.
+abbrev pub IsStepLine : List (List ℕ) → Step → Type 0
+IsStepLine words (Addition id literals hints) = Says words (pos id ∷ (ended literals ++ ended (map pos hints)))
+IsStepLine words (Deletion first ids) =
+    (number : List ℕ) × (rest : List (List ℕ)) × (words ≡ number ∷ (codes "d" ∷ rest)) × (solver_number number ≡ Some (pos first)) × Says rest (ended (map pos ids))
+
+-- the lines that are not skipped are the steps
+pub record AreStepLines (lines : List (List ℕ)) (steps : List Step) : Type 0 where
+  pub lines_are : AllZip IsStepLine (kept lines) steps
+  pub written : list_all is_lrat_step steps ≡ true
+
+abbrev pub SpellsDerivation : List ℕ → List Step → Type 0
+SpellsDerivation text steps = AreStepLines (lines_of text) steps

@@ -1,0 +1,77 @@
+//! The checker of derivations.
+
+ghost use Rattle.std.specs.Prelude.{◌≡◌, ℕ, IfOk, IfErr, MatchResult};
+ghost use Rattle.lrat_check.specs.Active.{after};
+ghost use Rattle.lrat_check.specs.Checked.{IsRight, IsWrong, ends, IsAccepted, IsRefusal};
+ghost use Rattle.lrat_check.specs.ClauseAt.{clause_at};
+ghost use Rattle.lrat_check.specs.Sound.{HasNoModelIn};
+ghost use Rattle.lrat_check.specs.Standing.{IsStepRefusal};
+
+use crate::active_clauses::ActiveClauses;
+use crate::derivation::{Derivation, Step};
+use crate::propagation::justify;
+use crate::refusal::{Refusal, StepFault};
+use crate::true_literals::TrueLiterals;
+use dimacs::{Formula, Lit, are_literals};
+use std::alloc::Global;
+
+/// A derivation was accepted.
+#[derive(Clone, Copy, Debug, PartialEq, Eq)]
+pub struct Accepted;
+
+/// Takes the step of this number. Whether it adds the empty clause.
+fn take_step<'a>(
+    active: &mut ActiveClauses<'a>,
+    trues: &mut TrueLiterals,
+    step: &'a Step,
+    number: usize,
+) -> Result<bool, Refusal>
+    ensures { MatchResult result
+        (λ ended. IsRight (clause_at active.old) step.now × (ended ≡ ends step.now) × ((id : ℕ) → clause_at active.new id ≡ after (clause_at active.old) step.now id))
+        (λ refusal. IsStepRefusal (λ fault. IsWrong (clause_at active.old) step.now fault) number refusal) }
+{
+    match step {
+        Step::Deletion { ids, .. } => {
+            active.remove_all(ids.as_slice());
+            Ok(false)
+        }
+        Step::Addition {
+            id,
+            literals,
+            hints,
+        } => {
+            let clause = literals.as_slice();
+            if active.contains(*id) {
+                return Err(Refusal::At(StepFault::IdInUse, number));
+            }
+            justify(active, trues, clause, hints.as_slice(), number)?;
+            active.insert(*id, clause)?;
+            Ok(clause.is_empty())
+        }
+    }
+}
+
+/// Checks whether the derivation shows that no model of the formula makes all literals of the cube true. If not, the
+/// first step that fails.
+pub fn check(
+    alloc: Global,
+    formula: &Formula,
+    cube: &[Lit],
+    derivation: &Derivation,
+) -> Result<Accepted, Refusal>
+    ensures accepted { IfOk result (λ _. IsAccepted formula.now.clauses cube.now derivation.now) }
+    ensures sound { IfOk result (λ _. HasNoModelIn formula.now.clauses cube.now) }
+    ensures refused { IfErr result (λ refusal. IsRefusal formula.now.clauses cube.now derivation.now refusal) }
+{
+    formula.is_formula();
+    are_literals(cube);
+    let mut active = ActiveClauses::at_start(alloc, formula, cube)?;
+    let mut trues = TrueLiterals::new(alloc);
+    let steps = derivation.steps();
+    for i in 0..steps.len() {
+        if take_step(&mut active, &mut trues, &steps[i], i + 1)? {
+            return Ok(Accepted);
+        }
+    }
+    Err(Refusal::At(StepFault::NoEmptyClause, steps.len() + 1))
+}

@@ -1,0 +1,36 @@
+//! Laws of a derivation's text.
+
+ghost use Rattle.std.specs.Prelude.{◌≡◌, ◌⊎◌, ℕ, List, true};
+ghost use Rattle.std.specs.List.{list_all};
+ghost use Rattle.lrat_check.specs.LratFaults.{HasLratFault};
+ghost use Rattle.lrat_check.specs.LratText.{SpellsDerivation, is_lrat_step};
+ghost use Rattle.lrat_check.specs.LratWritten.{canonical_derivation};
+ghost use Rattle.lrat_check.specs.declared.derivation.Step.{Step};
+ghost use Rattle.lrat_check.specs.declared.lrat_fault.LratCause.{LratCause};
+
+/// A text spells one derivation at most.
+pub fn one_derivation()
+    ensures { (text : List ℕ) (m n : List Step) → SpellsDerivation text m → SpellsDerivation text n → m ≡ n }
+{}
+
+/// A text has one first fault at most.
+pub fn one_lrat_fault()
+    ensures { (text : List ℕ) (c d : LratCause) (p q : ℕ) → HasLratFault text c p → HasLratFault text d q → (c ≡ d) × (p ≡ q) }
+{}
+
+/// A text that spells a derivation has no fault.
+pub fn never_spelled_and_faulty()
+    ensures { (text : List ℕ) (steps : List Step) (cause : LratCause) (line : ℕ) →
+        SpellsDerivation text steps → HasLratFault text cause line → ⊥ }
+{}
+
+/// Each text spells a derivation or has a first fault.
+pub fn spelled_or_faulty()
+    ensures { (text : List ℕ) →
+        ((steps : List Step) × SpellsDerivation text steps) ⊎ ((cause : LratCause) × (line : ℕ) × HasLratFault text cause line) }
+{}
+
+/// The canonical text of steps that can be written spells them.
+pub fn canonical_spells()
+    ensures { (steps : List Step) → list_all is_lrat_step steps ≡ true → SpellsDerivation (canonical_derivation steps) steps }
+{}

@@ -1,0 +1,179 @@
+//! The reader of a derivation's text.
+
+ghost use Rattle.std.specs.Prelude.{◌≡◌, ◌==◌, [], ◌∷◌, map, pos, codes, true, false, Some, slice_index, MatchOption, MatchResult, IfOk, IfErr};
+ghost use Rattle.std.specs.Option.{option_or};
+ghost use Rattle.dimacs.specs.Literal.{is_literal};
+ghost use Rattle.lrat_check.specs.LratFaults.{literal_fault, id_fault, first_fault, behind_fault, addition_fault, deletion_fault, is_deletion, line_fault, IsLratRefusal, IsLineRefusal};
+ghost use Rattle.lrat_check.specs.LratRead.{BeginsWithList, IsSkippedLine, IsLineOf, IsWrittenStep, is_id_number};
+ghost use Rattle.lrat_check.specs.LratText.{SpellsDerivation};
+ghost use Rattle.lrat_check.specs.ListFault.{HasListFault};
+ghost use Rattle.text_lines.specs.Numbers.{solver_number};
+ghost use Rattle.text_lines.specs.Words.{words_of};
+
+use crate::derivation::{Derivation, Step};
+use crate::ids::Ids;
+use crate::lrat_fault::{LratCause, LratFault};
+use crate::lrat_number::{read_first, read_id, read_literal};
+use dimacs::Clause;
+use std::alloc::Global;
+use text_lines::lines::cut_line;
+use text_lines::numbers::read_solver_number;
+use text_lines::words::cut_word;
+
+/// The ids up to the first 0 of the line of this number, and what follows. This is wrong with a negative number.
+fn read_ids(
+    alloc: Global,
+    line: &[u8],
+    negative: LratCause,
+    number: usize,
+) -> Result<(Ids, &[u8]), LratFault>
+    ensures { MatchResult result
+        (λ read. BeginsWithList (id_fault negative) is_id_number (words_of line.now) (map pos read.0) (words_of read.1.now))
+        (λ fault. IsLineRefusal (λ cause. HasListFault (id_fault negative) (words_of line.now) cause) number fault) }
+{
+    let mut ids = Vec::new(alloc);
+    let mut rest = line;
+    while let Some((word, after)) = cut_word(rest) {
+        let id = match read_id(word, negative) {
+            Ok(id) => id,
+            Err(cause) => return Err(LratFault::Line(cause, number)),
+        };
+        if id == 0 {
+            return Ok((Ids::new(ids), after));
+        }
+        ids.push(id)?;
+        rest = after;
+    }
+    Err(LratFault::Line(LratCause::Unended, number))
+}
+
+/// The literals up to the first 0 of the line of this number, and what follows.
+fn read_literals(alloc: Global, line: &[u8], number: usize) -> Result<(Clause, &[u8]), LratFault>
+    ensures { MatchResult result
+        (λ read. BeginsWithList literal_fault is_literal (words_of line.now) read.0 (words_of read.1.now))
+        (λ fault. IsLineRefusal (λ cause. HasListFault literal_fault (words_of line.now) cause) number fault) }
+{
+    let mut literals = Vec::new(alloc);
+    let mut rest = line;
+    while let Some((word, after)) = cut_word(rest) {
+        match read_literal(word) {
+            Ok(Some(literal)) => literals.push(literal)?,
+            Ok(None) => return Ok((Clause::from_slice(alloc, literals.as_slice())?, after)),
+            Err(cause) => return Err(LratFault::Line(cause, number)),
+        }
+        rest = after;
+    }
+    Err(LratFault::Line(LratCause::Unended, number))
+}
+
+/// Looks that no word follows.
+fn end_line(rest: &[u8], number: usize) -> Result<(), LratFault>
+    ensures { MatchResult result
+        (λ _. words_of rest.now ≡ [])
+        (λ fault. IsLineRefusal (λ cause. behind_fault (words_of rest.now) ≡ Some cause) number fault) }
+{
+    match cut_word(rest) {
+        None => Ok(()),
+        Some((word, _)) => {
+            if read_solver_number(word).is_some() {
+                Err(LratFault::Line(LratCause::BadLine, number))
+            } else {
+                Err(LratFault::Line(LratCause::BadNumber, number))
+            }
+        }
+    }
+}
+
+/// The addition whose id is this word and whose other words follow.
+fn read_addition(alloc: Global, word: &[u8], rest: &[u8], number: usize) -> Result<Step, LratFault>
+    ensures { MatchResult result
+        (λ step. IsWrittenStep (word.now ∷ words_of rest.now) step)
+        (λ fault. IsLineRefusal (λ cause. option_or (first_fault 1 (solver_number word.now)) (addition_fault (words_of rest.now)) ≡ Some cause) number fault) }
+{
+    let id = match read_first(word, 1) {
+        Ok(id) => id,
+        Err(cause) => return Err(LratFault::Line(cause, number)),
+    };
+    let (literals, after) = read_literals(alloc, rest, number)?;
+    let (hints, behind) = read_ids(alloc, after, LratCause::RatLine, number)?;
+    end_line(behind, number)?;
+    Ok(Step::Addition {
+        id,
+        literals,
+        hints,
+    })
+}
+
+/// The deletion whose first number is this word and whose ids follow.
+fn read_deletion(alloc: Global, word: &[u8], rest: &[u8], number: usize) -> Result<Step, LratFault>
+    ensures { MatchResult result
+        (λ step. IsWrittenStep (word.now ∷ (codes "d" ∷ words_of rest.now)) step)
+        (λ fault. IsLineRefusal (λ cause. option_or (first_fault 0 (solver_number word.now)) (deletion_fault (words_of rest.now)) ≡ Some cause) number fault) }
+{
+    let first = match read_first(word, 0) {
+        Ok(first) => first,
+        Err(cause) => return Err(LratFault::Line(cause, number)),
+    };
+    let (ids, behind) = read_ids(alloc, rest, LratCause::BadNumber, number)?;
+    end_line(behind, number)?;
+    Ok(Step::Deletion { first, ids })
+}
+
+/// Whether the first word of a line begins a comment.
+fn begins_comment(word: &[u8]) -> bool
+    ensures { result ≡ (slice_index word.now 0 == 99) }
+{
+    !word.is_empty() && word[0] == b'c'
+}
+
+/// What follows the `d`, where the next word is one.
+fn behind_letter(rest: &[u8]) -> Option<&[u8]>
+    ensures { MatchOption result (is_deletion (words_of rest.now) ≡ false) (λ after. words_of rest.now ≡ codes "d" ∷ words_of after.now) }
+{
+    let (word, after) = cut_word(rest)?;
+    if word == b"d".as_slice() {
+        Some(after)
+    } else {
+        None
+    }
+}
+
+/// The step on the line of this number; nothing where the line is skipped.
+fn read_line(alloc: Global, line: &[u8], number: usize) -> Result<Option<Step>, LratFault>
+    ensures { MatchResult result
+        (λ found. MatchOption found (IsSkippedLine line.now) (λ step. IsLineOf line.now step))
+        (λ fault. IsLineRefusal (λ cause. line_fault [] line.now ≡ Some cause) number fault) }
+{
+    let Some((word, rest)) = cut_word(line) else {
+        return Ok(None);
+    };
+    if begins_comment(word) {
+        return Ok(None);
+    }
+    let step = match behind_letter(rest) {
+        Some(after) => read_deletion(alloc, word, after, number)?,
+        None => read_addition(alloc, word, rest, number)?,
+    };
+    Ok(Some(step))
+}
+
+/// The derivation that the text spells, in one pass.
+///
+/// Each line is a step, and lines without words and those whose first word begins with `c` are skipped. The error is the
+/// first fault of the text, with its line, counted from 1, or `OutOfMemory`, which tells nothing of the text.
+pub fn read_lrat(alloc: Global, text: &[u8]) -> Result<Derivation, LratFault>
+    ensures spelled { IfOk result (λ derivation. SpellsDerivation text.now derivation) }
+    ensures faulty { IfErr result (λ fault. IsLratRefusal text.now fault) }
+{
+    let mut steps = Vec::new(alloc);
+    let mut number = 0usize;
+    let mut rest = text;
+    while let Some((line, after)) = cut_line(rest) {
+        number += 1;
+        if let Some(step) = read_line(alloc, line, number)? {
+            steps.push(step)?;
+        }
+        rest = after;
+    }
+    Ok(Derivation::new(steps))
+}

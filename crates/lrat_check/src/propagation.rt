@@ -1,0 +1,123 @@
+//! Unit propagation along hints.
+
+ghost use Rattle.std.specs.Prelude.{◌≡◌, [], ◌∷◌, ◌++◌, ℕ, List, ℤ, false, IfOk, MatchResult};
+ghost use Rattle.lrat_check.specs.ClauseAt.{clause_at};
+ghost use Rattle.lrat_check.specs.Justified.{Refutes, FailsToRefute, IsJustified, IsUnjustified};
+ghost use Rattle.lrat_check.specs.Propagation.{is_falsified};
+ghost use Rattle.lrat_check.specs.Standing.{IsStanding, IsAssumed, IsStepRefusal};
+
+use crate::active_clauses::ActiveClauses;
+use crate::refusal::{Refusal, StepFault};
+use crate::true_literals::TrueLiterals;
+use dimacs::{Lit, are_literals};
+use std::alloc::AllocError;
+
+/// How a clause stands under the literals that are true.
+#[derive(Clone, Copy)]
+pub enum Standing {
+    /// All of its literals are false.
+    Falsified,
+    /// This literal alone is not false.
+    Unit(Lit),
+    /// Two distinct literals are not false.
+    Unfalsified,
+}
+
+/// How a clause stands with one more literal, which is not false.
+fn with_unfalsified(standing: Standing, literal: Lit) -> Standing
+    ensures { (trues clause : List ℤ) → IsStanding trues clause standing → is_falsified trues literal ≡ false →
+        IsStanding trues (clause ++ literal ∷ []) result }
+{
+    match standing {
+        Standing::Falsified => Standing::Unit(literal),
+        Standing::Unit(unit) => {
+            if unit.number() == literal.number() {
+                Standing::Unit(unit)
+            } else {
+                Standing::Unfalsified
+            }
+        }
+        Standing::Unfalsified => Standing::Unfalsified,
+    }
+}
+
+/// How a clause stands with one more literal.
+fn with_literal(standing: Standing, literal: Lit, trues: &TrueLiterals) -> Standing
+    ensures { (clause : List ℤ) → IsStanding trues.now clause standing → IsStanding trues.now (clause ++ literal ∷ []) result }
+{
+    if trues.falsify(literal) {
+        standing
+    } else {
+        with_unfalsified(standing, literal)
+    }
+}
+
+/// How the clause stands.
+fn standing_of(clause: &[Lit], trues: &TrueLiterals) -> Standing
+    ensures { IsStanding trues.now clause.now result }
+{
+    let mut standing = Standing::Falsified;
+    for literal in clause {
+        standing = with_literal(standing, *literal, trues);
+    }
+    standing
+}
+
+/// Makes the negations of the clause's literals true and no other literal. Where the clause is a tautology this cannot
+/// be, and the answer is true.
+fn assume_negation(trues: &mut TrueLiterals, clause: &[Lit]) -> Result<bool, AllocError>
+    ensures { IfOk result (λ is_tautology. IsAssumed clause.now trues.new is_tautology) }
+{
+    are_literals(clause);
+    trues.clear();
+    for literal in clause {
+        let negation = literal.negated();
+        if trues.falsify(negation) {
+            return Ok(true);
+        }
+        trues.push(negation)?;
+    }
+    Ok(false)
+}
+
+/// Looks whether the hints of the step of this number refute that the literals are true.
+fn refute(
+    active: &ActiveClauses,
+    trues: &mut TrueLiterals,
+    hints: &[u64],
+    number: usize,
+) -> Result<(), Refusal>
+    ensures { MatchResult result
+        (λ _. Refutes (clause_at active.now) trues.old hints.now)
+        (λ refusal. IsStepRefusal (λ fault. FailsToRefute (clause_at active.now) trues.old hints.now fault) number refusal) }
+{
+    for hint in hints {
+        let Some(clause) = active.get(*hint) else {
+            return Err(Refusal::At(StepFault::UnknownHint, number));
+        };
+        match standing_of(clause, trues) {
+            Standing::Falsified => return Ok(()),
+            Standing::Unit(unit) => trues.push(unit)?,
+            Standing::Unfalsified => return Err(Refusal::At(StepFault::NotUnit, number)),
+        }
+    }
+    Err(Refusal::At(StepFault::NoConflict, number))
+}
+
+/// Looks whether the clause of the step of this number is justified.
+pub fn justify(
+    active: &ActiveClauses,
+    trues: &mut TrueLiterals,
+    clause: &[Lit],
+    hints: &[u64],
+    number: usize,
+) -> Result<(), Refusal>
+    ensures { MatchResult result
+        (λ _. IsJustified (clause_at active.now) clause.now hints.now)
+        (λ refusal. IsStepRefusal (λ fault. IsUnjustified (clause_at active.now) clause.now hints.now fault) number refusal) }
+{
+    if assume_negation(trues, clause)? {
+        return Ok(());
+    }
+    refute(active, trues, hints, number)
+}
