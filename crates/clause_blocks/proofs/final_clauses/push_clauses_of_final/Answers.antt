@@ -1,0 +1,11 @@
+use Rattle.std.proofs.Common.{◌∙◌, sym}
+use Rattle.var_layout.specs.declared.layout.Chooser.TheVariants.{Final}
+use Rattle.var_layout.proofs.VariableLemmas.{void_over}
+use Rattle.clause_blocks.proofs.VariableLemmas.{fits_formula}
+use Rattle.clause_blocks.proofs.final_clauses.push_clauses_of_final.Goals as goal
+
+pub push_void-requires : goal.push_void-requires
+push_void-requires c =
+    let t = c.args.layout.now in
+    fits_formula t c.is_layout.ensures.trace c.is_layout.ensures.few c.in-Some.variable
+    (void_over t (Final c.args.k) c.in-Some.variable (sym c.void_var.ensures ∙ c.in-Some.is))

@@ -1,0 +1,6 @@
+pub mod Blocks
+pub mod Clauses
+pub mod Examples
+pub mod FinalClauses
+pub mod ModelOrder
+pub mod Ranges

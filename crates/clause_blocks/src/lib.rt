@@ -1,0 +1,14 @@
+//! The clauses of a trace's formula, in blocks: program order, transitivity, what is read, final values, before pairs.
+#![tactic(auto)]
+
+mod before_clauses;
+mod final_clauses;
+pub mod first_false;
+pub mod formula;
+pub mod laws;
+pub mod meaning;
+mod program_order;
+mod read_clauses;
+pub mod stream_cnf;
+mod transitivity;
+mod void_clauses;

@@ -1,0 +1,25 @@
+//! Program order: an operation stands before the next one of its process.
+
+ghost use Rattle.std.specs.Prelude.{◌≡◌, ◌++◌, OnOk};
+ghost use Rattle.clause_blocks.specs.Blocks.{program_order};
+
+use dimacs::Clause;
+use std::alloc::{AllocError, Global};
+use var_layout::layout::Layout;
+
+/// Appends the clauses of program order.
+pub(crate) fn push_program_order(
+    alloc: Global,
+    layout: &Layout,
+    clauses: &mut Vec<Clause>,
+) -> Result<(), AllocError>
+    ensures { OnOk result (clauses.new.items ≡ clauses.old.items ++ program_order layout.now) }
+{
+    layout.is_layout();
+    for i in 0..layout.operations() {
+        if layout.in_one_process(i, i + 1) {
+            clauses.push(Clause::unit(alloc, layout.order_lit(i, i + 1)))?;
+        }
+    }
+    Ok(())
+}

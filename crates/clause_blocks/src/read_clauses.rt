@@ -1,0 +1,147 @@
+//! What is read: a reading operation reads from one of its candidates, and what that means.
+
+ghost use Rattle.std.specs.Prelude.{◌≡◌, ◌<◌, ◌++◌, ◌∷◌, pos, map, IsSome, IfOk, OnOk};
+ghost use Rattle.std.specs.List.{All, flat_map};
+ghost use Rattle.reducer.specs.Reduced.{operation_count};
+ghost use Rattle.var_layout.specs.ChoiceVariables.{choices};
+ghost use Rattle.var_layout.specs.Numbers.{read_at};
+ghost use Rattle.clause_blocks.specs.Blocks as blocks;
+ghost use Rattle.clause_blocks.specs.Ranges.{FitsFormula, AreTwo, IsSource};
+
+use crate::void_clauses::push_void;
+use dimacs::{Clause, Lit};
+use std::alloc::{AllocError, Global};
+use var_layout::candidate::{Candidate, Choice};
+use var_layout::layout::{Chooser, Layout};
+
+/// The literals that say that a candidate is chosen.
+fn literals_of(alloc: Global, choices: &[Choice]) -> Result<Vec<Lit>, AllocError>
+    requires { All (λ (c : Choice). FitsFormula c.variable) choices.now }
+    ensures { IfOk result (λ literals. literals.items ≡ map (λ (c : Choice). pos c.variable) choices.now) }
+{
+    let mut literals = Vec::with_capacity(alloc, choices.len())?;
+    for choice in choices {
+        literals.push(Lit::positive(choice.variable))?;
+    }
+    Ok(literals)
+}
+
+/// Appends what it means that an operation reads the initial value: it stands before each other writer of the location.
+fn push_reads_initial(
+    alloc: Global,
+    layout: &Layout,
+    r: usize,
+    variable: u32,
+    clauses: &mut Vec<Clause>,
+) -> Result<(), AllocError>
+    requires within { r < operation_count layout.now }
+    requires variable { FitsFormula variable }
+    ensures { OnOk result (clauses.new.items ≡ clauses.old.items ++ blocks.reads_from layout.now r variable Candidate.InitialValue) }
+{
+    layout.is_layout();
+    let unchosen = Lit::positive(variable).negated();
+    for v in layout.other_writers(r) {
+        clauses.push(Clause::binary(alloc, unchosen, layout.order_lit(r, *v)))?;
+    }
+    Ok(())
+}
+
+/// Appends what it means that an operation reads from a writer: the writer stands before it, and each other writer
+/// before the writer or after the operation.
+fn push_reads_writer(
+    alloc: Global,
+    layout: &Layout,
+    r: usize,
+    w: usize,
+    variable: u32,
+    clauses: &mut Vec<Clause>,
+) -> Result<(), AllocError>
+    requires two { AreTwo layout.now w r }
+    requires variable { FitsFormula variable }
+    ensures { OnOk result (clauses.new.items ≡ clauses.old.items ++ blocks.reads_from layout.now r variable (Candidate.Writer w)) }
+{
+    layout.is_layout();
+    let unchosen = Lit::positive(variable).negated();
+    clauses.push(Clause::binary(alloc, unchosen, layout.order_lit(w, r)))?;
+    let writers = layout.other_writers(r);
+    for v in writers {
+        if *v != w {
+            let before = layout.order_lit(*v, w);
+            let after = layout.order_lit(r, *v);
+            clauses.push(Clause::ternary(alloc, unchosen, before, after))?;
+        }
+    }
+    Ok(())
+}
+
+/// Appends what it means that an operation reads from this candidate.
+fn push_reads_from(
+    alloc: Global,
+    layout: &Layout,
+    r: usize,
+    choice: Choice,
+    clauses: &mut Vec<Clause>,
+) -> Result<(), AllocError>
+    requires within { r < operation_count layout.now }
+    requires source { IsSource layout.now r choice.candidate }
+    requires variable { FitsFormula choice.variable }
+    ensures { OnOk result (clauses.new.items ≡ clauses.old.items ++ blocks.reads_from layout.now r choice.variable choice.candidate) }
+{
+    match choice.candidate {
+        Candidate::InitialValue => push_reads_initial(alloc, layout, r, choice.variable, clauses),
+        Candidate::Writer(w) => push_reads_writer(alloc, layout, r, w, choice.variable, clauses),
+    }
+}
+
+/// Appends the clauses of a reading operation that has a candidate.
+fn push_choices(
+    alloc: Global,
+    layout: &Layout,
+    r: usize,
+    clauses: &mut Vec<Clause>,
+) -> Result<(), AllocError>
+    requires { IsSome (read_at layout.now r) }
+    ensures { OnOk result (clauses.new.items ≡ clauses.old.items ++ (map (λ (c : Choice). pos c.variable) (choices layout.now r) ∷ flat_map (λ (c : Choice). blocks.reads_from layout.now r c.variable c.candidate) (choices layout.now r))) }
+{
+    layout.is_layout();
+    let choices = layout.choices(r);
+    let literals = literals_of(alloc, choices)?;
+    clauses.push(Clause::from_slice(alloc, literals.as_slice())?)?;
+    for choice in choices {
+        push_reads_from(alloc, layout, r, *choice, clauses)?;
+    }
+    Ok(())
+}
+
+/// Appends the clauses of a reading operation.
+fn push_clauses_of_read(
+    alloc: Global,
+    layout: &Layout,
+    r: usize,
+    clauses: &mut Vec<Clause>,
+) -> Result<(), AllocError>
+    requires { IsSome (read_at layout.now r) }
+    ensures { OnOk result (clauses.new.items ≡ clauses.old.items ++ blocks.clauses_of_read layout.now r) }
+{
+    layout.is_layout();
+    match layout.void_var(Chooser::Read(r)) {
+        Some(variable) => push_void(alloc, variable, clauses),
+        None => push_choices(alloc, layout, r, clauses),
+    }
+}
+
+/// Appends the clauses of all reading operations.
+pub(crate) fn push_read_clauses(
+    alloc: Global,
+    layout: &Layout,
+    clauses: &mut Vec<Clause>,
+) -> Result<(), AllocError>
+    ensures { OnOk result (clauses.new.items ≡ clauses.old.items ++ blocks.read_clauses layout.now) }
+{
+    for r in 0..layout.operations() {
+        if layout.is_reader(r) {
+            push_clauses_of_read(alloc, layout, r, clauses)?;
+        }
+    }
+    Ok(())
+}

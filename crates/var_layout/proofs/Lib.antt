@@ -1,0 +1,11 @@
+pub mod BoundLemmas
+pub mod LayoutLemmas
+pub mod ListLemmas
+pub mod NumberLemmas
+pub mod NumberingLemmas
+pub mod OnePlaceLemmas
+pub mod OrderLemmas
+pub mod RangeLemmas
+pub mod SplitLemmas
+pub mod VariableLemmas
+pub mod WriterLemmas

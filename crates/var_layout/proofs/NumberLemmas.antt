@@ -1,0 +1,67 @@
+-- The number of an operation that has a name.
+use Rattle.std.proofs.Common.{◌≡◌, ◌<◌, ◌≤◌, ℕ, [], length, get_or, Bool, true, false, refl, ap, sym, ◌∙◌, arith}
+use Rattle.std.specs.Prelude.{◌≢◌, Some, IsSome}
+use Rattle.std.specs.List.{Contains, find, slice_get}
+use Rattle.std.proofs.lemmas.List.{length-map}
+use Rattle.std.proofs.lemmas.List.Elements.{All-contains}
+use Rattle.std.proofs.lemmas.List.Folds.{find_at}
+use Rattle.std.proofs.lemmas.List.Sums.{position_or_len_is}
+use Rattle.std.proofs.lemmas.Option.{slice_get-get_or, slice_get_within}
+use Rattle.traces.specs.declared.operation.OpName.{OpName}
+use Rattle.traces.specs.Judgement.{is_the_op}
+use Rattle.traces.specs.Operation.{same_op}
+use Rattle.traces.specs.Trace.{TraceValue, IsTrace, operation_at, operation_names}
+use Rattle.traces.proofs.NameLemmas.{same_name, name_same, known_listed}
+use Rattle.traces.proofs.ElementLemmas.{finds}
+use Rattle.reducer.specs.Reduced.{operation_count}
+use Rattle.var_layout.specs.Numbered.{NumberedOp, numbered}
+use Rattle.var_layout.specs.Numbers.{name_at, number_of}
+use Rattle.var_layout.proofs.NumberingLemmas.{counted, names_of}
+
+pub names_counted : (t : TraceValue) → length (operation_names t) ≡ operation_count t
+names_counted t = ap length (sym (names_of t.processes)) ∙ length-map (numbered t) (λ (x : NumberedOp). x.name) ∙ counted t
+
+pub same_swapped : (m n : OpName) → same_op m n ≡ same_op n m
+same_swapped m n = at (same_op m n) (same_op n m) refl refl
+  where
+    at : (b c : Bool) → same_op m n ≡ b → same_op n m ≡ c → b ≡ c
+    at true true e f = refl
+    at false false e f = refl
+    at true false e f = sym (name_same n m (sym (same_name m n e))) ∙ f
+    at false true e f = sym e ∙ name_same m n (sym (same_name n m f))
+
+name_within : (t : TraceValue) (n d : OpName) (k : ℕ) → k < operation_count t → same_op n (get_or (operation_names t) k d) ≡ is_the_op (name_at t k) n
+name_within t n d k l =
+    let within : k < length (operation_names t) = omega (arith, l, names_counted t) in
+    same_swapped n (get_or (operation_names t) k d) ∙ ap (λ o. is_the_op o n) (sym (slice_get-get_or (operation_names t) k d within))
+
+-- the first operation of this name
+pub number_here : (t : TraceValue) (n : OpName) (i : ℕ) → i ≤ operation_count t → ((k : ℕ) → k < i → is_the_op (name_at t k) n ≡ false) → (i < operation_count t → is_the_op (name_at t i) n ≡ true) → i ≡ number_of t n
+number_here t n i l before here =
+    let d : OpName = record { process = []; place = 0 } in
+    let count = names_counted t in
+    sym (position_or_len_is (same_op n) (operation_names t) i d (omega (arith, l, count))
+    (λ k m. name_within t n d k (omega (arith, m, l)) ∙ before k m)
+    (λ m. let within : i < operation_count t = omega (arith, m, count) in name_within t n d i within ∙ here within))
+
+-- a known operation has a number, and is the one that has it
+pub record HasNumber (t : TraceValue) (n : OpName) : Type 0 where
+  pub within : number_of t n < operation_count t
+  pub named : name_at t (number_of t n) ≡ Some n
+
+pub known_number : (t : TraceValue) (n : OpName) → IsSome (operation_at t n) → HasNumber t n
+known_number t n known =
+    let names = operation_names t in
+    let listed = known_listed t n known in
+    let found : find (same_op n) names ≡ Some n = finds (same_op n) names n (name_same n n refl) (λ m c h. sym (same_name n m h)) listed in
+    let there : slice_get names (number_of t n) ≡ Some n = sym (find_at (same_op n) names) ∙ found in
+    let within = slice_get_within names (number_of t n) n there in
+    record { within = omega (arith, within, names_counted t); named = there }
+
+pub pairs_apart : (t : TraceValue) → IsTrace t → (pair : OpName × OpName) → Contains t.before pair → (number_of t pair.0 < operation_count t) × (number_of t pair.1 < operation_count t) × (number_of t pair.0 ≢ number_of t pair.1)
+pairs_apart t ok pair c =
+    let known = All-contains (λ (p : OpName × OpName). IsSome (operation_at t p.0) × IsSome (operation_at t p.1)) t.before pair ok.known c in
+    let apart = All-contains (λ (p : OpName × OpName). p.0 ≢ p.1) t.before pair ok.before_apart c in
+    let first = known_number t pair.0 known.0 in
+    let second = known_number t pair.1 known.1 in
+    (first.within, second.within, λ e. apart (let same : Some pair.0 ≡ Some pair.1 = sym first.named ∙ ap (name_at t) e ∙ second.named in cc))

@@ -1,0 +1,11 @@
+pub mod Candidates
+pub mod ChoiceVariables
+pub mod FinalVariables
+pub mod Numbered
+pub mod Numbers
+pub mod OrderVariables
+pub mod Ranges
+pub mod Split
+pub mod StoreBuffering
+pub mod Tables
+pub mod VoidVariables

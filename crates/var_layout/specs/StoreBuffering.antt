@@ -1,0 +1,27 @@
+-- Store buffering, as an example.
+use Rattle.std.specs.Prelude.{ℕ, [], ◌∷◌, codes}
+use Rattle.traces.specs.declared.operation.Op.TheVariants.{Read, Write}
+use Rattle.traces.specs.declared.operation.Origin.TheVariants.{Any}
+use Rattle.traces.specs.declared.trace.Process.{Process}
+use Rattle.traces.specs.Trace.{TraceValue}
+use Rattle.var_layout.specs.declared.candidate.Candidate.TheVariants.{InitialValue}
+use Rattle.var_layout.specs.declared.candidate.Choice.{Choice}
+
+abbrev pub first_process : Process
+first_process = record { name = codes "P"; operations = Write (codes "x") 1 ∷ Read (codes "y") 0 Any ∷ [] }
+
+abbrev pub second_process : Process
+second_process = record { name = codes "Q"; operations = Write (codes "y") 1 ∷ Read (codes "x") 0 Any ∷ [] }
+
+-- each of two processes writes one location and then reads the initial value of the other's
+abbrev pub store_buffering : TraceValue
+store_buffering = record {
+  processes = first_process ∷ second_process ∷ [];
+  initial = (codes "x", 0) ∷ (codes "y", 0) ∷ [];
+  final_values = [];
+  before = [];
+}
+
+-- an operation that reads the initial value
+abbrev pub initial_choice : ℕ → Choice
+initial_choice v = record { candidate = InitialValue; variable = v }

@@ -1,0 +1,244 @@
+//! The layout of a trace's variables.
+
+ghost use Rattle.std.specs.Prelude.{◌≡◌, ◌≢◌, ◌<◌, ◌≤◌, ℕ, List, [], length, map, is_some, IsSome, IfOk, slice_get, false};
+ghost use Rattle.std.specs.Option.{option_and_then, option_copied, option_map, option_map_or};
+ghost use Rattle.traces.specs.declared.operation.OpName.{OpName};
+ghost use Rattle.traces.specs.Trace.{IsTrace};
+ghost use Rattle.reducer.specs.Reduced.{operation_count};
+ghost use Rattle.var_layout.specs.ChoiceVariables as choice_variables;
+ghost use Rattle.var_layout.specs.FinalVariables as final_variables;
+ghost use Rattle.var_layout.specs.Numbers as numbers;
+ghost use Rattle.var_layout.specs.OrderVariables as order;
+ghost use Rattle.var_layout.specs.Split as split;
+ghost use Rattle.var_layout.specs.Tables as tables;
+ghost use Rattle.var_layout.specs.Tables.{OpTableValue, FinalTableValue};
+ghost use Rattle.var_layout.specs.VoidVariables.{void_variable};
+
+use crate::before_numbers::before_numbers;
+use crate::candidate::{Choice, FinalChoice};
+use crate::choice_variables::{OpTable, op_tables};
+use crate::final_variables::{FinalTable, final_tables};
+use crate::numbering::Numbering;
+use crate::order_literal::order_lit;
+use crate::split_variables::split_variables;
+use dimacs::Lit;
+use reducer::reduced::Reduced;
+use std::alloc::{AllocError, Global};
+use std::marker::Model;
+use std::snapshot::Snapshot;
+use traces::trace::Trace;
+
+/// Who has variables of its own: a reading operation, by its number, or a final value, by its place in the trace's list,
+/// from 0.
+#[derive(Clone, Copy)]
+pub enum Chooser {
+    Read(usize),
+    Final(usize),
+}
+
+/// The variables of a reduced trace, in tables. The trace itself is seen by clauses alone.
+#[derive(Drop)]
+pub struct Layout {
+    trace: Snapshot<Trace>,
+    operations: Vec<OpTable>,
+    final_values: Vec<FinalTable>,
+    before: Vec<(usize, usize)>,
+    splits: Vec<u32>,
+    count: u32,
+}
+
+impl Model for Layout {
+    ghost use Rattle.traces.specs.Trace.{TraceValue};
+    ghost use Rattle.var_layout.specs.Tables.{IsLayout};
+
+    ghost Value = { TraceValue };
+
+    ghost view = { λ layout. layout.trace.value };
+
+    ghost invariant = { λ layout. IsLayout layout.trace.value layout.operations.items layout.final_values.items layout.before.items layout.splits.items layout.count };
+}
+
+impl Layout {
+    /// The variables of a reduced trace.
+    pub fn of(alloc: Global, reduced: &Reduced) -> Result<Layout, AllocError>
+        ensures { IfOk result (λ layout. layout ≡ reduced.now.kept) }
+    {
+        let trace = reduced.kept();
+        let numbering = Numbering::of(alloc, trace)?;
+        numbering.is_trace();
+        let (operations, next) = op_tables(alloc, &numbering, trace)?;
+        let (final_values, next) = final_tables(alloc, &numbering, trace, next)?;
+        let before = before_numbers(alloc, &numbering, trace.before())?;
+        let splits = split_variables(alloc, &numbering)?;
+        Ok(Layout {
+            trace: Snapshot::of(trace),
+            operations,
+            final_values,
+            before,
+            splits,
+            count: next - 1,
+        })
+    }
+
+    /// What is kept of the operation of this number, if there is one.
+    fn op_table(&self, i: usize) -> Option<&OpTable>
+        ensures leader { option_map (λ (table : OpTableValue). table.leader) (option_copied result) ≡ tables.leader_at self.now i }
+        ensures reads { option_map_or (λ (table : OpTableValue). table.reads) (option_copied result) false ≡ is_some (numbers.read_at self.now i) }
+        ensures writers { option_map_or (λ (table : OpTableValue). table.writers) (option_copied result) [] ≡ numbers.other_writers self.now i }
+        ensures choices { option_map_or (λ (table : OpTableValue). table.choices) (option_copied result) [] ≡ choice_variables.choices self.now i }
+        ensures void { option_and_then (λ (table : OpTableValue). table.void) (option_copied result) ≡ choice_variables.void_choice self.now i }
+    {
+        self.operations.get(i)
+    }
+
+    /// What is kept of the k-th final value, if there is one.
+    fn final_table(&self, k: usize) -> Option<&FinalTable>
+        ensures writers { option_map_or (λ (table : FinalTableValue). table.writers) (option_copied result) [] ≡ tables.final_writers self.now k }
+        ensures choices { option_map_or (λ (table : FinalTableValue). table.choices) (option_copied result) [] ≡ final_variables.finals self.now k }
+        ensures void { option_and_then (λ (table : FinalTableValue). table.void) (option_copied result) ≡ final_variables.void_final self.now k }
+    {
+        self.final_values.get(k)
+    }
+
+    /// The first operation of the process of an operation.
+    #[inline]
+    fn leader(&self, i: usize) -> Option<usize>
+        ensures { result ≡ tables.leader_at self.now i }
+    {
+        match self.op_table(i) {
+            Some(table) => Some(table.leader),
+            None => None,
+        }
+    }
+
+    /// Its trace is one, with 160 operations at most. This says what each layout keeps, and does nothing.
+    #[inline]
+    pub fn is_layout(&self)
+        ensures trace { IsTrace self.now }
+        ensures few { operation_count self.now ≤ 160 }
+    {
+        let _ = &self.operations;
+    }
+
+    /// How many operations the trace has.
+    #[inline]
+    pub fn operations(&self) -> usize
+        ensures { result ≡ operation_count self.now }
+    {
+        self.operations.len()
+    }
+
+    /// The literal that says that operation i stands before operation j.
+    #[inline]
+    pub fn order_lit(&self, i: usize, j: usize) -> Lit
+        requires apart { i ≢ j }
+        requires first { i < operation_count self.now }
+        requires second { j < operation_count self.now }
+        ensures { result ≡ order.order_lit (operation_count self.now) i j }
+    {
+        self.is_layout();
+        order_lit(self.operations(), i, j)
+    }
+
+    /// Whether both are operations of one process.
+    #[inline]
+    pub fn in_one_process(&self, i: usize, j: usize) -> bool
+        ensures { result ≡ numbers.in_one_process self.now i j }
+    {
+        match (self.leader(i), self.leader(j)) {
+            (Some(first), Some(second)) => first == second,
+            _ => false,
+        }
+    }
+
+    /// Whether the operation of this number reads.
+    pub fn is_reader(&self, r: usize) -> bool
+        ensures { result ≡ is_some (numbers.read_at self.now r) }
+    {
+        match self.op_table(r) {
+            Some(table) => table.reads,
+            None => false,
+        }
+    }
+
+    /// The candidates of a reading operation with their variables, in order.
+    pub fn choices(&self, r: usize) -> &[Choice]
+        requires { IsSome (numbers.read_at self.now r) }
+        ensures { result.now ≡ choice_variables.choices self.now r }
+    {
+        match self.op_table(r) {
+            Some(reader) => reader.choices.as_slice(),
+            None => &[],
+        }
+    }
+
+    /// The writers, other than the operation itself, of its location.
+    pub fn other_writers(&self, i: usize) -> &[usize]
+        ensures { result.now ≡ numbers.other_writers self.now i }
+    {
+        match self.op_table(i) {
+            Some(operation) => operation.writers.as_slice(),
+            None => &[],
+        }
+    }
+
+    /// How many final values the trace has.
+    pub fn final_values(&self) -> usize
+        ensures { result ≡ length self.now.final_values }
+    {
+        self.final_values.len()
+    }
+
+    /// The writers that leave the k-th final value, with their variables, in order.
+    pub fn finals(&self, k: usize) -> &[FinalChoice]
+        requires { k < length self.now.final_values }
+        ensures { result.now ≡ final_variables.finals self.now k }
+    {
+        match self.final_table(k) {
+            Some(final_value) => final_value.choices.as_slice(),
+            None => &[],
+        }
+    }
+
+    /// The writers of the k-th final value's location.
+    pub fn final_writers(&self, k: usize) -> &[usize]
+        requires { k < length self.now.final_values }
+        ensures { result.now ≡ option_map_or (λ (entry : List ℕ × ℕ). numbers.writers self.now entry.0) (slice_get self.now.final_values k) [] }
+    {
+        match self.final_table(k) {
+            Some(final_value) => final_value.writers.as_slice(),
+            None => &[],
+        }
+    }
+
+    /// The void variable of a reading operation without a candidate, or of a final value that no operation leaves.
+    pub fn void_var(&self, chooser: Chooser) -> Option<u32>
+        ensures { result ≡ void_variable self.now chooser }
+    {
+        match chooser {
+            Chooser::Read(r) => self.op_table(r)?.void,
+            Chooser::Final(k) => self.final_table(k)?.void,
+        }
+    }
+
+    /// The numbers of the operations of each before pair.
+    pub fn before(&self) -> &[(usize, usize)]
+        ensures { result.now ≡ map (λ (pair : OpName × OpName). (numbers.number_of self.now pair.0, numbers.number_of self.now pair.1)) self.now.before }
+    {
+        self.before.as_slice()
+    }
+
+    /// How many variables the trace has.
+    pub fn count(&self) -> u32
+        ensures { result ≡ final_variables.variable_count self.now }
+    {
+        self.count
+    }
+
+    /// The order variables of operations in conflict, of different processes.
+    pub fn splits(&self) -> &[u32]
+        ensures { result.now ≡ split.splits self.now }
+    {
+        self.splits.as_slice()
+    }
+}

@@ -1,0 +1,209 @@
+//! The operations of a trace by number.
+
+ghost use Rattle.std.specs.Prelude.{◌≡◌, ◌≤◌, ◌++◌, length, OnOk, None, if◌then◌else◌};
+ghost use Rattle.std.specs.Str.{bytes_eq};
+ghost use Rattle.traces.specs.Operation.{location_of, same_op, value_left};
+ghost use Rattle.var_layout.specs.Numbered.{numbered_in};
+
+use std::alloc::{AllocError, Global};
+use std::marker::Model;
+use std::snapshot::Snapshot;
+use traces::name::Name;
+use traces::operation::{Op, OpName};
+use traces::trace::{Process, Trace};
+
+/// An operation, and its name.
+#[derive(Drop)]
+struct NamedOp<'a> {
+    process: &'a Name,
+    place: u16,
+    op: &'a Op,
+}
+
+impl<'a> Model for NamedOp<'a> {
+    ghost use Rattle.var_layout.specs.Numbered.{NumberedOp};
+
+    ghost Value = { NumberedOp };
+
+    ghost view = { λ named. record { name = record { process = named.process.now; place = named.place }; op = named.op.now } };
+}
+
+/// Puts the operations of the process behind the others.
+fn push_process<'a>(
+    operations: &mut Vec<NamedOp<'a>>,
+    process: &'a Process,
+) -> Result<(), AllocError>
+    requires { length process.now.operations ≤ 4096 }
+    ensures { OnOk result (operations.new.items ≡ operations.old.items ++ numbered_in process.now) }
+{
+    let ops = process.operations.as_slice();
+    for k in 0..ops.len() {
+        operations.push(NamedOp {
+            process: &process.name,
+            place: (k + 1) as u16,
+            op: &ops[k],
+        })?;
+    }
+    Ok(())
+}
+
+/// The value that the operation leaves at the location, if it writes there.
+fn value_left_there(op: &Op, location: &[u8]) -> Option<u64>
+    ensures { result ≡ (if bytes_eq (location_of op.now) location.now then value_left op.now else None) }
+{
+    if op.location().as_bytes() == location {
+        op.value_left()
+    } else {
+        None
+    }
+}
+
+/// Whether this is the operation's name.
+fn is_name_of(named: &NamedOp<'_>, name: &OpName) -> bool
+    ensures { result ≡ same_op named.now.name name.now }
+{
+    named.place == name.place && named.process.as_bytes() == name.process.as_bytes()
+}
+
+/// The operations of a trace, numbered from 0 by process and then place. The trace itself is seen by clauses alone.
+#[derive(Drop)]
+pub struct Numbering<'a> {
+    trace: Snapshot<Trace>,
+    operations: Vec<NamedOp<'a>>,
+}
+
+impl<'a> Model for Numbering<'a> {
+    ghost use Rattle.std.specs.Prelude.{◌≡◌};
+    ghost use Rattle.traces.specs.Trace.{TraceValue, IsTrace};
+    ghost use Rattle.var_layout.specs.Numbered.{numbered};
+
+    ghost Value = { TraceValue };
+
+    ghost view = { λ numbering. numbering.trace.value };
+
+    ghost invariant = { λ numbering. IsTrace numbering.trace.value × (numbering.operations.items ≡ numbered numbering.trace.value) };
+}
+
+impl<'a> Numbering<'a> {
+    ghost use Rattle.std.specs.Prelude.{◌≡◌, IfOk, ℕ, List};
+    ghost use Rattle.std.specs.Option.{option_copied, option_map};
+    ghost use Rattle.traces.specs.Judgement.{is_the_op};
+    ghost use Rattle.traces.specs.Trace.{IsTrace};
+    ghost use Rattle.reducer.specs.Reduced.{operation_count};
+    ghost use Rattle.var_layout.specs.Numbered.{NumberedOp};
+    ghost use Rattle.var_layout.specs.Numbers as number;
+
+    /// The numbering of the trace's operations.
+    pub fn of(alloc: Global, trace: &'a Trace) -> Result<Numbering<'a>, AllocError>
+        ensures { IfOk result (λ numbering. numbering ≡ trace.now) }
+    {
+        trace.is_trace();
+        let processes = trace.processes();
+        let mut operations = Vec::new(alloc);
+        for process in processes {
+            push_process(&mut operations, process)?;
+        }
+        Ok(Numbering {
+            trace: Snapshot::of(trace),
+            operations,
+        })
+    }
+
+    /// Its trace is one. This says what each trace keeps, and does nothing.
+    pub fn is_trace(&self)
+        ensures { IsTrace self.now }
+    {
+        let _ = &self.operations;
+    }
+
+    /// The operation of this number with its name, if there is one.
+    fn named(&self, i: usize) -> Option<&NamedOp<'a>>
+        ensures name { option_map (λ (x : NumberedOp). x.name) (option_copied result) ≡ number.name_at self.now i }
+        ensures op { option_map (λ (x : NumberedOp). x.op) (option_copied result) ≡ number.op_at self.now i }
+    {
+        self.operations.get(i)
+    }
+
+    /// How many operations the trace has.
+    pub fn count(&self) -> usize
+        ensures { result ≡ operation_count self.now }
+    {
+        self.operations.len()
+    }
+
+    /// The operation of this number, if there is one.
+    pub fn op(&self, i: usize) -> Option<&'a Op>
+        ensures { option_copied result ≡ number.op_at self.now i }
+    {
+        match self.named(i) {
+            Some(named) => Some(named.op),
+            None => None,
+        }
+    }
+
+    /// Whether both are operations of one process.
+    pub fn in_one_process(&self, i: usize, j: usize) -> bool
+        ensures { result ≡ number.in_one_process self.now i j }
+    {
+        match (self.named(i), self.named(j)) {
+            (Some(first), Some(second)) => first.process.as_bytes() == second.process.as_bytes(),
+            _ => false,
+        }
+    }
+
+    /// The value that the operation reads, if it is a reading operation.
+    pub fn read_at(&self, i: usize) -> Option<u64>
+        ensures { result ≡ number.read_at self.now i }
+    {
+        match self.op(i) {
+            Some(op) => op.value_read(),
+            None => None,
+        }
+    }
+
+    /// The value that the operation leaves at the location, if it writes there.
+    pub fn left_at(&self, location: &[u8], i: usize) -> Option<u64>
+        ensures { result ≡ number.left_at self.now location.now i }
+    {
+        match self.op(i) {
+            Some(op) => value_left_there(op, location),
+            None => None,
+        }
+    }
+
+    /// Whether the operation of this number has this name.
+    pub fn is_named(&self, i: usize, name: &OpName) -> bool
+        ensures { result ≡ is_the_op (number.name_at self.now i) name.now }
+    {
+        match self.named(i) {
+            Some(named) => is_name_of(named, name),
+            None => false,
+        }
+    }
+
+    /// The number of the operation of this name, or how many there are where none has it.
+    pub fn number_of(&self, name: &OpName) -> usize
+        ensures { result ≡ number.number_of self.now name.now }
+    {
+        let count = self.count();
+        for i in 0..count {
+            if self.is_named(i, name) {
+                return i;
+            }
+        }
+        count
+    }
+
+    /// The writers of the location, in order.
+    pub fn writers(&self, alloc: Global, location: &[u8]) -> Result<Vec<usize>, AllocError>
+        ensures { IfOk result (λ found. found.items ≡ number.writers self.now location.now) }
+    {
+        let mut found = Vec::new(alloc);
+        for i in 0..self.count() {
+            if self.left_at(location, i).is_some() {
+                found.push(i)?;
+            }
+        }
+        Ok(found)
+    }
+}
