@@ -1,0 +1,4 @@
+pub mod DecodeLemmas
+pub mod ModelLemmas
+pub mod NameLemmas
+pub mod OrderLemmas

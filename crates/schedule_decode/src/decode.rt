@@ -1,0 +1,56 @@
+//! Decoding.
+
+ghost use Rattle.std.specs.Prelude.{◌≡◌, IfOk, IfErr, OnOk};
+ghost use Rattle.dimacs.specs.Assignment.{value_of};
+ghost use Rattle.dimacs.specs.Models.{IsModel};
+ghost use Rattle.traces.specs.Legal.{IsLegal};
+ghost use Rattle.clause_blocks.specs.Clauses.{clauses_of, formula_of};
+ghost use Rattle.clause_blocks.specs.ModelOrder.{IsInOrderOf};
+ghost use Rattle.schedule_decode.specs.Decode.{IsDecodeRefusal};
+
+use crate::decode_fault::DecodeFault;
+use crate::operation_names::{names_by_number, names_in_order};
+use crate::operation_order::order_of;
+use dimacs::{Assignment, Formula};
+use reducer::reduced::Reduced;
+use std::alloc::{AllocError, Global};
+use traces::schedule::Schedule;
+use var_layout::layout::Layout;
+
+/// The schedule in which a model puts the operations. It is legal.
+pub(crate) fn schedule_of(
+    alloc: Global,
+    reduced: &Reduced,
+    assignment: &Assignment,
+) -> Result<Schedule, AllocError>
+    requires { IsModel (value_of assignment.now) (clauses_of reduced.now.kept) }
+    ensures ordered { IfOk result (IsInOrderOf (value_of assignment.now) reduced.now.kept) }
+    ensures legal { IfOk result (IsLegal reduced.now.kept) }
+{
+    let trace = reduced.kept();
+    trace.is_trace();
+    let layout = Layout::of(alloc, reduced)?;
+    let order = order_of(alloc, &layout, assignment)?;
+    let names = names_by_number(alloc, trace)?;
+    Ok(Schedule::new(names_in_order(alloc, names.as_slice(), order.as_slice())?))
+}
+
+/// The schedule in which a model of the trace's formula puts the operations: one stands before another exactly where the
+/// literal that says so is true. The schedule is legal.
+pub fn decode(
+    alloc: Global,
+    reduced: &Reduced,
+    formula: &Formula,
+    assignment: &Assignment,
+) -> Result<Schedule, DecodeFault>
+    requires { formula.now ≡ formula_of reduced.now.kept }
+    ensures ordered { IfOk result (λ schedule. IsInOrderOf (value_of assignment.now) reduced.now.kept schedule) }
+    ensures model { OnOk result (IsModel (value_of assignment.now) formula.now.clauses) }
+    ensures legal { IfOk result (IsLegal reduced.now.kept) }
+    ensures refused { IfErr result (IsDecodeRefusal (value_of assignment.now) formula.now.clauses) }
+{
+    if let Err(found) = formula.eval(assignment) {
+        return Err(DecodeFault::NotAModel(found.clause));
+    }
+    Ok(schedule_of(alloc, reduced, assignment)?)
+}

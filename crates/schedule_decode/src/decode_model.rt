@@ -1,0 +1,37 @@
+//! Decoding without the formula.
+
+ghost use Rattle.std.specs.Prelude.{◌≡◌, IfOk, IfErr, OnOk};
+ghost use Rattle.dimacs.specs.Assignment.{value_of};
+ghost use Rattle.dimacs.specs.Models.{IsModel};
+ghost use Rattle.traces.specs.Legal.{IsLegal};
+ghost use Rattle.clause_blocks.specs.Clauses.{clauses_of};
+ghost use Rattle.clause_blocks.specs.ModelOrder.{IsInOrderOf};
+ghost use Rattle.schedule_decode.specs.Decode.{IsDecodeRefusal};
+
+use crate::decode::schedule_of;
+use crate::decode_fault::DecodeFault;
+use clause_blocks::first_false::first_false_clause;
+use dimacs::Assignment;
+use reducer::reduced::Reduced;
+use std::alloc::Global;
+use std::thread::Threads;
+use traces::schedule::Schedule;
+
+/// The schedule in which a model of the trace's clauses puts the operations, as `decode` gives it. The clauses are made in
+/// pieces, and no formula is held.
+pub fn decode_model<R: Threads + Sync>(
+    alloc: Global,
+    rt: &R,
+    reduced: &Reduced,
+    assignment: &Assignment,
+) -> Result<Schedule, DecodeFault>
+    ensures ordered { IfOk result (λ schedule. IsInOrderOf (value_of assignment.now) reduced.now.kept schedule) }
+    ensures model { OnOk result (IsModel (value_of assignment.now) (clauses_of reduced.now.kept)) }
+    ensures legal { IfOk result (IsLegal reduced.now.kept) }
+    ensures refused { IfErr result (IsDecodeRefusal (value_of assignment.now) (clauses_of reduced.now.kept)) }
+{
+    if let Some(found) = first_false_clause(alloc, rt, reduced, assignment)? {
+        return Err(DecodeFault::NotAModel(found.clause));
+    }
+    Ok(schedule_of(alloc, reduced, assignment)?)
+}
