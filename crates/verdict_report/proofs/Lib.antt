@@ -1,4 +1,5 @@
-mod GivenLemmas
-mod JudgeLemmas
-mod LineLemmas
+mod AdmittedLemmas
+mod DecodeLemmas
+mod MeaningLemmas
 mod SourceLemmas
+mod TwoInputLemmas

@@ -1,5 +1,9 @@
-pub mod CommandLine
+pub mod Admitted
+pub mod CnfEngine
+pub mod DecodeEngine
 pub mod Fault
 pub mod JudgeEngine
-pub mod LineFault
+pub mod LratEngine
 pub mod Reading
+pub mod Runs
+pub mod TwoInputs

@@ -1,6 +1,8 @@
 //! The engine that judges a schedule, from bytes to bytes.
 
-ghost use Rattle.verdict_report.specs.JudgeEngine.{IsRunOfJudge, IsSaidOfTexts, IsRunOfWriting};
+ghost use Rattle.verdict_report.specs.Fault.{status_after};
+ghost use Rattle.verdict_report.specs.JudgeEngine.{IsRunOfJudge, IsSaidOfTexts, judgement_line};
+ghost use Rattle.verdict_report.specs.TwoInputs.{IsRunOfWriting};
 
 use crate::fault::Fault;
 use crate::reading::read_whole;
@@ -25,8 +27,8 @@ pub fn run_judge<T: Source, S: Source, W: Sink>(
     out: &mut W,
 ) -> Result<Status, Fault>
     ensures { IsRunOfJudge
-        (record { before = T.handed_out trace.old; now = T.handed_out trace.new; is_at_end = T.is_at_end trace.new; failures_before = T.failures trace.old; failures_now = T.failures trace.new })
-        (record { before = S.handed_out schedule.old; now = S.handed_out schedule.new; is_at_end = S.is_at_end schedule.new; failures_before = S.failures schedule.old; failures_now = S.failures schedule.new })
+        (record { before = T.handed_out trace.old; now = T.handed_out trace.new; was_at_end = T.is_at_end trace.old; is_at_end = T.is_at_end trace.new; failures_before = T.failures trace.old; failures_now = T.failures trace.new })
+        (record { before = S.handed_out schedule.old; now = S.handed_out schedule.new; was_at_end = S.is_at_end schedule.old; is_at_end = S.is_at_end schedule.new; failures_before = S.failures schedule.old; failures_now = S.failures schedule.new })
         (record { before = W.written out.old; now = W.written out.new; failures_before = W.failures out.old; failures_now = W.failures out.new })
         result }
 {
@@ -51,7 +53,7 @@ fn write_judgement<W: Sink>(
     judgement: Judgement,
     out: &mut W,
 ) -> Result<Status, Fault>
-    ensures { IsRunOfWriting judgement
+    ensures { IsRunOfWriting (judgement_line judgement) (status_after judgement)
         (record { before = W.written out.old; now = W.written out.new; failures_before = W.failures out.old; failures_now = W.failures out.new })
         result }
 {

@@ -1,9 +1,13 @@
-//! The engines of `vsc`, from bytes to bytes, over any source and sink, and its command line.
+//! The engines of `vsc`, from bytes to bytes, over any source and sink.
 #![tactic(auto)]
 
-mod command_line;
+mod admitted;
+mod cnf_engine;
+mod decode_engine;
 mod fault;
 mod judge_engine;
+pub mod laws;
+mod lrat_engine;
 mod reading;
 mod short_source;
 mod source;
@@ -11,9 +15,11 @@ mod status;
 #[cfg(test)]
 mod tests;
 
-pub use command_line::{Line, LineFault, read_line};
+pub use cnf_engine::run_cnf;
+pub use decode_engine::run_decode;
 pub use fault::{Fault, write_fault};
 pub use judge_engine::run_judge;
+pub use lrat_engine::run_lrat;
 pub use reading::{INPUT_LIMIT, ReadFault, read_whole};
 pub use short_source::ShortSource;
 pub use source::Source;

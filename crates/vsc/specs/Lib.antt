@@ -1,3 +1,2 @@
-pub mod BufferedSink
 pub mod ExitStatus
 pub mod FileSource

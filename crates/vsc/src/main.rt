@@ -1,26 +1,26 @@
 //! The program `vsc`: its files, its standard streams and its exit status.
 #![tactic(auto)]
 
-ghost use Rattle.std.specs.Prelude.{◌≡◌, ◌⊎◌, IfOk, Ok, map, string_bytes};
-ghost use Rattle.verdict_report.specs.LineFault.{status_of};
+ghost use Rattle.std.specs.Prelude.{◌≡◌, ◌≤◌, ◌⊎◌, IfOk, Ok, map, string_bytes};
+ghost use Rattle.command_line.specs.CommandLine.{HasFewWorkers};
+ghost use Rattle.command_line.specs.LineFault.{status_of};
 ghost use Rattle.verdict_report.specs.declared.status.Status.TheVariants.{Unknown};
 ghost use Rattle.vsc.specs.ExitStatus.{IsExitStatus};
 
-mod buffered_judge;
-mod buffered_sink;
 mod file_source;
-mod standard_output;
 mod stream_sink;
 
-use buffered_judge::judge_buffered;
+use command_line::{Line, LineFault, read_line};
 use file_source::FileSource;
-use standard_output::standard_output;
 use std::alloc::{AllocError, Global};
 use std::env;
 use std::io::ErrorKind;
 use std::process::ExitCode;
+use std::thread::Threads;
 use stream_sink::StreamSink;
-use verdict_report::{Fault, Line, LineFault, Status, exit_status, read_line, write_fault};
+use verdict_report::{
+    Fault, Status, exit_status, run_cnf, run_decode, run_judge, run_lrat, write_fault,
+};
 
 /// The exit status of a command line that is refused.
 const REFUSED: u8 = 2;
@@ -32,19 +32,64 @@ const DEVICE: u8 = 4;
 fn judge_files(rt: &HostRuntime, trace: &str, schedule: &str) -> Result<Status, Fault>
     ensures { result ≡ Ok Unknown → ⊥ }
 {
-    let alloc = rt.alloc();
-    let mut output = standard_output(alloc, rt.stdout())?;
     let mut trace = FileSource::new(rt, trace);
     let mut schedule = FileSource::new(rt, schedule);
-    judge_buffered(alloc, &mut trace, &mut schedule, &mut output)
+    let mut output = StreamSink::new(rt.stdout());
+    run_judge(rt.alloc(), &mut trace, &mut schedule, &mut output)
+}
+
+/// Writes the clause list of the trace in the file at this path to the standard output.
+fn translate_file(
+    rt: &HostRuntime,
+    threads: &(impl Threads + Sync),
+    trace: &str,
+    workers: u32,
+) -> Result<Status, Fault>
+    requires some { 1 ≤ workers }
+    requires few { workers ≤ 8 }
+    ensures { result ≡ Ok Unknown → ⊥ }
+{
+    let mut trace = FileSource::new(rt, trace);
+    let mut output = StreamSink::new(rt.stdout());
+    run_cnf(rt.alloc(), threads, &mut trace, workers, &mut output)
+}
+
+/// Writes the schedule of the trace in one file by the model in the other to the standard output.
+fn decode_files(
+    rt: &HostRuntime,
+    threads: &(impl Threads + Sync),
+    trace: &str,
+    model: &str,
+) -> Result<Status, Fault>
+    ensures { result ≡ Ok Unknown → ⊥ }
+{
+    let mut trace = FileSource::new(rt, trace);
+    let mut model = FileSource::new(rt, model);
+    let mut output = StreamSink::new(rt.stdout());
+    run_decode(rt.alloc(), threads, &mut trace, &mut model, &mut output)
+}
+
+/// Checks the proof in one file for the formula in the other, and writes the answer to the standard output.
+fn check_files(rt: &HostRuntime, cnf: &str, proof: &str) -> Result<Status, Fault>
+    ensures { result ≡ Ok Unknown → ⊥ }
+{
+    let mut cnf = FileSource::new(rt, cnf);
+    let mut proof = FileSource::new(rt, proof);
+    let mut output = StreamSink::new(rt.stdout());
+    run_lrat(rt.alloc(), &mut cnf, &mut proof, &mut output)
 }
 
 /// Does what the command line asks for.
-fn run_line(rt: &HostRuntime, line: Line<'_>) -> u8
+fn run_line(rt: &HostRuntime, threads: &(impl Threads + Sync), line: Line<'_>) -> u8
+    requires { HasFewWorkers line }
     ensures { IsExitStatus result }
 {
-    let Line::Judge { trace, schedule } = line;
-    let outcome = judge_files(rt, trace, schedule);
+    let outcome = match line {
+        Line::Judge { trace, schedule } => judge_files(rt, trace, schedule),
+        Line::Cnf { trace, workers } => translate_file(rt, threads, trace, workers),
+        Line::Decode { trace, model } => decode_files(rt, threads, trace, model),
+        Line::Lrat { cnf, proof } => check_files(rt, cnf, proof),
+    };
     if let Err(fault) = &outcome {
         let mut error = StreamSink::new(rt.stderr());
         // Where standard error is closed too, the exit status alone tells.
@@ -85,7 +130,7 @@ fn words_of<'t>(alloc: Global, texts: &'t Vec<String>) -> Result<Vec<&'t str>, A
 }
 
 /// Does what the arguments ask for, and gives the exit status.
-fn run(rt: &HostRuntime) -> u8
+fn run(rt: &HostRuntime, threads: &(impl Threads + Sync)) -> u8
     ensures { IsExitStatus result }
 {
     let alloc = rt.alloc();
@@ -103,11 +148,12 @@ fn run(rt: &HostRuntime) -> u8
         return refuse(rt, "refused: memory");
     };
     match read_line(alloc, words.as_slice()) {
-        Ok(line) => run_line(rt, line),
+        Ok(line) => run_line(rt, threads, line),
         Err(fault) => tell_line_fault(rt, &fault),
     }
 }
 
 fn main(rt: HostRuntime) -> ExitCode {
-    ExitCode::from(run(&rt))
+    // The runtime starts threads where `main` hands it on for that, and nowhere else.
+    ExitCode::from(run(&rt, &rt))
 }

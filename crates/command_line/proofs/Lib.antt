@@ -1,0 +1,9 @@
+mod CnfLemmas
+mod CommandLemmas
+mod DecodeLemmas
+mod EnterLemmas
+mod EntryLemmas
+mod FoundLemmas
+mod GivenLemmas
+mod JudgeLemmas
+mod LratLemmas

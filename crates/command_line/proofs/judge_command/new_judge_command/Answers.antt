@@ -1,0 +1,28 @@
+-- Each step of the chain keeps or extends what a parse reads of the command.
+use Rattle.std.proofs.Common.{ap, ap₂, codes, false, ◌≡◌, ◌∙◌, ◌||◌}
+use Rattle.std.proofs.lemmas.Result.{IfOk-weaker}
+use Rattle.clap.specs.Words.{app_of, new_app, with_rule}
+use Rattle.clap.specs.Simple.{app_of_fields}
+use Rattle.clap.specs.declared.builder.command.Command.{Command}
+use Rattle.clap.specs.declared.builder.command.Command.TheOpen.{Command-F}
+use Rattle.clap.specs.declared.builder.command.Command.TheViews.{out-Command}
+use Rattle.command_line.proofs.judge_command.new_judge_command.Goals as goal
+
+pub returns-clause-app : goal.returns-clause-app
+returns-clause-app c =
+    let named : app_of c.after_long_help.result ≡ new_app (codes "judge") =
+    ap app_of_fields c.after_long_help.ensures ∙ ap app_of_fields c.about.ensures ∙ c.new.ensures.app in
+    IfOk-weaker c.arg-2.result _ _
+    (λ r h. h.shape c.path_argument-schedule.ensures.local
+    ∙ ap₂ with_rule (c.in_ok-arg.ensures.shape c.trace_argument-trace.ensures.local
+    ∙ ap₂ with_rule named c.trace_argument-trace.ensures.rule) c.path_argument-schedule.ensures.rule)
+    c.arg-2.ensures
+
+pub returns-clause-local : goal.returns-clause-local
+returns-clause-local c =
+    let named : (out-Command c.after_long_help.result).has_globals ≡ false =
+    ap (λ (f : Command-F Command). f.has_globals) c.after_long_help.ensures ∙ ap (λ (f : Command-F Command). f.has_globals) c.about.ensures
+    ∙ c.new.ensures.local in
+    IfOk-weaker c.arg-2.result _ _
+    (λ r h. h.globals ∙ ap₂ ◌||◌ (c.in_ok-arg.ensures.globals ∙ ap₂ ◌||◌ named c.trace_argument-trace.ensures.local) c.path_argument-schedule.ensures.local)
+    c.arg-2.ensures

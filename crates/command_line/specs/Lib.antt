@@ -1,0 +1,3 @@
+pub mod CnfCommand
+pub mod CommandLine
+pub mod LineFault

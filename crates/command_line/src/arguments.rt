@@ -1,0 +1,40 @@
+//! What the commands share: arguments that are paths of files, and the text that was given for one.
+
+ghost use Rattle.std.specs.Prelude.{◌≡◌, IsSome, Some, codes, false};
+ghost use Rattle.clap.specs.Words.{first_value, found_of, rule_of};
+ghost use Rattle.command_line.specs.CommandLine.{required_path};
+
+use clap::{Arg, ArgMatches};
+use std::alloc::Global;
+
+/// An argument that is the path of a file. It stands at its place and has to be given.
+pub fn path_argument<'a>(alloc: Global, id: &'a str, value_name: &'a str, help: &'a str) -> Arg<'a>
+    ensures rule { rule_of result ≡ required_path id.entry.now }
+    ensures local { result.global ≡ false }
+{
+    Arg::new(alloc, id)
+        .required(true)
+        .value_name(value_name)
+        .help(help)
+}
+
+/// `TRACE`, the path of a trace.
+pub fn trace_argument<'a>(alloc: Global) -> Arg<'a>
+    ensures rule { rule_of result ≡ required_path (codes "trace") }
+    ensures local { result.global ≡ false }
+{
+    path_argument(
+        alloc,
+        "trace",
+        "TRACE",
+        "A file with a trace: what each process wrote and read, in its order",
+    )
+}
+
+/// The text of an argument that was given.
+pub fn text_of<'a>(matches: &ArgMatches<'a>, id: &str) -> &'a str
+    requires { IsSome (first_value (found_of matches.now) id.now) }
+    ensures { first_value (found_of matches.now) id.now ≡ Some result.now }
+{
+    matches.get_str(id).unwrap()
+}

@@ -1,0 +1,64 @@
+//! The command `decode TRACE MODEL`.
+
+ghost use Rattle.std.specs.Prelude.{◌≡◌, IfOk, IsSome, Some, codes, false};
+ghost use Rattle.clap.specs.Words.{app_of, first_value, found_of};
+ghost use Rattle.clap.specs.declared.builder.command.Command.TheViews.{out-Command};
+ghost use Rattle.command_line.specs.CommandLine.{AsksFor, decode_app};
+
+use crate::arguments::{path_argument, text_of, trace_argument};
+use crate::line::Line;
+use clap::{ArgMatches, Command};
+use std::alloc::{AllocError, Global};
+
+const ABOUT: &str = "Turns a model of a trace's clause list into a schedule of the trace";
+
+const EXAMPLE: &str =
+    "The schedule goes to standard output, the name of one operation a line, as 'vsc judge' reads it.
+
+Example, a trace:
+    vsc 1
+    proc P
+    W x 1
+    proc Q
+    R x 1
+and a model of the formula that 'vsc cnf' writes of it:
+    v 1 2 0
+The answer is:
+    P.1
+    Q.1
+
+Exit status:
+    0  the schedule was written
+    2  the command line or a file is refused, also where the answer is no model
+    4  a file or a standard stream failed";
+
+/// The command, as `clap` takes it.
+pub fn new_decode_command<'a>(alloc: Global) -> Result<Command<'a>, AllocError>
+    ensures app { IfOk result (λ c. app_of c ≡ decode_app) }
+    ensures local { IfOk result (λ c. (out-Command c).has_globals ≡ false) }
+{
+    let trace = trace_argument(alloc);
+    let model = path_argument(
+        alloc,
+        "model",
+        "MODEL",
+        "A file with a solver's answer: 's' lines and 'v' lines",
+    );
+    Command::new(alloc, "decode")
+        .about(ABOUT)
+        .after_long_help(EXAMPLE)
+        .arg(trace)?
+        .arg(model)
+}
+
+/// What the matches of the command ask for.
+pub fn decode_line<'a>(matches: &ArgMatches<'a>) -> Line<'a>
+    requires trace { IsSome (first_value (found_of matches.now) (codes "trace")) }
+    requires model { IsSome (first_value (found_of matches.now) (codes "model")) }
+    ensures { AsksFor (Some (codes "decode")) (first_value (found_of matches.now)) result }
+{
+    Line::Decode {
+        trace: text_of(matches, "trace"),
+        model: text_of(matches, "model"),
+    }
+}

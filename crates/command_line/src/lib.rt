@@ -1,0 +1,15 @@
+//! The command line of `vsc`: what its words ask for, as `clap` defines it.
+#![tactic(auto)]
+
+mod arguments;
+mod cnf_command;
+mod decode_command;
+mod judge_command;
+mod line;
+mod line_fault;
+mod lrat_command;
+#[cfg(test)]
+mod tests;
+
+pub use line::{Line, read_line};
+pub use line_fault::LineFault;

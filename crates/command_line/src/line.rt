@@ -1,0 +1,89 @@
+//! What a command line asks for.
+
+ghost use Rattle.std.specs.Prelude.{◌≡◌, IfErr, IfOk, OnOk, true};
+ghost use Rattle.clap.specs.Words.{FailsBy, fault_of, kind_of, subcommand_of, subcommand_rows_of, takes};
+ghost use Rattle.clap.specs.Walk.{texts};
+ghost use Rattle.command_line.specs.CommandLine.{Asks, HasFewWorkers, IsFaultOf, IsFaultless, vsc_app};
+
+use crate::cnf_command::{cnf_line, new_cnf_command};
+use crate::decode_command::{decode_line, new_decode_command};
+use crate::judge_command::{judge_line, new_judge_command};
+use crate::line_fault::LineFault;
+use crate::lrat_command::{lrat_line, new_lrat_command};
+use clap::error::ErrorKind;
+use clap::{ArgMatches, Command, Error};
+use std::alloc::Global;
+
+const VERSION: &str = "0.1.0";
+
+const ABOUT: &str =
+    "Checks memory traces against sequential consistency: whether one order of all operations explains what each process read.";
+
+const AFTER_HELP: &str =
+    "'vsc <COMMAND> --help' says what the files of a command are, with an example.";
+
+/// What a command line asks for. A path is that of a file, as it was given.
+#[derive(Clone, Copy)]
+pub enum Line<'a> {
+    /// To judge a schedule against a trace.
+    Judge { trace: &'a str, schedule: &'a str },
+    /// To write the formula of a trace, with 1 to 8 threads.
+    Cnf { trace: &'a str, workers: u32 },
+    /// To turn a model of the formula of a trace into a schedule of the trace.
+    Decode { trace: &'a str, model: &'a str },
+    /// To check a proof that a formula has no model.
+    Lrat { cnf: &'a str, proof: &'a str },
+}
+
+// What `clap` makes of the words.
+fn matches_of<'a>(alloc: Global, words: &'a [&'a str]) -> Result<ArgMatches<'a>, Error>
+    ensures ok { IfOk result (λ m.
+        subcommand_rows_of m ≡ subcommand_of vsc_app (texts words.now)) }
+    ensures kinds { FailsBy (fault_of vsc_app (texts words.now)) result }
+    ensures memory { IfErr result (λ e. takes vsc_app (texts words.now) ≡ true
+        → kind_of e ≡ ErrorKind.OutOfMemory) }
+{
+    let judge = new_judge_command(alloc)?;
+    let cnf = new_cnf_command(alloc)?;
+    let decode = new_decode_command(alloc)?;
+    let lrat = new_lrat_command(alloc)?;
+    Command::new(alloc, "vsc")
+        .bin_name("vsc")?
+        .version(VERSION)
+        .about(ABOUT)
+        .after_help(AFTER_HELP)
+        .subcommand_required(true)
+        .subcommand(judge)?
+        .subcommand(cnf)?
+        .subcommand(decode)?
+        .subcommand(lrat)?
+        .try_get_matches_from(words)
+}
+
+/// Reads the words of a command line, of which the first is the program's name.
+///
+/// A fault is what `clap` finds wrong with the words, a request for help or for the version, or want
+/// of memory.
+pub fn read_line<'a>(alloc: Global, words: &'a [&'a str]) -> Result<Line<'a>, LineFault>
+    ensures line { IfOk result (Asks (texts words.now)) }
+    ensures workers { IfOk result HasFewWorkers }
+    ensures faultless { OnOk result (IsFaultless (texts words.now)) }
+    ensures fault { IfErr result (IsFaultOf (texts words.now)) }
+    ensures memory { IfErr result (λ kind. takes vsc_app (texts words.now) ≡ true
+        → kind ≡ ErrorKind.OutOfMemory) }
+{
+    let matches = matches_of(alloc, words)?;
+    if let Some(judge) = matches.subcommand_matches("judge") {
+        return Ok(judge_line(judge));
+    }
+    if let Some(cnf) = matches.subcommand_matches("cnf") {
+        return Ok(cnf_line(cnf));
+    }
+    if let Some(decode) = matches.subcommand_matches("decode") {
+        return Ok(decode_line(decode));
+    }
+    if let Some(lrat) = matches.subcommand_matches("lrat") {
+        return Ok(lrat_line(lrat));
+    }
+    unreachable!()
+}

@@ -1,0 +1,73 @@
+//! Why a command line asks for nothing to be done.
+
+ghost use Rattle.std.specs.Prelude.{◌≡◌};
+ghost use Rattle.clap.specs.Words.{kind_of};
+ghost use Rattle.clap.specs.declared.error.kind.ErrorKind.{ErrorKind};
+ghost use Rattle.command_line.specs.LineFault.{is_answer, status_of, text_on_memory};
+
+use clap::Error;
+use clap::error::ErrorKind;
+use std::fmt;
+use std::marker::Model;
+
+/// A mistake in a command line, a request for help or for the version, or want of memory. Its
+/// `Display` is the text to print, each line of it ended.
+#[derive(Debug, Drop)]
+pub struct LineFault {
+    error: Error,
+}
+
+// Contracts see a fault as its kind.
+impl Model for LineFault {
+    ghost Value = { ErrorKind };
+
+    ghost view = { λ fault. kind_of fault.error };
+}
+
+impl LineFault {
+    /// What kind of fault it is.
+    pub fn kind(&self) -> ErrorKind
+        ensures { result ≡ self.now }
+    {
+        self.error.kind()
+    }
+
+    /// Whether the text is the help or the version that was asked for. It goes to standard output,
+    /// and every other text to standard error.
+    pub fn is_answer(&self) -> bool
+        ensures { result ≡ is_answer self.now }
+    {
+        matches!(
+            self.kind(),
+            ErrorKind::DisplayHelp | ErrorKind::DisplayVersion
+        )
+    }
+
+    /// The exit status: 0 after an answer, and else 2.
+    pub fn status(&self) -> u8
+        ensures { result ≡ status_of self.now }
+    {
+        if self.is_answer() { 0 } else { 2 }
+    }
+}
+
+impl From<Error> for LineFault {
+    ghost from_gives = { λ error kind. kind ≡ kind_of error };
+
+    fn from(error: Error) -> LineFault {
+        LineFault { error }
+    }
+}
+
+impl fmt::Display for LineFault {
+    ghost output = { text_on_memory };
+
+    fn fmt<W: fmt::Write>(&self, f: &mut fmt::Formatter<W>) -> fmt::Result {
+        match self.error.kind() {
+            ErrorKind::OutOfMemory => f.write_str("refused: memory\n"),
+            _ => self.error.fmt(f),
+        }
+    }
+}
+
+impl std::error::Error for LineFault {}

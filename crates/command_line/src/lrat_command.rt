@@ -1,0 +1,52 @@
+//! The command `lrat CNF PROOF`.
+
+ghost use Rattle.std.specs.Prelude.{◌≡◌, IfOk, IsSome, Some, codes, false};
+ghost use Rattle.clap.specs.Words.{app_of, first_value, found_of};
+ghost use Rattle.clap.specs.declared.builder.command.Command.TheViews.{out-Command};
+ghost use Rattle.command_line.specs.CommandLine.{AsksFor, lrat_app};
+
+use crate::arguments::{path_argument, text_of};
+use crate::line::Line;
+use clap::{ArgMatches, Command};
+use std::alloc::{AllocError, Global};
+
+const ABOUT: &str = "Checks an LRAT proof that a formula has no model";
+
+const EXAMPLE: &str = "Example, a formula:
+    p cnf 1 2
+    1 0
+    -1 0
+and a proof:
+    3 0 1 2 0
+The answer is ACCEPTED: clauses 1 and 2 together give clause 3, which is empty.
+
+Exit status:
+    0  the answer is ACCEPTED
+    2  the command line, a file or a step of the proof is refused
+    4  a file or a standard stream failed";
+
+/// The command, as `clap` takes it.
+pub fn new_lrat_command<'a>(alloc: Global) -> Result<Command<'a>, AllocError>
+    ensures app { IfOk result (λ c. app_of c ≡ lrat_app) }
+    ensures local { IfOk result (λ c. (out-Command c).has_globals ≡ false) }
+{
+    let cnf = path_argument(alloc, "cnf", "CNF", "A file with a formula, as DIMACS text");
+    let proof = path_argument(alloc, "proof", "PROOF", "A file with an LRAT proof");
+    Command::new(alloc, "lrat")
+        .about(ABOUT)
+        .after_long_help(EXAMPLE)
+        .arg(cnf)?
+        .arg(proof)
+}
+
+/// What the matches of the command ask for.
+pub fn lrat_line<'a>(matches: &ArgMatches<'a>) -> Line<'a>
+    requires cnf { IsSome (first_value (found_of matches.now) (codes "cnf")) }
+    requires proof { IsSome (first_value (found_of matches.now) (codes "proof")) }
+    ensures { AsksFor (Some (codes "lrat")) (first_value (found_of matches.now)) result }
+{
+    Line::Lrat {
+        cnf: text_of(matches, "cnf"),
+        proof: text_of(matches, "proof"),
+    }
+}

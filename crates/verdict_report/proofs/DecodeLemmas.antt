@@ -1,0 +1,61 @@
+-- What decoding a model of a kept trace says of the whole trace.
+use Rattle.std.proofs.Common.{◌≡◌, ◌≤◌, ℕ, Bool, List, subst, sym}
+use Rattle.std.specs.Prelude.{Result, Ok, Err}
+use Rattle.dimacs.specs.Assignment.{value_of}
+use Rattle.model_reader.specs.ModelText.{SpellsModel}
+use Rattle.dimacs.specs.Models.{IsModel, IsFirstFalse}
+use Rattle.traces.specs.declared.operation.OpName.{OpName}
+use Rattle.traces.specs.Legal.{IsLegal}
+use Rattle.traces.specs.Trace.{TraceValue, IsTrace}
+use Rattle.trace_text.specs.TraceText.{SpellsTrace}
+use Rattle.reducer.specs.Expansion.{expansion}
+use Rattle.reducer.specs.declared.reduce_fault.ReduceFault.{ReduceFault}
+use Rattle.reducer.specs.declared.reduce_fault.ReduceFault.TheVariants.{OutOfMemory as NoReduceMemory, StillTooLarge as TooManyLeft}
+use Rattle.reducer.specs.Reduced.{ReducedValue, IsReduced, IsReduceRefusal, operation_count}
+use Rattle.reducer.proofs.ScheduleLemmas.{expansion_legal}
+use Rattle.clause_blocks.specs.Clauses.{clauses_of}
+use Rattle.clause_blocks.specs.ModelOrder.{IsInOrderOf}
+use Rattle.verdict_report.specs.declared.fault.Fault.{Fault}
+use Rattle.verdict_report.specs.declared.fault.Fault.TheVariants.{OutOfMemory, Device, InputTooLong, Trace, Schedule, Model, Cnf, Lrat, StillTooLarge, NotAModel, Check}
+use Rattle.verdict_report.specs.Admitted.{Admits}
+use Rattle.verdict_report.specs.Fault.{fault_of_reduction}
+use Rattle.verdict_report.specs.DecodeEngine.{IsDecoding, IsDecodedFrom, IsSaidOfModel}
+
+module _ (r : ReducedValue) (ok : IsReduced r) (truth : List Bool) where
+  pub decoding : (kept schedule : List OpName) → IsModel (value_of truth) (clauses_of r.kept) → IsInOrderOf (value_of truth) r.kept kept → IsLegal r.kept kept →
+      schedule ≡ expansion r.whole kept → IsDecoding r.whole truth schedule
+  decoding kept schedule model ordered legal expanded = record {
+    model = subst (λ (t : TraceValue). IsModel (value_of truth) (clauses_of t)) ok.reduction model;
+    kept = kept;
+    ordered = subst (λ (t : TraceValue). IsInOrderOf (value_of truth) t kept) ok.reduction ordered;
+    expanded = expanded;
+    legal = subst (λ (s : List OpName). IsLegal r.whole s) (sym expanded) (expansion_legal r.whole kept ok.is_trace (subst (λ (t : TraceValue). IsLegal t kept) ok.reduction legal));
+  }
+
+  pub false_clause : (clause : ℕ) → IsFirstFalse (value_of truth) (clauses_of r.kept) clause → IsDecodedFrom r truth (Err (NotAModel clause))
+  false_clause clause first = subst (λ (t : TraceValue). IsFirstFalse (value_of truth) (clauses_of t) clause) ok.reduction first
+
+  module _ (trace_text model_text : List ℕ) (spelled : SpellsTrace trace_text r.whole) (read : SpellsModel model_text truth) where
+    admitted : Admits trace_text r.whole
+    admitted = record { is_trace = ok.is_trace; spelled = spelled; few = subst (λ (t : TraceValue). operation_count t ≤ 160) ok.reduction ok.few }
+
+    pub said : (result : Result (List OpName) Fault) → IsDecodedFrom r truth result → IsSaidOfModel trace_text model_text result
+    said (Ok schedule) d = record { value = r.whole; admitted = admitted; truth = truth; spelled = read; decoded = d }
+    said (Err OutOfMemory) d = tt
+    said (Err (NotAModel clause)) d = record { value = r.whole; admitted = admitted; truth = truth; spelled = read; first_false = d }
+    said (Err Device) d = absurd d
+    said (Err InputTooLong) d = absurd d
+    said (Err (Trace cause line)) d = absurd d
+    said (Err (Schedule cause line)) d = absurd d
+    said (Err (Model cause line)) d = absurd d
+    said (Err (Cnf cause line)) d = absurd d
+    said (Err (Lrat cause line)) d = absurd d
+    said (Err (StillTooLarge left)) d = absurd d
+    said (Err (Check fault step)) d = absurd d
+
+-- a trace that is not reduced, where both texts are read
+pub unreduced : (trace_text model_text : List ℕ) (value : TraceValue) → IsTrace value → SpellsTrace trace_text value → (truth : List Bool) → SpellsModel model_text truth →
+    (fault : ReduceFault) → IsReduceRefusal value fault → IsSaidOfModel trace_text model_text (Err (fault_of_reduction fault))
+unreduced trace_text model_text value is_trace spelled truth read NoReduceMemory refused = tt
+unreduced trace_text model_text value is_trace spelled truth read (TooManyLeft left) refused =
+    record { large = record { value = value; is_trace = is_trace; spelled = spelled; left_is = refused.1; many = refused.0 }; truth = truth; spelled = read }

@@ -1,0 +1,33 @@
+-- What sources and sinks did in a call.
+use Rattle.std.specs.Prelude.{◌≡◌, ◌≤◌, ℕ, List, ◌++◌, length, Bool, true}
+
+-- what a source did in a call: the bytes that it had handed out before and has now, whether it was at its end before and is now, and
+-- its failures before and now
+pub record SourceRun : Type 0 where
+  pub before : List ℕ
+  pub now : List ℕ
+  pub was_at_end : Bool
+  pub is_at_end : Bool
+  pub failures_before : ℕ
+  pub failures_now : ℕ
+
+-- the same of a sink and the bytes that it has taken
+pub record SinkRun : Type 0 where
+  pub before : List ℕ
+  pub now : List ℕ
+  pub failures_before : ℕ
+  pub failures_now : ℕ
+
+-- the source handed out this text, whole and within the limit
+pub record HandsOut (source : SourceRun) (text : List ℕ) : Type 0 where
+  pub handed : source.now ≡ source.before ++ text
+  pub ended : source.is_at_end ≡ true
+  pub within_limit : length text ≤ 268435456
+
+-- the source handed out nothing, is at its end exactly if it was before, and did not fail
+abbrev pub IsUntouched : SourceRun → Type 0
+IsUntouched source = (source.now ≡ source.before) × (source.is_at_end ≡ source.was_at_end) × (source.failures_now ≡ source.failures_before)
+
+-- the sink took nothing
+abbrev pub TakesNothing : SinkRun → Type 0
+TakesNothing out = out.now ≡ out.before

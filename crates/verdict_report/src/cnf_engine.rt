@@ -1,0 +1,48 @@
+//! The engine that translates a trace into clauses, from bytes to bytes.
+
+ghost use Rattle.std.specs.Prelude.{◌≤◌, OnOk};
+ghost use Rattle.verdict_report.specs.CnfEngine.{IsRunOfCnf, MeansSchedulable};
+
+use crate::admitted::reduce_text;
+use crate::fault::Fault;
+use crate::laws::satisfiable_exactly_where_schedulable;
+use crate::reading::read_whole;
+use crate::source::Source;
+use crate::status::Status;
+use clause_blocks::laws::formula_is_over_its_variables;
+use clause_blocks::stream_cnf::stream_cnf;
+use dimacs::Sink;
+use std::alloc::Global;
+use std::thread::Threads;
+
+/// Writes the clause list of the trace that the source hands out, as a DIMACS text. The text is fixed by the trace
+/// alone, whatever the number of workers, from 1 to 8, that may make it. Its clauses have a model exactly where the whole
+/// trace has a legal schedule.
+///
+/// The first refusal stands: of a source that fails, an input past the limit, the trace's text, a trace of which more
+/// than 160 operations are kept, want of memory, or the sink. Before the last two a front of the text may have been
+/// written, and before the others nothing.
+pub fn run_cnf<R: Threads + Sync, T: Source, W: Sink>(
+    alloc: Global,
+    rt: &R,
+    trace: &mut T,
+    workers: u32,
+    out: &mut W,
+) -> Result<Status, Fault>
+    requires some { 1 ≤ workers }
+    requires few { workers ≤ 8 }
+    ensures run { IsRunOfCnf
+        (record { before = T.handed_out trace.old; now = T.handed_out trace.new; was_at_end = T.is_at_end trace.old; is_at_end = T.is_at_end trace.new; failures_before = T.failures trace.old; failures_now = T.failures trace.new })
+        (record { before = W.written out.old; now = W.written out.new; failures_before = W.failures out.old; failures_now = W.failures out.new })
+        result }
+    ensures meaning { OnOk result (MeansSchedulable
+        (record { before = T.handed_out trace.old; now = T.handed_out trace.new; was_at_end = T.is_at_end trace.old; is_at_end = T.is_at_end trace.new; failures_before = T.failures trace.old; failures_now = T.failures trace.new })
+        (record { before = W.written out.old; now = W.written out.new; failures_before = W.failures out.old; failures_now = W.failures out.new })) }
+{
+    let text = read_whole(alloc, trace)?;
+    let reduced = reduce_text(alloc, text.as_slice())?;
+    formula_is_over_its_variables();
+    satisfiable_exactly_where_schedulable();
+    stream_cnf(alloc, rt, &reduced, workers, out)?;
+    Ok(Status::Yes)
+}

@@ -1,0 +1,86 @@
+//! The engine that turns a model into a schedule, from bytes to bytes.
+
+ghost use Rattle.reducer.specs.Reduced.{IsReduced};
+ghost use Rattle.schedule_text.specs.ScheduleWritten.{canonical_schedule};
+ghost use Rattle.verdict_report.specs.DecodeEngine.{IsDecodedFrom, IsRunOfDecode, IsSaidOfModel, written_status};
+ghost use Rattle.verdict_report.specs.TwoInputs.{IsRunOfWriting};
+
+use crate::fault::Fault;
+use crate::reading::read_whole;
+use crate::source::Source;
+use crate::status::Status;
+use dimacs::{Assignment, Sink, write_whole};
+use model_reader::read_model;
+use reducer::expand::expand;
+use reducer::reduced::{Reduced, reduce};
+use schedule_decode::decode_model::decode_model;
+use schedule_text::schedule_writer::write_schedule;
+use std::alloc::Global;
+use std::thread::Threads;
+use trace_text::trace_reader::read_trace;
+use traces::schedule::Schedule;
+
+/// Turns the model of the second source into a schedule of the trace of the first, and writes it, one name a line. The
+/// schedule is a legal one of the whole trace.
+///
+/// Both texts are read whole, in this order, before either is parsed; then the trace is reduced. The first refusal stands:
+/// of a source that fails, an input past the limit, the trace's text, the model's text, a trace of which more than 160
+/// operations are kept, truth values that are no model, want of memory, or the sink.
+pub fn run_decode<R: Threads + Sync, T: Source, M: Source, W: Sink>(
+    alloc: Global,
+    rt: &R,
+    trace: &mut T,
+    model: &mut M,
+    out: &mut W,
+) -> Result<Status, Fault>
+    ensures { IsRunOfDecode
+        (record { before = T.handed_out trace.old; now = T.handed_out trace.new; was_at_end = T.is_at_end trace.old; is_at_end = T.is_at_end trace.new; failures_before = T.failures trace.old; failures_now = T.failures trace.new })
+        (record { before = M.handed_out model.old; now = M.handed_out model.new; was_at_end = M.is_at_end model.old; is_at_end = M.is_at_end model.new; failures_before = M.failures model.old; failures_now = M.failures model.new })
+        (record { before = W.written out.old; now = W.written out.new; failures_before = W.failures out.old; failures_now = W.failures out.new })
+        result }
+{
+    let trace_text = read_whole(alloc, trace)?;
+    let model_text = read_whole(alloc, model)?;
+    let schedule = decode_texts(alloc, rt, trace_text.as_slice(), model_text.as_slice())?;
+    write_names(alloc, &schedule, out)
+}
+
+/// The schedule of the trace that the first text spells, by the model that the second one spells.
+fn decode_texts<R: Threads + Sync>(
+    alloc: Global,
+    rt: &R,
+    trace_text: &[u8],
+    model_text: &[u8],
+) -> Result<Schedule, Fault>
+    ensures { IsSaidOfModel trace_text.now model_text.now result }
+{
+    let trace = read_trace(alloc, trace_text)?;
+    let model = read_model(alloc, model_text)?;
+    let reduced = reduce(alloc, &trace)?;
+    decode_reduced(alloc, rt, &reduced, &model)
+}
+
+/// The schedule of the whole trace, by a model of what is kept of it.
+fn decode_reduced<R: Threads + Sync>(
+    alloc: Global,
+    rt: &R,
+    reduced: &Reduced,
+    model: &Assignment,
+) -> Result<Schedule, Fault>
+    requires { IsReduced reduced.now }
+    ensures { IsDecodedFrom reduced.now model.now result }
+{
+    let kept = decode_model(alloc, rt, reduced, model)?;
+    Ok(expand(alloc, reduced, &kept)?)
+}
+
+/// Writes the schedule's text.
+fn write_names<W: Sink>(alloc: Global, schedule: &Schedule, out: &mut W) -> Result<Status, Fault>
+    ensures { IsRunOfWriting (canonical_schedule schedule.now) (written_status schedule.now)
+        (record { before = W.written out.old; now = W.written out.new; failures_before = W.failures out.old; failures_now = W.failures out.new })
+        result }
+{
+    let text = write_schedule(alloc, schedule)?;
+    write_whole(out, text.as_slice())?;
+    Ok(Status::Yes)
+}

@@ -1,0 +1,40 @@
+//! Laws of the texts that are admitted.
+
+ghost use Rattle.std.specs.Prelude.{◌≡◌, ◌⊎◌, ◌↔◌, ℕ, Bool, List};
+ghost use Rattle.trace_text.specs.declared.trace_fault.TraceCause.{TraceCause};
+ghost use Rattle.trace_text.specs.TraceFault.{HasTraceFault};
+ghost use Rattle.dimacs.specs.Models.{IsModel};
+ghost use Rattle.traces.specs.declared.operation.OpName.{OpName};
+ghost use Rattle.traces.specs.Legal.{IsLegal};
+ghost use Rattle.traces.specs.Trace.{TraceValue};
+ghost use Rattle.reducer.specs.Reduction.{kept_trace};
+ghost use Rattle.clause_blocks.specs.Clauses.{clauses_of};
+ghost use Rattle.verdict_report.specs.Admitted.{Admits, IsTooLarge};
+ghost use Rattle.verdict_report.specs.CnfEngine.{Translates};
+ghost use Rattle.verdict_report.specs.Runs.{SourceRun, HandsOut};
+
+/// The same text gives the same clause list, to the byte.
+pub fn one_clause_list()
+    ensures { (first second : SourceRun) (text cnf other : List ℕ) →
+        HandsOut first text → HandsOut second text → Translates first cnf → Translates second other → cnf ≡ other }
+{}
+
+/// Each text is admitted, or spells a trace that is too large, or has a first fault.
+pub fn admitted_or_refused()
+    ensures { (text : List ℕ) →
+        ((value : TraceValue) × Admits text value)
+        ⊎ (((left : ℕ) × IsTooLarge text left) ⊎ ((cause : TraceCause) × (line : ℕ) × HasTraceFault text cause line)) }
+{}
+
+/// A text that is admitted is not refused.
+pub fn never_admitted_and_refused()
+    ensures large { (text : List ℕ) (value : TraceValue) (left : ℕ) → Admits text value → IsTooLarge text left → ⊥ }
+    ensures faulty { (text : List ℕ) (value : TraceValue) (cause : TraceCause) (line : ℕ) →
+        Admits text value → HasTraceFault text cause line → ⊥ }
+{}
+
+/// The clauses that are written have a model exactly where the whole trace has a legal schedule.
+pub fn satisfiable_exactly_where_schedulable()
+    ensures { (text : List ℕ) (value : TraceValue) → Admits text value →
+        ((truth : ℕ → Bool) × IsModel truth (clauses_of (kept_trace value))) ↔ ((names : List OpName) × IsLegal value names) }
+{}

@@ -1,2 +1,0 @@
-mod BufferLemmas
-mod JudgingLemmas
