@@ -10,7 +10,8 @@ ghost use Rattle.schedule_decode.specs.Decode.{IsDecodeRefusal};
 
 use crate::decode::schedule_of;
 use crate::decode_fault::DecodeFault;
-use clause_blocks::first_false::first_false_clause;
+use clause_blocks::first_false::first_false_of;
+use clause_blocks::trace_clauses::TraceClauses;
 use dimacs::Assignment;
 use reducer::reduced::Reduced;
 use std::alloc::Global;
@@ -30,8 +31,9 @@ pub fn decode_model<R: Threads + Sync>(
     ensures legal { IfOk result (IsLegal reduced.now.kept) }
     ensures refused { IfErr result (IsDecodeRefusal (value_of assignment.now) (clauses_of reduced.now.kept)) }
 {
-    if let Some(found) = first_false_clause(alloc, rt, reduced, assignment)? {
+    let clauses = TraceClauses::of(alloc, reduced)?;
+    if let Some(found) = first_false_of(alloc, &clauses, assignment)? {
         return Err(DecodeFault::NotAModel(found.clause));
     }
-    Ok(schedule_of(alloc, reduced, assignment)?)
+    Ok(schedule_of(alloc, reduced, clauses.layout(), assignment)?)
 }
