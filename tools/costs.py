@@ -142,5 +142,6 @@ class Costs:
         for crate, part in order:
             seconds, megabytes = self.seconds[crate, part], self.megabytes.get((crate, part), 0)
             yield f"cost: {crate}, {part}: {seconds:.1f} s of processor, {megabytes} MB"
+        yield f"cost: processors: {len(os.sched_getaffinity(0))}"
         yield f"cost: most memory in use beside what was before: {self.memory - self.least_memory} MB"
         yield f"cost: most disk in use beside what was before: {self.disk - self.least_disk} MB"
