@@ -2,8 +2,8 @@
 
 The file must-fail.record has a line for each crate whose wrong bodies the prover has all refused: the crate's name, and a hash
 of all that they were tried on. That is what git tracks of the crate's folder (its wrong bodies too) and of the folders of the
-crates below it, the lines of crates.txt of all of these, HANDLES, and the version of the kit. Where one byte or one name of these
-is another, the hash is, and the crate's wrong bodies are tried again.
+crates below it (theirs not, since nothing reads them), the lines of crates.txt of all of these, HANDLES, and the version of the
+kit. Where one byte or one name of these is another, the hash is, and the crate's wrong bodies are tried again.
 """
 
 import hashlib
@@ -95,9 +95,11 @@ def below(name, lines):
 
 
 def files_of(name, paths):
-    """The tracked files of a crate. What its builds leave is not among them."""
+    """The tracked files of a crate, apart from its wrong bodies and from these. What its builds leave is not among them."""
     folder = f"crates/{name}/"
-    return [path for path in paths if path.startswith(folder) and not path.startswith(folder + "out/")]
+    files = [path for path in paths if path.startswith(folder) and not path.startswith(folder + "out/")]
+    bodies = [path for path in files if path.startswith(folder + "must-fail/")]
+    return [path for path in files if path not in set(bodies)], bodies
 
 
 def wrong_bodies(paths):
@@ -113,12 +115,13 @@ def wrong_bodies(paths):
 def hashes(root, paths, version):
     """For each crate of crates.txt the hash of all that its wrong bodies are tried on."""
     lines = crate_lines(root)
-    own = {}
+    proved, tried = {}, {}
     for name, (line, _) in lines.items():
-        files = [it for path in files_of(name, paths) for it in (os.fsencode(path), content(root, path))]
-        own[name] = hash_of([name.encode(), line.encode(), *files]).encode()
+        files, bodies = ([it for path in some for it in (os.fsencode(path), content(root, path))] for some in files_of(name, paths))
+        proved[name] = hash_of([name.encode(), line.encode(), *files]).encode()
+        tried[name] = hash_of(bodies).encode()
     common = [version, content(root, "HANDLES")]
-    return {name: hash_of([name.encode(), *common, *[own[it] for it in below(name, lines)]]) for name in lines}
+    return {name: hash_of([name.encode(), *common, tried[name], *[proved[it] for it in below(name, lines)]]) for name in lines}
 
 
 def read(root):
