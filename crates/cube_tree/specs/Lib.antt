@@ -1,0 +1,3 @@
+pub mod CubeTree
+pub mod Covers
+pub mod Nodes
