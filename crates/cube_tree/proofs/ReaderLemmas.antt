@@ -1,17 +1,16 @@
 -- What a reader of a tree's lines has read.
-use Rattle.std.proofs.Common.{◌≡◌, ℕ, ◌+◌, ◌^◌, ◌<◌, ◌≤◌, List, [], ◌∷◌, ◌++◌, length, map, Bool, true, false, cond, leb, refl, ap, sym, ◌∙◌, subst, arith, append_assoc, append-nil, length-append}
-use Rattle.std.specs.Prelude.{Option, Some, None, ◌&&◌, codes, decimal}
-use Rattle.std.specs.List.{list_all, filter_map, flat_map, cons_option}
+use Rattle.std.proofs.Common.{◌≡◌, ℕ, ◌+◌, ◌<◌, ◌≤◌, List, [], ◌∷◌, ◌++◌, map, Bool, true, false, cond, leb, refl, ap, sym, ◌∙◌, arith, append_assoc, append-nil}
+use Rattle.std.specs.Prelude.{Option, Some, None, codes, decimal}
+use Rattle.std.specs.List.{list_all, flat_map, cons_option}
 use Rattle.std.specs.Option.{option_and_then, option_map}
 use Rattle.std.specs.Str.{bytes_eq}
-use Rattle.std.proofs.lemmas.Bool.{and_parts, and_from, leb-true, leb-false, le-leb}
+use Rattle.std.proofs.lemmas.Bool.{and_parts, and_from, leb-true, leb-false}
 use Rattle.std.proofs.lemmas.Option.{cond_some, none-some, option_and_then_some}
-use Rattle.std.proofs.lemmas.List.{map-append, length_push}
+use Rattle.std.proofs.lemmas.List.{map-append}
 use Rattle.std.proofs.lemmas.List.Folds.{list_all-append}
 use Rattle.std.proofs.lemmas.List.Elements.{filter_map-append}
 use Rattle.dimacs.specs.Literal.{most_variable}
 use Rattle.text_lines.specs.FirstFault.{IsFaultless}
-use Rattle.text_lines.specs.Lines.{lines_of}
 use Rattle.text_lines.specs.Numbers.{plain_number, plain_number_up_to}
 use Rattle.text_lines.specs.Words.{words_of}
 use Rattle.text_lines.proofs.FaultLemmas.{faultless_nil, faultless_push}
@@ -19,11 +18,10 @@ use Rattle.text_lines.proofs.PlainLemmas.{decimal_is_plain, plain_is_decimal}
 use Rattle.traces.proofs.NameLemmas.{same_bytes}
 use Rattle.cube_tree.specs.declared.node.Node.{Node}
 use Rattle.cube_tree.specs.declared.node.Node.TheVariants.{Leaf, Split}
-use Rattle.cube_tree.specs.declared.tree_fault.TreeCause.{TreeCause}
-use Rattle.cube_tree.specs.declared.tree_fault.TreeCause.TheVariants.{BadLine, TooDeep, TooManyLeaves}
-use Rattle.cube_tree.specs.CubeTree.{CubeTree, leaf, split, depth, leaves, is_variable, IsCubeTree}
+use Rattle.cube_tree.specs.declared.tree_fault.TreeCause.TheVariants.{TooDeep, TooManyLeaves}
+use Rattle.cube_tree.specs.CubeTree.{CubeTree, leaf, split, depth, is_variable, IsCubeTree}
 use Rattle.cube_tree.specs.Nodes.{nodes_of}
-use Rattle.cube_tree.specs.TreeFault.{variable_of, node_of, nodes_on, leaf_count, due_below, due_behind, due_after, node_fault, due_fault, tree_line_fault}
+use Rattle.cube_tree.specs.TreeFault.{variable_of, node_of, nodes_on, leaf_count, due_below, due_behind, node_fault, due_fault, tree_line_fault}
 use Rattle.cube_tree.specs.TreeText.{tree_lines}
 use Rattle.cube_tree.proofs.TreeLemmas.{is_node, leaf_count-append, leaves_counted, variables_of_nodes}
 

@@ -1,14 +1,13 @@
 -- The laws of a tree's text.
-use Rattle.std.proofs.Common.{◌≡◌, ◌⊎◌, ℕ, zero, suc, ◌+◌, ◌-◌, ◌^◌, ◌<◌, ◌≤◌, List, [], ◌∷◌, ◌++◌, length, map, take, drop, true, cond, leb, refl, ap, sym, ◌∙◌, subst, arith, inl, inr, append_assoc, append-nil, length-append, length-drop}
+use Rattle.std.proofs.Common.{◌≡◌, ◌⊎◌, ℕ, ◌+◌, ◌^◌, ◌<◌, ◌≤◌, List, [], ◌∷◌, ◌++◌, length, map, take, drop, true, cond, leb, refl, ap, sym, ◌∙◌, subst, arith, inl, inr, append_assoc, append-nil}
 use Rattle.std.specs.Prelude.{min, Some, None, Option, ◌&&◌, is_some, slice_get, codes, decimal}
-use Rattle.std.specs.List.{list_all}
 use Rattle.std.proofs.lemmas.Bool.{and_parts, leb-true, lt-leb, false≢true}
 use Rattle.std.proofs.lemmas.Fmt.{decimal_injective}
-use Rattle.std.proofs.lemmas.List.{map-append, length-map, take-append-drop, length_push}
+use Rattle.std.proofs.lemmas.List.{map-append, take-append-drop}
 use Rattle.std.proofs.lemmas.List.Elements.{filter_map-append}
 use Rattle.std.proofs.lemmas.Option.{none-some}
 use Rattle.dimacs.specs.Literal.{most_variable}
-use Rattle.text_lines.specs.FirstFault.{IsFaultless, IsFirstFault}
+use Rattle.text_lines.specs.FirstFault.{IsFaultless}
 use Rattle.text_lines.specs.Lines.{lines_of}
 use Rattle.text_lines.specs.Words.{words_of}
 use Rattle.text_lines.proofs.FaultLemmas.{one_first, faultless_push, none_is_some}
@@ -16,9 +15,9 @@ use Rattle.cube_tree.specs.declared.node.Node.{Node}
 use Rattle.cube_tree.specs.declared.node.Node.TheVariants.{Leaf, Split}
 use Rattle.cube_tree.specs.declared.tree_fault.TreeCause.{TreeCause}
 use Rattle.cube_tree.specs.declared.tree_fault.TreeCause.TheVariants.{BadLine, TooDeep, TooManyLeaves}
-use Rattle.cube_tree.specs.CubeTree.{CubeTree, leaf, split, depth, leaves, is_variable, splits_variables, IsCubeTree}
+use Rattle.cube_tree.specs.CubeTree.{CubeTree, leaf, split, depth, leaves, is_variable, splits_variables}
 use Rattle.cube_tree.specs.Nodes.{nodes_of}
-use Rattle.cube_tree.specs.TreeFault.{node_of, nodes_on, leaf_count, due_below, due_behind, due_after, node_fault, due_fault, tree_line_fault, EndsWithin, HasTreeFault}
+use Rattle.cube_tree.specs.TreeFault.{node_of, nodes_on, leaf_count, due_below, due_behind, due_after, node_fault, due_fault, tree_line_fault, HasTreeFault}
 use Rattle.cube_tree.specs.TreeText.{tree_lines, line_bytes, front_bytes, SpellsTree}
 use Rattle.cube_tree.proofs.TreeLemmas.{is_node, leaf_count-append, leaves_counted}
 use Rattle.cube_tree.proofs.ReaderLemmas.{node_words, node_read, due_append, IsProgress, no_lines, fault_here, next_node, whole_tree}

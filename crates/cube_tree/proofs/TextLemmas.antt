@@ -1,13 +1,10 @@
 -- The bytes of a tree's text that a reader has read.
-use Rattle.std.proofs.Common.{◌≡◌, ℕ, zero, suc, ◌+◌, ◌-◌, ◌<◌, ◌≤◌, List, [], ◌∷◌, ◌++◌, length, map, take, drop, reverse, refl, ap, sym, ◌∙◌, subst, arith, inl, inr, append_assoc, append-nil, length-append, length-drop}
-use Rattle.std.specs.Prelude.{min, Some, None, Option, is_some, slice_get, codes, decimal}
+use Rattle.std.proofs.Common.{◌≡◌, ℕ, zero, suc, ◌+◌, ◌-◌, ◌<◌, ◌≤◌, List, [], ◌∷◌, ◌++◌, length, map, take, reverse, refl, ap, sym, ◌∙◌, subst, arith, inl, inr, append_assoc, append-nil, length-drop}
+use Rattle.std.specs.Prelude.{min, Some, None, is_some, slice_get, codes, decimal}
 use Rattle.std.specs.List.{before_first, after_first, position_or_len, flat_map}
 use Rattle.std.proofs.lemmas.Grind.{flat_map-append}
-use Rattle.std.specs.Option.{option_to_list}
 use Rattle.std.proofs.lemmas.Bool.{cases_lt}
-use Rattle.std.proofs.lemmas.List.{length-map, length_push, take_at, reverse-append, drop-drop, drop_all, take_all, length-take}
-use Rattle.text_lines.specs.FirstFault.{IsFirstFault}
-use Rattle.text_lines.specs.Fault.{IsRefusal}
+use Rattle.std.proofs.lemmas.List.{length-map, length_push, take_at, reverse-append, drop_all, length-take}
 use Rattle.text_lines.specs.Lines.{lines_of, is_line_feed}
 use Rattle.text_lines.specs.Words.{words_of}
 use Rattle.text_lines.proofs.CutLemmas.{lines_cut}
@@ -18,8 +15,8 @@ use Rattle.cube_tree.specs.declared.tree_fault.TreeCause.TheVariants.{BadLine}
 use Rattle.cube_tree.specs.CubeTree.{CubeTree, leaf, split, IsCubeTree}
 use Rattle.cube_tree.specs.Nodes.{nodes_of, tree_of, AreNodes}
 use Rattle.cube_tree.specs.NodeText.{node_text}
-use Rattle.cube_tree.specs.TreeFault.{node_of, leaf_count, due_below, due_behind, node_fault, due_fault, due_after, tree_line_fault, EndsWithin, HasTreeFault}
-use Rattle.cube_tree.specs.TreeText.{tree_lines, line_bytes, front_bytes, SpellsTree, tree_text}
+use Rattle.cube_tree.specs.TreeFault.{node_of, leaf_count, due_below, due_behind, node_fault, due_after, HasTreeFault}
+use Rattle.cube_tree.specs.TreeText.{tree_lines, line_bytes, SpellsTree, tree_text}
 use Rattle.cube_tree.proofs.TreeLemmas.{made, made_is}
 use Rattle.cube_tree.proofs.ReaderLemmas.{node_words, lines_of_nodes, IsProgress, no_lines, fault_here, next_node, whole_tree}
 

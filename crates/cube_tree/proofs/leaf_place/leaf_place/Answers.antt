@@ -1,6 +1,5 @@
-use Rattle.std.proofs.Common.{◌+◌, ◌∷◌, [], get_or, ap, arith}
+use Rattle.std.proofs.Common.{◌∷◌, [], ap, arith}
 use Rattle.cube_tree.specs.declared.node.Node.{Node}
-use Rattle.cube_tree.specs.declared.node.Node.TheVariants.{Leaf}
 use Rattle.cube_tree.specs.TreeFault.{leaf_count}
 use Rattle.cube_tree.proofs.LeafLemmas.{leaf_at, passed_more, no_leaf}
 use Rattle.cube_tree.proofs.leaf_place.leaf_place.Goals as goal

@@ -1,8 +1,7 @@
-use Rattle.std.proofs.Common.{◌≡◌, ◌<◌, ◌≤◌, [], List, length, get_or, ap, sym, ◌∙◌, arith}
-use Rattle.std.specs.Prelude.{ℤ, Some, Option}
+use Rattle.std.proofs.Common.{◌<◌, [], List, length, get_or, ap, sym, ◌∙◌, arith}
+use Rattle.std.specs.Prelude.{ℤ}
 use Rattle.std.proofs.lemmas.List.{get_or_default}
 use Rattle.cube_tree.specs.CubeTree.{leaves, cubes_of}
-use Rattle.cube_tree.specs.declared.split_fault.SplitCause.{SplitCause}
 use Rattle.cube_tree.proofs.LeafLemmas.{none_such, too_many, too_deep, splittable}
 use Rattle.cube_tree.proofs.TreeLemmas.{cubes_counted}
 use Rattle.cube_tree.proofs.leaf_split.fault_of_split.Goals as goal

@@ -1,4 +1,4 @@
-use Rattle.std.proofs.Common.{◌≡◌, ◌<◌, ◌≤◌, vec_len, ◌+◌, ◌∷◌, [], length, reverse, ap, sym, ◌∙◌, subst, arith, rules, ℕ, List}
+use Rattle.std.proofs.Common.{◌≡◌, ◌<◌, ◌≤◌, vec_len, ◌+◌, ◌∷◌, [], length, reverse, ap, subst, arith, rules, ℕ, List}
 use Rattle.std.proofs.lemmas.Bool.{false≢true}
 use Rattle.cube_tree.specs.declared.node.Node.{Node}
 use Rattle.cube_tree.specs.TreeFault.{leaf_count}
