@@ -1,5 +1,5 @@
 -- The first fault of a solver's answer.
-use Rattle.std.specs.Prelude.{⊤, ℕ, ◌+◌, ℤ, pos, neg_ℤ, Bool, false, List, [], ◌∷◌, ◌++◌, map, Option, Some, None, if◌then◌else◌}
+use Rattle.std.specs.Prelude.{ℕ, ◌+◌, ℤ, pos, neg_ℤ, Bool, false, List, [], ◌∷◌, ◌++◌, map, Option, Some, None, if◌then◌else◌}
 use Rattle.std.specs.List.{list_any}
 use Rattle.std.specs.Option.{option_eq, option_map}
 use Rattle.std.specs.Ordering.{int_eq}
@@ -8,8 +8,6 @@ use Rattle.text_lines.specs.Lines.{lines_of}
 use Rattle.text_lines.specs.Words.{words_of}
 use Rattle.model_reader.specs.declared.model_fault.ModelCause.{ModelCause}
 use Rattle.model_reader.specs.declared.model_fault.ModelCause.TheVariants.{SaysUnsatisfiable, BadLine, BadNumber, Clash, Unended}
-use Rattle.text_lines.specs.declared.fault.Fault.{Fault}
-use Rattle.text_lines.specs.declared.fault.Fault.TheVariants.{OutOfMemory, At}
 use Rattle.model_reader.specs.ModelText.{Said, Word, Unsatisfiable, Unknown, End, said, model_number}
 
 -- each of these at this line

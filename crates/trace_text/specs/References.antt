@@ -1,5 +1,5 @@
 -- The operations that lines name.
-use Rattle.std.specs.Prelude.{⊤, ℕ, Bool, false, not, ◌&&◌, List, length, Option, Some, None, nat_le, if◌then◌else◌}
+use Rattle.std.specs.Prelude.{ℕ, Bool, false, not, ◌&&◌, List, length, Option, Some, None, nat_le, if◌then◌else◌}
 use Rattle.std.specs.List.{list_any, list_all}
 use Rattle.std.specs.Str.{bytes_eq}
 use Rattle.text_lines.specs.FirstFault.{IsFirstFault}

@@ -1,8 +1,10 @@
 -- How an engine that reads two texts ends, by what becomes of its writing.
 use Rattle.std.proofs.Common.{◌≡◌, ℕ, List, inl, inr, subst}
 use Rattle.std.specs.Prelude.{Result, Ok, Err}
+use Rattle.reducer.specs.declared.reduce_fault.ReduceCause.TheVariants.{StillTooLarge}
+use Rattle.schedule_decode.specs.declared.decode_fault.DecodeCause.TheVariants.{NotAModel}
 use Rattle.verdict_report.specs.declared.fault.Fault.{Fault}
-use Rattle.verdict_report.specs.declared.fault.Fault.TheVariants.{OutOfMemory, Device, InputTooLong, Trace, Schedule, Model, Cnf, Lrat, StillTooLarge, NotAModel, Check}
+use Rattle.verdict_report.specs.declared.fault.Fault.TheVariants.{OutOfMemory, Device, InputTooLong, Trace, Schedule, Model, Cnf, Lrat, Reduce, Decode, Check}
 use Rattle.verdict_report.specs.declared.status.Status.{Status}
 use Rattle.verdict_report.specs.declared.reading.ReadFault.{ReadFault}
 use Rattle.verdict_report.specs.declared.reading.ReadFault.TheVariants.{OutOfMemory as NoReadMemory, Device as SourceFailed, TooLong}
@@ -23,8 +25,8 @@ module _ {A : Type 0} (said : List ℕ → List ℕ → Result A Fault → Type 
   written answer reads f s (Err (Model cause line)) w = absurd w
   written answer reads f s (Err (Cnf cause line)) w = absurd w
   written answer reads f s (Err (Lrat cause line)) w = absurd w
-  written answer reads f s (Err (StillTooLarge left)) w = absurd w
-  written answer reads f s (Err (NotAModel clause)) w = absurd w
+  written answer reads f s (Err (Reduce StillTooLarge left)) w = absurd w
+  written answer reads f s (Err (Decode NotAModel clause)) w = absurd w
   written answer reads f s (Err (Check fault step)) w = absurd w
 
   -- the first text was handed out, and the second one was not read

@@ -9,8 +9,9 @@ use Rattle.traces.specs.Legal.{IsLegal}
 use Rattle.traces.specs.Trace.{TraceValue, IsTrace}
 use Rattle.trace_text.specs.TraceFault.{HasTraceFault}
 use Rattle.trace_text.specs.TraceText.{SpellsTrace}
+use Rattle.reducer.specs.declared.reduce_fault.ReduceCause.TheVariants.{StillTooLarge}
 use Rattle.verdict_report.specs.declared.fault.Fault.{Fault}
-use Rattle.verdict_report.specs.declared.fault.Fault.TheVariants.{OutOfMemory, Device, InputTooLong, Trace, StillTooLarge}
+use Rattle.verdict_report.specs.declared.fault.Fault.TheVariants.{OutOfMemory, Device, InputTooLong, Trace, Reduce}
 use Rattle.verdict_report.specs.declared.status.Status.{Status}
 use Rattle.verdict_report.specs.declared.status.Status.TheVariants.{Yes}
 use Rattle.verdict_report.specs.Admitted.{Admits, IsTooLarge, cnf_of}
@@ -72,7 +73,7 @@ IsRunOfCnf trace out (Err OutOfMemory) = IsUnfailing trace out × (TakesNothing 
 IsRunOfCnf trace out (Err Device) = SourceFails trace out ⊎ SinkFails trace out
 IsRunOfCnf trace out (Err InputTooLong) = AppendsMoreThan 268435456 trace.before trace.now × TakesNothing out × IsUnfailing trace out
 IsRunOfCnf trace out (Err (Trace cause line)) = RefusesText trace out (λ text. HasTraceFault text cause line)
-IsRunOfCnf trace out (Err (StillTooLarge left)) = RefusesText trace out (λ text. IsTooLarge text left)
+IsRunOfCnf trace out (Err (Reduce StillTooLarge left)) = RefusesText trace out (λ text. IsTooLarge text left)
 IsRunOfCnf trace out (Err fault) = ⊥
 
 -- the source handed out the text of a trace, and the sink took that of a formula over its variables, which has a model exactly where

@@ -16,8 +16,10 @@ use Rattle.reducer.specs.Reduced.{ReducedValue}
 use Rattle.reducer.specs.Reduction.{kept_trace}
 use Rattle.clause_blocks.specs.Clauses.{clauses_of}
 use Rattle.clause_blocks.specs.ModelOrder.{IsInOrderOf}
+use Rattle.reducer.specs.declared.reduce_fault.ReduceCause.TheVariants.{StillTooLarge}
+use Rattle.schedule_decode.specs.declared.decode_fault.DecodeCause.TheVariants.{NotAModel}
 use Rattle.verdict_report.specs.declared.fault.Fault.{Fault}
-use Rattle.verdict_report.specs.declared.fault.Fault.TheVariants.{OutOfMemory, Trace, Model, StillTooLarge, NotAModel}
+use Rattle.verdict_report.specs.declared.fault.Fault.TheVariants.{OutOfMemory, Trace, Model, Reduce, Decode}
 use Rattle.verdict_report.specs.declared.status.Status.{Status}
 use Rattle.verdict_report.specs.declared.status.Status.TheVariants.{Yes}
 use Rattle.verdict_report.specs.Admitted.{Admits, IsTooLarge}
@@ -37,7 +39,7 @@ pub record IsDecoding (value : TraceValue) (truth : List Bool) (schedule : List 
 abbrev pub IsDecodedFrom : ReducedValue → List Bool → Result (List OpName) Fault → Type 0
 IsDecodedFrom reduced truth (Ok schedule) = IsDecoding reduced.whole truth schedule
 IsDecodedFrom reduced truth (Err OutOfMemory) = ⊤
-IsDecodedFrom reduced truth (Err (NotAModel clause)) = IsFirstFalse (value_of truth) (clauses_of (kept_trace reduced.whole)) clause
+IsDecodedFrom reduced truth (Err (Decode NotAModel clause)) = IsFirstFalse (value_of truth) (clauses_of (kept_trace reduced.whole)) clause
 IsDecodedFrom reduced truth (Err fault) = ⊥
 
 -- the texts spell an admitted trace and truth values, which decode to the schedule
@@ -75,8 +77,8 @@ IsSaidOfModel trace_text model_text (Ok schedule) = AreDecoded trace_text model_
 IsSaidOfModel trace_text model_text (Err OutOfMemory) = ⊤
 IsSaidOfModel trace_text model_text (Err (Trace cause line)) = HasTraceFault trace_text cause line
 IsSaidOfModel trace_text model_text (Err (Model cause line)) = HasFaultyModel trace_text model_text cause line
-IsSaidOfModel trace_text model_text (Err (StillTooLarge left)) = HasTooLarge trace_text model_text left
-IsSaidOfModel trace_text model_text (Err (NotAModel clause)) = AreNoModel trace_text model_text clause
+IsSaidOfModel trace_text model_text (Err (Reduce StillTooLarge left)) = HasTooLarge trace_text model_text left
+IsSaidOfModel trace_text model_text (Err (Decode NotAModel clause)) = AreNoModel trace_text model_text clause
 IsSaidOfModel trace_text model_text (Err fault) = ⊥
 
 -- a text that is written always goes with this status
