@@ -1,5 +1,5 @@
 -- What the engine that decodes models answers and writes.
-use Rattle.std.specs.Prelude.{◌≡◌, ⊤, ℕ, Bool, List, Result, Ok, Err}
+use Rattle.std.specs.Prelude.{◌≡◌, ⊤, ℕ, Bool, List, [], ◌∷◌, Result, Ok, Err}
 use Rattle.model_reader.specs.declared.model_fault.ModelCause.{ModelCause}
 use Rattle.dimacs.specs.Assignment.{value_of}
 use Rattle.model_reader.specs.ModelFirstFault.{HasModelFault}
@@ -24,7 +24,7 @@ use Rattle.verdict_report.specs.declared.status.Status.{Status}
 use Rattle.verdict_report.specs.declared.status.Status.TheVariants.{Yes}
 use Rattle.verdict_report.specs.Admitted.{Admits, IsTooLarge}
 use Rattle.verdict_report.specs.Runs.{SourceRun, SinkRun}
-use Rattle.verdict_report.specs.TwoInputs.{IsRunOfTwo}
+use Rattle.verdict_report.specs.Engine.{AtOnce, IsRunOfEngine, of_two}
 
 -- The truth values are a model of the clause list of what is kept of the trace. The schedule is that of the whole trace in
 -- which the kept operations stand in the order of the model, and it is legal.
@@ -87,4 +87,5 @@ written_status schedule = Yes
 
 -- what the engine answers, by what the sources hand out and the sink takes
 abbrev pub IsRunOfDecode : SourceRun → SourceRun → SinkRun → Result Status Fault → Type 0
-IsRunOfDecode = IsRunOfTwo IsSaidOfModel canonical_schedule written_status
+IsRunOfDecode trace model out =
+    IsRunOfEngine AtOnce (of_two IsSaidOfModel) (λ schedule. canonical_schedule schedule ∷ []) written_status (trace ∷ model ∷ []) (out ∷ [])

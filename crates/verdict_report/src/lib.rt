@@ -5,6 +5,7 @@ mod admitted;
 mod cnf_engine;
 mod decode_engine;
 mod fault;
+mod inputs;
 mod judge_engine;
 pub mod laws;
 mod lrat_engine;
