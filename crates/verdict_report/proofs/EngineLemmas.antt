@@ -1,5 +1,5 @@
 -- How an engine ends: by what becomes of its reading, of what is said of its texts, and of its writing.
-use Rattle.std.proofs.Common.{◌≡◌, ℕ, ◌+◌, ◌≤◌, List, [], ◌∷◌, ◌++◌, length, inl, inr, refl, arith}
+use Rattle.std.proofs.Common.{◌≡◌, ℕ, ◌+◌, ◌≤◌, List, [], ◌∷◌, ◌++◌, inl, inr, refl, arith}
 use Rattle.std.specs.Global.{Vec}
 use Rattle.std.specs.Vec.{vec_len}
 use Rattle.std.specs.Prelude.{Result, Ok, Err, IfOk, IfErr, OnOk, IsTrue}
@@ -16,7 +16,7 @@ use Rattle.verdict_report.specs.declared.status.Status.{Status}
 use Rattle.verdict_report.specs.Engine.{AreUnfailing, AreUntouched, HandOut, FailsWithinLimit, PassesLimit, StopsReading, IsStopOfReading, TakeNothing, Writing, AtOnce, InPieces, Reads, LacksMemory, IsRunOfEngine, IsRunOfWriting}
 use Rattle.verdict_report.specs.Fault.{fault_of_reading, fault_of_sink}
 use Rattle.verdict_report.specs.Reading.{CountsFailures, AppendsMoreThan, AppendsAtMost}
-use Rattle.verdict_report.specs.Runs.{HandsOut, SourceRun, SinkRun}
+use Rattle.verdict_report.specs.Runs.{SourceRun, SinkRun}
 
 -- ---- reading
 

@@ -4,10 +4,6 @@ use Rattle.dimacs.specs.declared.sink_fault.SinkFault.{SinkFault}
 use Rattle.dimacs.specs.declared.sink_fault.SinkFault.TheVariants.{OutOfMemory as NoRoom, Device as SinkFailed}
 use Rattle.traces.specs.declared.judgement.Judgement.{Judgement}
 use Rattle.traces.specs.declared.judgement.Judgement.TheVariants.{Legal, Illegal}
-use Rattle.lrat_check.specs.declared.lrat_fault.LratFault.{LratFault}
-use Rattle.lrat_check.specs.declared.lrat_fault.LratFault.TheVariants.{OutOfMemory as NoLratMemory, Line as LratLine}
-use Rattle.lrat_check.specs.declared.refusal.Refusal.{Refusal}
-use Rattle.lrat_check.specs.declared.refusal.Refusal.TheVariants.{OutOfMemory as NoCheckMemory, At as AtStep}
 use Rattle.text_lines.specs.Printed.{printed_at}
 use Rattle.text_lines.specs.declared.fault.Fault.{Fault as PartFault}
 use Rattle.text_lines.specs.declared.fault.Fault.TheVariants.{OutOfMemory as NoPartMemory, At}
@@ -84,14 +80,6 @@ line_of fault = codes "refused: " ++ (printed fault ++ codes "\n")
 abbrev pub fault_of_part : {C : Type 0} → (C → ℕ → Fault) → PartFault C → Fault
 fault_of_part refusal NoPartMemory = OutOfMemory
 fault_of_part refusal (At cause place) = refusal cause place
-
-abbrev pub fault_of_lrat : LratFault → Fault
-fault_of_lrat NoLratMemory = OutOfMemory
-fault_of_lrat (LratLine cause line) = Lrat cause line
-
-abbrev pub fault_of_check : Refusal → Fault
-fault_of_check NoCheckMemory = OutOfMemory
-fault_of_check (AtStep fault step) = Check fault step
 
 abbrev pub fault_of_reading : ReadFault → Fault
 fault_of_reading NoReadMemory = OutOfMemory

@@ -134,20 +134,10 @@ impl Fault {
             Fault::Schedule(cause, line) => located("schedule", cause, *line),
             Fault::Model(cause, line) => located("model", cause, *line),
             Fault::Cnf(cause, line) => located("cnf", cause, *line),
-            Fault::Lrat(cause, line) => Told {
-                area: "lrat",
-                number: Some(cause.number()),
-                name: cause.name(),
-                place: Some(*line),
-            },
+            Fault::Lrat(cause, line) => located("lrat", cause, *line),
             Fault::Reduce(cause, left) => located("reduce", cause, *left),
             Fault::Decode(cause, clause) => located("decode", cause, *clause),
-            Fault::Check(cause, step) => Told {
-                area: "check",
-                number: Some(cause.number()),
-                name: cause.name(),
-                place: Some(*step),
-            },
+            Fault::Check(cause, step) => located("check", cause, *step),
         }
     }
 

@@ -6,8 +6,8 @@ use crate::fault::Fault;
 use crate::reading::ReadFault;
 use cnf_reader::CnfCause;
 use dimacs::{Failed, SinkFault};
-use lrat_check::lrat_fault::LratFault;
-use lrat_check::refusal::Refusal;
+use lrat_check::lrat_fault::LratCause;
+use lrat_check::refusal::StepFault;
 use model_reader::ModelCause;
 use reducer::reduce_fault::ReduceCause;
 use schedule_decode::decode_fault::DecodeCause;
@@ -102,31 +102,23 @@ impl Part for DecodeCause {
     }
 }
 
-impl From<LratFault> for Fault {
-    ghost use Rattle.std.specs.Prelude.{◌≡◌};
-    ghost use Rattle.verdict_report.specs.Fault.{fault_of_lrat};
+impl Part for LratCause {
+    ghost use Rattle.verdict_report.specs.declared.fault.Fault.TheVariants.{Lrat};
 
-    ghost from_gives = { λ fault e. e ≡ fault_of_lrat fault };
+    ghost refusal = { Lrat };
 
-    fn from(fault: LratFault) -> Fault {
-        match fault {
-            LratFault::OutOfMemory => Fault::OutOfMemory,
-            LratFault::Line(cause, line) => Fault::Lrat(cause, line),
-        }
+    fn refused(self, line: usize) -> Fault {
+        Fault::Lrat(self, line)
     }
 }
 
-impl From<Refusal> for Fault {
-    ghost use Rattle.std.specs.Prelude.{◌≡◌};
-    ghost use Rattle.verdict_report.specs.Fault.{fault_of_check};
+impl Part for StepFault {
+    ghost use Rattle.verdict_report.specs.declared.fault.Fault.TheVariants.{Check};
 
-    ghost from_gives = { λ refusal e. e ≡ fault_of_check refusal };
+    ghost refusal = { Check };
 
-    fn from(refusal: Refusal) -> Fault {
-        match refusal {
-            Refusal::OutOfMemory => Fault::OutOfMemory,
-            Refusal::At(fault, step) => Fault::Check(fault, step),
-        }
+    fn refused(self, step: usize) -> Fault {
+        Fault::Check(self, step)
     }
 }
 
