@@ -6,14 +6,16 @@ ghost use Rattle.dimacs.specs.Models.{IsModel};
 ghost use Rattle.traces.specs.Legal.{IsLegal};
 ghost use Rattle.clause_blocks.specs.Clauses.{clauses_of, formula_of};
 ghost use Rattle.clause_blocks.specs.ModelOrder.{IsInOrderOf};
-ghost use Rattle.schedule_decode.specs.Decode.{IsDecodeRefusal};
+ghost use Rattle.text_lines.specs.Fault.{IsRefusal};
+ghost use Rattle.schedule_decode.specs.Decode.{HasDecodeFault};
 
-use crate::decode_fault::DecodeFault;
+use crate::decode_fault::{DecodeCause, DecodeFault};
 use crate::operation_names::{names_by_number, names_in_order};
 use crate::operation_order::order_of;
 use dimacs::{Assignment, Formula};
 use reducer::reduced::Reduced;
 use std::alloc::{AllocError, Global};
+use text_lines::fault::Fault;
 use traces::schedule::Schedule;
 use var_layout::layout::Layout;
 
@@ -48,10 +50,10 @@ pub fn decode(
     ensures ordered { IfOk result (λ schedule. IsInOrderOf (value_of assignment.now) reduced.now.kept schedule) }
     ensures model { OnOk result (IsModel (value_of assignment.now) formula.now.clauses) }
     ensures legal { IfOk result (IsLegal reduced.now.kept) }
-    ensures refused { IfErr result (IsDecodeRefusal (value_of assignment.now) formula.now.clauses) }
+    ensures refused { IfErr result (IsRefusal (HasDecodeFault (value_of assignment.now) formula.now.clauses)) }
 {
     if let Err(found) = formula.eval(assignment) {
-        return Err(DecodeFault::NotAModel(found.clause));
+        return Err(Fault::At(DecodeCause::NotAModel, found.clause));
     }
     let layout = Layout::of(alloc, reduced)?;
     Ok(schedule_of(alloc, reduced, &layout, assignment)?)
