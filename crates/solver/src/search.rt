@@ -14,7 +14,7 @@ use crate::reduce::FIRST_REDUCTION;
 use crate::restart::Restarts;
 use crate::small_clauses::{SmallClause, SmallClauses};
 use crate::store::Store;
-use crate::trail::{FALSE, OPEN};
+use crate::trail::{FALSE, OPEN, TRUE};
 use crate::watches::Watches;
 use order_closure::tables::{at, put, size};
 use std::alloc::{AllocError, Global};
@@ -123,7 +123,28 @@ impl Search {
         if empty != 0 {
             search.refuted_at_start = Some(Reason::of_literals(empty, NEVER, NEVER, NEVER));
         }
+        if search.refuted_at_start.is_none() {
+            search.refuted_at_start = search.propagate()?;
+            search.leave_out_satisfied(small.as_slice())?;
+        }
         Ok(search)
+    }
+
+    /// Leaves those of these clauses out that are true before anything is decided. In a trace's formula program order alone makes many of
+    /// them true, and they would be looked at again and again.
+    fn leave_out_satisfied(&mut self, clauses: &[SmallClause]) -> Result<(), AllocError> {
+        let mut left = Vec::new(self.alloc);
+        for clause in clauses {
+            let is_satisfied = self.trail.value(clause.first) == TRUE
+                || self.trail.value(clause.second) == TRUE
+                || self.trail.value(clause.third) == TRUE;
+            if !is_satisfied {
+                left.push(*clause)?;
+            }
+        }
+        let literals = self.variables.wrapping_mul(2).wrapping_add(2);
+        self.small = SmallClauses::new(self.alloc, literals, left.as_slice())?;
+        Ok(())
     }
 }
 
