@@ -19,20 +19,21 @@ use text_lines::fault::Fault;
 use traces::schedule::Schedule;
 use var_layout::layout::Layout;
 
-/// The schedule in which a model puts the operations. It is legal.
+/// The schedule in which a model puts the operations, by the variables of what is kept. It is legal.
 pub(crate) fn schedule_of(
     alloc: Global,
     reduced: &Reduced,
+    layout: &Layout,
     assignment: &Assignment,
 ) -> Result<Schedule, AllocError>
-    requires { IsModel (value_of assignment.now) (clauses_of reduced.now.kept) }
+    requires same { layout.now ≡ reduced.now.kept }
+    requires model { IsModel (value_of assignment.now) (clauses_of reduced.now.kept) }
     ensures ordered { IfOk result (IsInOrderOf (value_of assignment.now) reduced.now.kept) }
     ensures legal { IfOk result (IsLegal reduced.now.kept) }
 {
     let trace = reduced.kept();
     trace.is_trace();
-    let layout = Layout::of(alloc, reduced)?;
-    let order = order_of(alloc, &layout, assignment)?;
+    let order = order_of(alloc, layout, assignment)?;
     let names = names_by_number(alloc, trace)?;
     Ok(Schedule::new(names_in_order(alloc, names.as_slice(), order.as_slice())?))
 }
@@ -54,5 +55,6 @@ pub fn decode(
     if let Err(found) = formula.eval(assignment) {
         return Err(Fault::At(DecodeCause::NotAModel, found.clause));
     }
-    Ok(schedule_of(alloc, reduced, assignment)?)
+    let layout = Layout::of(alloc, reduced)?;
+    Ok(schedule_of(alloc, reduced, &layout, assignment)?)
 }

@@ -11,7 +11,8 @@ ghost use Rattle.schedule_decode.specs.Decode.{HasDecodeFault};
 
 use crate::decode::schedule_of;
 use crate::decode_fault::{DecodeCause, DecodeFault};
-use clause_blocks::first_false::first_false_clause;
+use clause_blocks::first_false::first_false_of;
+use clause_blocks::trace_clauses::TraceClauses;
 use dimacs::Assignment;
 use reducer::reduced::Reduced;
 use std::alloc::Global;
@@ -32,8 +33,9 @@ pub fn decode_model<R: Threads + Sync>(
     ensures legal { IfOk result (IsLegal reduced.now.kept) }
     ensures refused { IfErr result (IsRefusal (HasDecodeFault (value_of assignment.now) (clauses_of reduced.now.kept))) }
 {
-    if let Some(found) = first_false_clause(alloc, rt, reduced, assignment)? {
+    let clauses = TraceClauses::of(alloc, reduced)?;
+    if let Some(found) = first_false_of(alloc, &clauses, assignment)? {
         return Err(Fault::At(DecodeCause::NotAModel, found.clause));
     }
-    Ok(schedule_of(alloc, reduced, assignment)?)
+    Ok(schedule_of(alloc, reduced, clauses.layout(), assignment)?)
 }
