@@ -5,6 +5,11 @@ ghost use Rattle.std.specs.Prelude.{◌≡◌, ◌≤◌, ◌⊎◌, IfOk, Ok, m
 ghost use Rattle.command_line.specs.CommandLine.{HasFewWorkers};
 ghost use Rattle.command_line.specs.LineFault.{status_of};
 ghost use Rattle.verdict_report.specs.declared.status.Status.TheVariants.{Unknown};
+ghost use Rattle.verdict_report.specs.CnfEngine.{IsRunOfCnf};
+ghost use Rattle.verdict_report.specs.DecodeEngine.{IsRunOfDecode};
+ghost use Rattle.verdict_report.specs.JudgeEngine.{IsRunOfJudge};
+ghost use Rattle.verdict_report.specs.LratEngine.{IsRunOfLrat};
+ghost use Rattle.vsc.specs.Commands.{RunsOnFile, RunsOnFiles, Runs, EndsWith};
 ghost use Rattle.vsc.specs.ExitStatus.{IsExitStatus};
 
 mod file_source;
@@ -30,7 +35,8 @@ const DEVICE: u8 = 4;
 
 /// Judges the files at these paths, and writes the answer to the standard output.
 fn judge_files(rt: &HostRuntime, trace: &str, schedule: &str) -> Result<Status, Fault>
-    ensures { result ≡ Ok Unknown → ⊥ }
+    ensures runs { RunsOnFiles IsRunOfJudge trace.now schedule.now result }
+    ensures decided { result ≡ Ok Unknown → ⊥ }
 {
     let mut trace = FileSource::new(rt, trace);
     let mut schedule = FileSource::new(rt, schedule);
@@ -47,7 +53,8 @@ fn translate_file(
 ) -> Result<Status, Fault>
     requires some { 1 ≤ workers }
     requires few { workers ≤ 8 }
-    ensures { result ≡ Ok Unknown → ⊥ }
+    ensures runs { RunsOnFile IsRunOfCnf trace.now result }
+    ensures decided { result ≡ Ok Unknown → ⊥ }
 {
     let mut trace = FileSource::new(rt, trace);
     let mut output = StreamSink::new(rt.stdout());
@@ -61,7 +68,8 @@ fn decode_files(
     trace: &str,
     model: &str,
 ) -> Result<Status, Fault>
-    ensures { result ≡ Ok Unknown → ⊥ }
+    ensures runs { RunsOnFiles IsRunOfDecode trace.now model.now result }
+    ensures decided { result ≡ Ok Unknown → ⊥ }
 {
     let mut trace = FileSource::new(rt, trace);
     let mut model = FileSource::new(rt, model);
@@ -71,7 +79,8 @@ fn decode_files(
 
 /// Checks the proof in one file for the formula in the other, and writes the answer to the standard output.
 fn check_files(rt: &HostRuntime, cnf: &str, proof: &str) -> Result<Status, Fault>
-    ensures { result ≡ Ok Unknown → ⊥ }
+    ensures runs { RunsOnFiles IsRunOfLrat cnf.now proof.now result }
+    ensures decided { result ≡ Ok Unknown → ⊥ }
 {
     let mut cnf = FileSource::new(rt, cnf);
     let mut proof = FileSource::new(rt, proof);
@@ -79,17 +88,31 @@ fn check_files(rt: &HostRuntime, cnf: &str, proof: &str) -> Result<Status, Fault
     run_lrat(rt.alloc(), &mut cnf, &mut proof, &mut output)
 }
 
-/// Does what the command line asks for.
-fn run_line(rt: &HostRuntime, threads: &(impl Threads + Sync), line: Line<'_>) -> u8
+/// Runs the engine that the command line asks for.
+fn run_engine(
+    rt: &HostRuntime,
+    threads: &(impl Threads + Sync),
+    line: Line<'_>,
+) -> Result<Status, Fault>
     requires { HasFewWorkers line }
-    ensures { IsExitStatus result }
+    ensures runs { Runs line.entry result }
+    ensures decided { result ≡ Ok Unknown → ⊥ }
 {
-    let outcome = match line {
+    match line {
         Line::Judge { trace, schedule } => judge_files(rt, trace, schedule),
         Line::Cnf { trace, workers } => translate_file(rt, threads, trace, workers),
         Line::Decode { trace, model } => decode_files(rt, threads, trace, model),
         Line::Lrat { cnf, proof } => check_files(rt, cnf, proof),
-    };
+    }
+}
+
+/// Does what the command line asks for.
+fn run_line(rt: &HostRuntime, threads: &(impl Threads + Sync), line: Line<'_>) -> u8
+    requires { HasFewWorkers line }
+    ensures ends { EndsWith line.entry result }
+    ensures known { IsExitStatus result }
+{
+    let outcome = run_engine(rt, threads, line);
     if let Err(fault) = &outcome {
         let mut error = StreamSink::new(rt.stderr());
         // Where standard error is closed too, the exit status alone tells.

@@ -1,0 +1,60 @@
+-- What the program does for a command line: the engine that it runs, over which files, and the exit status.
+use Rattle.std.specs.Prelude.{◌≡◌, ℕ, false, List, [], Result}
+use Rattle.std.specs.declared.rt.LibcRuntime.{LibcRuntime}
+use Rattle.command_line.specs.declared.line.Line.{Line}
+use Rattle.command_line.specs.declared.line.Line.TheVariants.{Cnf, Decode, Judge, Lrat}
+use Rattle.verdict_report.specs.declared.fault.Fault.{Fault}
+use Rattle.verdict_report.specs.declared.status.Status.{Status}
+use Rattle.verdict_report.specs.CnfEngine.{IsRunOfCnf}
+use Rattle.verdict_report.specs.DecodeEngine.{IsRunOfDecode}
+use Rattle.verdict_report.specs.Fault.{exit_status_of}
+use Rattle.verdict_report.specs.JudgeEngine.{IsRunOfJudge}
+use Rattle.verdict_report.specs.LratEngine.{IsRunOfLrat}
+use Rattle.verdict_report.specs.Runs.{SourceRun, SinkRun}
+use Rattle.vsc.specs.declared.file_source.FileSource.{FileSource}
+use Rattle.vsc.specs.FileSource.{path_of, file_run}
+
+-- the file at this path was read from its beginning, and this is what it did as a source
+pub record ReadsFile (path : List ℕ) (run : SourceRun) : Type 0 where
+  pub before : FileSource LibcRuntime
+  pub after : FileSource LibcRuntime
+  pub path_is : path_of before ≡ path
+  pub run_is : run ≡ file_run before after
+  pub no_byte_before : run.before ≡ []
+  pub not_at_end_before : run.was_at_end ≡ false
+  pub no_failure_before : run.failures_before ≡ 0
+
+-- a stream was written to, which had taken nothing before
+pub record WritesStream (run : SinkRun) : Type 0 where
+  pub no_byte_before : run.before ≡ []
+  pub no_failure_before : run.failures_before ≡ 0
+
+-- an engine of one file, or of two, was run on the files at these paths
+pub record RunsOnFile (IsRun : SourceRun → SinkRun → Result Status Fault → Type 0) (path : List ℕ) (outcome : Result Status Fault) : Type 0 where
+  pub file : SourceRun
+  pub reads : ReadsFile path file
+  pub out : SinkRun
+  pub writes : WritesStream out
+  pub runs : IsRun file out outcome
+
+pub record RunsOnFiles (IsRun : SourceRun → SourceRun → SinkRun → Result Status Fault → Type 0) (first_path second_path : List ℕ) (outcome : Result Status Fault) : Type 0 where
+  pub first : SourceRun
+  pub reads_first : ReadsFile first_path first
+  pub second : SourceRun
+  pub reads_second : ReadsFile second_path second
+  pub out : SinkRun
+  pub writes : WritesStream out
+  pub runs : IsRun first second out outcome
+
+-- what the program does for a command line, by the engine's outcome
+abbrev pub Runs : Line → Result Status Fault → Type 0
+Runs (Judge trace schedule) outcome = RunsOnFiles IsRunOfJudge trace.now schedule.now outcome
+Runs (Cnf trace workers) outcome = RunsOnFile IsRunOfCnf trace.now outcome
+Runs (Decode trace model) outcome = RunsOnFiles IsRunOfDecode trace.now model.now outcome
+Runs (Lrat cnf proof) outcome = RunsOnFiles IsRunOfLrat cnf.now proof.now outcome
+
+-- the engine that the command line asks for was run on its files, and this is the exit status of the outcome
+pub record EndsWith (line : Line) (status : ℕ) : Type 0 where
+  pub outcome : Result Status Fault
+  pub runs : Runs line outcome
+  pub status_is : status ≡ exit_status_of outcome
