@@ -2,6 +2,7 @@
 use crate::{CnfCause, CnfFault, read_cnf};
 use dimacs::{ShortSink, write_cnf};
 use std::test::Fail;
+use text_lines::fault::Fault;
 
 #[test]
 fn reads_formulas(rt: HostRuntime) -> Result<(), Fail> {
@@ -113,11 +114,11 @@ fn names_and_numbers_causes(rt: HostRuntime) -> Result<(), Fail> {
         (CnfCause::Unended, 7, "Unended"),
         (CnfCause::Trailing, 8, "Trailing"),
     ] {
-        let fault = CnfFault::Line(cause, 7);
+        let fault = Fault::At(cause, 7);
         assert_eq!(rt; (fault.number(), fault.place()), (number, Some(7)));
         assert_eq!(rt; fault.name(), name);
     }
-    let none = CnfFault::OutOfMemory;
+    let none = Fault::OutOfMemory;
     assert_eq!(rt; (none.number(), none.place()), (1, None));
     let line = format!(in rt.alloc(); "{none}")?;
     assert_eq!(rt; line.as_str(), "1 OutOfMemory");

@@ -39,18 +39,6 @@ fn full_tree_of(alloc: Global, variables: &[u32]) -> Result<Tree, AllocError>
     Ok(Tree::of_nodes(nodes))
 }
 
-/// As many of the variables as that, where there are so many.
-fn first_variables(variables: &[u32], count: u32) -> &[u32]
-    ensures { result.now ≡ take count variables.now }
-{
-    let count = count as usize;
-    if count < variables.len() {
-        &variables[..count]
-    } else {
-        variables
-    }
-}
-
 /// The full tree whose splits at depth k are of the k-th split variable of the layout, from 0. It is as deep as is asked, or as
 /// there are split variables.
 pub fn grow(alloc: Global, layout: &Layout, depth: u32) -> Result<Tree, AllocError>
@@ -58,5 +46,6 @@ pub fn grow(alloc: Global, layout: &Layout, depth: u32) -> Result<Tree, AllocErr
     ensures { IfOk result (λ tree. tree ≡ full_tree (take depth (splits layout.now))) }
 {
     layout.is_layout();
-    full_tree_of(alloc, first_variables(layout.splits(), depth))
+    let variables = layout.first_splits(alloc, depth as usize)?;
+    full_tree_of(alloc, variables.as_slice())
 }

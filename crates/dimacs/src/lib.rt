@@ -6,6 +6,8 @@ mod assignment;
 mod clause;
 mod clause_list;
 #[cfg(test)]
+mod clause_list_tests;
+#[cfg(test)]
 mod cnf_tests;
 mod cnf_writer;
 mod formula;

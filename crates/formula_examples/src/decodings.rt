@@ -4,12 +4,13 @@ use crate::run::{HAND_OFF, STORE_BUFFERING, WRITE_BETWEEN, reduced_of};
 use clause_blocks::formula::formula;
 use dimacs::Assignment;
 use schedule_decode::decode::decode;
-use schedule_decode::decode_fault::DecodeFault;
+use schedule_decode::decode_fault::{DecodeCause, DecodeFault};
 use schedule_decode::decode_model::decode_model;
 use std::alloc::Global;
 use std::process::Abort;
 use std::test::Fail;
 use std::thread::Threads;
+use text_lines::fault::Fault;
 use traces::schedule::Schedule;
 
 /// A process writes the initial value again, and another one reads it.
@@ -81,11 +82,11 @@ fn assert_no_model<R: Threads + Sync + Abort>(
     let Err(fault) = decoded(rt, alloc, trace, values)? else {
         panic!(rt; "it is taken for a model");
     };
-    assert_eq!(rt; fault, DecodeFault::NotAModel(clause));
+    assert_eq!(rt; fault, Fault::At(DecodeCause::NotAModel, clause));
     let Err(fault) = decoded_in_pieces(rt, alloc, trace, values)? else {
         panic!(rt; "it is taken for a model in pieces");
     };
-    assert_eq!(rt; fault, DecodeFault::NotAModel(clause));
+    assert_eq!(rt; fault, Fault::At(DecodeCause::NotAModel, clause));
     Ok(())
 }
 
@@ -132,7 +133,7 @@ fn refuses_what_is_no_model(rt: HostRuntime) -> Result<(), Fail> {
         let Err(fault) = decoded(&rt, alloc, HAND_OFF, &values)? else {
             panic!(rt; "it is taken for a model");
         };
-        assert_eq!(rt; fault, DecodeFault::NotAModel(clause));
+        assert_eq!(rt; fault, Fault::At(DecodeCause::NotAModel, clause));
         assert_eq!(rt; fault.number(), 2);
         assert_eq!(rt; fault.name(), "NotAModel");
         assert_eq!(rt; fault.place(), Some(clause));

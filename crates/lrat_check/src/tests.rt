@@ -78,7 +78,7 @@ fn assert_faulty(rt: &impl Abort, alloc: Global, text: &[u8], cause: LratCause, 
     let Err(fault) = read_lrat(alloc, text) else {
         panic!(rt; "the text is read");
     };
-    assert!(rt; fault == LratFault::Line(cause, line), "{fault}");
+    assert!(rt; fault == LratFault::At(cause, line), "{fault}");
 }
 
 const OPPOSITE: [&[i32]; 2] = [&[1], &[-1]];
@@ -243,10 +243,10 @@ fn prints_faults_and_refusals(rt: HostRuntime) -> Result<(), Fail> {
     }
     for (fault, printed) in [
         (LratFault::OutOfMemory, "1 OutOfMemory"),
-        (LratFault::Line(LratCause::BadLine, 1), "2 BadLine at 1"),
-        (LratFault::Line(LratCause::BadNumber, 2), "3 BadNumber at 2"),
-        (LratFault::Line(LratCause::Unended, 3), "4 Unended at 3"),
-        (LratFault::Line(LratCause::RatLine, 4), "5 RatLine at 4"),
+        (LratFault::At(LratCause::BadLine, 1), "2 BadLine at 1"),
+        (LratFault::At(LratCause::BadNumber, 2), "3 BadNumber at 2"),
+        (LratFault::At(LratCause::Unended, 3), "4 Unended at 3"),
+        (LratFault::At(LratCause::RatLine, 4), "5 RatLine at 4"),
     ] {
         let text = format!(in rt.alloc(); "{fault}")?;
         assert!(&rt; text.as_str() == printed, "{text}");

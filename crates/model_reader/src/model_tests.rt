@@ -3,6 +3,7 @@ use crate::{ModelCause, ModelFault, read_model};
 use std::alloc::Global;
 use std::process::Abort;
 use std::test::Fail;
+use text_lines::fault::Fault;
 
 /// Asserts that of the variables 1 to 4 the text makes those true that are in the list.
 fn assert_reads(rt: &impl Abort, alloc: Global, text: &[u8], variables: &[u32]) {
@@ -62,39 +63,31 @@ fn tells_the_first_fault_of_a_model(rt: HostRuntime) {
         let Err(fault) = read_model(rt.alloc(), text) else {
             panic!(&rt; "the text is read");
         };
-        assert!(&rt; fault == ModelFault::Line(cause, line), "{fault}");
+        assert!(&rt; fault == Fault::At(cause, line), "{fault}");
     }
 }
 
 #[test]
 fn prints_model_faults(rt: HostRuntime) -> Result<(), Fail> {
     for (fault, printed, place) in [
-        (ModelFault::OutOfMemory, "1 OutOfMemory", None),
+        (Fault::OutOfMemory, "1 OutOfMemory", None),
         (
-            ModelFault::Line(ModelCause::SaysUnsatisfiable, 1),
+            Fault::At(ModelCause::SaysUnsatisfiable, 1),
             "2 SaysUnsatisfiable at 1",
             Some(1),
         ),
         (
-            ModelFault::Line(ModelCause::BadLine, 20),
+            Fault::At(ModelCause::BadLine, 20),
             "3 BadLine at 20",
             Some(20),
         ),
         (
-            ModelFault::Line(ModelCause::BadNumber, 3),
+            Fault::At(ModelCause::BadNumber, 3),
             "4 BadNumber at 3",
             Some(3),
         ),
-        (
-            ModelFault::Line(ModelCause::Clash, 1),
-            "5 Clash at 1",
-            Some(1),
-        ),
-        (
-            ModelFault::Line(ModelCause::Unended, 2),
-            "6 Unended at 2",
-            Some(2),
-        ),
+        (Fault::At(ModelCause::Clash, 1), "5 Clash at 1", Some(1)),
+        (Fault::At(ModelCause::Unended, 2), "6 Unended at 2", Some(2)),
     ] {
         assert!(&rt; fault.to_string(rt.alloc())?.as_str() == printed);
         assert_eq!(&rt; fault.place(), place);

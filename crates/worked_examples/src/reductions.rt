@@ -2,7 +2,7 @@
 
 use reducer::expand::expand;
 use reducer::laws::kept_is_a_trace;
-use reducer::reduce_fault::ReduceFault;
+use reducer::reduce_fault::ReduceCause;
 use reducer::reduced::{Reduced, reduce};
 use schedule_judge::judge::judge;
 use schedule_text::schedule_reader::read_schedule;
@@ -10,6 +10,7 @@ use schedule_text::schedule_writer::write_schedule;
 use std::alloc::{AllocError, Global};
 use std::process::Abort;
 use std::test::Fail;
+use text_lines::fault::Fault;
 use trace_text::trace_reader::read_trace;
 use trace_text::trace_writer::write_trace;
 use traces::judgement::Judgement;
@@ -177,7 +178,7 @@ fn keeps_160_operations_at_most(rt: HostRuntime) -> Result<(), Fail> {
     let Err(fault) = reduce(rt.alloc(), &trace_of(&rt, rt.alloc(), more.as_slice())) else {
         panic!(&rt; "161 operations are kept");
     };
-    assert_eq!(&rt; fault, ReduceFault::StillTooLarge(161));
+    assert_eq!(&rt; fault, Fault::At(ReduceCause::StillTooLarge, 161));
     let line = format!(in rt.alloc(); "{fault}")?;
     assert!(&rt; line.as_bytes() == b"2 StillTooLarge at 161".as_slice());
     Ok(())

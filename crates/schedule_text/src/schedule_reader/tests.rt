@@ -2,6 +2,7 @@ use super::*;
 use crate::schedule_writer::write_schedule;
 use std::process::Abort;
 use std::test::Fail;
+use text_lines::fault::Fault;
 
 /// Asserts that the text spells the schedule of this canonical text.
 fn assert_reads(rt: &impl Abort, alloc: Global, text: &[u8], canonical: &[u8]) -> Result<(), Fail> {
@@ -18,7 +19,7 @@ fn assert_refused(rt: &impl Abort, alloc: Global, text: &[u8], cause: ScheduleCa
     let Err(fault) = read_schedule(alloc, text) else {
         panic!(rt; "the text is read");
     };
-    assert!(rt; fault == ScheduleFault::Line(cause, line), "{fault}");
+    assert!(rt; fault == Fault::At(cause, line), "{fault}");
 }
 
 /// The text of that many names, one a line.
@@ -112,19 +113,19 @@ fn takes_at_most_4096_names(rt: HostRuntime) -> Result<(), Fail> {
 #[test]
 fn prints_faults(rt: HostRuntime) -> Result<(), Fail> {
     for (fault, printed, place) in [
-        (ScheduleFault::OutOfMemory, "1 OutOfMemory", None),
+        (Fault::OutOfMemory, "1 OutOfMemory", None),
         (
-            ScheduleFault::Line(ScheduleCause::BadName, 1),
+            Fault::At(ScheduleCause::BadName, 1),
             "2 BadName at 1",
             Some(1),
         ),
         (
-            ScheduleFault::Line(ScheduleCause::BadNumber, 20),
+            Fault::At(ScheduleCause::BadNumber, 20),
             "3 BadNumber at 20",
             Some(20),
         ),
         (
-            ScheduleFault::Line(ScheduleCause::TooMany, 4099),
+            Fault::At(ScheduleCause::TooMany, 4099),
             "4 TooMany at 4099",
             Some(4099),
         ),
