@@ -26,19 +26,23 @@ all_before test (x ∷ xs) (suc k) d h = and_from _ _ (not-false _ (h 0 (omega a
 parted : {X : Type 0} (xs : List X) (k : ℕ) (d : X) → k < length xs → xs ≡ take k xs ++ get_or xs k d ∷ drop (k + 1) xs
 parted xs k d within = sym (take-append-drop k xs) ∙ ap (λ rest. take k xs ++ rest) (drop_more xs k d within)
 
+-- the clause at a place has no true literal, and each one before it has
+pub first_here : (value : ℕ → Bool) (clauses : List (List ℤ)) (k : ℕ) → k < length clauses → list_all (makes_some value) (take k clauses) ≡ true → makes_some value (get_or clauses k []) ≡ false → IsFirstFalse value clauses (k + 1)
+first_here value clauses k within h untrue = record {
+  before = take k clauses;
+  clause = get_or clauses k [];
+  after = drop (k + 1) clauses;
+  parts = parted clauses k [] within;
+  counted = ap (λ n. n + 1) (sym (length-take-le k clauses (omega (arith, within))));
+  untrue = untrue;
+  first = h;
+}
+
 -- the first place at which no literal is true
 pub first_at : (value : ℕ → Bool) (clauses : List (List ℤ)) (k : ℕ) → position (λ clause. not (makes_some value clause)) clauses ≡ Some k → IsFirstFalse value clauses (k + 1)
 first_at value clauses k e =
     let s = position-Some (λ clause. not (makes_some value clause)) clauses k [] e in
-    record {
-      before = take k clauses;
-      clause = get_or clauses k [];
-      after = drop (k + 1) clauses;
-      parts = parted clauses k [] s.0;
-      counted = ap (λ n. n + 1) (sym (length-take-le k clauses (omega (arith, s.0))));
-      untrue = not-true _ s.1;
-      first = all_before (makes_some value) clauses k [] s.2;
-    }
+    first_here value clauses k s.0 (all_before (makes_some value) clauses k [] s.2) (not-true _ s.1)
 
 -- none is found only past the end
 past_end : {X : Type 0} (test : X → Bool) (xs : List X) → position test xs ≡ None → length xs ≤ position_or_len test xs

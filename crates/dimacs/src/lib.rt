@@ -4,11 +4,13 @@
 
 mod assignment;
 mod clause;
+mod clause_list;
 #[cfg(test)]
 mod cnf_tests;
 mod cnf_writer;
 mod formula;
 mod line_buffer;
+mod listed_clause;
 mod literal;
 mod memory_sink;
 pub mod model_laws;
@@ -22,8 +24,10 @@ mod variable_table;
 
 pub use assignment::Assignment;
 pub use clause::{Clause, are_literals};
+pub use clause_list::ClauseList;
 pub use cnf_writer::{CnfWriter, write_cnf};
 pub use formula::{FirstFalse, Formula, first_false};
+pub use listed_clause::ListedClause;
 pub use literal::{Lit, MAX_VARIABLE};
 pub use memory_sink::MemorySink;
 pub use short_sink::ShortSink;

@@ -1,3 +1,4 @@
+pub mod Fault
 pub mod FirstFault
 pub mod Kept
 pub mod Lines

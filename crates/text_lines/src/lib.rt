@@ -4,6 +4,7 @@
 #![tactic(auto)]
 
 pub mod comments;
+pub mod fault;
 pub mod first_fault;
 pub mod lines;
 pub mod numbers;

@@ -1,4 +1,5 @@
 //! What no clause says: that calls succeed with ample memory, and that the clauses say what was meant.
+use crate::fault::{Cause, Fault};
 use crate::lines::cut_line;
 use crate::numbers::{SolverNumber, read_digits, read_plain, read_solver_number};
 use crate::words::{cut_word, first_words, is_blank_byte};
@@ -147,4 +148,35 @@ fn reads_solver_numbers(rt: HostRuntime) {
     ] {
         assert!(rt; read_solver_number(word).is_none(), "at {word:?}");
     }
+}
+
+/// A table of one cause.
+#[derive(Clone, Copy)]
+struct Torn;
+
+impl Cause for Torn {
+    ghost use Rattle.std.specs.Prelude.{codes};
+
+    ghost number_of = { λ _. 7 };
+
+    ghost name_of = { λ _. codes "Torn" };
+
+    fn number(&self) -> u8 {
+        7
+    }
+
+    fn name(&self) -> &'static str {
+        "Torn"
+    }
+}
+
+#[test]
+fn prints_faults(rt: HostRuntime) -> Result<(), Fail> {
+    let none: Fault<Torn> = Fault::OutOfMemory;
+    assert!(&rt; none.to_string(rt.alloc())?.as_str() == "1 OutOfMemory");
+    assert_eq!(&rt; none.place(), None);
+    let torn = Fault::At(Torn, 20);
+    assert!(&rt; torn.to_string(rt.alloc())?.as_str() == "7 Torn at 20");
+    assert_eq!(&rt; torn.place(), Some(20));
+    Ok(())
 }

@@ -1,0 +1,75 @@
+//! Lists of clauses, however they are kept.
+ghost use Rattle.std.specs.Prelude.{◌≡◌, ◌<◌, ◌↔◌, [], length, slice_index_or, IsTrue, IsOk, IfErr};
+ghost use Rattle.std.specs.List.{list_all};
+ghost use Rattle.dimacs.specs.Formula.{FormulaValue, is_formula};
+ghost use Rattle.dimacs.specs.Literal.{is_clause};
+ghost use Rattle.dimacs.specs.Assignment.{value_of};
+ghost use Rattle.dimacs.specs.Models.{IsModel, IsFirstFalse};
+
+use crate::assignment::Assignment;
+use crate::formula::{FirstFalse, Formula};
+use crate::listed_clause::ListedClause;
+
+/// A formula that is seen by its clauses: stored ones, or ones that are made when they are asked for. Whoever evaluates,
+/// checks or searches a formula needs no more of it.
+pub trait ClauseList {
+    /// How many variables it has, and its clauses in their order.
+    ghost formula: { Self → FormulaValue };
+
+    /// How many variables it has.
+    fn variables(&self) -> u32
+        ensures { result ≡ (formula self.now).variables };
+
+    /// How many clauses it has.
+    fn count(&self) -> usize
+        ensures { result ≡ length (formula self.now).clauses };
+
+    /// The clause at this place, counted from 0.
+    fn clause(&self, place: usize) -> ListedClause<'_>
+        requires { place < length (formula self.now).clauses }
+        ensures { result ≡ slice_index_or (formula self.now).clauses place [] };
+
+    /// Its clauses are over its variables, and each of them is a clause of literals. This says what each formula keeps,
+    /// and does nothing.
+    fn is_formula(&self)
+        ensures formula { IsTrue (is_formula (formula self.now)) }
+        ensures clauses { IsTrue (list_all is_clause (formula self.now).clauses) };
+
+    /// Whether the assignment is a model: it makes a literal of each clause true. If not, the first clause of which
+    /// it makes none true.
+    fn eval(&self, assignment: &Assignment) -> Result<(), FirstFalse>
+        ensures model { IsOk result ↔ IsModel (value_of assignment.now) (formula self.now).clauses }
+        ensures first { IfErr result (λ found. IsFirstFalse (value_of assignment.now) (formula self.now).clauses found.clause) }
+    {
+        for place in 0..self.count() {
+            if !assignment.satisfies(self.clause(place).as_slice()) {
+                return Err(FirstFalse { clause: place + 1 });
+            }
+        }
+        Ok(())
+    }
+}
+
+impl ClauseList for Formula {
+    ghost formula = { λ formula. formula };
+
+    fn variables(&self) -> u32 {
+        Formula::variables(self)
+    }
+
+    fn count(&self) -> usize {
+        self.clauses().len()
+    }
+
+    fn clause(&self, place: usize) -> ListedClause<'_> {
+        ListedClause::lent(&self.clauses()[place])
+    }
+
+    fn is_formula(&self) {
+        Formula::is_formula(self)
+    }
+
+    fn eval(&self, assignment: &Assignment) -> Result<(), FirstFalse> {
+        Formula::eval(self, assignment)
+    }
+}
