@@ -10,12 +10,14 @@ use Rattle.text_lines.specs.FirstFault.{IsFaultless}
 use Rattle.text_lines.specs.Lines.{lines_of}
 use Rattle.text_lines.specs.Words.{words_of}
 use Rattle.text_lines.proofs.FaultLemmas.{faultless_nil, faultless_push}
-use Rattle.lrat_check.specs.LratFaults.{line_fault, words_fault, IsLratRefusal, IsLineRefusal}
+use Rattle.lrat_check.specs.LratFaults.{line_fault, words_fault, HasLratFault}
 use Rattle.lrat_check.specs.LratRead.{IsSkippedLine, IsLineOf}
 use Rattle.lrat_check.specs.LratText.{IsStepLine, SpellsDerivation, is_lrat_step, is_skipped, kept}
 use Rattle.lrat_check.specs.declared.derivation.Step.{Step}
-use Rattle.lrat_check.specs.declared.lrat_fault.LratFault.{LratFault}
-use Rattle.lrat_check.specs.declared.lrat_fault.LratFault.TheVariants.{OutOfMemory, Line}
+use Rattle.lrat_check.specs.declared.lrat_fault.LratCause.{LratCause}
+use Rattle.text_lines.specs.declared.fault.Fault.{Fault}
+use Rattle.text_lines.specs.declared.fault.Fault.TheVariants.{OutOfMemory, At}
+use Rattle.text_lines.specs.Fault.{IsRefusal, IsRefusalAt}
 use Rattle.lrat_check.proofs.ClearLemmas.{step_clear}
 
 -- lines that are kept
@@ -105,10 +107,10 @@ turn_step text number rest steps line after step h cut shorter new =
     }
 
 -- a refusal of the next line is one of the text
-pub refused : (text : List ℕ) (number : ℕ) (rest : List ℕ) (steps : List Step) (line after : List ℕ) (fault : LratFault) → IsReadSoFar text number rest steps →
-    lines_of rest ≡ line ∷ lines_of after → IsLineRefusal (λ cause. line_fault [] line ≡ Some cause) (number + 1) fault → IsLratRefusal text fault
+pub refused : (text : List ℕ) (number : ℕ) (rest : List ℕ) (steps : List Step) (line after : List ℕ) (fault : Fault LratCause) → IsReadSoFar text number rest steps →
+    lines_of rest ≡ line ∷ lines_of after → IsRefusalAt (λ cause. line_fault [] line ≡ Some cause) (number + 1) fault → IsRefusal (HasLratFault text) fault
 refused text number rest steps line after OutOfMemory h cut refusal = tt
-refused text number rest steps line after (Line cause place) h cut refusal =
+refused text number rest steps line after (At cause place) h cut refusal =
     record {
       before = h.done;
       item = line;

@@ -10,23 +10,24 @@ use Rattle.std.proofs.lemmas.List.{map-append}
 use Rattle.std.proofs.lemmas.List.Folds.{list_all-map}
 use Rattle.dimacs.specs.Literal.{is_literal}
 use Rattle.text_lines.specs.Numbers.{solver_number}
-use Rattle.lrat_check.specs.LratFaults.{literal_fault, id_fault, first_fault, IsLineRefusal}
+use Rattle.lrat_check.specs.LratFaults.{literal_fault, id_fault, first_fault}
 use Rattle.lrat_check.specs.LratRead.{BeginsWithList, IsWrittenStep, is_id_number}
 use Rattle.lrat_check.specs.LratText.{is_id, most_id, Says, ended}
 use Rattle.lrat_check.specs.declared.derivation.Step.TheVariants.{Addition, Deletion}
 use Rattle.lrat_check.specs.declared.lrat_fault.LratCause.{LratCause}
 use Rattle.lrat_check.specs.declared.lrat_fault.LratCause.TheVariants.{BadNumber, RatLine}
-use Rattle.lrat_check.specs.declared.lrat_fault.LratFault.{LratFault}
-use Rattle.lrat_check.specs.declared.lrat_fault.LratFault.TheVariants.{OutOfMemory, Line}
+use Rattle.text_lines.specs.declared.fault.Fault.{Fault}
+use Rattle.text_lines.specs.declared.fault.Fault.TheVariants.{OutOfMemory, At}
+use Rattle.text_lines.specs.Fault.{IsRefusalAt}
 use Rattle.lrat_check.proofs.ListLemmas.{not_negative}
 
 -- a refusal that says more
-pub refusal_weaker : (P Q : LratCause → Type 0) (number : ℕ) (fault : LratFault) → ((cause : LratCause) → P cause → Q cause) → IsLineRefusal P number fault → IsLineRefusal Q number fault
+pub refusal_weaker : (P Q : LratCause → Type 0) (number : ℕ) (fault : Fault LratCause) → ((cause : LratCause) → P cause → Q cause) → IsRefusalAt P number fault → IsRefusalAt Q number fault
 refusal_weaker P Q number OutOfMemory h k = tt
-refusal_weaker P Q number (Line cause place) h k = (h cause k.0, k.1)
+refusal_weaker P Q number (At cause place) h k = (h cause k.0, k.1)
 
 -- a refusal that is handed on
-pub handed : {A : Type 0} (P : A → Type 0) (Q : LratFault → Type 0) (r : Result A LratFault) (fault : LratFault) → IsErrAnd r (λ other. other ≡ fault) → Q fault → MatchResult r P Q
+pub handed : {A : Type 0} (P : A → Type 0) (Q : Fault LratCause → Type 0) (r : Result A (Fault LratCause)) (fault : Fault LratCause) → IsErrAnd r (λ other. other ≡ fault) → Q fault → MatchResult r P Q
 handed P Q (Ok x) fault e h = absurd e
 handed P Q (Err other) fault e h = subst Q (sym e) h
 

@@ -6,8 +6,6 @@ use Rattle.lrat_check.specs.declared.derivation.Step.{Step}
 use Rattle.lrat_check.specs.declared.derivation.Step.TheVariants.{Addition, Deletion}
 use Rattle.lrat_check.specs.declared.refusal.StepFault.{StepFault}
 use Rattle.lrat_check.specs.declared.refusal.StepFault.TheVariants.{IdInUse, NoEmptyClause}
-use Rattle.lrat_check.specs.declared.refusal.Refusal.{Refusal}
-use Rattle.lrat_check.specs.declared.refusal.Refusal.TheVariants.{OutOfMemory, At}
 
 -- a step that may be taken: an addition under an id that is free, of a clause that is justified, or a deletion
 abbrev pub IsRight : (ℕ → Option (List ℤ)) → Step → Type 0
@@ -44,8 +42,3 @@ IsAccepted clauses cube steps = Accepts (at_start clauses cube) steps
 -- the derivation is refused at this step, counted from 1
 abbrev pub IsRefused : List (List ℤ) → List ℤ → List Step → StepFault → ℕ → Type 0
 IsRefused clauses cube steps fault place = Refuses (at_start clauses cube) 1 steps fault place
-
--- a refusal tells the first step that fails; want of memory tells nothing of the derivation
-abbrev pub IsRefusal : List (List ℤ) → List ℤ → List Step → Refusal → Type 0
-IsRefusal clauses cube steps OutOfMemory = ⊤
-IsRefusal clauses cube steps (At fault place) = IsRefused clauses cube steps fault place

@@ -1,5 +1,5 @@
 -- What is wrong with the text of a derivation. Words are looked at from left to right.
-use Rattle.std.specs.Prelude.{◌≡◌, ⊤, ℕ, ℤ, nat_abs, Bool, false, not, List, [], ◌∷◌, drop, Option, Some, None, is_some, ◌==◌, ◌&&◌, nat_le, slice_index_or, codes, if◌then◌else◌}
+use Rattle.std.specs.Prelude.{ℕ, ℤ, nat_abs, Bool, false, not, List, [], ◌∷◌, drop, Option, Some, None, is_some, ◌==◌, ◌&&◌, nat_le, slice_index_or, codes, if◌then◌else◌}
 use Rattle.std.specs.Int.{is_negative}
 use Rattle.std.specs.Option.{option_or}
 use Rattle.std.specs.Str.{bytes_eq}
@@ -11,8 +11,6 @@ use Rattle.text_lines.specs.Words.{words_of}
 use Rattle.lrat_check.specs.LratText.{most_id, is_skipped}
 use Rattle.lrat_check.specs.declared.lrat_fault.LratCause.{LratCause}
 use Rattle.lrat_check.specs.declared.lrat_fault.LratCause.TheVariants.{BadLine, BadNumber, Unended, RatLine}
-use Rattle.lrat_check.specs.declared.lrat_fault.LratFault.{LratFault}
-use Rattle.lrat_check.specs.declared.lrat_fault.LratFault.TheVariants.{OutOfMemory, Line}
 
 -- what is wrong with a word that has to be the number of a literal or 0
 abbrev pub literal_fault : Option ℤ → Option LratCause
@@ -71,13 +69,3 @@ line_fault before line = if is_skipped (words_of line) then None else words_faul
 -- the text has its first fault at this line, counted from 1
 abbrev pub HasLratFault : List ℕ → LratCause → ℕ → Type 0
 HasLratFault text cause line = IsFirstFault line_fault (lines_of text) line cause
-
--- a refusal tells the first fault of the text and its line; want of memory tells nothing of the text
-abbrev pub IsLratRefusal : List ℕ → LratFault → Type 0
-IsLratRefusal text OutOfMemory = ⊤
-IsLratRefusal text (Line cause line) = HasLratFault text cause line
-
--- a refusal of the line of this number tells what is wrong with it, or that there was no memory
-abbrev pub IsLineRefusal : (LratCause → Type 0) → ℕ → LratFault → Type 0
-IsLineRefusal IsCause number OutOfMemory = ⊤
-IsLineRefusal IsCause number (Line cause place) = IsCause cause × (place ≡ number)

@@ -1,12 +1,9 @@
 -- What the code's answers on the way say.
-use Rattle.std.specs.Prelude.{◌≡◌, ⊤, ℕ, ℤ, Bool, true, false, List}
+use Rattle.std.specs.Prelude.{◌≡◌, ℤ, Bool, true, false, List}
 use Rattle.lrat_check.specs.Justified.{negated}
 use Rattle.lrat_check.specs.Propagation.{is_tautology, Falsifies, IsUnit, HasTwoUnfalsified}
 use Rattle.lrat_check.specs.declared.propagation.Standing.{Standing}
 use Rattle.lrat_check.specs.declared.propagation.Standing.TheVariants.{Falsified, Unit, Unfalsified}
-use Rattle.lrat_check.specs.declared.refusal.StepFault.{StepFault}
-use Rattle.lrat_check.specs.declared.refusal.Refusal.{Refusal}
-use Rattle.lrat_check.specs.declared.refusal.Refusal.TheVariants.{OutOfMemory, At}
 
 -- the clause stands so under these true literals
 abbrev pub IsStanding : List ℤ → List ℤ → Standing → Type 0
@@ -18,8 +15,3 @@ IsStanding trues clause Unfalsified = HasTwoUnfalsified trues clause
 abbrev pub IsAssumed : List ℤ → List ℤ → Bool → Type 0
 IsAssumed clause trues true = is_tautology clause ≡ true
 IsAssumed clause trues false = (is_tautology clause ≡ false) × (trues ≡ negated clause)
-
--- a refusal of the step of this number tells what is wrong with it; want of memory tells nothing
-abbrev pub IsStepRefusal : (StepFault → Type 0) → ℕ → Refusal → Type 0
-IsStepRefusal IsFault number OutOfMemory = ⊤
-IsStepRefusal IsFault number (At fault place) = IsFault fault × (place ≡ number)

@@ -2,10 +2,10 @@
 
 ghost use Rattle.std.specs.Prelude.{◌≡◌, ℕ, IfOk, IfErr, MatchResult};
 ghost use Rattle.lrat_check.specs.Active.{after};
-ghost use Rattle.lrat_check.specs.Checked.{IsRight, IsWrong, ends, IsAccepted, IsRefusal};
+ghost use Rattle.lrat_check.specs.Checked.{IsRight, IsWrong, ends, IsAccepted, IsRefused};
 ghost use Rattle.lrat_check.specs.ClauseAt.{clause_at};
 ghost use Rattle.lrat_check.specs.Sound.{HasNoModelIn};
-ghost use Rattle.lrat_check.specs.Standing.{IsStepRefusal};
+ghost use Rattle.text_lines.specs.Fault.{IsRefusal, IsRefusalAt};
 
 use crate::active_clauses::ActiveClauses;
 use crate::derivation::{Derivation, Step};
@@ -28,7 +28,7 @@ fn take_step<'a>(
 ) -> Result<bool, Refusal>
     ensures { MatchResult result
         (λ ended. IsRight (clause_at active.old) step.now × (ended ≡ ends step.now) × ((id : ℕ) → clause_at active.new id ≡ after (clause_at active.old) step.now id))
-        (λ refusal. IsStepRefusal (λ fault. IsWrong (clause_at active.old) step.now fault) number refusal) }
+        (λ refusal. IsRefusalAt (λ fault. IsWrong (clause_at active.old) step.now fault) number refusal) }
 {
     match step {
         Step::Deletion { ids, .. } => {
@@ -61,7 +61,7 @@ pub fn check(
 ) -> Result<Accepted, Refusal>
     ensures accepted { IfOk result (λ _. IsAccepted formula.now.clauses cube.now derivation.now) }
     ensures sound { IfOk result (λ _. HasNoModelIn formula.now.clauses cube.now) }
-    ensures refused { IfErr result (λ refusal. IsRefusal formula.now.clauses cube.now derivation.now refusal) }
+    ensures refused { IfErr result (λ refusal. IsRefusal (IsRefused formula.now.clauses cube.now derivation.now) refusal) }
 {
     formula.is_formula();
     are_literals(cube);

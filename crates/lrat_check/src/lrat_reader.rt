@@ -3,10 +3,11 @@
 ghost use Rattle.std.specs.Prelude.{◌≡◌, ◌==◌, [], ◌∷◌, map, pos, codes, true, false, Some, slice_index, MatchOption, MatchResult, IfOk, IfErr};
 ghost use Rattle.std.specs.Option.{option_or};
 ghost use Rattle.dimacs.specs.Literal.{is_literal};
-ghost use Rattle.lrat_check.specs.LratFaults.{literal_fault, id_fault, first_fault, behind_fault, addition_fault, deletion_fault, is_deletion, line_fault, IsLratRefusal, IsLineRefusal};
+ghost use Rattle.lrat_check.specs.LratFaults.{literal_fault, id_fault, first_fault, behind_fault, addition_fault, deletion_fault, is_deletion, line_fault, HasLratFault};
 ghost use Rattle.lrat_check.specs.LratRead.{BeginsWithList, IsSkippedLine, IsLineOf, IsWrittenStep, is_id_number};
 ghost use Rattle.lrat_check.specs.LratText.{SpellsDerivation};
 ghost use Rattle.lrat_check.specs.ListFault.{HasListFault};
+ghost use Rattle.text_lines.specs.Fault.{IsRefusal, IsRefusalAt};
 ghost use Rattle.text_lines.specs.Numbers.{solver_number};
 ghost use Rattle.text_lines.specs.Words.{words_of};
 
@@ -29,14 +30,14 @@ fn read_ids(
 ) -> Result<(Ids, &[u8]), LratFault>
     ensures { MatchResult result
         (λ read. BeginsWithList (id_fault negative) is_id_number (words_of line.now) (map pos read.0) (words_of read.1.now))
-        (λ fault. IsLineRefusal (λ cause. HasListFault (id_fault negative) (words_of line.now) cause) number fault) }
+        (λ fault. IsRefusalAt (λ cause. HasListFault (id_fault negative) (words_of line.now) cause) number fault) }
 {
     let mut ids = Vec::new(alloc);
     let mut rest = line;
     while let Some((word, after)) = cut_word(rest) {
         let id = match read_id(word, negative) {
             Ok(id) => id,
-            Err(cause) => return Err(LratFault::Line(cause, number)),
+            Err(cause) => return Err(LratFault::At(cause, number)),
         };
         if id == 0 {
             return Ok((Ids::new(ids), after));
@@ -44,14 +45,14 @@ fn read_ids(
         ids.push(id)?;
         rest = after;
     }
-    Err(LratFault::Line(LratCause::Unended, number))
+    Err(LratFault::At(LratCause::Unended, number))
 }
 
 /// The literals up to the first 0 of the line of this number, and what follows.
 fn read_literals(alloc: Global, line: &[u8], number: usize) -> Result<(Clause, &[u8]), LratFault>
     ensures { MatchResult result
         (λ read. BeginsWithList literal_fault is_literal (words_of line.now) read.0 (words_of read.1.now))
-        (λ fault. IsLineRefusal (λ cause. HasListFault literal_fault (words_of line.now) cause) number fault) }
+        (λ fault. IsRefusalAt (λ cause. HasListFault literal_fault (words_of line.now) cause) number fault) }
 {
     let mut literals = Vec::new(alloc);
     let mut rest = line;
@@ -59,26 +60,26 @@ fn read_literals(alloc: Global, line: &[u8], number: usize) -> Result<(Clause, &
         match read_literal(word) {
             Ok(Some(literal)) => literals.push(literal)?,
             Ok(None) => return Ok((Clause::from_slice(alloc, literals.as_slice())?, after)),
-            Err(cause) => return Err(LratFault::Line(cause, number)),
+            Err(cause) => return Err(LratFault::At(cause, number)),
         }
         rest = after;
     }
-    Err(LratFault::Line(LratCause::Unended, number))
+    Err(LratFault::At(LratCause::Unended, number))
 }
 
 /// Looks that no word follows.
 fn end_line(rest: &[u8], number: usize) -> Result<(), LratFault>
     ensures { MatchResult result
         (λ _. words_of rest.now ≡ [])
-        (λ fault. IsLineRefusal (λ cause. behind_fault (words_of rest.now) ≡ Some cause) number fault) }
+        (λ fault. IsRefusalAt (λ cause. behind_fault (words_of rest.now) ≡ Some cause) number fault) }
 {
     match cut_word(rest) {
         None => Ok(()),
         Some((word, _)) => {
             if read_solver_number(word).is_some() {
-                Err(LratFault::Line(LratCause::BadLine, number))
+                Err(LratFault::At(LratCause::BadLine, number))
             } else {
-                Err(LratFault::Line(LratCause::BadNumber, number))
+                Err(LratFault::At(LratCause::BadNumber, number))
             }
         }
     }
@@ -88,11 +89,11 @@ fn end_line(rest: &[u8], number: usize) -> Result<(), LratFault>
 fn read_addition(alloc: Global, word: &[u8], rest: &[u8], number: usize) -> Result<Step, LratFault>
     ensures { MatchResult result
         (λ step. IsWrittenStep (word.now ∷ words_of rest.now) step)
-        (λ fault. IsLineRefusal (λ cause. option_or (first_fault 1 (solver_number word.now)) (addition_fault (words_of rest.now)) ≡ Some cause) number fault) }
+        (λ fault. IsRefusalAt (λ cause. option_or (first_fault 1 (solver_number word.now)) (addition_fault (words_of rest.now)) ≡ Some cause) number fault) }
 {
     let id = match read_first(word, 1) {
         Ok(id) => id,
-        Err(cause) => return Err(LratFault::Line(cause, number)),
+        Err(cause) => return Err(LratFault::At(cause, number)),
     };
     let (literals, after) = read_literals(alloc, rest, number)?;
     let (hints, behind) = read_ids(alloc, after, LratCause::RatLine, number)?;
@@ -108,11 +109,11 @@ fn read_addition(alloc: Global, word: &[u8], rest: &[u8], number: usize) -> Resu
 fn read_deletion(alloc: Global, word: &[u8], rest: &[u8], number: usize) -> Result<Step, LratFault>
     ensures { MatchResult result
         (λ step. IsWrittenStep (word.now ∷ (codes "d" ∷ words_of rest.now)) step)
-        (λ fault. IsLineRefusal (λ cause. option_or (first_fault 0 (solver_number word.now)) (deletion_fault (words_of rest.now)) ≡ Some cause) number fault) }
+        (λ fault. IsRefusalAt (λ cause. option_or (first_fault 0 (solver_number word.now)) (deletion_fault (words_of rest.now)) ≡ Some cause) number fault) }
 {
     let first = match read_first(word, 0) {
         Ok(first) => first,
-        Err(cause) => return Err(LratFault::Line(cause, number)),
+        Err(cause) => return Err(LratFault::At(cause, number)),
     };
     let (ids, behind) = read_ids(alloc, rest, LratCause::BadNumber, number)?;
     end_line(behind, number)?;
@@ -142,7 +143,7 @@ fn behind_letter(rest: &[u8]) -> Option<&[u8]>
 fn read_line(alloc: Global, line: &[u8], number: usize) -> Result<Option<Step>, LratFault>
     ensures { MatchResult result
         (λ found. MatchOption found (IsSkippedLine line.now) (λ step. IsLineOf line.now step))
-        (λ fault. IsLineRefusal (λ cause. line_fault [] line.now ≡ Some cause) number fault) }
+        (λ fault. IsRefusalAt (λ cause. line_fault [] line.now ≡ Some cause) number fault) }
 {
     let Some((word, rest)) = cut_word(line) else {
         return Ok(None);
@@ -163,7 +164,7 @@ fn read_line(alloc: Global, line: &[u8], number: usize) -> Result<Option<Step>, 
 /// first fault of the text, with its line, counted from 1, or `OutOfMemory`, which tells nothing of the text.
 pub fn read_lrat(alloc: Global, text: &[u8]) -> Result<Derivation, LratFault>
     ensures spelled { IfOk result (λ derivation. SpellsDerivation text.now derivation) }
-    ensures faulty { IfErr result (λ fault. IsLratRefusal text.now fault) }
+    ensures faulty { IfErr result (λ fault. IsRefusal (HasLratFault text.now) fault) }
 {
     let mut steps = Vec::new(alloc);
     let mut number = 0usize;

@@ -4,7 +4,8 @@ ghost use Rattle.std.specs.Prelude.{◌≡◌, [], ◌∷◌, ◌++◌, ℕ, Lis
 ghost use Rattle.lrat_check.specs.ClauseAt.{clause_at};
 ghost use Rattle.lrat_check.specs.Justified.{Refutes, FailsToRefute, IsJustified, IsUnjustified};
 ghost use Rattle.lrat_check.specs.Propagation.{is_falsified};
-ghost use Rattle.lrat_check.specs.Standing.{IsStanding, IsAssumed, IsStepRefusal};
+ghost use Rattle.lrat_check.specs.Standing.{IsStanding, IsAssumed};
+ghost use Rattle.text_lines.specs.Fault.{IsRefusalAt};
 
 use crate::active_clauses::ActiveClauses;
 use crate::refusal::{Refusal, StepFault};
@@ -89,7 +90,7 @@ fn refute(
 ) -> Result<(), Refusal>
     ensures { MatchResult result
         (λ _. Refutes (clause_at active.now) trues.old hints.now)
-        (λ refusal. IsStepRefusal (λ fault. FailsToRefute (clause_at active.now) trues.old hints.now fault) number refusal) }
+        (λ refusal. IsRefusalAt (λ fault. FailsToRefute (clause_at active.now) trues.old hints.now fault) number refusal) }
 {
     for hint in hints {
         let Some(clause) = active.get(*hint) else {
@@ -114,7 +115,7 @@ pub fn justify(
 ) -> Result<(), Refusal>
     ensures { MatchResult result
         (λ _. IsJustified (clause_at active.now) clause.now hints.now)
-        (λ refusal. IsStepRefusal (λ fault. IsUnjustified (clause_at active.now) clause.now hints.now fault) number refusal) }
+        (λ refusal. IsRefusalAt (λ fault. IsUnjustified (clause_at active.now) clause.now hints.now fault) number refusal) }
 {
     if assume_negation(trues, clause)? {
         return Ok(());

@@ -1,7 +1,6 @@
 //! Why a derivation is refused.
 
-use std::alloc::{AllocError, AllocFailed};
-use std::fmt;
+use text_lines::fault::{Cause, Fault};
 
 /// What is wrong with a step of a derivation, or with its end.
 #[derive(Clone, Copy, Debug, PartialEq, Eq)]
@@ -18,23 +17,18 @@ pub enum StepFault {
     NoEmptyClause,
 }
 
-/// Why a derivation is refused.
-#[derive(Clone, Copy, Debug, PartialEq, Eq)]
-pub enum Refusal {
-    /// There was no memory.
-    OutOfMemory,
-    /// The first step that fails, counted from 1. Where the empty clause is missing, the number after the last step.
-    At(StepFault, usize),
-}
+/// Why a derivation is refused: the first step that fails, counted from 1, or want of memory. Where the empty clause is
+/// missing, the step is the one after the last.
+pub type Refusal = Fault<StepFault>;
 
-impl StepFault {
-    ghost use Rattle.std.specs.Prelude.{◌≡◌};
+impl Cause for StepFault {
     ghost use Rattle.lrat_check.specs.Refusal.{fault_number, fault_name};
 
-    /// Its number among the refusals.
-    pub fn number(&self) -> u8
-        ensures { result ≡ fault_number self.now }
-    {
+    ghost number_of = { fault_number };
+
+    ghost name_of = { fault_name };
+
+    fn number(&self) -> u8 {
         match self {
             StepFault::UnknownHint => 2,
             StepFault::NotUnit => 3,
@@ -44,10 +38,7 @@ impl StepFault {
         }
     }
 
-    /// Its name.
-    pub fn name(&self) -> &'static str
-        ensures { result.now ≡ fault_name self.now }
-    {
+    fn name(&self) -> &'static str {
         match self {
             StepFault::UnknownHint => "UnknownHint",
             StepFault::NotUnit => "NotUnit",
@@ -55,78 +46,5 @@ impl StepFault {
             StepFault::IdInUse => "IdInUse",
             StepFault::NoEmptyClause => "NoEmptyClause",
         }
-    }
-}
-
-impl Refusal {
-    ghost use Rattle.std.specs.Prelude.{◌≡◌};
-    ghost use Rattle.lrat_check.specs.Refusal.{refusal_number, refusal_name, refusal_place};
-
-    /// Its number: 1 where there was no memory, else that of what is wrong.
-    pub fn number(&self) -> u8
-        ensures { result ≡ refusal_number self.now }
-    {
-        match self {
-            Refusal::OutOfMemory => 1,
-            Refusal::At(fault, _) => fault.number(),
-        }
-    }
-
-    /// Its name: `OutOfMemory`, or that of what is wrong.
-    pub fn name(&self) -> &'static str
-        ensures { result.now ≡ refusal_name self.now }
-    {
-        match self {
-            Refusal::OutOfMemory => "OutOfMemory",
-            Refusal::At(fault, _) => fault.name(),
-        }
-    }
-
-    /// The step at which it stands, counted from 1, where it has one.
-    pub fn place(&self) -> Option<usize>
-        ensures { result ≡ refusal_place self.now }
-    {
-        match self {
-            Refusal::OutOfMemory => None,
-            Refusal::At(_, step) => Some(*step),
-        }
-    }
-}
-
-impl fmt::Display for Refusal {
-    ghost use Rattle.std.specs.Prelude.{Some};
-    ghost use Rattle.lrat_check.specs.Refusal.{printed_refusal};
-
-    ghost output = { λ refusal. Some (printed_refusal refusal) };
-
-    fn fmt<W: fmt::Write>(&self, f: &mut fmt::Formatter<W>) -> fmt::Result {
-        let number = self.number();
-        let name = self.name();
-        match self.place() {
-            Some(step) => write!(f, "{number} {name} at {step}"),
-            None => write!(f, "{number} {name}"),
-        }
-    }
-}
-
-impl From<AllocError> for Refusal {
-    ghost use Rattle.std.specs.Prelude.{◌≡◌};
-    ghost use Rattle.lrat_check.specs.declared.refusal.Refusal.TheVariants.{OutOfMemory};
-
-    ghost from_gives = { λ _ refusal. refusal ≡ OutOfMemory };
-
-    fn from(_error: AllocError) -> Refusal {
-        Refusal::OutOfMemory
-    }
-}
-
-impl<T: Drop> From<AllocFailed<T>> for Refusal {
-    ghost use Rattle.std.specs.Prelude.{◌≡◌};
-    ghost use Rattle.lrat_check.specs.declared.refusal.Refusal.TheVariants.{OutOfMemory};
-
-    ghost from_gives = { λ _ refusal. refusal ≡ OutOfMemory };
-
-    fn from(_error: AllocFailed<T>) -> Refusal {
-        Refusal::OutOfMemory
     }
 }
