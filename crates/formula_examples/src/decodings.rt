@@ -20,10 +20,7 @@ const WRITTEN_AGAIN: &str = "vsc 1\ninit x 0\nproc P\nW x 0\nproc Q\nR x 0\n";
 fn told(alloc: Global, outcome: Result<Schedule, DecodeFault>) -> Result<Vec<u8>, Fail> {
     match outcome {
         Ok(schedule) => Ok(write_schedule(alloc, &schedule)?),
-        Err(fault) => Ok(Vec::from_slice(
-            alloc,
-            format!(in alloc; "{fault}")?.as_bytes(),
-        )?),
+        Err(fault) => Ok(Vec::from_slice(alloc, format!(in alloc; "{fault}")?.as_bytes())?),
     }
 }
 
@@ -39,32 +36,44 @@ fn assert_told<R: Threads + Sync + Abort>(
     let assignment = Assignment::new(Vec::from_slice(alloc, values)?);
     let formula = formula(alloc, rt, &reduced, 1)?;
     let with_formula = told(alloc, decode(alloc, &reduced, &formula, &assignment))?;
-    assert!(rt; with_formula.as_slice() == answer.as_bytes(), "it is not {answer}");
+    assert!(rt;
+        with_formula.as_slice() == answer.as_bytes(),
+        "it is not {answer}"
+    );
     let in_pieces = told(alloc, decode_model(alloc, rt, &reduced, &assignment))?;
-    assert!(rt; in_pieces.as_slice() == answer.as_bytes(), "in pieces it is not {answer}");
+    assert!(rt;
+        in_pieces.as_slice() == answer.as_bytes(),
+        "in pieces it is not {answer}"
+    );
     Ok(())
 }
 
 #[test]
-fn decodes_models(rt: HostRuntime) -> Result<(), Fail> {
-    let alloc = rt.alloc();
-    assert_told(&rt, alloc, "vsc 1\n", &[], "")?;
-    assert_told(&rt, alloc, HAND_OFF, &[true, true], "P.1\nQ.1\n")?;
-    assert_told(&rt, alloc, WRITTEN_AGAIN, &[true, false, true], "P.1\nQ.1\n")?;
-    assert_told(&rt, alloc, WRITTEN_AGAIN, &[false, true, false], "Q.1\nP.1\n")
-}
-
-#[test]
-fn refuses_what_is_no_model(rt: HostRuntime) -> Result<(), Fail> {
-    let alloc = rt.alloc();
-    assert_told(&rt, alloc, HAND_OFF, &[true, false], "2 NotAModel at 1")?;
-    assert_told(&rt, alloc, HAND_OFF, &[false, true], "2 NotAModel at 2")?;
-    // 0 before 1 and 1 before 2, but 2 before 0: of the lowest operation
-    let circle = [true, false, false, true, false, true, true, true];
-    assert_told(&rt, alloc, STORE_BUFFERING, &circle, "2 NotAModel at 3")?;
-    // 1 before 2 and 2 before 3, but 3 before 1: of the next one
-    let circle = [true, true, true, true, false, true, true, true];
-    assert_told(&rt, alloc, STORE_BUFFERING, &circle, "2 NotAModel at 9")?;
-    // P first, but Q reads the initial value: the last clause of all
-    assert_told(&rt, alloc, STORE_BUFFERING, &[true; 8], "2 NotAModel at 14")
+fn decodes_models_and_refuses_what_is_none(rt: HostRuntime) -> Result<(), Fail> {
+    let cases: [(&str, &[bool], &str); 9] = [
+        ("vsc 1\n", &[], ""),
+        (HAND_OFF, &[true, true], "P.1\nQ.1\n"),
+        (WRITTEN_AGAIN, &[true, false, true], "P.1\nQ.1\n"),
+        (WRITTEN_AGAIN, &[false, true, false], "Q.1\nP.1\n"),
+        (HAND_OFF, &[true, false], "2 NotAModel at 1"),
+        (HAND_OFF, &[false, true], "2 NotAModel at 2"),
+        // 0 before 1 and 1 before 2, but 2 before 0: of the lowest operation
+        (
+            STORE_BUFFERING,
+            &[true, false, false, true, false, true, true, true],
+            "2 NotAModel at 3",
+        ),
+        // 1 before 2 and 2 before 3, but 3 before 1: of the next one
+        (
+            STORE_BUFFERING,
+            &[true, true, true, true, false, true, true, true],
+            "2 NotAModel at 9",
+        ),
+        // P first, but Q reads the initial value: the last clause of all
+        (STORE_BUFFERING, &[true; 8], "2 NotAModel at 14"),
+    ];
+    for (trace, values, answer) in cases {
+        assert_told(&rt, rt.alloc(), trace, values, answer)?;
+    }
+    Ok(())
 }

@@ -69,15 +69,6 @@ fn writes_a_front_of_a_formula_where_the_sink_fails(rt: HostRuntime) {
 }
 
 #[test]
-fn tells_the_failure_of_the_twentieth_call(rt: HostRuntime) {
-    let mut source = ShortSource::new(HAND_OFF.as_bytes(), usize::MAX);
-    let mut sink = ShortSink::new(rt.alloc(), 1).failing_at(20);
-    let outcome = run_cnf(rt.alloc(), &rt, &mut source, 4, &mut sink);
-    assert_eq!(rt; outcome, Err(Fault::Device));
-    assert_eq!(rt; sink.as_slice(), b"p cnf 2 2\n2 0\n-2 1 ".as_slice());
-}
-
-#[test]
 fn translates_nothing_where_the_source_fails(rt: HostRuntime) {
     for call in 1..=HAND_OFF.len() + 1 {
         let mut source = failing_at(HAND_OFF, call);

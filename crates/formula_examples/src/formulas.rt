@@ -113,7 +113,10 @@ fn gives_its_parts_back(rt: HostRuntime) -> Result<(), Fail> {
     assert_eq!(rt; clauses.len(), 2);
     assert!(rt; Formula::fits(MAX_VARIABLE, clauses.as_slice()));
     let again = Formula::new(MAX_VARIABLE, clauses);
-    assert_eq!(rt; (again.variables(), again.clauses().len()), (MAX_VARIABLE, 2));
+    assert_eq!(rt;
+        (again.variables(), again.clauses().len()),
+        (MAX_VARIABLE, 2)
+    );
     let assignment = Assignment::new(Vec::from_slice(rt.alloc(), &[true, false])?);
     assert!(rt; assignment.into_values().as_slice() == [true, false].as_slice());
     Ok(())
@@ -145,7 +148,10 @@ fn keeps_literals_in_clauses(rt: HostRuntime) -> Result<(), Fail> {
         assert!(rt; Lit::new(number).is_none(), "at {number}");
     }
     let last = Lit::new(-4_194_304).ok_or("no literal")?;
-    assert_eq!(rt; (last.variable(), last.number()), (MAX_VARIABLE, -4_194_304));
+    assert_eq!(rt;
+        (last.variable(), last.number()),
+        (MAX_VARIABLE, -4_194_304)
+    );
     assert!(rt; !last.is_positive() && last.negated() == Lit::positive(MAX_VARIABLE));
     let [first, second] = [Lit::positive(7), Lit::positive(9).negated()];
     assert!(rt; Clause::unit(rt.alloc(), first).as_slice() == [first].as_slice());

@@ -99,36 +99,18 @@ fn writes_pairs_by_number_and_once(rt: HostRuntime) -> Result<(), Fail> {
     Ok(())
 }
 
-/// A canonical text at the limits: 4,096 locations, operations and pairs, an origin on each read.
-fn longest_text(alloc: Global) -> Result<String, AllocError> {
-    let mut text = String::from_str(alloc, "vsc 2\n")?;
-    for number in 1000..3048u32 {
-        text.push_str(format!(in alloc; "init y{number} 0\n")?.as_str())?;
-    }
-    text.push_str("proc P\n")?;
-    for number in 1000..3048u32 {
+#[test]
+fn writes_4096_operations_and_pairs(rt: HostRuntime) -> Result<(), Fail> {
+    let alloc = rt.alloc();
+    let mut text = String::from_str(alloc, "vsc 2\nproc P\n")?;
+    for number in 1..=4096u32 {
         text.push_str(format!(in alloc; "W x{number} {number}\n")?.as_str())?;
     }
-    text.push_str("proc Q\n")?;
-    for number in 1000..3048u32 {
-        let place = number - 999;
-        let line = format!(in alloc; "R x{number} {number} from P {place}\n")?;
-        text.push_str(line.as_str())?;
+    for place in 2..=4096u32 {
+        text.push_str(format!(in alloc; "before P 1 P {place}\n")?.as_str())?;
     }
-    for place in 1..=2048u32 {
-        let other = 2049 - place;
-        let low = place.min(other);
-        let high = place.max(other);
-        let lines = format!(in alloc; "before P {place} Q {low}\nbefore P {place} Q {high}\n")?;
-        text.push_str(lines.as_str())?;
-    }
-    Ok(text)
-}
-
-#[test]
-fn writes_texts_at_the_limits(rt: HostRuntime) -> Result<(), Fail> {
-    let text = longest_text(rt.alloc())?;
-    assert_written(&rt, rt.alloc(), text.as_str(), text.as_str())?;
+    text.push_str("before P 4096 P 1\n")?;
+    assert_written(&rt, alloc, text.as_str(), text.as_str())?;
     Ok(())
 }
 

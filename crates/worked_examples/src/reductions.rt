@@ -17,8 +17,7 @@ const TIED: &str =
     "vsc 2\nproc P\nW x 1\nR x 1\nW y 2\nR y 2\nR y 2\nproc Q\nR y 2 from P 3\nbefore P 3 Q 1\n";
 
 /// What is kept of it.
-const KEPT: &str =
-    "vsc 2\nproc P\nW x 1\nW y 2\nproc Q\nR y 2 from P 2\nbefore P 2 Q 1\n";
+const KEPT: &str = "vsc 2\nproc P\nW x 1\nW y 2\nproc Q\nR y 2 from P 2\nbefore P 2 Q 1\n";
 
 #[test]
 fn drops_repeated_reads_and_puts_them_back(rt: HostRuntime) -> Result<(), Fail> {
