@@ -95,11 +95,16 @@ def below(name, lines):
 
 
 def files_of(name, paths):
-    """The tracked files of a crate, apart from its wrong bodies and from these. What its builds leave is not among them."""
+    """The tracked files of a crate, in two lists: those that its proof may read, and its wrong bodies. What builds leave is in neither."""
     folder = f"crates/{name}/"
     files = [path for path in paths if path.startswith(folder) and not path.startswith(folder + "out/")]
-    bodies = [path for path in files if path.startswith(folder + "must-fail/")]
-    return [path for path in files if path not in set(bodies)], bodies
+    is_body = [path.startswith(folder + "must-fail/") for path in files]
+    return [it for it, yes in zip(files, is_body) if not yes], [it for it, yes in zip(files, is_body) if yes]
+
+
+def with_content(root, paths):
+    """The paths, each followed by what its file holds."""
+    return [it for path in paths for it in (os.fsencode(path), content(root, path))]
 
 
 def wrong_bodies(paths):
@@ -117,9 +122,9 @@ def hashes(root, paths, version):
     lines = crate_lines(root)
     proved, tried = {}, {}
     for name, (line, _) in lines.items():
-        files, bodies = ([it for path in some for it in (os.fsencode(path), content(root, path))] for some in files_of(name, paths))
-        proved[name] = hash_of([name.encode(), line.encode(), *files]).encode()
-        tried[name] = hash_of(bodies).encode()
+        files, bodies = files_of(name, paths)
+        proved[name] = hash_of([name.encode(), line.encode(), *with_content(root, files)]).encode()
+        tried[name] = hash_of(with_content(root, bodies)).encode()
     common = [version, content(root, "HANDLES")]
     return {name: hash_of([name.encode(), *common, tried[name], *[proved[it] for it in below(name, lines)]]) for name in lines}
 

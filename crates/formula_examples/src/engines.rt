@@ -55,7 +55,7 @@ fn assert_checks(
 #[test]
 fn writes_a_front_of_a_formula_where_the_sink_fails(rt: HostRuntime) {
     for call in 1..=CNF.len() + 1 {
-        let mut source = ShortSource::new(HAND_OFF.as_bytes(), 7);
+        let mut source = ShortSource::new(HAND_OFF.as_bytes(), 1);
         let mut sink = ShortSink::new(rt.alloc(), 1).failing_at(call as u64);
         let outcome = run_cnf(rt.alloc(), &rt, &mut source, 4, &mut sink);
         let answer = if call <= CNF.len() {

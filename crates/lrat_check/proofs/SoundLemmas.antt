@@ -7,13 +7,14 @@ use Rattle.std.proofs.lemmas.Bool.{cases_Bool, or_left, or_parts, and_from, and_
 use Rattle.std.proofs.lemmas.Option.{same_Some, none-some}
 use Rattle.std.proofs.lemmas.List.Folds.{list_all-append}
 use Rattle.dimacs.specs.Assignment.{makes_true, makes_some}
+use Rattle.dimacs.specs.Models.{HasNoModelIn}
 use Rattle.dimacs.specs.Literal.{is_literal_up_to, is_clause_up_to, is_clause}
 use Rattle.lrat_check.specs.Active.{numbered, at_start, with_clause, without, after}
 use Rattle.lrat_check.specs.Checked.{IsRight, ends, Accepts, IsAccepted}
 use Rattle.lrat_check.specs.Derivation.{is_step, are_steps}
 use Rattle.lrat_check.specs.Justified.{Refutes, IsJustified, negated}
 use Rattle.lrat_check.specs.Propagation.{has, is_tautology, is_falsified}
-use Rattle.lrat_check.specs.Sound.{has_no_zero, HaveNoZero, Satisfies, HasModel, HasNoModelIn}
+use Rattle.lrat_check.specs.Sound.{has_no_zero, HaveNoZero, Satisfies, HasModel}
 use Rattle.lrat_check.specs.declared.derivation.Step.{Step}
 use Rattle.lrat_check.specs.declared.derivation.Step.TheVariants.{Addition, Deletion}
 use Rattle.lrat_check.proofs.PropagationLemmas.{each_has, has_any, any_has, has_cases, has_negated, taut_pair, neg_neg}

@@ -1,7 +1,6 @@
 -- Truth values that satisfy active clauses.
 use Rattle.std.specs.Prelude.{◌≡◌, ℕ, ℤ, pos, Bool, true, not, List, Option, Some}
-use Rattle.dimacs.specs.Assignment.{makes_some, makes_all}
-use Rattle.dimacs.specs.Models.{IsModel}
+use Rattle.dimacs.specs.Assignment.{makes_some}
 use Rattle.lrat_check.specs.Propagation.{has}
 
 -- no literal is 0, which would be its own negation
@@ -19,7 +18,3 @@ Satisfies value active = (id : ℕ) (clause : List ℤ) → active id ≡ Some c
 -- some truth values do
 abbrev pub HasModel : (ℕ → Option (List ℤ)) → Type 0
 HasModel active = (value : ℕ → Bool) × Satisfies value active
-
--- no model of the clauses makes all literals of the cube true
-abbrev pub HasNoModelIn : List (List ℤ) → List ℤ → Type 0
-HasNoModelIn clauses cube = (value : ℕ → Bool) → IsModel value clauses → makes_all value cube ≡ true → ⊥

@@ -1,83 +1,131 @@
 //! The active clauses of a derivation.
 
-use dimacs::{Clause, Formula, Lit};
+ghost use Rattle.std.specs.Prelude.{◌≡◌, ℕ, ℤ, List, Some, None, MatchOption, OnOk, is_some, [], ◌∷◌};
+ghost use Rattle.lrat_check.specs.Active.{at_start, with_clause, without};
+ghost use Rattle.lrat_check.specs.ClauseAt.{clause_at, kept_at};
+
+use crate::marks::{make_room, marked_at};
+use dimacs::{Clause, ClauseList, ListedClause, Lit};
 use std::alloc::{AllocError, Global};
 use std::collections::HashMap;
 
-/// The clauses that are active, by their ids. A contract sees them as the function from an id to its clause.
+/// What makes clauses active beside the formula: the cube, which of the clauses that were active at the start are hidden,
+/// and the clauses that steps have added, by their ids. The formula's own clauses are in no table, since their ids are their
+/// numbers. A contract sees all of it as the function from an id to its clause.
 #[derive(Drop)]
 pub struct ActiveClauses<'a> {
-    clauses: HashMap<u64, &'a [Lit]>,
+    cube: &'a [Lit],
+    hidden: Vec<bool>,
+    added: HashMap<u64, &'a Clause>,
+}
+
+/// The clause that is active under this id at the start, if one is.
+fn clause_at_start<'b, F: ClauseList>(
+    formula: &'b F,
+    cube: &[Lit],
+    id: u64,
+) -> Option<ListedClause<'b>>
+    ensures { MatchOption result
+        (at_start (F.formula formula.now).clauses cube.now id ≡ None)
+        (λ clause. at_start (F.formula formula.now).clauses cube.now id ≡ Some clause) }
+{
+    if id == 0 {
+        return None;
+    }
+    let place = id as usize - 1;
+    let count = formula.count();
+    if place < count {
+        return Some(formula.clause(place));
+    }
+    if place - count < cube.len() {
+        return Some(ListedClause::unit(cube[place - count]));
+    }
+    None
 }
 
 impl<'a> ActiveClauses<'a> {
-    ghost use Rattle.std.specs.Prelude.{◌≡◌, ℕ, Some, None, MatchOption, IfOk, OnOk, is_some, [], ◌∷◌};
-    ghost use Rattle.lrat_check.specs.Active.{at_start, with_clause, without};
-    ghost use Rattle.lrat_check.specs.ClauseAt.{clause_at};
-
-    /// No clause is active.
-    fn new(alloc: Global) -> ActiveClauses<'a>
-        ensures { (id : ℕ) → clause_at result id ≡ None }
+    /// The clauses of a formula, and the literals of the cube as clauses.
+    pub fn at_start(alloc: Global, cube: &'a [Lit]) -> ActiveClauses<'a>
+        ensures { (clauses : List (List ℤ)) (id : ℕ) → clause_at clauses result id ≡ at_start clauses cube.now id }
     {
         ActiveClauses {
-            clauses: HashMap::new(alloc),
+            cube,
+            hidden: Vec::new(alloc),
+            added: HashMap::new(alloc),
         }
-    }
-
-    /// The clauses of the formula, and the literals of the cube as clauses.
-    pub fn at_start(
-        alloc: Global,
-        formula: &'a Formula,
-        cube: &'a [Lit],
-    ) -> Result<ActiveClauses<'a>, AllocError>
-        ensures { IfOk result (λ active. (id : ℕ) → clause_at active id ≡ at_start formula.now.clauses cube.now id) }
-    {
-        let mut active = ActiveClauses::new(alloc);
-        let clauses = formula.clauses();
-        for i in 0..clauses.len() {
-            active.insert(i as u64 + 1, clauses[i].as_slice())?;
-        }
-        for j in 0..cube.len() {
-            active.insert((clauses.len() + j) as u64 + 1, &cube[j..j + 1])?;
-        }
-        Ok(active)
     }
 
     /// The clause that is active under this id, if one is.
-    pub fn get(&self, id: u64) -> Option<&'a [Lit]>
-        ensures { MatchOption result (clause_at self.now id ≡ None) (λ clause. clause_at self.now id ≡ Some clause.now) }
+    pub fn get<'b, F: ClauseList>(&'b self, formula: &'b F, id: u64) -> Option<ListedClause<'b>>
+        ensures { MatchOption result
+            (clause_at (F.formula formula.now).clauses self.now id ≡ None)
+            (λ clause. clause_at (F.formula formula.now).clauses self.now id ≡ Some clause) }
     {
-        self.clauses.get(&id).copied()
+        if !marked_at(self.hidden.as_slice(), id as usize) {
+            if let Some(clause) = clause_at_start(formula, self.cube, id) {
+                return Some(clause);
+            }
+        }
+        match self.added.get(&id) {
+            Some(clause) => Some(ListedClause::lent(clause)),
+            None => None,
+        }
     }
 
     /// Whether a clause is active under this id.
-    pub fn contains(&self, id: u64) -> bool
-        ensures { result ≡ is_some (clause_at self.now id) }
+    pub fn contains<F: ClauseList>(&self, formula: &F, id: u64) -> bool
+        ensures { result ≡ is_some (clause_at (F.formula formula.now).clauses self.now id) }
     {
-        self.get(id).is_some()
+        self.get(formula, id).is_some()
+    }
+
+    /// Hides what was active under this id at the start.
+    fn hide<F: ClauseList>(&mut self, formula: &F, id: u64) -> Result<(), AllocError>
+        ensures hidden { OnOk result ((other : ℕ) →
+            kept_at (F.formula formula.now).clauses self.new other ≡ without (id ∷ []) (kept_at (F.formula formula.now).clauses self.old) other) }
+        ensures added { OnOk result (self.new.added ≡ self.old.added) }
+    {
+        if clause_at_start(formula, self.cube, id).is_some() {
+            let place = id as usize;
+            make_room(&mut self.hidden, place)?;
+            self.hidden[place] = true;
+        }
+        Ok(())
     }
 
     /// Makes the clause active under this id.
-    pub fn insert(&mut self, id: u64, clause: &'a [Lit]) -> Result<(), AllocError>
-        ensures { OnOk result ((other : ℕ) → clause_at self.new other ≡ with_clause id clause.now (clause_at self.old) other) }
+    pub fn insert<F: ClauseList>(
+        &mut self,
+        formula: &F,
+        id: u64,
+        clause: &'a Clause,
+    ) -> Result<(), AllocError>
+        ensures { OnOk result ((other : ℕ) →
+            clause_at (F.formula formula.now).clauses self.new other ≡ with_clause id clause.now (clause_at (F.formula formula.now).clauses self.old) other) }
     {
-        self.clauses.insert(id, clause)?;
+        self.hide(formula, id)?;
+        self.added.insert(id, clause)?;
         Ok(())
     }
 
     /// Takes away the clause of this id, if it is active.
-    fn remove(&mut self, id: u64)
-        ensures { (other : ℕ) → clause_at self.new other ≡ without (id ∷ []) (clause_at self.old) other }
+    fn remove<F: ClauseList>(&mut self, formula: &F, id: u64) -> Result<(), AllocError>
+        ensures { OnOk result ((other : ℕ) →
+            clause_at (F.formula formula.now).clauses self.new other ≡ without (id ∷ []) (clause_at (F.formula formula.now).clauses self.old) other) }
     {
-        let _clause = self.clauses.remove(&id);
+        self.hide(formula, id)?;
+        let _clause = self.added.remove(&id);
+        Ok(())
     }
 
     /// Takes away the clauses of these ids that are active.
-    pub fn remove_all(&mut self, ids: &[u64])
-        ensures { (other : ℕ) → clause_at self.new other ≡ without ids.now (clause_at self.old) other }
+    pub fn remove_all<F: ClauseList>(&mut self, formula: &F, ids: &[u64]) -> Result<(), AllocError>
+        ensures { OnOk result ((other : ℕ) →
+            clause_at (F.formula formula.now).clauses self.new other ≡ without ids.now (clause_at (F.formula formula.now).clauses self.old) other) }
     {
         for id in ids {
-            self.remove(*id);
+            self.remove(formula, *id)?;
         }
+        Ok(())
     }
 }

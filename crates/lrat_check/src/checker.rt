@@ -4,7 +4,7 @@ ghost use Rattle.std.specs.Prelude.{◌≡◌, ℕ, IfOk, IfErr, MatchResult};
 ghost use Rattle.lrat_check.specs.Active.{after};
 ghost use Rattle.lrat_check.specs.Checked.{IsRight, IsWrong, ends, IsAccepted, IsRefused};
 ghost use Rattle.lrat_check.specs.ClauseAt.{clause_at};
-ghost use Rattle.lrat_check.specs.Sound.{HasNoModelIn};
+ghost use Rattle.dimacs.specs.Models.{HasNoModelIn};
 ghost use Rattle.text_lines.specs.Fault.{IsRefusal, IsRefusalAt};
 
 use crate::active_clauses::ActiveClauses;
@@ -12,7 +12,7 @@ use crate::derivation::{Derivation, Step};
 use crate::propagation::justify;
 use crate::refusal::{Refusal, StepFault};
 use crate::true_literals::TrueLiterals;
-use dimacs::{Formula, Lit, are_literals};
+use dimacs::{ClauseList, Lit, are_literals};
 use std::alloc::Global;
 
 /// A derivation was accepted.
@@ -20,19 +20,20 @@ use std::alloc::Global;
 pub struct Accepted;
 
 /// Takes the step of this number. Whether it adds the empty clause.
-fn take_step<'a>(
+fn take_step<'a, F: ClauseList>(
+    formula: &F,
     active: &mut ActiveClauses<'a>,
     trues: &mut TrueLiterals,
     step: &'a Step,
     number: usize,
 ) -> Result<bool, Refusal>
     ensures { MatchResult result
-        (λ ended. IsRight (clause_at active.old) step.now × (ended ≡ ends step.now) × ((id : ℕ) → clause_at active.new id ≡ after (clause_at active.old) step.now id))
-        (λ refusal. IsRefusalAt (λ fault. IsWrong (clause_at active.old) step.now fault) number refusal) }
+        (λ ended. IsRight (clause_at (F.formula formula.now).clauses active.old) step.now × (ended ≡ ends step.now) × ((id : ℕ) → clause_at (F.formula formula.now).clauses active.new id ≡ after (clause_at (F.formula formula.now).clauses active.old) step.now id))
+        (λ refusal. IsRefusalAt (λ fault. IsWrong (clause_at (F.formula formula.now).clauses active.old) step.now fault) number refusal) }
 {
     match step {
         Step::Deletion { ids, .. } => {
-            active.remove_all(ids.as_slice());
+            active.remove_all(formula, ids.as_slice())?;
             Ok(false)
         }
         Step::Addition {
@@ -40,36 +41,42 @@ fn take_step<'a>(
             literals,
             hints,
         } => {
-            let clause = literals.as_slice();
-            if active.contains(*id) {
+            if active.contains(formula, *id) {
                 return Err(Refusal::At(StepFault::IdInUse, number));
             }
-            justify(active, trues, clause, hints.as_slice(), number)?;
-            active.insert(*id, clause)?;
-            Ok(clause.is_empty())
+            justify(
+                formula,
+                active,
+                trues,
+                literals.as_slice(),
+                hints.as_slice(),
+                number,
+            )?;
+            active.insert(formula, *id, literals)?;
+            Ok(literals.as_slice().is_empty())
         }
     }
 }
 
 /// Checks whether the derivation shows that no model of the formula makes all literals of the cube true. If not, the
 /// first step that fails.
-pub fn check(
+pub fn check<F: ClauseList>(
     alloc: Global,
-    formula: &Formula,
+    formula: &F,
     cube: &[Lit],
     derivation: &Derivation,
 ) -> Result<Accepted, Refusal>
-    ensures accepted { IfOk result (λ _. IsAccepted formula.now.clauses cube.now derivation.now) }
-    ensures sound { IfOk result (λ _. HasNoModelIn formula.now.clauses cube.now) }
-    ensures refused { IfErr result (λ refusal. IsRefusal (IsRefused formula.now.clauses cube.now derivation.now) refusal) }
+    ensures accepted { IfOk result (λ _. IsAccepted (F.formula formula.now).clauses cube.now derivation.now) }
+    ensures sound { IfOk result (λ _. HasNoModelIn (F.formula formula.now).clauses cube.now) }
+    ensures refused { IfErr result (λ refusal. IsRefusal (IsRefused (F.formula formula.now).clauses cube.now derivation.now) refusal) }
 {
     formula.is_formula();
     are_literals(cube);
-    let mut active = ActiveClauses::at_start(alloc, formula, cube)?;
+    let mut active = ActiveClauses::at_start(alloc, cube);
     let mut trues = TrueLiterals::new(alloc);
     let steps = derivation.steps();
     for i in 0..steps.len() {
-        if take_step(&mut active, &mut trues, &steps[i], i + 1)? {
+        if take_step(formula, &mut active, &mut trues, &steps[i], i + 1)? {
             return Ok(Accepted);
         }
     }

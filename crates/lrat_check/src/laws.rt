@@ -3,11 +3,12 @@
 ghost use Rattle.std.specs.Prelude.{◌≡◌, ◌⊎◌, ℕ, ℤ, Bool, true, List, Option};
 ghost use Rattle.std.specs.List.{list_all};
 ghost use Rattle.dimacs.specs.Assignment.{makes_some};
+ghost use Rattle.dimacs.specs.Models.{HasNoModelIn};
 ghost use Rattle.lrat_check.specs.Active.{after};
 ghost use Rattle.lrat_check.specs.Checked.{IsRight, IsAccepted, IsRefused};
 ghost use Rattle.lrat_check.specs.Derivation.{is_step, are_steps};
 ghost use Rattle.lrat_check.specs.Justified.{IsJustified};
-ghost use Rattle.lrat_check.specs.Sound.{has_no_zero, HaveNoZero, Satisfies, HasModel, HasNoModelIn};
+ghost use Rattle.lrat_check.specs.Sound.{has_no_zero, HaveNoZero, Satisfies, HasModel};
 ghost use Rattle.lrat_check.specs.declared.derivation.Step.{Step};
 ghost use Rattle.lrat_check.specs.declared.refusal.StepFault.{StepFault};
 

@@ -1,6 +1,6 @@
 //! Unit propagation along hints.
 
-ghost use Rattle.std.specs.Prelude.{◌≡◌, [], ◌∷◌, ◌++◌, ℕ, List, ℤ, false, IfOk, MatchResult};
+ghost use Rattle.std.specs.Prelude.{◌≡◌, [], ◌∷◌, ◌++◌, ℕ, List, ℤ, false, Some, None, IfOk, MatchOption, MatchResult};
 ghost use Rattle.lrat_check.specs.ClauseAt.{clause_at};
 ghost use Rattle.lrat_check.specs.Justified.{Refutes, FailsToRefute, IsJustified, IsUnjustified};
 ghost use Rattle.lrat_check.specs.Propagation.{is_falsified};
@@ -10,7 +10,7 @@ ghost use Rattle.text_lines.specs.Fault.{IsRefusalAt};
 use crate::active_clauses::ActiveClauses;
 use crate::refusal::{Refusal, StepFault};
 use crate::true_literals::TrueLiterals;
-use dimacs::{Lit, are_literals};
+use dimacs::{ClauseList, Lit, are_literals};
 use std::alloc::AllocError;
 
 /// How a clause stands under the literals that are true.
@@ -64,6 +64,21 @@ fn standing_of(clause: &[Lit], trues: &TrueLiterals) -> Standing
     standing
 }
 
+/// How the active clause of this id stands, if one is active.
+fn standing_at<'b, F: ClauseList>(
+    formula: &'b F,
+    active: &'b ActiveClauses<'_>,
+    id: u64,
+    trues: &TrueLiterals,
+) -> Option<Standing>
+    ensures { MatchOption result
+        (clause_at (F.formula formula.now).clauses active.now id ≡ None)
+        (λ standing. (clause : List ℤ) × (clause_at (F.formula formula.now).clauses active.now id ≡ Some clause) × IsStanding trues.now clause standing) }
+{
+    let clause = active.get(formula, id)?;
+    Some(standing_of(clause.as_slice(), trues))
+}
+
 /// Makes the negations of the clause's literals true and no other literal. Where the clause is a tautology this cannot
 /// be, and the answer is true.
 fn assume_negation(trues: &mut TrueLiterals, clause: &[Lit]) -> Result<bool, AllocError>
@@ -82,21 +97,22 @@ fn assume_negation(trues: &mut TrueLiterals, clause: &[Lit]) -> Result<bool, All
 }
 
 /// Looks whether the hints of the step of this number refute that the literals are true.
-fn refute(
+fn refute<F: ClauseList>(
+    formula: &F,
     active: &ActiveClauses,
     trues: &mut TrueLiterals,
     hints: &[u64],
     number: usize,
 ) -> Result<(), Refusal>
     ensures { MatchResult result
-        (λ _. Refutes (clause_at active.now) trues.old hints.now)
-        (λ refusal. IsRefusalAt (λ fault. FailsToRefute (clause_at active.now) trues.old hints.now fault) number refusal) }
+        (λ _. Refutes (clause_at (F.formula formula.now).clauses active.now) trues.old hints.now)
+        (λ refusal. IsRefusalAt (λ fault. FailsToRefute (clause_at (F.formula formula.now).clauses active.now) trues.old hints.now fault) number refusal) }
 {
     for hint in hints {
-        let Some(clause) = active.get(*hint) else {
+        let Some(standing) = standing_at(&*formula, &*active, *hint, trues) else {
             return Err(Refusal::At(StepFault::UnknownHint, number));
         };
-        match standing_of(clause, trues) {
+        match standing {
             Standing::Falsified => return Ok(()),
             Standing::Unit(unit) => trues.push(unit)?,
             Standing::Unfalsified => return Err(Refusal::At(StepFault::NotUnit, number)),
@@ -106,7 +122,8 @@ fn refute(
 }
 
 /// Looks whether the clause of the step of this number is justified.
-pub fn justify(
+pub fn justify<F: ClauseList>(
+    formula: &F,
     active: &ActiveClauses,
     trues: &mut TrueLiterals,
     clause: &[Lit],
@@ -114,11 +131,11 @@ pub fn justify(
     number: usize,
 ) -> Result<(), Refusal>
     ensures { MatchResult result
-        (λ _. IsJustified (clause_at active.now) clause.now hints.now)
-        (λ refusal. IsRefusalAt (λ fault. IsUnjustified (clause_at active.now) clause.now hints.now fault) number refusal) }
+        (λ _. IsJustified (clause_at (F.formula formula.now).clauses active.now) clause.now hints.now)
+        (λ refusal. IsRefusalAt (λ fault. IsUnjustified (clause_at (F.formula formula.now).clauses active.now) clause.now hints.now fault) number refusal) }
 {
     if assume_negation(trues, clause)? {
         return Ok(());
     }
-    refute(active, trues, hints, number)
+    refute(formula, active, trues, hints, number)
 }

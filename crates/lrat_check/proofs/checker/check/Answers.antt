@@ -7,29 +7,32 @@ use Rattle.lrat_check.specs.Derivation.{are_steps}
 use Rattle.lrat_check.proofs.checker.check.Goals as goal
 
 pub returns-in_err-take_step-clause-refused : goal.returns-in_err-take_step-clause-refused
-returns-in_err-take_step-clause-refused c =
+returns-in_err-take_step-clause-refused g c =
+    let formula = g.F.ClauseList.formula c.args.formula.now in
     let steps = c.steps-steps.result.now in
     let step = c.index-steps-i.result in
     let next : drop c.loop-i.i steps ≡ step ∷ drop (c.loop-i.i + 1) steps = next_step steps c.loop-i.i step (omega arith) c.index-steps-i.is in
-    handed_on c.args.formula.now.clauses c.args.cube.now c.args.derivation.now c.from_residual-in_err-take_step.result c.in_err-take_step.field-0.0 c.from_residual-in_err-take_step.ensures.1
-    (walk_fails c.args.formula.now.clauses c.args.cube.now c.args.derivation.now (clause_at c.loop-i.active) (c.loop-i.i + 1) (drop c.loop-i.i steps) step (drop (c.loop-i.i + 1) steps) c.in_err-take_step.field-0.0 c.loop-i.invariant next c.in_err-take_step.ensures)
+    handed_on formula.clauses c.args.cube.now c.args.derivation.now c.from_residual.result c.in_err-take_step.field-0.0 c.from_residual.ensures.1
+    (walk_fails formula.clauses c.args.cube.now c.args.derivation.now (clause_at formula.clauses c.loop-i.active) (c.loop-i.i + 1) (drop c.loop-i.i steps) step (drop (c.loop-i.i + 1) steps) c.in_err-take_step.field-0.0 c.loop-i.invariant next c.in_err-take_step.ensures)
 
 pub loop-i-preserved : goal.loop-i-preserved
-loop-i-preserved c =
+loop-i-preserved g c =
+    let formula = g.F.ClauseList.formula c.args.formula.now in
     let steps = c.steps-steps.result.now in
     let step = c.index-steps-i.result in
     let next : drop c.loop-i.i steps ≡ step ∷ drop (c.loop-i.i + 1) steps = next_step steps c.loop-i.i step (omega arith) c.index-steps-i.is in
-    walk_on (at_start c.args.formula.now.clauses c.args.cube.now) c.args.derivation.now (clause_at c.loop-i.active) (clause_at c.take_step.new.active) (c.loop-i.i + 1) (drop c.loop-i.i steps) step (drop (c.loop-i.i + 1) steps)
+    walk_on (at_start formula.clauses c.args.cube.now) c.args.derivation.now (clause_at formula.clauses c.loop-i.active) (clause_at formula.clauses c.take_step.new.active) (c.loop-i.i + 1) (drop c.loop-i.i steps) step (drop (c.loop-i.i + 1) steps)
     c.loop-i.invariant next c.in_ok-take_step.ensures.0 (sym c.in_ok-take_step.ensures.1 ∙ c.if-branch.false) c.in_ok-take_step.ensures.2
 
 pub returns-then-branch-clause-sound : goal.returns-then-branch-clause-sound
-returns-then-branch-clause-sound c =
+returns-then-branch-clause-sound g c =
+    let formula = g.F.ClauseList.formula c.args.formula.now in
     let steps = c.steps-steps.result.now in
     let step = c.index-steps-i.result in
     let next : drop c.loop-i.i steps ≡ step ∷ drop (c.loop-i.i + 1) steps = next_step steps c.loop-i.i step (omega arith) c.index-steps-i.is in
-    no_model c.args.formula.now.clauses c.args.cube.now c.args.derivation.now
-    (formula_no_zero c.args.formula.now.variables c.args.formula.now.clauses c.is_formula.ensures.formula)
+    no_model formula.clauses c.args.cube.now c.args.derivation.now
+    (formula_no_zero formula.variables formula.clauses c.is_formula.ensures.formula)
     (cube_no_zero c.args.cube.now c.are_literals.ensures)
     (ap are_steps (sym c.steps-steps.ensures.steps) ∙ c.steps-steps.ensures.clauses)
-    (walk_ends (at_start c.args.formula.now.clauses c.args.cube.now) c.args.derivation.now (clause_at c.loop-i.active) (c.loop-i.i + 1) (drop c.loop-i.i steps) step (drop (c.loop-i.i + 1) steps)
+    (walk_ends (at_start formula.clauses c.args.cube.now) c.args.derivation.now (clause_at formula.clauses c.loop-i.active) (c.loop-i.i + 1) (drop c.loop-i.i steps) step (drop (c.loop-i.i + 1) steps)
     c.loop-i.invariant next c.in_ok-take_step.ensures.0 (sym c.in_ok-take_step.ensures.1 ∙ c.if-branch.true))

@@ -5,4 +5,4 @@ use Rattle.lrat_check.proofs.CheckLemmas.{IsWalked}
 use Rattle.lrat_check.proofs.checker.check.Given as goal
 
 abbrev pub invariant-loop-i : goal.invariant-loop-i
-invariant-loop-i l = IsWalked (at_start l.formula.clauses l.cube) l.derivation (clause_at l.active) (l.i + 1) (drop l.i l.steps)
+invariant-loop-i g l = IsWalked (at_start (g.F.ClauseList.formula l.formula).clauses l.cube) l.derivation (clause_at (g.F.ClauseList.formula l.formula).clauses l.active) (l.i + 1) (drop l.i l.steps)

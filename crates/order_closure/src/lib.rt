@@ -1,0 +1,12 @@
+//! A strict order of a few hundred elements as sets of bits, closed at each pair that is added, and the numbers of its
+//! variables and of the clauses that say that it is transitive.
+//!
+//! Nothing here is believed: whoever uses it checks what comes of it.
+#![tactic(auto)]
+
+mod order_matrix;
+pub mod tables;
+mod triple_ids;
+
+pub use order_matrix::{Implied, MOST_ELEMENTS, OrderMatrix};
+pub use triple_ids::TripleIds;

@@ -1,0 +1,8 @@
+-- Additions are steps.
+use Rattle.std.proofs.Common.{◌≤◌, List, length, not, refl, arith}
+use Rattle.std.proofs.lemmas.List.Filters.{length-filter_both}
+use Rattle.lrat_check.specs.declared.derivation.Step.{Step}
+use Rattle.solver.specs.Answers.{is_addition, additions}
+
+pub additions_within : (steps : List Step) → additions steps ≤ length steps
+additions_within steps = omega (arith, length-filter_both is_addition (λ step. not (is_addition step)) (λ _. refl) steps)

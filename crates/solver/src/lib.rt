@@ -1,0 +1,34 @@
+//! A solver that learns: it answers a formula with a model, or with a derivation that there is none.
+//!
+//! - `solve` takes a formula, a cube, a guide and a budget.
+//! - `Answer` is what it answers.
+//! - `Guide` tells it which clauses say that an order is transitive.
+//!
+//! Nobody believes it. So nothing is proved of its answers but that they keep to the budget, and its tables keep no invariants:
+//! a look past the end of one reads a fixed value.
+#![tactic(auto)]
+
+mod activities;
+mod analyze;
+mod answer;
+mod cause;
+mod codes;
+mod guide;
+mod hints;
+mod intake;
+mod log;
+mod minimise;
+mod ordered_trail;
+mod propagate;
+mod reduce;
+mod restart;
+mod search;
+mod small_clauses;
+mod solving;
+mod store;
+mod trail;
+mod watches;
+
+pub use answer::Answer;
+pub use guide::Guide;
+pub use solving::solve;

@@ -1,0 +1,58 @@
+//! When the search begins anew, with all that it has learned.
+
+/// So many conflicts are between two restarts, times a number of Luby's sequence.
+const UNIT: u64 = 100;
+
+/// The number of Luby's sequence 1, 1, 2, 1, 1, 2, 4, .. at this place, counted from 0. No other sequence of restarts is better by
+/// more than a factor where nothing is known of the search.
+fn luby(place: u64) -> u64 {
+    let mut place = place;
+    let mut size: u64 = 1;
+    let mut power: u64 = 1;
+    for _ in 0..62 {
+        if size > place {
+            break;
+        }
+        size = size.wrapping_mul(2).wrapping_add(1);
+        power = power.wrapping_mul(2);
+    }
+    for _ in 0..62 {
+        if size == 0 || size.wrapping_sub(1) == place {
+            break;
+        }
+        size = size.wrapping_sub(1) / 2;
+        power /= 2;
+        if size != 0 {
+            place %= size;
+        }
+    }
+    power
+}
+
+/// Counts conflicts from one restart to the next.
+#[derive(Clone, Copy)]
+pub struct Restarts {
+    done: u64,
+    left: u64,
+}
+
+impl Restarts {
+    /// No conflict yet.
+    pub fn new() -> Restarts {
+        Restarts {
+            done: 0,
+            left: UNIT,
+        }
+    }
+
+    /// Counts a conflict. Whether to restart.
+    pub fn count(&mut self) -> bool {
+        self.left = self.left.saturating_sub(1);
+        if self.left > 0 {
+            return false;
+        }
+        self.done = self.done.wrapping_add(1);
+        self.left = luby(self.done).wrapping_mul(UNIT);
+        true
+    }
+}

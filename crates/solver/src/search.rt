@@ -1,0 +1,293 @@
+//! The search: it decides, propagates, and learns from each conflict.
+
+ghost use Rattle.std.specs.Prelude.{◌≤◌, ◌+◌, vec_len, OnOk, IfOk};
+ghost use Rattle.solver.specs.Outcomes.{TakesConflict};
+
+use crate::activities::Activities;
+use crate::cause::{Cause, Reason};
+use crate::codes::NEVER;
+use crate::guide::Guide;
+use crate::intake::{Intake, Unit};
+use crate::log::Log;
+use crate::ordered_trail::OrderedTrail;
+use crate::reduce::FIRST_REDUCTION;
+use crate::restart::Restarts;
+use crate::small_clauses::{SmallClause, SmallClauses};
+use crate::store::Store;
+use crate::trail::{FALSE, OPEN};
+use crate::watches::Watches;
+use order_closure::tables::{at, put, size};
+use std::alloc::{AllocError, Global};
+
+/// How a search ended.
+#[derive(Clone, Copy, PartialEq, Eq)]
+pub enum Outcome {
+    /// All variables that are decided have a value, and no clause is false.
+    Satisfied,
+    /// The empty clause was learned.
+    Refuted,
+    /// There was a conflict too many.
+    Open,
+}
+
+/// All that the search knows.
+#[derive(Drop)]
+pub struct Search {
+    pub alloc: Global,
+    pub variables: u32,
+
+    // The clauses.
+    pub small: SmallClauses,
+    pub store: Store,
+    pub watches: Watches,
+    /// The learned clauses in the store.
+    pub clauses: Vec<u32>,
+    /// A clause all of whose literals were false before anything was decided.
+    pub refuted_at_start: Option<Reason>,
+
+    // What is true, and what is decided next.
+    pub trail: OrderedTrail,
+    pub activities: Activities,
+
+    // The conflict at hand.
+    /// The learned clause.
+    pub learned: Vec<u32>,
+    /// Its hints.
+    pub hints: Vec<u32>,
+    /// The numbers of the clauses that were resolved, the conflict's first.
+    pub resolved: Vec<u32>,
+    /// What was left out of the learned clause.
+    pub removed: Vec<u32>,
+    /// Variables whose causes are hints: those not looked at yet, and the places of the others.
+    pub pending: Vec<u32>,
+    pub needed: Vec<u32>,
+    pub stack: Vec<u32>,
+    pub marks: Vec<u8>,
+    pub marked: Vec<u32>,
+    pub level_stamps: Vec<u32>,
+    pub stamp: u32,
+
+    // When to restart and to drop clauses.
+    pub conflicts: u32,
+    pub restarts: Restarts,
+    pub next_reduction: u32,
+    pub reduction_gap: u32,
+}
+
+impl Search {
+    /// A search through these clauses over so many variables. Nothing is decided yet.
+    pub fn new(
+        alloc: Global,
+        variables: u32,
+        guide: Guide,
+        intake: Intake,
+    ) -> Result<Search, AllocError> {
+        let literals = variables.wrapping_mul(2).wrapping_add(2);
+        let places = variables.wrapping_add(1) as usize;
+        let Intake {
+            units,
+            small,
+            long,
+            empty,
+            ..
+        } = intake;
+        let mut search = Search {
+            alloc,
+            variables,
+            small: SmallClauses::new(alloc, literals, small.as_slice())?,
+            store: long,
+            watches: Watches::new(alloc, literals)?,
+            clauses: Vec::new(alloc),
+            refuted_at_start: None,
+            trail: OrderedTrail::new(alloc, variables, guide)?,
+            activities: Activities::new(alloc, variables)?,
+            learned: Vec::new(alloc),
+            hints: Vec::new(alloc),
+            resolved: Vec::new(alloc),
+            removed: Vec::new(alloc),
+            pending: Vec::new(alloc),
+            needed: Vec::new(alloc),
+            stack: Vec::new(alloc),
+            marks: vec![in alloc; 0; places]?,
+            marked: Vec::new(alloc),
+            level_stamps: vec![in alloc; 0; places.saturating_add(1)]?,
+            stamp: 0,
+            conflicts: 0,
+            restarts: Restarts::new(),
+            next_reduction: FIRST_REDUCTION,
+            reduction_gap: FIRST_REDUCTION,
+        };
+        search.want_small(small.as_slice());
+        search.attach_long()?;
+        search.assume(units.as_slice());
+        if empty != 0 {
+            search.refuted_at_start = Some(Reason::of_literals(empty, NEVER, NEVER, NEVER));
+        }
+        Ok(search)
+    }
+}
+
+impl Search {
+    /// The variables of these clauses can be decided. Variables that stand in none of the clauses that were read need no
+    /// decision: what is known of an order, with no clause of these false, always extends to an order of all.
+    fn want_small(&mut self, clauses: &[SmallClause]) {
+        for clause in clauses {
+            self.activities.want(clause.first >> 1);
+            self.activities.want(clause.second >> 1);
+            if clause.third != NEVER {
+                self.activities.want(clause.third >> 1);
+            }
+        }
+    }
+
+    /// The clauses of the store watch their first literals, and their variables can be decided.
+    fn attach_long(&mut self) -> Result<(), AllocError> {
+        let mut clause: u32 = 1;
+        for _ in 0..self.store.end() {
+            if clause >= self.store.end() {
+                break;
+            }
+            self.watches.attach(&self.store, clause)?;
+            for number in 0..self.store.count(clause) {
+                self.activities
+                    .want(self.store.literal(clause, number) >> 1);
+            }
+            clause = self.store.behind(clause);
+        }
+        Ok(())
+    }
+
+    /// Makes these literals true before anything is decided.
+    fn assume(&mut self, units: &[Unit]) {
+        for unit in units {
+            let value = self.trail.value(unit.literal);
+            if value == OPEN {
+                self.trail.assign(
+                    unit.literal,
+                    Cause::Clause {
+                        id: unit.id,
+                        first: NEVER,
+                        second: NEVER,
+                    },
+                );
+            } else if value == FALSE {
+                self.refuted_at_start = Some(Reason::of_literals(
+                    unit.id,
+                    unit.literal,
+                    NEVER,
+                    NEVER,
+                ));
+            }
+        }
+    }
+
+    /// The next literal to be decided, if there is a variable left.
+    fn pick(&mut self) -> Option<u32> {
+        for _ in 0..=self.variables {
+            let variable = self.activities.take()?;
+            let literal = self.trail.trail.tried_first(variable);
+            if self.trail.value(literal) == OPEN {
+                return Some(literal);
+            }
+        }
+        None
+    }
+
+    /// Decides and propagates until there is a conflict, or nothing is left to decide.
+    fn descend(&mut self) -> Result<Option<Reason>, AllocError> {
+        if self.refuted_at_start.is_some() {
+            return Ok(self.refuted_at_start);
+        }
+        for _ in 0..=self.variables {
+            if let Some(conflict) = self.propagate()? {
+                return Ok(Some(conflict));
+            }
+            let Some(literal) = self.pick() else {
+                return Ok(None);
+            };
+            self.trail.trail.begin_level();
+            self.trail.assign(literal, Cause::Decision);
+        }
+        Ok(None)
+    }
+
+    /// Puts the literal of the latest level among the others of the learned clause second, to be watched. Its level is the one to go
+    /// back to: there the learned clause has one literal left.
+    fn level_to_resume(&mut self) -> u32 {
+        let mut latest: u32 = 1;
+        let mut level: u32 = 0;
+        for place in 1..size(self.learned.as_slice()) {
+            let literal = at(self.learned.as_slice(), place, NEVER);
+            let its_level = self.trail.trail.standing(literal >> 1).level;
+            if its_level > level {
+                level = its_level;
+                latest = place;
+            }
+        }
+        let second = at(self.learned.as_slice(), 1, NEVER);
+        let literal = at(self.learned.as_slice(), latest, NEVER);
+        put(self.learned.as_mut_slice(), latest, second);
+        put(self.learned.as_mut_slice(), 1, literal);
+        level
+    }
+
+    /// Goes back to where the learned clause has one literal left, and makes that true.
+    fn follow(&mut self, id: u32) -> Result<(), AllocError> {
+        let rank = self.rank_of_learned();
+        let level = self.level_to_resume();
+        self.trail.take_back(level, &mut self.activities);
+        let first = at(self.learned.as_slice(), 0, NEVER);
+        if self.learned.len() == 1 {
+            let cause = Cause::Clause {
+                id,
+                first: NEVER,
+                second: NEVER,
+            };
+            self.trail.assign(first, cause);
+            return Ok(());
+        }
+        let clause = self.store.end();
+        self.store
+            .add(self.learned.as_slice(), id, rank, self.conflicts)?;
+        self.watches.attach(&self.store, clause)?;
+        self.clauses.push(clause)?;
+        self.trail.assign(first, Cause::Stored { place: clause });
+        Ok(())
+    }
+
+    /// A conflict has been worked on: variables age, and it may be time to restart and to drop clauses.
+    fn keep_house(&mut self) -> Result<(), AllocError> {
+        self.conflicts = self.conflicts.wrapping_add(1);
+        self.activities.age();
+        if self.restarts.count() {
+            self.trail.take_back(0, &mut self.activities);
+        }
+        self.reduce_in_time()
+    }
+
+    /// Searches until the clauses are satisfied or refuted, or there is a conflict more than the budget has. Each conflict that is
+    /// worked on makes one addition.
+    pub fn run(&mut self, log: &mut Log, budget: u64) -> Result<Outcome, AllocError>
+        ensures within { OnOk result (vec_len log.new.ends ≤ vec_len log.old.ends + budget) }
+        ensures refuted { IfOk result (λ outcome. TakesConflict budget outcome) }
+    {
+        let mut left = budget;
+        loop {
+            let Some(conflict) = self.descend()? else {
+                return Ok(Outcome::Satisfied);
+            };
+            if left == 0 {
+                return Ok(Outcome::Open);
+            }
+            left -= 1;
+            self.analyze(conflict)?;
+            let id = log.next_id();
+            log.add(self.learned.as_slice(), self.hints.as_slice())?;
+            if self.learned.is_empty() {
+                return Ok(Outcome::Refuted);
+            }
+            self.follow(id)?;
+            self.keep_house()?;
+        }
+    }
+}
