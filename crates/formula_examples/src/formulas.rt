@@ -68,7 +68,7 @@ fn writes_long_texts_in_pieces(rt: HostRuntime) -> Result<(), Fail> {
     let mut clauses = Vec::new(rt.alloc());
     for _ in 0..20_000 {
         let clause = Clause::ternary(rt.alloc(), one, two, three);
-        clauses.push(clause).map_err(|_| "memory")?;
+        clauses.push(clause).ok().ok_or("memory")?;
     }
     assert!(rt; Formula::fits(3, clauses.as_slice()));
     let formula = Formula::new(3, clauses);
@@ -98,8 +98,11 @@ fn finds_the_first_false_clause_of_the_hand_off(rt: HostRuntime) -> Result<(), F
         ];
         for (values, first) in cases {
             let assignment = Assignment::new(Vec::from_slice(rt.alloc(), values)?);
-            let found = formula.eval(&assignment).err();
-            assert_eq!(rt; found.map(|FirstFalse { clause }| clause), first);
+            let found = match formula.eval(&assignment) {
+                Ok(()) => None,
+                Err(FirstFalse { clause }) => Some(clause),
+            };
+            assert_eq!(rt; found, first);
         }
     }
     Ok(())

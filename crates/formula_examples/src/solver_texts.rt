@@ -29,7 +29,7 @@ fn reads_formulas(rt: HostRuntime) -> Result<(), Fail> {
         ),
     ];
     for (text, canonical) in cases {
-        let formula = read_cnf(rt.alloc(), text).map_err(|_| "a fault")?;
+        let formula = read_cnf(rt.alloc(), text).ok().ok_or("a fault")?;
         let mut sink = MemorySink::new(rt.alloc());
         assert_eq!(rt; write_cnf(rt.alloc(), &formula, &mut sink), Ok(()));
         assert_eq!(rt; sink.as_slice(), canonical);
@@ -45,7 +45,7 @@ fn reads_models(rt: HostRuntime) -> Result<(), Fail> {
         (b"cv 2\n\t v\t4\r\n\nv\nv 0 \n", &[4]),
     ];
     for (text, variables) in cases {
-        let assignment = read_model(rt.alloc(), text).map_err(|_| "a fault")?;
+        let assignment = read_model(rt.alloc(), text).ok().ok_or("a fault")?;
         for variable in 0..=4 {
             let is_true = variables.contains(&variable);
             assert_eq!(rt; assignment.value(variable), is_true, "{variable}");

@@ -153,11 +153,15 @@ fn writes_a_trace_that_was_built(rt: HostRuntime) -> Result<(), Fail> {
 #[test]
 fn writes_schedules_as_they_are(rt: HostRuntime) -> Result<(), Fail> {
     for text in ["", "P.1\nQ.1\n", "Q.1\nP.1\nQ.1\n_.65535\ninit.10\n"] {
-        let schedule = read_schedule(rt.alloc(), text.as_bytes()).map_err(|_| "no schedule")?;
+        let schedule = read_schedule(rt.alloc(), text.as_bytes())
+            .ok()
+            .ok_or("no schedule")?;
         let written = write_schedule(rt.alloc(), &schedule)?;
         assert!(rt; written.as_slice() == text.as_bytes());
     }
-    let schedule = read_schedule(rt.alloc(), b"#\nQ_7.65535").map_err(|_| "no schedule")?;
+    let schedule = read_schedule(rt.alloc(), b"#\nQ_7.65535")
+        .ok()
+        .ok_or("no schedule")?;
     assert_eq!(&rt; schedule.names().len(), 1);
     let names = schedule.into_names();
     assert!(&rt; names[0].process.as_bytes() == b"Q_7".as_slice());
