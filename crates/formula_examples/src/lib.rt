@@ -4,6 +4,8 @@
 #![tactic(auto)]
 
 #[cfg(test)]
+mod clause_lists;
+#[cfg(test)]
 mod decodings;
 #[cfg(test)]
 mod derivations;

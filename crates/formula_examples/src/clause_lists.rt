@@ -1,0 +1,78 @@
+//! Lists of clauses, however they are kept: what the calls answer.
+
+use crate::formulas::formula_of;
+use dimacs::{Assignment, Clause, ClauseList, FirstFalse, Formula, ListedClause, Lit};
+use std::alloc::Global;
+use std::process::Abort;
+use std::test::Fail;
+
+/// A formula that is evaluated clause by clause, as a list that writes no `eval` of its own is.
+#[derive(Drop)]
+struct PlainList {
+    formula: Formula,
+}
+
+impl ClauseList for PlainList {
+    ghost formula = { λ list. list.formula };
+
+    fn variables(&self) -> u32 {
+        self.formula.variables()
+    }
+
+    fn count(&self) -> usize {
+        self.formula.clauses().len()
+    }
+
+    fn clause(&self, place: usize) -> ListedClause<'_> {
+        ListedClause::lent(&self.formula.clauses()[place])
+    }
+
+    fn is_formula(&self) {
+        self.formula.is_formula();
+    }
+}
+
+/// Asserts what a list of these two clauses answers.
+fn assert_answers<F: ClauseList>(rt: &impl Abort, alloc: Global, list: &F) -> Result<(), Fail> {
+    assert_eq!(rt; list.variables(), 2);
+    assert_eq!(rt; list.count(), 2);
+    list.is_formula();
+    let cases: [(&[bool], Option<usize>); 4] = [
+        (&[true, true], None),
+        (&[false, true], Some(2)),
+        (&[true, false], Some(1)),
+        (&[], Some(1)),
+    ];
+    for (values, first) in cases {
+        let assignment = Assignment::new(Vec::from_slice(alloc, values)?);
+        let found = match list.eval(&assignment) {
+            Ok(()) => None,
+            Err(FirstFalse { clause }) => Some(clause),
+        };
+        assert_eq!(rt; found, first);
+    }
+    Ok(())
+}
+
+#[test]
+fn answers_however_it_is_kept(rt: HostRuntime) -> Result<(), Fail> {
+    let formula = formula_of(rt.alloc(), 2, &[&[2], &[-2, 1]])?.ok_or("not over its variables")?;
+    assert_answers(&rt, rt.alloc(), &formula)?;
+    assert_answers(&rt, rt.alloc(), &PlainList { formula })
+}
+
+#[test]
+fn makes_clauses_without_memory(rt: HostRuntime) -> Result<(), Fail> {
+    let [first, second, third] = [
+        Lit::positive(7),
+        Lit::positive(9).negated(),
+        Lit::positive(8),
+    ];
+    assert!(rt; ListedClause::unit(first).as_slice() == [first].as_slice());
+    assert!(rt; ListedClause::binary(first, second).as_slice() == [first, second].as_slice());
+    let made = ListedClause::ternary(first, second, third);
+    assert!(rt; made.as_slice() == [first, second, third].as_slice());
+    let clause = Clause::ternary(rt.alloc(), third, second, first);
+    assert!(rt; ListedClause::lent(&clause).as_slice() == [third, second, first].as_slice());
+    Ok(())
+}
