@@ -1,6 +1,7 @@
 //! Lists of clauses, however they are kept: what the calls answer.
 
-use crate::formulas::formula_of;
+use crate::traces_of_texts::{HAND_OFF, reduced_of};
+use clause_blocks::formula::formula;
 use dimacs::{Assignment, Clause, ClauseList, FirstFalse, Formula, ListedClause, Lit};
 use std::alloc::Global;
 use std::process::Abort;
@@ -32,7 +33,7 @@ impl ClauseList for PlainList {
     }
 }
 
-/// Asserts what a list of these two clauses answers.
+/// Asserts what a list of the two clauses of the hand-off answers.
 fn assert_answers<F: ClauseList>(rt: &impl Abort, alloc: Global, list: &F) -> Result<(), Fail> {
     assert_eq!(rt; list.variables(), 2);
     assert_eq!(rt; list.count(), 2);
@@ -56,9 +57,13 @@ fn assert_answers<F: ClauseList>(rt: &impl Abort, alloc: Global, list: &F) -> Re
 
 #[test]
 fn answers_however_it_is_kept(rt: HostRuntime) -> Result<(), Fail> {
-    let formula = formula_of(rt.alloc(), 2, &[&[2], &[-2, 1]])?.ok_or("not over its variables")?;
-    assert_answers(&rt, rt.alloc(), &formula)?;
-    assert_answers(&rt, rt.alloc(), &PlainList { formula })
+    let reduced = reduced_of(&rt, rt.alloc(), HAND_OFF);
+    for workers in [1, 2, 8] {
+        let formula = formula(rt.alloc(), &rt, &reduced, workers)?;
+        assert_answers(&rt, rt.alloc(), &formula)?;
+        assert_answers(&rt, rt.alloc(), &PlainList { formula })?;
+    }
+    Ok(())
 }
 
 #[test]

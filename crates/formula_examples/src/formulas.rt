@@ -1,10 +1,7 @@
 //! Literals, clauses, formulas and their text, and truth values.
 
-use crate::traces_of_texts::{HAND_OFF, reduced_of};
-use clause_blocks::formula::formula;
 use dimacs::{
-    Assignment, Clause, FirstFalse, Formula, Lit, MAX_VARIABLE, ShortSink, SinkFault, are_literals,
-    write_cnf,
+    Assignment, Clause, Formula, Lit, MAX_VARIABLE, ShortSink, SinkFault, are_literals, write_cnf,
 };
 use std::alloc::{AllocError, Global};
 use std::test::Fail;
@@ -80,31 +77,6 @@ fn writes_long_texts_in_pieces(rt: HostRuntime) -> Result<(), Fail> {
     assert_eq!(rt; whole.as_slice().len(), 160_014);
     assert!(rt; whole.as_slice().starts_with(front.as_slice()));
     assert!(rt; whole.as_slice().ends_with(b"\n1 2 3 0\n"));
-    Ok(())
-}
-
-#[test]
-fn finds_the_first_false_clause_of_the_hand_off(rt: HostRuntime) -> Result<(), Fail> {
-    let reduced = reduced_of(&rt, rt.alloc(), HAND_OFF);
-    for workers in [1, 2, 8] {
-        let formula = formula(rt.alloc(), &rt, &reduced, workers)?;
-        assert_eq!(rt; (formula.variables(), formula.clauses().len()), (2, 2));
-        let cases: [(&[bool], Option<usize>); 5] = [
-            (&[true, true], None),
-            (&[true, true, false], None),
-            (&[false, true], Some(2)),
-            (&[true, false], Some(1)),
-            (&[], Some(1)),
-        ];
-        for (values, first) in cases {
-            let assignment = Assignment::new(Vec::from_slice(rt.alloc(), values)?);
-            let found = match formula.eval(&assignment) {
-                Ok(()) => None,
-                Err(FirstFalse { clause }) => Some(clause),
-            };
-            assert_eq!(rt; found, first);
-        }
-    }
     Ok(())
 }
 
