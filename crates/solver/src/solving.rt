@@ -9,11 +9,11 @@ use crate::intake::{Intake, number_of};
 use crate::log::Log;
 use crate::search::{Outcome, Search};
 use crate::trail::TRUE;
-use dimacs::{Assignment, Formula, Lit};
+use dimacs::{Assignment, ClauseList, Lit};
 use std::alloc::{AllocError, Global};
 
 /// The largest variable of the formula and of the cube.
-fn variables_of(formula: &Formula, cube: &[Lit]) -> u32 {
+fn variables_of<L: ClauseList>(formula: &L, cube: &[Lit]) -> u32 {
     let mut variables = formula.variables();
     for literal in cube {
         variables = variables.max(literal.variable());
@@ -45,9 +45,9 @@ fn assignment_of(alloc: Global, search: &Search) -> Result<Assignment, AllocErro
 ///
 /// The guide tells what the caller knows of the formula. Neither it nor the answer is believed by anybody: a model is evaluated,
 /// a derivation checked.
-pub fn solve(
+pub fn solve<L: ClauseList>(
     alloc: Global,
-    formula: &Formula,
+    formula: &L,
     cube: &[Lit],
     guide: Guide,
     budget: u64,
@@ -55,7 +55,7 @@ pub fn solve(
     ensures { IfOk result (λ answer. IsWithin budget answer) }
 {
     let variables = variables_of(formula, cube);
-    let clauses = formula.clauses().len();
+    let clauses = formula.count();
     let guide = guide.fitting(variables, clauses);
     let intake = Intake::of(alloc, variables, formula, cube, guide)?;
     let mut search = Search::new(alloc, variables, guide, intake)?;
