@@ -60,27 +60,6 @@ fn writes_formulas(rt: HostRuntime) -> Result<(), Fail> {
 }
 
 #[test]
-fn writes_long_texts_in_pieces(rt: HostRuntime) -> Result<(), Fail> {
-    let [one, two, three] = [Lit::positive(1), Lit::positive(2), Lit::positive(3)];
-    let mut clauses = Vec::new(rt.alloc());
-    for _ in 0..20_000 {
-        let clause = Clause::ternary(rt.alloc(), one, two, three);
-        clauses.push(clause).ok().ok_or("memory")?;
-    }
-    assert!(rt; Formula::fits(3, clauses.as_slice()));
-    let formula = Formula::new(3, clauses);
-    let mut front = ShortSink::new(rt.alloc(), usize::MAX).failing_at(3);
-    let written = write_cnf(rt.alloc(), &formula, &mut front);
-    assert_eq!(rt; written, Err(SinkFault::Device));
-    let mut whole = ShortSink::new(rt.alloc(), usize::MAX);
-    assert_eq!(rt; write_cnf(rt.alloc(), &formula, &mut whole), Ok(()));
-    assert_eq!(rt; whole.as_slice().len(), 160_014);
-    assert!(rt; whole.as_slice().starts_with(front.as_slice()));
-    assert!(rt; whole.as_slice().ends_with(b"\n1 2 3 0\n"));
-    Ok(())
-}
-
-#[test]
 fn gives_its_parts_back(rt: HostRuntime) -> Result<(), Fail> {
     let formula = formula_of(rt.alloc(), 2, &[&[2], &[-2, 1]])?.ok_or("not over its variables")?;
     formula.is_formula();
