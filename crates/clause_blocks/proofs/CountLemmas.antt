@@ -1,6 +1,7 @@
 -- How many clauses transitivity has.
-use Rattle.std.proofs.Common.{◌≡◌, ℕ, zero, suc, ◌+◌, ◌-◌, ◌*◌, ◌/◌, length, refl, sym, ap, ◌∙◌, arith, length-append, ◌≤◌}
+use Rattle.std.proofs.Common.{◌≡◌, inl, inr, ℕ, zero, suc, ◌+◌, ◌-◌, ◌*◌, ◌/◌, [], length, refl, sym, ap, ◌∙◌, arith, length-append, ◌≤◌}
 use Rattle.std.specs.List.{flat_map, range_with_len}
+use Rattle.std.proofs.lemmas.Bool.{cases_order}
 use Rattle.std.proofs.lemmas.Nat.{mul-le}
 use Rattle.var_layout.specs.OrderVariables.{numbers_above}
 use Rattle.clause_blocks.specs.Blocks.{no_circle, transitivity_from, transitivity}
@@ -9,7 +10,7 @@ one_more_pair : (l : ℕ) → 2 + 2 * l ≡ 2 * suc l
 one_more_pair l = omega arith
 
 -- two clauses for each third operation
-third_count : (n i j a l : ℕ) → length (flat_map (no_circle n i j) (range_with_len a l)) ≡ 2 * l
+pub third_count : (n i j a l : ℕ) → length (flat_map (no_circle n i j) (range_with_len a l)) ≡ 2 * l
 third_count n i j a zero = refl
 third_count n i j a (suc l) = length-append (no_circle n i j a) (flat_map (no_circle n i j) (range_with_len (a + 1) l)) ∙ ap (λ m. 2 + m) (third_count n i j (a + 1) l) ∙ one_more_pair l
 
@@ -66,3 +67,27 @@ few_transitivity n few =
     let triples = mul-le (n * (n - 1)) (n - 2) 25600 160 pairs (omega (arith, few)) in
     let count = transitivity_count n in
     omega (arith, triples, count)
+
+-- no operation is above the last one
+pub none_from : (n i : ℕ) → n ≤ i → transitivity_from n i ≡ []
+none_from n i high =
+    let none : n - (i + 1) ≡ 0 = omega (arith, high) in
+    ap (λ m. flat_map (λ j. flat_map (no_circle n i j) (numbers_above n j)) (range_with_len (i + 1) m)) none
+
+from_within : (n i : ℕ) → i + 1 ≤ n → length (transitivity_from n i) ≡ (n - i - 1) * (n - i - 1 - 1)
+from_within n i low =
+    let above : n - (i + 1) ≡ n - i - 1 = omega (arith, low) in
+    second_count n i (i + 1) (n - (i + 1)) (omega (arith, low)) ∙ ap (λ m. m * (m - 1)) above
+
+from_behind : (n i : ℕ) → n ≤ i → length (transitivity_from n i) ≡ (n - i - 1) * (n - i - 1 - 1)
+from_behind n i high =
+    let none : n - i - 1 ≡ 0 = omega (arith, high) in
+    ap length (none_from n i high) ∙ sym (ap (λ m. m * (m - 1)) none)
+
+-- how many clauses there are of a lowest operation
+pub from_count : (n i : ℕ) → length (transitivity_from n i) ≡ (n - i - 1) * (n - i - 1 - 1)
+from_count n i = elim (cases_order i n) [
+  | inl e ↦ from_behind n i (omega (arith, e))
+  | inr (inl l) ↦ from_within n i (omega (arith, l))
+  | inr (inr l) ↦ from_behind n i (omega (arith, l))
+]

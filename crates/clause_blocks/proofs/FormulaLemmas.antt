@@ -29,6 +29,7 @@ use Rattle.clause_blocks.specs.Clauses.{formula_of}
 use Rattle.clause_blocks.specs.FinalClauses.{clauses_at}
 use Rattle.clause_blocks.specs.Ranges.{AreTwo, IsSource}
 use Rattle.clause_blocks.proofs.FinalLemmas.{all_finals}
+use Rattle.clause_blocks.proofs.ListLemmas.{clause_list}
 use Rattle.clause_blocks.proofs.OperationLemmas.{shared_within}
 use Rattle.clause_blocks.proofs.VariableLemmas.{choice_source, final_writer}
 
@@ -183,4 +184,5 @@ module _ (t : TraceValue) (ok : IsTrace t) where
   pub clauses_over : is_formula (formula_of t) ≡ true
   clauses_over =
       let p = is_clause_up_to (variable_count t) in
-      all_append p (program_order t) _ order_clauses_over (all_append p (transitivity n) _ transitivity_over (all_append p (read_clauses t) _ reads_over (all_append p (final_clauses t) (before_clauses t) finals_over pairs_over)))
+      ap are_over (clause_list t)
+      ∙ all_append p (program_order t) _ order_clauses_over (all_append p (transitivity n) _ transitivity_over (all_append p (read_clauses t) _ reads_over (all_append p (final_clauses t) (before_clauses t) finals_over pairs_over)))

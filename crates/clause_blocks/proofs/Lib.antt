@@ -1,8 +1,10 @@
 pub mod BeforeLemmas
 pub mod CountLemmas
+pub mod FewLemmas
 pub mod FinalLemmas
 pub mod FormulaLemmas
 pub mod LastWriterLemmas
+pub mod ListLemmas
 pub mod ModelChoiceLemmas
 pub mod ModelClauseLemmas
 pub mod ModelLegalLemmas
@@ -13,6 +15,7 @@ pub mod OperationNumberLemmas
 pub mod OrderLiteralLemmas
 pub mod PieceLemmas
 pub mod PositionLemmas
+pub mod RangeSentLemmas
 pub mod ReadLemmas
 pub mod ScheduleChoiceLemmas
 pub mod ScheduleLawLemmas
@@ -23,6 +26,8 @@ pub mod SentLemmas
 pub mod SortedLemmas
 pub mod StandLemmas
 pub mod StepLemmas
+pub mod TripleLemmas
 pub mod VariableLemmas
 pub mod VariableRangeLemmas
+pub mod WiderLemmas
 pub mod WriterNumberLemmas

@@ -1,5 +1,5 @@
 -- What a model of the clause list says of the order of the operations, block by block.
-use Rattle.std.proofs.Common.{◌≡◌, ◌⊎◌, ℕ, zero, suc, ◌+◌, ◌-◌, ◌<◌, ℤ, pos, neg_ℤ, List, [], ◌∷◌, Bool, true, false, not, ◌||◌, refl, ap, sym, ◌∙◌, arith, inl, inr, subst}
+use Rattle.std.proofs.Common.{◌≡◌, ◌⊎◌, ℕ, zero, suc, ◌+◌, ◌-◌, ◌<◌, ℤ, pos, neg_ℤ, List, [], ◌∷◌, ◌++◌, Bool, true, false, not, ◌||◌, refl, ap, sym, ◌∙◌, arith, inl, inr, subst}
 use Rattle.std.specs.Prelude.{◌≢◌, Some}
 use Rattle.std.specs.List.{Contains, enumerate_from, filter, flat_map, list_any, slice_get}
 use Rattle.std.proofs.lemmas.Bool.{cases_Bool, cases_order}
@@ -16,6 +16,7 @@ use Rattle.var_layout.specs.Numbers.{numbers, number_of, others, other_writers, 
 use Rattle.var_layout.specs.OrderVariables.{numbers_above}
 use Rattle.clause_blocks.specs.Blocks.{stands_before, implies, program_order, no_circle, transitivity_from, transitivity, read_clauses, final_clauses, before_clauses}
 use Rattle.clause_blocks.specs.Clauses.{clauses_of}
+use Rattle.clause_blocks.proofs.ListLemmas.{clause_list}
 use Rattle.clause_blocks.proofs.OrderLiteralLemmas.{negation, lit_negated, turned}
 
 -- one of a few literals is true
@@ -144,8 +145,8 @@ module _ (ahead : ℕ → ℕ → Bool) (n : ℕ) (flips : (i j : ℕ) → i ≢
       ]
 
 module _ (value : ℕ → Bool) (t : TraceValue) (model : IsModel value (clauses_of t)) where
-  true_clause : (c : List ℤ) → Contains (clauses_of t) c → makes_some value c ≡ true
-  true_clause c d = all_pass (makes_some value) (clauses_of t) model c d
+  true_clause : (c : List ℤ) → Contains (program_order t ++ (transitivity (operation_count t) ++ (read_clauses t ++ (final_clauses t ++ before_clauses t)))) c → makes_some value c ≡ true
+  true_clause c d = all_pass (makes_some value) _ (subst (λ clauses. IsModel value clauses) (clause_list t) model) c d
 
   in_transitivity : (c : List ℤ) → Contains (transitivity (operation_count t)) c → makes_some value c ≡ true
   in_transitivity c d = true_clause c (Contains-append_right (program_order t) _ c (Contains-append_left (transitivity (operation_count t)) _ c d))

@@ -22,6 +22,7 @@ use Rattle.var_layout.specs.Numbers.{name_at, left_at, readers, writers, others,
 use Rattle.traces.specs.Judgement.{is_held}
 use Rattle.clause_blocks.specs.Blocks.{stands_before, implies, void_clauses, program_order, transitivity, reads_from, clauses_of_read, read_clauses, writes_last, clauses_of_final, final_clauses, before_clauses}
 use Rattle.clause_blocks.specs.Clauses.{clauses_of}
+use Rattle.clause_blocks.proofs.ListLemmas.{clause_list}
 use Rattle.clause_blocks.specs.ModelOrder.{IsInOrderOf}
 use Rattle.clause_blocks.proofs.ModelChoiceLemmas.{IsLastWriter, IsFinal, from_choices, from_final_choices}
 use Rattle.clause_blocks.proofs.ModelClauseLemmas.{Meets, from_enumerate, to_enumerate}
@@ -181,7 +182,7 @@ module _ (t : TraceValue) (names : List OpName) (ok : IsTrace t) (legal : IsLega
       final_by at.0.0 at.0.1 at.1 (schedule_final t names ok legal at.0.1 (get_listed t.final_values from.0 at.0.1 from.2))
       (is_untouched t at.0.1) (length (final_candidates t at.0.1) == 0) refl refl l at.2
 
-  all_true : (l : List ℤ) → Contains (clauses_of t) l → makes_some truths l ≡ true
+  all_true : (l : List ℤ) → Contains (program_order t ++ (transitivity (operation_count t) ++ (read_clauses t ++ (final_clauses t ++ before_clauses t)))) l → makes_some truths l ≡ true
   all_true l c =
       elim (Contains-append_cases (program_order t) (transitivity (operation_count t) ++ (read_clauses t ++ (final_clauses t ++ before_clauses t))) l c) [
         | inl here ↦ program_true t names ok legal l here
@@ -198,7 +199,7 @@ module _ (t : TraceValue) (names : List OpName) (ok : IsTrace t) (legal : IsLega
       ]
 
   pub schedule_model : IsModel truths (clauses_of t)
-  schedule_model = pass_all (makes_some truths) (clauses_of t) all_true
+  schedule_model = subst (λ clauses. IsModel truths clauses) (sym (clause_list t)) (pass_all (makes_some truths) _ all_true)
 
   pub schedule_order : IsInOrderOf truths t names
   schedule_order = record {

@@ -58,6 +58,15 @@ flat_parted f k n low =
     ∙ ap (λ b. flat_map f (range_with_len 0 k ++ range_with_len b (n - k))) here
     ∙ ap (flat_map f) (sym (range_parted 0 k (n - k)) ∙ ap (range_with_len 0) all)
 
+-- the same from a on
+pub flat_split : {A : Type 0} (f : ℕ → List A) (a k n : ℕ) → a ≤ k → k ≤ n → flat_map f (range_with_len a (k - a)) ++ flat_map f (range_with_len k (n - k)) ≡ flat_map f (range_with_len a (n - a))
+flat_split f a k n low high =
+    let all : (k - a) + (n - k) ≡ n - a = omega (arith, low, high) in
+    let here : k ≡ a + (k - a) = omega (arith, low) in
+    sym (flat_map-append f (range_with_len a (k - a)) (range_with_len k (n - k)))
+    ∙ ap (λ b. flat_map f (range_with_len a (k - a) ++ range_with_len b (n - k))) here
+    ∙ ap (flat_map f) (sym (range_parted a (k - a) (n - k)) ∙ ap (range_with_len a) all)
+
 -- as many as pass are no more than there are
 pub few_passed : {X : Type 0} (f : ℕ → X) (p : ℕ → Bool) (n most : ℕ) → n ≤ most → length (map f (filter p (range_with_len 0 n))) ≤ most
 few_passed f p n most low =

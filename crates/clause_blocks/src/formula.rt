@@ -1,31 +1,57 @@
 //! The formula of a reduced trace.
 
-ghost use Rattle.std.specs.Prelude.{◌≡◌, ◌≤◌, IfOk};
+ghost use Rattle.std.specs.Prelude.{◌≡◌, ◌≤◌, ◌++◌, IfOk, OnOk};
+ghost use Rattle.reducer.specs.Reduced.{operation_count};
 ghost use Rattle.clause_blocks.specs.Clauses.{clauses_of, formula_of};
+ghost use Rattle.clause_blocks.specs.Pieces.{clauses_in};
 
-use crate::before_clauses::push_before_clauses;
-use crate::final_clauses::push_final_clauses;
 use crate::laws::formula_is_over_its_variables;
-use crate::program_order::push_program_order;
-use crate::read_clauses::push_read_clauses;
-use crate::transitivity::push_transitivity;
+use crate::trace_clauses::{Piece, TraceClauses};
+use crate::transitivity::push_transitivity_from;
 use dimacs::{Clause, Formula};
 use reducer::reduced::Reduced;
 use std::alloc::{AllocError, Global};
 use std::thread::Threads;
 use var_layout::layout::Layout;
 
-/// The clause list: program order, transitivity, what is read, final values, before pairs.
-fn clause_list(alloc: Global, layout: &Layout) -> Result<Vec<Clause>, AllocError>
-    ensures { IfOk result (λ clauses. clauses.items ≡ clauses_of layout.now) }
+/// Appends copies of the clauses.
+fn push_copies(
+    alloc: Global,
+    stored: &[Clause],
+    clauses: &mut Vec<Clause>,
+) -> Result<(), AllocError>
+    ensures { OnOk result (clauses.new.items ≡ clauses.old.items ++ stored.now) }
 {
-    let mut clauses = Vec::new(alloc);
-    push_program_order(alloc, layout, &mut clauses)?;
-    push_transitivity(alloc, layout, &mut clauses)?;
-    push_read_clauses(alloc, layout, &mut clauses)?;
-    push_final_clauses(alloc, layout, &mut clauses)?;
-    push_before_clauses(alloc, layout, &mut clauses)?;
-    Ok(clauses)
+    for clause in stored {
+        clauses.push(Clause::from_slice(alloc, clause.as_slice())?)?;
+    }
+    Ok(())
+}
+
+/// Appends the clauses of a piece.
+fn push_piece(
+    alloc: Global,
+    layout: &Layout,
+    piece: Piece<'_>,
+    clauses: &mut Vec<Clause>,
+) -> Result<(), AllocError>
+    ensures { OnOk result (clauses.new.items ≡ clauses.old.items ++ clauses_in (operation_count layout.now) piece.entry) }
+{
+    match piece {
+        Piece::Stored(stored) => push_copies(alloc, stored, clauses),
+        Piece::TransitivityFrom(i) => push_transitivity_from(alloc, layout, i, clauses),
+    }
+}
+
+/// All clauses, in order.
+fn clause_list(alloc: Global, clauses: &TraceClauses) -> Result<Vec<Clause>, AllocError>
+    ensures { IfOk result (λ made. made.items ≡ clauses_of clauses.now) }
+{
+    let mut made = Vec::with_capacity(alloc, clauses.clause_count())?;
+    for k in 0..clauses.pieces() {
+        push_piece(alloc, clauses.layout(), clauses.piece(k), &mut made)?;
+    }
+    Ok(made)
 }
 
 /// The formula of the kept trace. It is the same whatever the number of workers.
@@ -39,9 +65,9 @@ pub fn formula<R: Threads + Sync>(
     requires few { workers ≤ 8 }
     ensures { IfOk result (λ formula. formula ≡ formula_of reduced.now.kept) }
 {
-    let layout = Layout::of(alloc, reduced)?;
-    layout.is_layout();
+    let clauses = TraceClauses::of(alloc, reduced)?;
+    clauses.is_clause_list();
     formula_is_over_its_variables();
-    let clauses = clause_list(alloc, &layout)?;
-    Ok(Formula::new(layout.count(), clauses))
+    let made = clause_list(alloc, &clauses)?;
+    Ok(Formula::new(clauses.layout().count(), made))
 }

@@ -10,5 +10,7 @@ pub mod meaning;
 mod program_order;
 mod read_clauses;
 pub mod stream_cnf;
+pub mod trace_clauses;
 mod transitivity;
+mod triple_table;
 mod void_clauses;

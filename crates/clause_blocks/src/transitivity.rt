@@ -1,13 +1,15 @@
 //! Transitivity: the order of the operations has no circle of three.
 
-ghost use Rattle.std.specs.Prelude.{◌≡◌, ◌<◌, ◌≤◌, ◌-◌, ◌*◌, ◌/◌, ◌++◌, ◌∷◌, [], neg_ℤ, OnOk};
+ghost use Rattle.std.specs.Prelude.{◌≡◌, ◌<◌, ◌≤◌, ◌+◌, ◌++◌, ◌∷◌, [], length, neg_ℤ, OnOk, OnErr};
 ghost use Rattle.std.specs.List.{flat_map};
+ghost use Rattle.dimacs.specs.CnfText.{clause_line};
+ghost use Rattle.dimacs.specs.Sink.{AppendsFront, IsSent};
 ghost use Rattle.reducer.specs.Reduced.{operation_count};
 ghost use Rattle.var_layout.specs.OrderVariables.{numbers_above};
 ghost use Rattle.clause_blocks.specs.Blocks.{no_circle};
 ghost use Rattle.clause_blocks.specs.Blocks as blocks;
 
-use dimacs::{Clause, Lit};
+use dimacs::{Clause, CnfWriter, Failed, Lit, Sink};
 use std::alloc::{AllocError, Global};
 use var_layout::layout::Layout;
 
@@ -58,36 +60,90 @@ pub(crate) fn push_transitivity_from(
     i: usize,
     clauses: &mut Vec<Clause>,
 ) -> Result<(), AllocError>
-    requires { i < operation_count layout.now }
     ensures { OnOk result (clauses.new.items ≡ clauses.old.items ++ blocks.transitivity_from (operation_count layout.now) i) }
 {
     layout.is_layout();
-    for j in i + 1..layout.operations() {
+    let operations = layout.operations();
+    if operations <= i {
+        return Ok(());
+    }
+    for j in i + 1..operations {
         push_of_pair(alloc, layout, i, j, clauses)?;
     }
     Ok(())
 }
 
-/// How many clauses of transitivity there are.
-fn clause_count(operations: usize) -> usize
-    requires { operations ≤ 160 }
-    ensures { result ≡ operations * (operations - 1) * (operations - 2) / 3 }
+/// Writes the lines of the two clauses of three operations i, j and k, by the literals of their pairs.
+#[inline]
+fn put_no_circle<W: Sink>(
+    ij: Lit,
+    jk: Lit,
+    ik: Lit,
+    writer: &mut CnfWriter,
+    sink: &mut W,
+) -> Result<(), Failed>
+    ensures sent { OnOk result (IsSent (W.written sink.old) (W.written sink.new) writer.new (writer.old ++ flat_map clause_line ((neg_ℤ ij ∷ neg_ℤ jk ∷ ik ∷ []) ∷ (ij ∷ jk ∷ neg_ℤ ik ∷ []) ∷ []))) }
+    ensures well { OnOk result (W.failures sink.new ≡ W.failures sink.old) }
+    ensures front { OnErr result (AppendsFront (W.written sink.old) (W.written sink.new) (writer.old ++ flat_map clause_line ((neg_ℤ ij ∷ neg_ℤ jk ∷ ik ∷ []) ∷ (ij ∷ jk ∷ neg_ℤ ik ∷ []) ∷ []))) }
+    ensures failed { OnErr result (W.failures sink.new ≡ W.failures sink.old + 1) }
 {
-    operations * operations.saturating_sub(1) * operations.saturating_sub(2) / 3
+    writer.put_line(&[ij.negated(), jk.negated(), ik], sink)?;
+    writer.put_line(&[ij, jk, ik.negated()], sink)?;
+    Ok(())
 }
 
-/// Appends the clauses of transitivity.
-pub(crate) fn push_transitivity(
-    alloc: Global,
+/// Writes the clauses of a pair i below j and each operation above j.
+fn put_of_pair<W: Sink>(
     layout: &Layout,
-    clauses: &mut Vec<Clause>,
-) -> Result<(), AllocError>
-    ensures { OnOk result (clauses.new.items ≡ clauses.old.items ++ blocks.transitivity (operation_count layout.now)) }
+    i: usize,
+    j: usize,
+    writer: &mut CnfWriter,
+    sink: &mut W,
+) -> Result<(), Failed>
+    requires rising { i < j }
+    requires within { j < operation_count layout.now }
+    ensures sent { OnOk result (IsSent (W.written sink.old) (W.written sink.new) writer.new (writer.old ++ flat_map clause_line (flat_map (no_circle (operation_count layout.now) i j) (numbers_above (operation_count layout.now) j)))) }
+    ensures well { OnOk result (W.failures sink.new ≡ W.failures sink.old) }
+    ensures front { OnErr result (AppendsFront (W.written sink.old) (W.written sink.new) (writer.old ++ flat_map clause_line (flat_map (no_circle (operation_count layout.now) i j) (numbers_above (operation_count layout.now) j)))) }
+    ensures failed { OnErr result (W.failures sink.new ≡ W.failures sink.old + 1) }
 {
-    layout.is_layout();
-    clauses.reserve(clause_count(layout.operations()))?;
-    for i in 0..layout.operations() {
-        push_transitivity_from(alloc, layout, i, clauses)?;
+    let ij = layout.order_lit(i, j);
+    for k in j + 1..layout.operations() {
+        let jk = layout.order_lit(j, k);
+        let ik = layout.order_lit(i, k);
+        put_no_circle(ij, jk, ik, writer, sink)?;
     }
     Ok(())
+}
+
+/// Writes the clauses of three operations of which this one is the lowest. None of them is made before its text.
+pub(crate) fn put_transitivity_from<W: Sink>(
+    layout: &Layout,
+    i: usize,
+    writer: &mut CnfWriter,
+    sink: &mut W,
+) -> Result<(), Failed>
+    ensures sent { OnOk result (IsSent (W.written sink.old) (W.written sink.new) writer.new (writer.old ++ flat_map clause_line (blocks.transitivity_from (operation_count layout.now) i))) }
+    ensures well { OnOk result (W.failures sink.new ≡ W.failures sink.old) }
+    ensures front { OnErr result (AppendsFront (W.written sink.old) (W.written sink.new) (writer.old ++ flat_map clause_line (blocks.transitivity_from (operation_count layout.now) i))) }
+    ensures failed { OnErr result (W.failures sink.new ≡ W.failures sink.old + 1) }
+{
+    layout.is_layout();
+    let operations = layout.operations();
+    if operations <= i {
+        return Ok(());
+    }
+    for j in i + 1..operations {
+        put_of_pair(layout, i, j, writer, sink)?;
+    }
+    Ok(())
+}
+
+/// How many clauses there are of three operations of which this one is the lowest.
+pub(crate) fn count_transitivity_from(operations: usize, i: usize) -> usize
+    requires { operations ≤ 160 }
+    ensures { result ≡ length (blocks.transitivity_from operations i) }
+{
+    let above = operations.saturating_sub(i).saturating_sub(1);
+    above * above.saturating_sub(1)
 }

@@ -11,10 +11,11 @@ use Rattle.text_lines.specs.Numbers.{solver_number}
 use Rattle.text_lines.specs.Words.{is_empty}
 use Rattle.text_lines.proofs.FaultLemmas.{faultless_nil, faultless_push}
 use Rattle.text_lines.specs.Words.{words_of}
+use Rattle.cnf_reader.specs.declared.cnf_fault.CnfCause.{CnfCause}
 use Rattle.cnf_reader.specs.CnfLines.{words_of_line}
 use Rattle.cnf_reader.specs.CnfProgress.{AreClauses, TakesWord, TakesLine, IsWordRefusal, IsLineRefusal}
-use Rattle.cnf_reader.specs.declared.cnf_fault.CnfFault.{CnfFault}
-use Rattle.cnf_reader.specs.declared.cnf_fault.CnfFault.TheVariants.{OutOfMemory, Line}
+use Rattle.text_lines.specs.declared.fault.Fault.{Fault}
+use Rattle.text_lines.specs.declared.fault.Fault.TheVariants.{OutOfMemory, At}
 use Rattle.cnf_reader.specs.CnfReading.{Header, ended, is_zero, ends_of, fault_after, number_fault, word_fault}
 use Rattle.dimacs.specs.Literal.{is_literal_up_to, is_clause_up_to}
 use Rattle.cnf_reader.specs.declared.cnf_fault.CnfCause.TheVariants.{Trailing}
@@ -143,10 +144,10 @@ line_taken h number line clauses begun rest new_clauses new_begun within none wo
     subst (λ (d : List (List ℕ)). AreClauses h (words ++ words_of_line (number, d)) new_clauses new_begun) whole (within.taken words so_far)
 
 -- a refusal of the next word is one of the line
-pub line_refused : (h : Header) (number : ℕ) (line : List ℕ) (clauses : List (List ℤ)) (begun : List ℤ) (rest : List (List ℕ)) (between : List (List ℤ)) (between_begun : List ℤ) (word : List ℕ) (after : List (List ℕ)) (fault : CnfFault) →
+pub line_refused : (h : Header) (number : ℕ) (line : List ℕ) (clauses : List (List ℤ)) (begun : List ℤ) (rest : List (List ℕ)) (between : List (List ℤ)) (between_begun : List ℤ) (word : List ℕ) (after : List (List ℕ)) (fault : Fault CnfCause) →
     IsWithinLine h number (words_of line) clauses begun rest between between_begun → rest ≡ word ∷ after → IsWordRefusal h (length between) number word fault → IsLineRefusal h number line clauses begun fault
 line_refused h number line clauses begun rest between between_begun word after OutOfMemory within cut refusal = tt
-line_refused h number line clauses begun rest between between_begun word after (Line cause place) within cut refusal = λ words later so_far.
+line_refused h number line clauses begun rest between between_begun word after (At cause place) within cut refusal = λ words later so_far.
     let before = words ++ words_of_line (number, within.done) in
     let here = within.taken words so_far in
     let split : words_of_line (number, words_of line) ≡ words_of_line (number, within.done) ++ (number, word) ∷ words_of_line (number, after) =

@@ -11,8 +11,8 @@ use Rattle.cnf_reader.specs.CnfProgress.{AreClauses, TakesLine, IsLineRefusal, f
 use Rattle.cnf_reader.specs.CnfReading.{Header, ended, whole_fault, HasWordFault, HasBodyFault}
 use Rattle.cnf_reader.specs.declared.cnf_fault.CnfCause.{CnfCause}
 use Rattle.cnf_reader.specs.declared.cnf_fault.CnfCause.TheVariants.{Unended, CountMismatch}
-use Rattle.cnf_reader.specs.declared.cnf_fault.CnfFault.{CnfFault}
-use Rattle.cnf_reader.specs.declared.cnf_fault.CnfFault.TheVariants.{OutOfMemory, Line}
+use Rattle.text_lines.specs.declared.fault.Fault.{Fault}
+use Rattle.text_lines.specs.declared.fault.Fault.TheVariants.{OutOfMemory, At}
 use Rattle.cnf_reader.proofs.CnfBodyLemmas.{Words, no_clauses}
 
 -- what has been read, where `all` are the lines from `first` on and `lines` those from `number` on
@@ -39,9 +39,9 @@ module _ (h : Header) (first : ℕ) (all : List (List ℕ)) (number : ℕ) (line
       so_far = takes read.words read.so_far;
     }
 
-    pub body_refused : (end : ℕ) (fault : CnfFault) → IsLineRefusal h at line clauses begun fault → IsBodyRefusal h (placed_words (said_from first all)) end fault
+    pub body_refused : (end : ℕ) (fault : Fault CnfCause) → IsLineRefusal h at line clauses begun fault → IsBodyRefusal h (placed_words (said_from first all)) end fault
     body_refused end OutOfMemory refusal = tt
-    body_refused end (Line cause place) refusal =
+    body_refused end (At cause place) refusal =
         inl (subst (λ (w : Words). HasWordFault h w cause place) (sym here) (refusal read.words (placed_words (said_from (at + 1) rest)) read.so_far))
 
   -- at the end

@@ -1,5 +1,5 @@
 -- What a reader of a formula's text has made of the words so far.
-use Rattle.std.specs.Prelude.{◌≡◌, ◌⊎◌, ◌<◌, ◌≤◌, ◌-◌, ⊤, ℕ, ℤ, pos, true, List, [], ◌∷◌, ◌++◌, length, map, drop, not, Option, Some, None, nat_lt, if◌then◌else◌}
+use Rattle.std.specs.Prelude.{◌≡◌, ◌⊎◌, ◌<◌, ◌≤◌, ◌-◌, ℕ, ℤ, pos, true, List, [], ◌∷◌, ◌++◌, length, map, drop, not, Option, Some, None, nat_lt, if◌then◌else◌}
 use Rattle.std.specs.List.{flat_map, list_all}
 use Rattle.text_lines.specs.FirstFault.{IsFaultless}
 use Rattle.text_lines.specs.Numbers.{solver_number}
@@ -9,8 +9,8 @@ use Rattle.cnf_reader.specs.CnfReading.{Header, ended, is_zero, ends_of, fault_a
 use Rattle.dimacs.specs.Literal.{is_literal_up_to, is_clause_up_to}
 use Rattle.cnf_reader.specs.declared.cnf_fault.CnfCause.{CnfCause}
 use Rattle.cnf_reader.specs.declared.cnf_fault.CnfCause.TheVariants.{CountMismatch, Unended}
-use Rattle.cnf_reader.specs.declared.cnf_fault.CnfFault.{CnfFault}
-use Rattle.cnf_reader.specs.declared.cnf_fault.CnfFault.TheVariants.{OutOfMemory, Line}
+use Rattle.text_lines.specs.Fault.{IsRefusal, IsRefusalAt}
+use Rattle.text_lines.specs.declared.fault.Fault.{Fault}
 
 -- the words write these clauses and then the literals of one that is not ended yet, and none of them has a fault
 pub record AreClauses (h : Header) (words : List (ℕ × List ℕ)) (clauses : List (List ℤ)) (begun : List ℤ) : Type 0 where
@@ -41,9 +41,8 @@ pub record TakesWord (h : Header) (word : List ℕ) (clauses : List (List ℤ)) 
   pub taken : EndsClause word clauses begun new_clauses new_begun ⊎ AddsLiteral h.variables word clauses begun new_clauses new_begun
 
 -- a refusal of a word after that many clauses
-abbrev pub IsWordRefusal : Header → ℕ → ℕ → List ℕ → CnfFault → Type 0
-IsWordRefusal h complete number word OutOfMemory = ⊤
-IsWordRefusal h complete number word (Line cause line) = (fault_after h complete word ≡ Some cause) × (line ≡ number)
+abbrev pub IsWordRefusal : Header → ℕ → ℕ → List ℕ → Fault CnfCause → Type 0
+IsWordRefusal h complete number word fault = IsRefusalAt (λ cause. fault_after h complete word ≡ Some cause) number fault
 
 -- the words of a line are taken
 abbrev pub TakesLine : Header → ℕ → List ℕ → List (List ℤ) → List ℤ → List (List ℤ) → List ℤ → Type 0
@@ -51,10 +50,9 @@ TakesLine h number line clauses begun new_clauses new_begun =
     (words : List (ℕ × List ℕ)) → AreClauses h words clauses begun → AreClauses h (words ++ words_of_line (number, words_of line)) new_clauses new_begun
 
 -- a refusal of a line is one of the words, whatever follows
-abbrev pub IsLineRefusal : Header → ℕ → List ℕ → List (List ℤ) → List ℤ → CnfFault → Type 0
-IsLineRefusal h number line clauses begun OutOfMemory = ⊤
-IsLineRefusal h number line clauses begun (Line cause place) =
-    (words later : List (ℕ × List ℕ)) → AreClauses h words clauses begun → HasWordFault h (words ++ (words_of_line (number, words_of line) ++ later)) cause place
+abbrev pub IsLineRefusal : Header → ℕ → List ℕ → List (List ℤ) → List ℤ → Fault CnfCause → Type 0
+IsLineRefusal h number line clauses begun fault = IsRefusal (λ cause place.
+    (words later : List (ℕ × List ℕ)) → AreClauses h words clauses begun → HasWordFault h (words ++ (words_of_line (number, words_of line) ++ later)) cause place) fault
 
 -- what is wrong where the text ends after these clauses and these literals of one that is not ended
 abbrev pub fault_at_end : Header → List (List ℤ) → List ℤ → Option CnfCause
@@ -67,6 +65,5 @@ pub record AreBody (h : Header) (words : List (ℕ × List ℕ)) (clauses : List
   pub count : length clauses ≡ h.clauses
 
 -- a refusal of the words behind a header
-abbrev pub IsBodyRefusal : Header → List (ℕ × List ℕ) → ℕ → CnfFault → Type 0
-IsBodyRefusal h words end OutOfMemory = ⊤
-IsBodyRefusal h words end (Line cause line) = HasBodyFault h words end cause line
+abbrev pub IsBodyRefusal : Header → List (ℕ × List ℕ) → ℕ → Fault CnfCause → Type 0
+IsBodyRefusal h words end fault = IsRefusal (HasBodyFault h words end) fault

@@ -1,5 +1,4 @@
-pub mod CnfFault
+pub mod CnfCauses
 pub mod CnfLines
 pub mod CnfProgress
 pub mod CnfReading
-pub mod CnfRefusal

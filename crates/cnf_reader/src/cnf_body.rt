@@ -3,13 +3,14 @@
 ghost use Rattle.std.specs.Prelude.{◌≡◌, ◌≤◌, ◌<◌, [], ◌∷◌, ◌++◌, length, true, OnOk, IfErr, IfOk};
 ghost use Rattle.text_lines.specs.Words.{words_of};
 ghost use Rattle.cnf_reader.specs.CnfProgress.{TakesWord, TakesLine, IsWordRefusal, IsLineRefusal, fault_at_end};
-ghost use Rattle.cnf_reader.specs.declared.cnf_fault.CnfFault.TheVariants.{OutOfMemory};
+ghost use Rattle.text_lines.specs.declared.fault.Fault.TheVariants.{OutOfMemory};
 
 use crate::cnf_fault::{CnfCause, CnfFault};
 use crate::cnf_header::Counts;
 use crate::cnf_words::read_literal;
 use dimacs::{Clause, Lit, MAX_VARIABLE};
 use std::alloc::{AllocError, Global};
+use text_lines::fault::Fault;
 use text_lines::words::cut_word;
 
 /// The clauses so far, and the literals of one that is not ended yet.
@@ -58,7 +59,7 @@ impl Body {
         ensures refused { IfErr result (λ fault. IsWordRefusal (record { variables = counts.variables; clauses = counts.clauses }) (length self.old.clauses.items) number word.now fault) }
     {
         if self.clauses.len() >= counts.clauses as usize {
-            return Err(CnfFault::Line(CnfCause::Trailing, number));
+            return Err(Fault::At(CnfCause::Trailing, number));
         }
         match read_literal(word, counts.variables) {
             Ok(Some(literal)) => {
@@ -66,7 +67,7 @@ impl Body {
                 Ok(())
             }
             Ok(None) => self.end_clause(alloc),
-            Err(cause) => Err(CnfFault::Line(cause, number)),
+            Err(cause) => Err(Fault::At(cause, number)),
         }
     }
 

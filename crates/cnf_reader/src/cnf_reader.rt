@@ -1,11 +1,11 @@
 //! The reader of a formula's text.
 
 ghost use Rattle.std.specs.Prelude.{◌≡◌, ◌≤◌, ◌<◌, ◌+◌, ◌^◌, length, IfOk, IfErr};
+ghost use Rattle.text_lines.specs.Fault.{IsRefusal};
 ghost use Rattle.text_lines.specs.Lines.{lines_of};
 ghost use Rattle.cnf_reader.specs.CnfLines.{said_from, end_from, placed_words};
 ghost use Rattle.cnf_reader.specs.CnfProgress.{AreBody, IsBodyRefusal};
-ghost use Rattle.cnf_reader.specs.CnfReading.{SpellsCnf};
-ghost use Rattle.cnf_reader.specs.CnfRefusal.{IsCnfRefusal};
+ghost use Rattle.cnf_reader.specs.CnfReading.{SpellsCnf, HasCnfFault};
 
 use crate::cnf_body::Body;
 use crate::cnf_fault::{CnfCause, CnfFault};
@@ -13,6 +13,7 @@ use crate::cnf_header::{Counts, read_header};
 use crate::cnf_lines::next_said;
 use dimacs::{Clause, Formula, MAX_VARIABLE};
 use std::alloc::Global;
+use text_lines::fault::Fault;
 
 /// The clauses behind the header, where the first line of the text has this number.
 fn read_body(
@@ -38,7 +39,7 @@ fn read_body(
             }
             Err(end) => {
                 return match body.fault_at_end(counts) {
-                    Some(cause) => Err(CnfFault::Line(cause, end)),
+                    Some(cause) => Err(Fault::At(cause, end)),
                     None => Ok(body.into_clauses()),
                 };
             }
@@ -64,15 +65,15 @@ fn read_body(
 /// or a clause, stands at the line of the `%`, or after the last line.
 pub fn read_cnf(alloc: Global, text: &[u8]) -> Result<Formula, CnfFault>
     ensures spelled { IfOk result (λ formula. SpellsCnf text.now formula) }
-    ensures faulty { IfErr result (λ fault. IsCnfRefusal text.now fault) }
+    ensures faulty { IfErr result (λ fault. IsRefusal (HasCnfFault text.now) fault) }
 {
     let said = match next_said(text, 1) {
         Ok(said) => said,
-        Err(end) => return Err(CnfFault::Line(CnfCause::NoHeader, end)),
+        Err(end) => return Err(Fault::At(CnfCause::NoHeader, end)),
     };
     let counts = match read_header(said.line) {
         Ok(counts) => counts,
-        Err(cause) => return Err(CnfFault::Line(cause, said.number)),
+        Err(cause) => return Err(Fault::At(cause, said.number)),
     };
     let clauses = read_body(alloc, counts, said.rest, said.number + 1)?;
     Ok(Formula::new(counts.variables, clauses))

@@ -89,10 +89,10 @@ fn put_long_clause<W: Sink>(
     Ok(put_bytes(b"0\n", buffer, start))
 }
 
-/// Writes the clause's line behind what the buffer has. Where the buffer is full, the sink takes it.
+/// Writes the line of the clause of these literals behind what the buffer has. Where the buffer is full, the sink takes it.
 #[inline(always)]
-fn put_clause<W: Sink>(
-    clause: &Clause,
+fn put_line<W: Sink>(
+    literals: &[Lit],
     table: &VariableTable,
     buffer: &mut [u8],
     at: usize,
@@ -101,12 +101,11 @@ fn put_clause<W: Sink>(
     requires within { at ≤ length buffer.old }
     requires room { LITERAL ≤ length buffer.old }
     ensures within { IfOk result (λ end. end ≤ length buffer.new) }
-    ensures sent { IfOk result (λ end. IsSent (W.written sink.old) (W.written sink.new) (take end buffer.new) (take at buffer.old ++ clause_line clause.now)) }
+    ensures sent { IfOk result (λ end. IsSent (W.written sink.old) (W.written sink.new) (take end buffer.new) (take at buffer.old ++ clause_line literals.now)) }
     ensures well { OnOk result (W.failures sink.new ≡ W.failures sink.old) }
-    ensures front { OnErr result (AppendsFront (W.written sink.old) (W.written sink.new) (take at buffer.old ++ clause_line clause.now)) }
+    ensures front { OnErr result (AppendsFront (W.written sink.old) (W.written sink.new) (take at buffer.old ++ clause_line literals.now)) }
     ensures failed { OnErr result (W.failures sink.new ≡ W.failures sink.old + 1) }
 {
-    let literals = clause.as_slice();
     if literals.len() <= SHORT && buffer.len() - at >= SHORT_LINE {
         return Ok(put_short_clause(literals, table, buffer, at));
     }
@@ -131,7 +130,7 @@ fn put_clauses<W: Sink>(
 {
     let mut end = at;
     for clause in clauses {
-        end = put_clause(clause, table, buffer, end, sink)?;
+        end = put_line(clause.as_slice(), table, buffer, end, sink)?;
     }
     Ok(end)
 }
@@ -182,6 +181,25 @@ impl CnfWriter {
             sink,
         )?;
         self.end = end;
+        Ok(())
+    }
+
+    /// Writes the line of the clause of these literals, which may stand anywhere. The writer keeps some of it.
+    #[inline]
+    pub fn put_line<W: Sink>(&mut self, literals: &[Lit], sink: &mut W) -> Result<(), Failed>
+        ensures sent { OnOk result (IsSent (W.written sink.old) (W.written sink.new) self.new (self.old ++ clause_line literals.now)) }
+        ensures well { OnOk result (W.failures sink.new ≡ W.failures sink.old) }
+        ensures front { OnErr result (AppendsFront (W.written sink.old) (W.written sink.new) (self.old ++ clause_line literals.now)) }
+        ensures failed { OnErr result (W.failures sink.new ≡ W.failures sink.old + 1) }
+    {
+        let kept = put_line(
+            literals,
+            &self.table,
+            self.buffer.as_mut_slice(),
+            self.end,
+            sink,
+        )?;
+        self.end = kept;
         Ok(())
     }
 

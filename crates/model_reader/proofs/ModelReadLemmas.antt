@@ -9,6 +9,7 @@ use Rattle.std.proofs.lemmas.Bool.Decides.{nat_tests, Decides-int_eq, Decides-eq
 use Rattle.std.specs.Option.{option_eq, option_map}
 use Rattle.std.proofs.lemmas.List.{map_push, map-append}
 use Rattle.std.proofs.lemmas.List.Folds.{list_any-append}
+use Rattle.text_lines.specs.Fault.{IsRefusal}
 use Rattle.text_lines.specs.FirstFault.{IsFaultless}
 use Rattle.text_lines.specs.Lines.{lines_of}
 use Rattle.text_lines.specs.Words.{words_of}
@@ -16,12 +17,12 @@ use Rattle.text_lines.proofs.FaultLemmas.{faultless_nil, faultless_push}
 use Rattle.model_reader.specs.declared.model_reader.ModelReader.{ModelReader}
 use Rattle.model_reader.specs.declared.model_fault.ModelCause.{ModelCause}
 use Rattle.model_reader.specs.declared.model_fault.ModelCause.TheVariants.{BadLine, BadNumber, Clash, Unended}
-use Rattle.model_reader.specs.declared.model_fault.ModelFault.{ModelFault}
-use Rattle.model_reader.specs.declared.model_fault.ModelFault.TheVariants.{OutOfMemory, Line}
+use Rattle.text_lines.specs.declared.fault.Fault.{Fault}
+use Rattle.text_lines.specs.declared.fault.Fault.TheVariants.{OutOfMemory, At}
 use Rattle.dimacs.specs.Assignment.{value_of}
 use Rattle.model_reader.specs.ModelText.{Said, Word, End, said, model_number, SpellsModel}
 use Rattle.model_reader.proofs.ModelTextLemmas.{spelled_by_model}
-use Rattle.model_reader.specs.ModelFirstFault.{at_line, said_from, writes, number_fault, said_fault, model_fault, IsModelRefusal}
+use Rattle.model_reader.specs.ModelFirstFault.{at_line, said_from, writes, number_fault, said_fault, model_fault, HasModelFault}
 use Rattle.model_reader.specs.ModelProgress.{has_number, HasNumberMore, IsClash, TakesNumber, IsModelProgress, IsNextFault, TakesThings, RefusesThings}
 
 -- equal numbers of variables
@@ -95,17 +96,17 @@ thing_refused before line thing cause reader refused h = record {
 }
 
 -- a word behind the zero, a word that is no number, and a literal whose negation has come
-pub late_word : (line : ℕ) (word : List ℕ) (reader : ModelReader) → reader.ended ≡ true → RefusesThings ((line, Word word) ∷ []) reader (Line BadLine line)
+pub late_word : (line : ℕ) (word : List ℕ) (reader : ModelReader) → reader.ended ≡ true → RefusesThings ((line, Word word) ∷ []) reader (At BadLine line)
 late_word line word reader closed before h =
     thing_refused before line (Word word) BadLine reader (ap (λ b. cond b (Some BadLine) (number_fault before (model_number word))) (sym (h.numbers (pos 0)) ∙ closed)) h
 
-pub no_number : (line : ℕ) (word : List ℕ) (reader : ModelReader) → reader.ended ≡ false → model_number word ≡ None → RefusesThings ((line, Word word) ∷ []) reader (Line BadNumber line)
+pub no_number : (line : ℕ) (word : List ℕ) (reader : ModelReader) → reader.ended ≡ false → model_number word ≡ None → RefusesThings ((line, Word word) ∷ []) reader (At BadNumber line)
 no_number line word reader still m before h =
     thing_refused before line (Word word) BadNumber reader (λ i. cond ((sym (h.numbers (pos 0)) ∙ still) i) (Some BadLine) (number_fault before (m i))) h
 
-pub clashing : (line : ℕ) (word : List ℕ) (z : ℤ) (reader : ModelReader) (fault : ModelFault) → reader.ended ≡ false → model_number word ≡ Some z → IsClash (has_number reader (neg_ℤ z)) line fault → RefusesThings ((line, Word word) ∷ []) reader fault
+pub clashing : (line : ℕ) (word : List ℕ) (z : ℤ) (reader : ModelReader) (fault : Fault ModelCause) → reader.ended ≡ false → model_number word ≡ Some z → IsClash (has_number reader (neg_ℤ z)) line fault → RefusesThings ((line, Word word) ∷ []) reader fault
 clashing line word z reader OutOfMemory still m clash before h = tt
-clashing line word z reader (Line cause place) still m clash before h =
+clashing line word z reader (At cause place) still m clash before h =
     subst (λ (f : ModelCause × ℕ). IsNextFault before ((line, Word word) ∷ []) f.0 f.1) (λ i. (sym clash.1 i, sym clash.2 i))
     (thing_refused before line (Word word) Clash reader (
     (λ i. cond ((sym (h.numbers (pos 0)) ∙ still) i) (Some BadLine) (number_fault before (m i)))
@@ -142,10 +143,10 @@ pub all_taken : (number : ℕ) (words rest : List ℕ) (first now : ModelReader)
 all_taken number words rest first now h none before p =
     subst (λ (l : List (List ℕ)). IsModelProgress (before ++ at_line number (map Word l)) now) (sym (h.parts ∙ ap (λ l. h.done ++ l) none ∙ append-nil h.done)) (h.taken before p)
 
-pub word_refused : (number : ℕ) (words rest : List ℕ) (first now : ModelReader) (word after : List ℕ) (fault : ModelFault) → AreTaken number words rest first now → words_of rest ≡ word ∷ words_of after →
+pub word_refused : (number : ℕ) (words rest : List ℕ) (first now : ModelReader) (word after : List ℕ) (fault : Fault ModelCause) → AreTaken number words rest first now → words_of rest ≡ word ∷ words_of after →
     RefusesThings ((number, Word word) ∷ []) now fault → RefusesThings (at_line number (map Word (words_of words))) first fault
 word_refused number words rest first now word after OutOfMemory h cut refused before p = tt
-word_refused number words rest first now word after (Line cause line) h cut refused before p =
+word_refused number words rest first now word after (At cause line) h cut refused before p =
     let done = at_line number (map Word h.done) in
     let later = at_line number (map Word (words_of after)) in
     let r = refused (before ++ done) (h.taken before p) in
@@ -170,7 +171,7 @@ nothing_taken number things before reader none h =
 
 -- a line that says one thing, which is refused anywhere
 pub line_refused : (line : ℕ) (things : List Said) (thing : Said) (cause : ModelCause) (reader : ModelReader) → things ≡ thing ∷ [] → ((items : List (ℕ × Said)) → said_fault items thing ≡ Some cause) →
-    RefusesThings (at_line line things) reader (Line cause line)
+    RefusesThings (at_line line things) reader (At cause line)
 line_refused line things thing cause reader one refused before h =
     subst (λ (all : List Said). IsNextFault before (at_line line all) cause line) (sym one) (thing_refused before line thing cause reader (refused before) h)
 
@@ -199,12 +200,12 @@ line_taken text number rest reader next line after h cut shorter more = record {
   behind = omega (arith, h.behind, shorter);
 }
 
-pub text_refused : (text : List ℕ) (number : ℕ) (rest : List ℕ) (reader : ModelReader) (line after : List ℕ) (fault : ModelFault) → IsModelSoFar text number rest reader →
+pub text_refused : (text : List ℕ) (number : ℕ) (rest : List ℕ) (reader : ModelReader) (line after : List ℕ) (fault : Fault ModelCause) → IsModelSoFar text number rest reader →
     lines_of rest ≡ line ∷ lines_of after →
     RefusesThings (at_line number (said (words_of line))) reader fault →
-    IsModelRefusal text fault
+    IsRefusal (HasModelFault text) fault
 text_refused text number rest reader line after OutOfMemory h cut refused = tt
-text_refused text number rest reader line after (Line cause place) h cut refused =
+text_refused text number rest reader line after (At cause place) h cut refused =
     let r = refused h.before h.progress in
     let later = said_from (number + 1) (lines_of after) in (
       length (h.before ++ r.front) + 1,
@@ -231,7 +232,7 @@ end_fault : (number : ℕ) (before : List (ℕ × Said)) (reader : ModelReader) 
 end_fault number before reader h = ap (λ b. option_map (λ cause. (cause, number)) (cond b None (Some Unended))) (sym (h.numbers (pos 0)))
 
 -- the text ends without a zero
-pub unended : (text : List ℕ) (number : ℕ) (rest : List ℕ) (reader : ModelReader) → IsModelSoFar text number rest reader → lines_of rest ≡ [] → reader.ended ≡ false → IsModelRefusal text (Line Unended number)
+pub unended : (text : List ℕ) (number : ℕ) (rest : List ℕ) (reader : ModelReader) → IsModelSoFar text number rest reader → lines_of rest ≡ [] → reader.ended ≡ false → IsRefusal (HasModelFault text) (At Unended number)
 unended text number rest reader h none still = (
   length h.before + 1,
   record {

@@ -1,4 +1,4 @@
-pub mod ModelFault
+pub mod ModelCauses
 pub mod ModelFirstFault
 pub mod ModelProgress
 pub mod ModelText

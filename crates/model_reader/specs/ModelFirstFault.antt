@@ -1,5 +1,5 @@
 -- The first fault of a solver's answer.
-use Rattle.std.specs.Prelude.{⊤, ℕ, ◌+◌, ℤ, pos, neg_ℤ, Bool, false, List, [], ◌∷◌, ◌++◌, map, Option, Some, None, if◌then◌else◌}
+use Rattle.std.specs.Prelude.{ℕ, ◌+◌, ℤ, pos, neg_ℤ, Bool, false, List, [], ◌∷◌, ◌++◌, map, Option, Some, None, if◌then◌else◌}
 use Rattle.std.specs.List.{list_any}
 use Rattle.std.specs.Option.{option_eq, option_map}
 use Rattle.std.specs.Ordering.{int_eq}
@@ -8,8 +8,6 @@ use Rattle.text_lines.specs.Lines.{lines_of}
 use Rattle.text_lines.specs.Words.{words_of}
 use Rattle.model_reader.specs.declared.model_fault.ModelCause.{ModelCause}
 use Rattle.model_reader.specs.declared.model_fault.ModelCause.TheVariants.{SaysUnsatisfiable, BadLine, BadNumber, Clash, Unended}
-use Rattle.model_reader.specs.declared.model_fault.ModelFault.{ModelFault}
-use Rattle.model_reader.specs.declared.model_fault.ModelFault.TheVariants.{OutOfMemory, Line}
 use Rattle.model_reader.specs.ModelText.{Said, Word, Unsatisfiable, Unknown, End, said, model_number}
 
 -- each of these at this line
@@ -45,8 +43,3 @@ model_fault before (line, thing) = option_map (λ cause. (cause, line)) (said_fa
 -- the first fault of the text is this, at this line, counted from 1
 abbrev pub HasModelFault : List ℕ → ModelCause → ℕ → Type 0
 HasModelFault text cause line = (place : ℕ) × IsFirstFault model_fault (said_from 1 (lines_of text)) place (cause, line)
-
--- a refusal tells the first fault of the text and its line; want of memory tells nothing of the text
-abbrev pub IsModelRefusal : List ℕ → ModelFault → Type 0
-IsModelRefusal text OutOfMemory = ⊤
-IsModelRefusal text (Line cause line) = HasModelFault text cause line

@@ -1,13 +1,13 @@
 -- What the reader of a solver's answer has read so far.
-use Rattle.std.specs.Prelude.{◌≡◌, ⊤, ℕ, zero, suc, ℤ, pos, negsuc, neg_ℤ, Bool, true, false, ◌||◌, List, [], ◌∷◌, ◌++◌, map, Some}
+use Rattle.std.specs.Prelude.{◌≡◌, ℕ, zero, suc, ℤ, pos, negsuc, neg_ℤ, Bool, true, false, ◌||◌, List, [], ◌∷◌, ◌++◌, map, Some}
 use Rattle.std.specs.List.{list_any}
 use Rattle.std.specs.Ordering.{int_eq}
 use Rattle.text_lines.specs.FirstFault.{IsFaultless}
 use Rattle.text_lines.specs.Words.{words_of}
 use Rattle.model_reader.specs.declared.model_fault.ModelCause.{ModelCause}
 use Rattle.model_reader.specs.declared.model_fault.ModelCause.TheVariants.{Clash}
-use Rattle.model_reader.specs.declared.model_fault.ModelFault.{ModelFault}
-use Rattle.model_reader.specs.declared.model_fault.ModelFault.TheVariants.{OutOfMemory, Line}
+use Rattle.text_lines.specs.Fault.{IsRefusal}
+use Rattle.text_lines.specs.declared.fault.Fault.{Fault}
 use Rattle.model_reader.specs.declared.model_line.ModelLine.{ModelLine}
 use Rattle.model_reader.specs.declared.model_line.ModelLine.TheVariants.{Skipped, Words, Unsatisfiable as NoModel, Unknown as Other}
 use Rattle.model_reader.specs.declared.model_reader.ModelReader.{ModelReader}
@@ -59,19 +59,17 @@ pub record IsNextFault (before things : List (ℕ × Said)) (cause : ModelCause)
   pub first : IsFaultless model_fault (before ++ front)
 
 -- a refusal of these things behind what was said before
-abbrev pub IsNextRefusal : List (ℕ × Said) → List (ℕ × Said) → ModelFault → Type 0
-IsNextRefusal before things OutOfMemory = ⊤
-IsNextRefusal before things (Line cause line) = IsNextFault before things cause line
+abbrev pub IsNextRefusal : List (ℕ × Said) → List (ℕ × Said) → Fault ModelCause → Type 0
+IsNextRefusal before things fault = IsRefusal (IsNextFault before things) fault
 
 -- behind what it has read, the reader takes these things
 abbrev pub TakesThings : List (ℕ × Said) → ModelReader → ModelReader → Type 0
 TakesThings things old new = (before : List (ℕ × Said)) → IsModelProgress before old → IsModelProgress (before ++ things) new
 
 -- behind what it has read, the reader refuses these things
-abbrev pub RefusesThings : List (ℕ × Said) → ModelReader → ModelFault → Type 0
+abbrev pub RefusesThings : List (ℕ × Said) → ModelReader → Fault ModelCause → Type 0
 RefusesThings things reader fault = (before : List (ℕ × Said)) → IsModelProgress before reader → IsNextRefusal before things fault
 
 -- the literal's negation came before, or there was no memory
-abbrev pub IsClash : Bool → ℕ → ModelFault → Type 0
-IsClash clash line OutOfMemory = ⊤
-IsClash clash line (Line cause place) = (clash ≡ true) × (cause ≡ Clash) × (place ≡ line)
+abbrev pub IsClash : Bool → ℕ → Fault ModelCause → Type 0
+IsClash clash line fault = IsRefusal (λ cause place. (clash ≡ true) × (cause ≡ Clash) × (place ≡ line)) fault

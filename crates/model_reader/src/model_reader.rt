@@ -1,16 +1,18 @@
 //! The reader of a solver's answer.
 ghost use Rattle.std.specs.Prelude.{◌≡◌, ◌≤◌, ◌||◌, ◌==◌, ℕ, ℤ, neg_ℤ, Bool, true, false, List, [], ◌∷◌, ◌++◌, length, map, Some, IfOk, IfErr, OnOk, slice_index_or};
 ghost use Rattle.std.specs.Ordering.{int_eq};
+ghost use Rattle.text_lines.specs.Fault.{IsRefusal};
 ghost use Rattle.text_lines.specs.Words.{words_of};
 ghost use Rattle.dimacs.specs.Assignment.{value_of};
 ghost use Rattle.model_reader.specs.ModelText.{Said, Word, said, SpellsModel};
-ghost use Rattle.model_reader.specs.ModelFirstFault.{at_line, said_fault, IsModelRefusal};
+ghost use Rattle.model_reader.specs.ModelFirstFault.{at_line, said_fault, HasModelFault};
 ghost use Rattle.model_reader.specs.ModelProgress.{has_number, number_of, HasNumberMore, IsClash, IsModelProgress, RefusesThings, TakesNumber, TakesThings};
 
 use crate::model_fault::{ModelCause, ModelFault};
 use crate::model_line::{ModelLine, ModelNumber, read_model_line, read_model_number};
 use dimacs::{Assignment, Lit};
 use std::alloc::{AllocError, Global};
+use text_lines::fault::Fault;
 use text_lines::lines::cut_line;
 use text_lines::words::cut_word;
 
@@ -92,7 +94,7 @@ impl ModelReader {
         ensures refused { IfErr result (λ fault. IsClash (has_number self.old (neg_ℤ literal)) line_number fault) }
     {
         if self.has_negation(literal) {
-            return Err(ModelFault::Line(ModelCause::Clash, line_number));
+            return Err(Fault::At(ModelCause::Clash, line_number));
         }
         Ok(self.add(literal)?)
     }
@@ -118,10 +120,10 @@ impl ModelReader {
         ensures refused { IfErr result (RefusesThings ((line_number, Word word.now) ∷ []) self.old) }
     {
         if self.ended {
-            return Err(ModelFault::Line(ModelCause::BadLine, line_number));
+            return Err(Fault::At(ModelCause::BadLine, line_number));
         }
         let Some(number) = read_model_number(word) else {
-            return Err(ModelFault::Line(ModelCause::BadNumber, line_number));
+            return Err(Fault::At(ModelCause::BadNumber, line_number));
         };
         self.take_number(number, line_number)
     }
@@ -147,11 +149,8 @@ impl ModelReader {
         match read_model_line(line) {
             ModelLine::Skipped => Ok(()),
             ModelLine::Words(words) => self.take_words(words, line_number),
-            ModelLine::Unsatisfiable => Err(ModelFault::Line(
-                ModelCause::SaysUnsatisfiable,
-                line_number,
-            )),
-            ModelLine::Unknown => Err(ModelFault::Line(ModelCause::BadLine, line_number)),
+            ModelLine::Unsatisfiable => Err(Fault::At(ModelCause::SaysUnsatisfiable, line_number)),
+            ModelLine::Unknown => Err(Fault::At(ModelCause::BadLine, line_number)),
         }
     }
 }
@@ -174,7 +173,7 @@ impl ModelReader {
 /// which tells nothing of the text.
 pub fn read_model(alloc: Global, text: &[u8]) -> Result<Assignment, ModelFault>
     ensures spelled { IfOk result (SpellsModel text.now) }
-    ensures faulty { IfErr result (IsModelRefusal text.now) }
+    ensures faulty { IfErr result (IsRefusal (HasModelFault text.now)) }
 {
     let mut reader = ModelReader::new(alloc);
     let mut line_number = 1usize;
@@ -185,7 +184,7 @@ pub fn read_model(alloc: Global, text: &[u8]) -> Result<Assignment, ModelFault>
         rest = after;
     }
     if !reader.ended {
-        return Err(ModelFault::Line(ModelCause::Unended, line_number));
+        return Err(Fault::At(ModelCause::Unended, line_number));
     }
     Ok(Assignment::new(reader.positive))
 }

@@ -1,6 +1,6 @@
 pub mod Expansion
 pub mod Named
-pub mod ReduceFault
+pub mod ReduceCauses
 pub mod Reduced
 pub mod Reduction
 pub mod Runs

@@ -1,10 +1,10 @@
 -- What a reduced trace is, and when a trace is not reduced.
-use Rattle.std.specs.Prelude.{◌≡◌, ◌<◌, ◌≤◌, ⊤, ℕ, length}
+use Rattle.std.specs.Prelude.{◌≡◌, ◌<◌, ◌≤◌, ℕ, length}
 use Rattle.std.specs.List.{sum_by}
 use Rattle.traces.specs.declared.trace.Process.{Process}
 use Rattle.traces.specs.Trace.{TraceValue, IsTrace}
-use Rattle.reducer.specs.declared.reduce_fault.ReduceFault.{ReduceFault}
-use Rattle.reducer.specs.declared.reduce_fault.ReduceFault.TheVariants.{OutOfMemory, StillTooLarge}
+use Rattle.reducer.specs.declared.reduce_fault.ReduceCause.{ReduceCause}
+use Rattle.reducer.specs.declared.reduce_fault.ReduceCause.TheVariants.{StillTooLarge}
 use Rattle.reducer.specs.Reduction.{kept_trace}
 
 -- a trace, and what is kept of it
@@ -22,7 +22,6 @@ pub record IsReduced (r : ReducedValue) : Type 0 where
   pub reduction : r.kept ≡ kept_trace r.whole
   pub few : operation_count r.kept ≤ 160
 
--- a trace is not reduced for want of memory, or since this many operations are left, and these are more than 160
-abbrev pub IsReduceRefusal : TraceValue → ReduceFault → Type 0
-IsReduceRefusal t OutOfMemory = ⊤
-IsReduceRefusal t (StillTooLarge left) = (160 < left) × (left ≡ operation_count (kept_trace t))
+-- a trace is not reduced since this many operations are left, and these are more than 160
+abbrev pub HasReduceFault : TraceValue → ReduceCause → ℕ → Type 0
+HasReduceFault t StillTooLarge left = (160 < left) × (left ≡ operation_count (kept_trace t))

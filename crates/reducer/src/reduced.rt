@@ -1,17 +1,19 @@
 //! Reduced traces.
 
 ghost use Rattle.std.specs.Prelude.{◌≡◌, ◌≤◌, IfOk, IfErr};
-ghost use Rattle.reducer.specs.Reduced.{IsReduced, IsReduceRefusal, operation_count};
+ghost use Rattle.reducer.specs.Reduced.{IsReduced, HasReduceFault, operation_count};
 ghost use Rattle.reducer.specs.Reduction as reduction;
 ghost use Rattle.reducer.specs.Runs.{AreBounds};
+ghost use Rattle.text_lines.specs.Fault.{IsRefusal};
 
 use crate::bounds::{Bounds, all_bounds};
 use crate::kept::{count_kept, kept_trace};
 use crate::named::named_ops;
-use crate::reduce_fault::ReduceFault;
+use crate::reduce_fault::{ReduceCause, ReduceFault};
 use std::alloc::Global;
 use std::marker::Model;
 use std::snapshot::Snapshot;
+use text_lines::fault::Fault;
 use traces::trace::Trace;
 
 /// As many operations are kept at most.
@@ -63,14 +65,14 @@ impl Reduced {
 pub fn reduce(alloc: Global, trace: &Trace) -> Result<Reduced, ReduceFault>
     ensures whole { IfOk result (λ reduced. reduced.whole ≡ trace.now) }
     ensures reduced { IfOk result IsReduced }
-    ensures refused { IfErr result (IsReduceRefusal trace.now) }
+    ensures refused { IfErr result (IsRefusal (HasReduceFault trace.now)) }
 {
     trace.is_trace();
     let set = named_ops(alloc, trace)?;
     let bounds = all_bounds(alloc, &set, trace)?;
     let left = count_kept(trace, bounds.as_slice());
     if left > MOST_KEPT {
-        return Err(ReduceFault::StillTooLarge(left));
+        return Err(Fault::At(ReduceCause::StillTooLarge, left));
     }
     let kept = kept_trace(alloc, trace, bounds.as_slice())?;
     Ok(Reduced {

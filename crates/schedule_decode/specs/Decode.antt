@@ -1,10 +1,9 @@
 -- When an assignment is not decoded.
-use Rattle.std.specs.Prelude.{⊤, ℕ, ℤ, Bool, List}
+use Rattle.std.specs.Prelude.{ℕ, ℤ, Bool, List}
 use Rattle.dimacs.specs.Models.{IsFirstFalse}
-use Rattle.schedule_decode.specs.declared.decode_fault.DecodeFault.{DecodeFault}
-use Rattle.schedule_decode.specs.declared.decode_fault.DecodeFault.TheVariants.{OutOfMemory, NotAModel}
+use Rattle.schedule_decode.specs.declared.decode_fault.DecodeCause.{DecodeCause}
+use Rattle.schedule_decode.specs.declared.decode_fault.DecodeCause.TheVariants.{NotAModel}
 
--- truth values are not decoded for want of memory, or since this clause, counted from 1, is the first that they make false
-abbrev pub IsDecodeRefusal : (ℕ → Bool) → List (List ℤ) → DecodeFault → Type 0
-IsDecodeRefusal value clauses OutOfMemory = ⊤
-IsDecodeRefusal value clauses (NotAModel place) = IsFirstFalse value clauses place
+-- truth values are not decoded since this clause, counted from 1, is the first that they make false
+abbrev pub HasDecodeFault : (ℕ → Bool) → List (List ℤ) → DecodeCause → ℕ → Type 0
+HasDecodeFault value clauses NotAModel clause = IsFirstFalse value clauses clause

@@ -1,2 +1,2 @@
 pub mod Decode
-pub mod DecodeFault
+pub mod DecodeCauses

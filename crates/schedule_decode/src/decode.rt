@@ -6,31 +6,34 @@ ghost use Rattle.dimacs.specs.Models.{IsModel};
 ghost use Rattle.traces.specs.Legal.{IsLegal};
 ghost use Rattle.clause_blocks.specs.Clauses.{clauses_of, formula_of};
 ghost use Rattle.clause_blocks.specs.ModelOrder.{IsInOrderOf};
-ghost use Rattle.schedule_decode.specs.Decode.{IsDecodeRefusal};
+ghost use Rattle.text_lines.specs.Fault.{IsRefusal};
+ghost use Rattle.schedule_decode.specs.Decode.{HasDecodeFault};
 
-use crate::decode_fault::DecodeFault;
+use crate::decode_fault::{DecodeCause, DecodeFault};
 use crate::operation_names::{names_by_number, names_in_order};
 use crate::operation_order::order_of;
 use dimacs::{Assignment, Formula};
 use reducer::reduced::Reduced;
 use std::alloc::{AllocError, Global};
+use text_lines::fault::Fault;
 use traces::schedule::Schedule;
 use var_layout::layout::Layout;
 
-/// The schedule in which a model puts the operations. It is legal.
+/// The schedule in which a model puts the operations, by the variables of what is kept. It is legal.
 pub(crate) fn schedule_of(
     alloc: Global,
     reduced: &Reduced,
+    layout: &Layout,
     assignment: &Assignment,
 ) -> Result<Schedule, AllocError>
-    requires { IsModel (value_of assignment.now) (clauses_of reduced.now.kept) }
+    requires same { layout.now ≡ reduced.now.kept }
+    requires model { IsModel (value_of assignment.now) (clauses_of reduced.now.kept) }
     ensures ordered { IfOk result (IsInOrderOf (value_of assignment.now) reduced.now.kept) }
     ensures legal { IfOk result (IsLegal reduced.now.kept) }
 {
     let trace = reduced.kept();
     trace.is_trace();
-    let layout = Layout::of(alloc, reduced)?;
-    let order = order_of(alloc, &layout, assignment)?;
+    let order = order_of(alloc, layout, assignment)?;
     let names = names_by_number(alloc, trace)?;
     Ok(Schedule::new(names_in_order(alloc, names.as_slice(), order.as_slice())?))
 }
@@ -47,10 +50,11 @@ pub fn decode(
     ensures ordered { IfOk result (λ schedule. IsInOrderOf (value_of assignment.now) reduced.now.kept schedule) }
     ensures model { OnOk result (IsModel (value_of assignment.now) formula.now.clauses) }
     ensures legal { IfOk result (IsLegal reduced.now.kept) }
-    ensures refused { IfErr result (IsDecodeRefusal (value_of assignment.now) formula.now.clauses) }
+    ensures refused { IfErr result (IsRefusal (HasDecodeFault (value_of assignment.now) formula.now.clauses)) }
 {
     if let Err(found) = formula.eval(assignment) {
-        return Err(DecodeFault::NotAModel(found.clause));
+        return Err(Fault::At(DecodeCause::NotAModel, found.clause));
     }
-    Ok(schedule_of(alloc, reduced, assignment)?)
+    let layout = Layout::of(alloc, reduced)?;
+    Ok(schedule_of(alloc, reduced, &layout, assignment)?)
 }

@@ -6,15 +6,18 @@ ghost use Rattle.dimacs.specs.Models.{IsModel};
 ghost use Rattle.traces.specs.Legal.{IsLegal};
 ghost use Rattle.clause_blocks.specs.Clauses.{clauses_of};
 ghost use Rattle.clause_blocks.specs.ModelOrder.{IsInOrderOf};
-ghost use Rattle.schedule_decode.specs.Decode.{IsDecodeRefusal};
+ghost use Rattle.text_lines.specs.Fault.{IsRefusal};
+ghost use Rattle.schedule_decode.specs.Decode.{HasDecodeFault};
 
 use crate::decode::schedule_of;
-use crate::decode_fault::DecodeFault;
-use clause_blocks::first_false::first_false_clause;
+use crate::decode_fault::{DecodeCause, DecodeFault};
+use clause_blocks::first_false::first_false_of;
+use clause_blocks::trace_clauses::TraceClauses;
 use dimacs::Assignment;
 use reducer::reduced::Reduced;
 use std::alloc::Global;
 use std::thread::Threads;
+use text_lines::fault::Fault;
 use traces::schedule::Schedule;
 
 /// The schedule in which a model of the trace's clauses puts the operations, as `decode` gives it. The clauses are made in
@@ -28,10 +31,11 @@ pub fn decode_model<R: Threads + Sync>(
     ensures ordered { IfOk result (λ schedule. IsInOrderOf (value_of assignment.now) reduced.now.kept schedule) }
     ensures model { OnOk result (IsModel (value_of assignment.now) (clauses_of reduced.now.kept)) }
     ensures legal { IfOk result (IsLegal reduced.now.kept) }
-    ensures refused { IfErr result (IsDecodeRefusal (value_of assignment.now) (clauses_of reduced.now.kept)) }
+    ensures refused { IfErr result (IsRefusal (HasDecodeFault (value_of assignment.now) (clauses_of reduced.now.kept))) }
 {
-    if let Some(found) = first_false_clause(alloc, rt, reduced, assignment)? {
-        return Err(DecodeFault::NotAModel(found.clause));
+    let clauses = TraceClauses::of(alloc, reduced)?;
+    if let Some(found) = first_false_of(alloc, &clauses, assignment)? {
+        return Err(Fault::At(DecodeCause::NotAModel, found.clause));
     }
-    Ok(schedule_of(alloc, reduced, assignment)?)
+    Ok(schedule_of(alloc, reduced, clauses.layout(), assignment)?)
 }

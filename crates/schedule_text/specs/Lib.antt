@@ -1,5 +1,4 @@
-pub mod ScheduleFault
+pub mod ScheduleCauses
 pub mod ScheduleLine
-pub mod ScheduleRefusal
 pub mod ScheduleText
 pub mod ScheduleWritten

@@ -1,7 +1,6 @@
 //! What may be wrong with the text of a schedule.
 
-use std::alloc::{AllocError, AllocFailed};
-use std::fmt;
+use text_lines::fault::{Cause, Fault};
 
 /// What is wrong with a line of a schedule text.
 #[derive(Clone, Copy, Debug, PartialEq, Eq)]
@@ -14,23 +13,17 @@ pub enum ScheduleCause {
     TooMany,
 }
 
-/// Why a text is not read as a schedule.
-#[derive(Clone, Copy, Debug, PartialEq, Eq)]
-pub enum ScheduleFault {
-    /// There was no memory.
-    OutOfMemory,
-    /// The first fault of the text and its line, counted from 1.
-    Line(ScheduleCause, usize),
-}
+/// Why a text is not read as a schedule: its first fault and its line, counted from 1, or want of memory.
+pub type ScheduleFault = Fault<ScheduleCause>;
 
-impl ScheduleCause {
-    ghost use Rattle.std.specs.Prelude.{◌≡◌};
-    ghost use Rattle.schedule_text.specs.ScheduleFault.{cause_number, cause_name};
+impl Cause for ScheduleCause {
+    ghost use Rattle.schedule_text.specs.ScheduleCauses.{cause_number, cause_name};
 
-    /// Its number among the faults of a schedule text.
-    pub fn number(&self) -> u8
-        ensures { result ≡ cause_number self.now }
-    {
+    ghost number_of = { cause_number };
+
+    ghost name_of = { cause_name };
+
+    fn number(&self) -> u8 {
         match self {
             ScheduleCause::BadName => 2,
             ScheduleCause::BadNumber => 3,
@@ -38,87 +31,11 @@ impl ScheduleCause {
         }
     }
 
-    /// Its name.
-    pub fn name(&self) -> &'static str
-        ensures { result.now ≡ cause_name self.now }
-    {
+    fn name(&self) -> &'static str {
         match self {
             ScheduleCause::BadName => "BadName",
             ScheduleCause::BadNumber => "BadNumber",
             ScheduleCause::TooMany => "TooMany",
         }
-    }
-}
-
-impl ScheduleFault {
-    ghost use Rattle.std.specs.Prelude.{◌≡◌};
-    ghost use Rattle.schedule_text.specs.ScheduleFault.{number_of, name_of, line_number_of};
-
-    /// Its number: 1 where there was no memory, else its cause's.
-    pub fn number(&self) -> u8
-        ensures { result ≡ number_of self.now }
-    {
-        match self {
-            ScheduleFault::OutOfMemory => 1,
-            ScheduleFault::Line(cause, _) => cause.number(),
-        }
-    }
-
-    /// Its name: `OutOfMemory`, or its cause's.
-    pub fn name(&self) -> &'static str
-        ensures { result.now ≡ name_of self.now }
-    {
-        match self {
-            ScheduleFault::OutOfMemory => "OutOfMemory",
-            ScheduleFault::Line(cause, _) => cause.name(),
-        }
-    }
-
-    /// The line at which it stands, counted from 1, where it has one.
-    pub fn place(&self) -> Option<usize>
-        ensures { result ≡ line_number_of self.now }
-    {
-        match self {
-            ScheduleFault::OutOfMemory => None,
-            ScheduleFault::Line(_, line) => Some(*line),
-        }
-    }
-}
-
-impl fmt::Display for ScheduleFault {
-    ghost use Rattle.std.specs.Prelude.{Some};
-    ghost use Rattle.schedule_text.specs.ScheduleFault.{printed};
-
-    ghost output = { λ fault. Some (printed fault) };
-
-    fn fmt<W: fmt::Write>(&self, f: &mut fmt::Formatter<W>) -> fmt::Result {
-        let number = self.number();
-        let name = self.name();
-        match self.place() {
-            Some(line) => write!(f, "{number} {name} at {line}"),
-            None => write!(f, "{number} {name}"),
-        }
-    }
-}
-
-impl From<AllocError> for ScheduleFault {
-    ghost use Rattle.std.specs.Prelude.{◌≡◌};
-    ghost use Rattle.schedule_text.specs.declared.schedule_fault.ScheduleFault.TheVariants.{OutOfMemory};
-
-    ghost from_gives = { λ _ fault. fault ≡ OutOfMemory };
-
-    fn from(_error: AllocError) -> ScheduleFault {
-        ScheduleFault::OutOfMemory
-    }
-}
-
-impl<T: Drop> From<AllocFailed<T>> for ScheduleFault {
-    ghost use Rattle.std.specs.Prelude.{◌≡◌};
-    ghost use Rattle.schedule_text.specs.declared.schedule_fault.ScheduleFault.TheVariants.{OutOfMemory};
-
-    ghost from_gives = { λ _ fault. fault ≡ OutOfMemory };
-
-    fn from(_error: AllocFailed<T>) -> ScheduleFault {
-        ScheduleFault::OutOfMemory
     }
 }

@@ -2,14 +2,15 @@
 
 ghost use Rattle.std.specs.Prelude.{◌≡◌, ◌==◌, true, false, position, slice_index, MatchOption, MatchResult, IfOk, IfErr};
 ghost use Rattle.std.specs.List.{before_first, after_first, list_any};
+ghost use Rattle.text_lines.specs.Fault.{IsRefusal};
 ghost use Rattle.schedule_text.specs.ScheduleLine.{IsSkippedLine, IsNameLine, line_fault, IsLineRefusal};
-ghost use Rattle.schedule_text.specs.ScheduleRefusal.{IsScheduleRefusal};
 ghost use Rattle.traces.specs.Place.{place_of};
-ghost use Rattle.schedule_text.specs.ScheduleText.{SpellsSchedule, is_dot, name_fault};
+ghost use Rattle.schedule_text.specs.ScheduleText.{SpellsSchedule, is_dot, name_fault, HasScheduleFault};
 
 use crate::schedule_fault::{ScheduleCause, ScheduleFault};
 use std::alloc::{AllocError, Global};
 use text_lines::comments::begins_comment;
+use text_lines::fault::Fault;
 use text_lines::lines::cut_line;
 use text_lines::numbers::read_plain;
 use text_lines::words::cut_word;
@@ -105,7 +106,7 @@ fn name_on_line(
             let process = Name::copy_of(alloc, process)?;
             Ok(Some(OpName { process, place }))
         }
-        Err(cause) => Err(ScheduleFault::Line(cause, number)),
+        Err(cause) => Err(Fault::At(cause, number)),
     }
 }
 
@@ -116,7 +117,7 @@ fn name_on_line(
 /// `OutOfMemory`, which tells nothing of the text.
 pub fn read_schedule(alloc: Global, text: &[u8]) -> Result<Schedule, ScheduleFault>
     ensures spelled { IfOk result (λ schedule. SpellsSchedule text.now schedule) }
-    ensures faulty { IfErr result (λ fault. IsScheduleRefusal text.now fault) }
+    ensures faulty { IfErr result (λ fault. IsRefusal (HasScheduleFault text.now) fault) }
 {
     let mut names = Vec::new(alloc);
     let mut number = 0usize;

@@ -9,11 +9,11 @@ use Rattle.std.proofs.lemmas.Slice.Eq.{bytes_eq-Decides}
 use Rattle.trace_text.specs.declared.seen.Seen.{Seen}
 use Rattle.trace_text.specs.declared.trace_fault.TraceCause.{TraceCause}
 use Rattle.trace_text.specs.declared.trace_fault.TraceCause.TheVariants.{BadName, BadNumber, LateHeaderLine, OpOutsideProc, InitTwice, FinalTwice, ProcTwice, TooManyProcs, TooManyOps, TooManyLocations, TooManyBefore}
-use Rattle.trace_text.specs.declared.refusal.Refusal.{Refusal}
-use Rattle.trace_text.specs.declared.refusal.Refusal.TheVariants.{OutOfMemory, Fault}
+use Rattle.trace_text.specs.declared.line_refusal.LineRefusal.{LineRefusal}
+use Rattle.trace_text.specs.declared.line_refusal.LineRefusal.TheVariants.{OutOfMemory, For}
 use Rattle.trace_text.specs.Entry.{has_numbers, number_fault}
 use Rattle.traces.specs.Names.{is_name}
-use Rattle.trace_text.specs.Refusal.{IsRefusedFor}
+use Rattle.trace_text.specs.LineRefusal.{IsRefusedFor}
 use Rattle.traces.specs.Locations.{distinct, holds_name}
 use Rattle.trace_text.specs.Seen.{has, early_fault, fault_behind, fault_of_operation, NotesLocation, Notes, IsSeen}
 use Rattle.trace_text.specs.Statement.{Statement, Init, Final, Proc, Read, Write, Update, Before}
@@ -195,9 +195,9 @@ fault_early ss s begun cause b h = early_some (is_value_line s && list_any is_pr
     (late_fault ss s) (ap (λ c. early_fault c s) b ∙ h)
 
 -- where a number is wrong
-pub fault_number : (ss : List Statement) (s : Statement) (begun : Bool) (refusal : Refusal) → list_any is_proc ss ≡ begun → early_fault begun s ≡ None → IsRefusedFor (number_fault (has_numbers s)) refusal → IsRefusedFor (statement_fault ss s) refusal
+pub fault_number : (ss : List Statement) (s : Statement) (begun : Bool) (refusal : LineRefusal) → list_any is_proc ss ≡ begun → early_fault begun s ≡ None → IsRefusedFor (number_fault (has_numbers s)) refusal → IsRefusedFor (statement_fault ss s) refusal
 fault_number ss s begun OutOfMemory b h r = tt
-fault_number ss s begun (Fault cause) b h r = early_number (is_value_line s && list_any is_proc ss) (is_operation s && not (list_any is_proc ss)) (list_all is_name (names_of s)) (has_numbers s) cause
+fault_number ss s begun (For cause) b h r = early_number (is_value_line s && list_any is_proc ss) (is_operation s && not (list_any is_proc ss)) (list_all is_name (names_of s)) (has_numbers s) cause
     (late_fault ss s) (ap (λ c. early_fault c s) b ∙ h) r
 
 -- where its words are fine

@@ -1,5 +1,5 @@
 -- The operations that lines name.
-use Rattle.std.specs.Prelude.{⊤, ℕ, Bool, false, not, ◌&&◌, List, length, Option, Some, None, nat_le, if◌then◌else◌}
+use Rattle.std.specs.Prelude.{ℕ, Bool, false, not, ◌&&◌, List, length, Option, Some, None, nat_le, if◌then◌else◌}
 use Rattle.std.specs.List.{list_any, list_all}
 use Rattle.std.specs.Str.{bytes_eq}
 use Rattle.text_lines.specs.FirstFault.{IsFirstFault}
@@ -8,8 +8,8 @@ use Rattle.text_lines.specs.Words.{words_of}
 use Rattle.traces.specs.declared.trace.Process.{Process}
 use Rattle.trace_text.specs.declared.trace_fault.TraceCause.{TraceCause}
 use Rattle.trace_text.specs.declared.trace_fault.TraceCause.TheVariants.{NoSuchOp, BeforeItself}
-use Rattle.trace_text.specs.declared.trace_fault.TraceFault.{TraceFault}
-use Rattle.trace_text.specs.declared.trace_fault.TraceFault.TheVariants.{OutOfMemory, Line}
+use Rattle.text_lines.specs.Fault.{IsRefusal}
+use Rattle.text_lines.specs.declared.fault.Fault.{Fault}
 use Rattle.text_lines.specs.Kept.{is_skipped}
 use Rattle.trace_text.specs.Statement.{Statement, statement_of}
 use Rattle.traces.specs.Place.{place_of}
@@ -41,6 +41,5 @@ abbrev pub fault_of_line : Bool → List Process → List ℕ → Option TraceCa
 fault_of_line two processes line = if is_skipped (words_of line) then None else fault_of_references processes (statement_of two (words_of line))
 
 -- the first line that names an operation wrongly
-abbrev pub IsRefusedByReferences : Bool → List Process → List ℕ → TraceFault → Type 0
-IsRefusedByReferences two processes text OutOfMemory = ⊤
-IsRefusedByReferences two processes text (Line cause line) = IsFirstFault (λ _ here. fault_of_line two processes here) (lines_of text) line cause
+abbrev pub IsRefusedByReferences : Bool → List Process → List ℕ → Fault TraceCause → Type 0
+IsRefusedByReferences two processes text fault = IsRefusal (λ cause line. IsFirstFault (λ _ here. fault_of_line two processes here) (lines_of text) line cause) fault

@@ -1,10 +1,7 @@
--- The number, the name and the line of a fault of a trace text, and how it is printed.
-use Rattle.std.specs.Prelude.{ℕ, List, Option, Some, None, codes}
+-- The numbers and the names of the causes for which a text is refused.
+use Rattle.std.specs.Prelude.{ℕ, List, codes}
 use Rattle.trace_text.specs.declared.trace_fault.TraceCause.{TraceCause}
 use Rattle.trace_text.specs.declared.trace_fault.TraceCause.TheVariants.{NotAscii, Header, UnknownLine, BadName, BadNumber, InitTwice, FinalTwice, ProcTwice, OpOutsideProc, LateHeaderLine, TooManyProcs, TooManyOps, TooManyLocations, NoSuchOp, BeforeItself, TooManyBefore}
-use Rattle.trace_text.specs.declared.trace_fault.TraceFault.{TraceFault}
-use Rattle.trace_text.specs.declared.trace_fault.TraceFault.TheVariants.{OutOfMemory, Line}
-use Rattle.text_lines.specs.Printed.{printed_at}
 
 abbrev pub cause_number : TraceCause → ℕ
 cause_number NotAscii = 2
@@ -41,22 +38,3 @@ cause_name TooManyLocations = codes "TooManyLocations"
 cause_name NoSuchOp = codes "NoSuchOp"
 cause_name BeforeItself = codes "BeforeItself"
 cause_name TooManyBefore = codes "TooManyBefore"
-
--- the number of a fault
-abbrev pub number_of : TraceFault → ℕ
-number_of OutOfMemory = 1
-number_of (Line cause line) = cause_number cause
-
--- the name of a fault
-abbrev pub name_of : TraceFault → List ℕ
-name_of OutOfMemory = codes "OutOfMemory"
-name_of (Line cause line) = cause_name cause
-
--- the line of a fault, where it has one
-abbrev pub line_number_of : TraceFault → Option ℕ
-line_number_of OutOfMemory = None
-line_number_of (Line cause line) = Some line
-
--- a fault as it is printed, as `13 TooManyOps at 4099`
-abbrev pub printed : TraceFault → List ℕ
-printed fault = printed_at (number_of fault) (name_of fault) (line_number_of fault)

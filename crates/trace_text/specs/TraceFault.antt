@@ -1,5 +1,5 @@
 -- The first fault of a trace text.
-use Rattle.std.specs.Prelude.{◌≡◌, ◌⊎◌, ⊤, ◌+◌, ◌-◌, ◌^◌, ℕ, Bool, true, false, not, List, [], ◌∷◌, ◌++◌, length, map, Option, Some, None, is_none, ◌&&◌, ◌||◌, nat_le, nat_lt, if◌then◌else◌}
+use Rattle.std.specs.Prelude.{◌≡◌, ◌⊎◌, ◌+◌, ◌-◌, ◌^◌, ℕ, Bool, true, false, not, List, [], ◌∷◌, ◌++◌, length, map, Option, Some, None, is_none, ◌&&◌, ◌||◌, nat_le, nat_lt, if◌then◌else◌}
 use Rattle.std.specs.Cmp.Lexicographic.{pointwise}
 use Rattle.std.specs.List.{filter, filter_map, list_any, list_all}
 use Rattle.std.specs.Str.{bytes_eq}
@@ -10,8 +10,6 @@ use Rattle.text_lines.specs.Words.{words_of}
 use Rattle.traces.specs.Place.{place_of}
 use Rattle.trace_text.specs.declared.trace_fault.TraceCause.{TraceCause}
 use Rattle.trace_text.specs.declared.trace_fault.TraceCause.TheVariants.{NotAscii, Header, UnknownLine, BadName, BadNumber, InitTwice, FinalTwice, ProcTwice, OpOutsideProc, LateHeaderLine, TooManyProcs, TooManyOps, TooManyLocations, NoSuchOp, BeforeItself, TooManyBefore}
-use Rattle.trace_text.specs.declared.trace_fault.TraceFault.{TraceFault}
-use Rattle.trace_text.specs.declared.trace_fault.TraceFault.TheVariants.{OutOfMemory, Line}
 use Rattle.text_lines.specs.Kept.{kept, is_skipped}
 use Rattle.traces.specs.Locations.{distinct, holds_name}
 use Rattle.traces.specs.Names.{is_name}
@@ -228,8 +226,3 @@ pub record HasReferenceFault (text : List ℕ) (cause : TraceCause) (line : ℕ)
 abbrev pub HasTraceFault : List ℕ → TraceCause → ℕ → Type 0
 HasTraceFault text cause line = IsFirstFault trace_line_fault (lines_of text) line cause
     ⊎ ((LacksHeader text × (cause ≡ Header) × (line ≡ length (lines_of text) + 1)) ⊎ HasReferenceFault text cause line)
-
--- why a text is not read: its first fault, unless there was no memory
-abbrev pub IsTraceRefusal : List ℕ → TraceFault → Type 0
-IsTraceRefusal text OutOfMemory = ⊤
-IsTraceRefusal text (Line cause line) = HasTraceFault text cause line

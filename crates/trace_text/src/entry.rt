@@ -2,13 +2,13 @@
 
 ghost use Rattle.std.specs.Prelude.{◌≡◌, ◌<◌, ◌^◌, ◌&&◌, true, decimal, is_some, IfOk, IfErr, IfSome, Some, None, if◌then◌else◌};
 ghost use Rattle.trace_text.specs.Entry.{source_of, statement_for, op_statement, has_numbers, has_place, number_fault, fits_value, fits_place, origin_fits, op_fits, entry_fits};
-ghost use Rattle.trace_text.specs.Refusal.{IsRefusedFor};
+ghost use Rattle.trace_text.specs.LineRefusal.{IsRefusedFor};
 ghost use Rattle.trace_text.specs.Said.{said, said_source};
 ghost use Rattle.trace_text.specs.Statement.{Read, Write, Update, Before};
 ghost use Rattle.traces.specs.Place.{place_of};
 ghost use Rattle.trace_text.specs.TraceFault.{is_value, is_place};
 
-use crate::refusal::Refusal;
+use crate::line_refusal::LineRefusal;
 use crate::statement::{Source, Statement};
 use crate::trace_fault::TraceCause;
 use std::alloc::Global;
@@ -54,7 +54,7 @@ pub fn read_place(word: &[u8]) -> Option<u16>
 }
 
 /// A location and its value.
-fn read_located(alloc: Global, location: &[u8], value: &[u8]) -> Result<(Name, u64), Refusal>
+fn read_located(alloc: Global, location: &[u8], value: &[u8]) -> Result<(Name, u64), LineRefusal>
     ensures refused { IfErr result (IsRefusedFor (number_fault (is_value value.now))) }
     ensures fine { IfOk result (λ _. is_value value.now ≡ true) }
     ensures location { IfOk result (λ located. located.0 ≡ location.now) }
@@ -62,13 +62,13 @@ fn read_located(alloc: Global, location: &[u8], value: &[u8]) -> Result<(Name, u
     ensures fits { IfOk result (λ located. fits_value located.1 ≡ true) }
 {
     let Some(value) = read_value(value) else {
-        return Err(Refusal::Fault(TraceCause::BadNumber));
+        return Err(LineRefusal::For(TraceCause::BadNumber));
     };
     Ok((Name::copy_of(alloc, location)?, value))
 }
 
 /// The name of an operation.
-fn read_op_name(alloc: Global, process: &[u8], place: &[u8]) -> Result<OpName, Refusal>
+fn read_op_name(alloc: Global, process: &[u8], place: &[u8]) -> Result<OpName, LineRefusal>
     ensures refused { IfErr result (IsRefusedFor (number_fault (is_place place.now))) }
     ensures fine { IfOk result (λ _. is_place place.now ≡ true) }
     ensures process { IfOk result (λ name. name.process ≡ process.now) }
@@ -76,7 +76,7 @@ fn read_op_name(alloc: Global, process: &[u8], place: &[u8]) -> Result<OpName, R
     ensures fits { IfOk result (λ name. fits_place name.place ≡ true) }
 {
     let Some(place) = read_place(place) else {
-        return Err(Refusal::Fault(TraceCause::BadNumber));
+        return Err(LineRefusal::For(TraceCause::BadNumber));
     };
     Ok(OpName {
         process: Name::copy_of(alloc, process)?,
@@ -85,7 +85,7 @@ fn read_op_name(alloc: Global, process: &[u8], place: &[u8]) -> Result<OpName, R
 }
 
 /// Where a value comes from.
-fn read_origin(alloc: Global, source: Source<'_>) -> Result<Origin, Refusal>
+fn read_origin(alloc: Global, source: Source<'_>) -> Result<Origin, LineRefusal>
     ensures refused { IfErr result (IsRefusedFor (number_fault (has_place (said_source source.entry)))) }
     ensures fine { IfOk result (λ _. has_place (said_source source.entry) ≡ true) }
     ensures source { IfOk result (λ origin. source_of origin ≡ said_source source.entry) }
@@ -106,7 +106,7 @@ fn read_read(
     location: &[u8],
     value: &[u8],
     source: Source<'_>,
-) -> Result<Op, Refusal>
+) -> Result<Op, LineRefusal>
     ensures refused { IfErr result (IsRefusedFor (number_fault (has_numbers (Read location.now value.now (said_source source.entry))))) }
     ensures fine { IfOk result (λ _. has_numbers (Read location.now value.now (said_source source.entry)) ≡ true) }
     ensures said { IfOk result (λ op. op_statement op ≡ Read location.now value.now (said_source source.entry)) }
@@ -127,14 +127,14 @@ fn read_update(
     read: &[u8],
     left: &[u8],
     source: Source<'_>,
-) -> Result<Op, Refusal>
+) -> Result<Op, LineRefusal>
     ensures refused { IfErr result (IsRefusedFor (number_fault (has_numbers (Update location.now read.now left.now (said_source source.entry))))) }
     ensures fine { IfOk result (λ _. has_numbers (Update location.now read.now left.now (said_source source.entry)) ≡ true) }
     ensures said { IfOk result (λ op. op_statement op ≡ Update location.now read.now left.now (said_source source.entry)) }
     ensures fits { IfOk result (λ op. op_fits op ≡ true) }
 {
     let Some(read) = read_value(read) else {
-        return Err(Refusal::Fault(TraceCause::BadNumber));
+        return Err(LineRefusal::For(TraceCause::BadNumber));
     };
     let (location, left) = read_located(alloc, location, left)?;
     Ok(Op::Update {
@@ -146,7 +146,7 @@ fn read_update(
 }
 
 /// What the line of a write adds.
-fn read_write(alloc: Global, location: &[u8], value: &[u8]) -> Result<Op, Refusal>
+fn read_write(alloc: Global, location: &[u8], value: &[u8]) -> Result<Op, LineRefusal>
     ensures refused { IfErr result (IsRefusedFor (number_fault (has_numbers (Write location.now value.now)))) }
     ensures fine { IfOk result (λ _. has_numbers (Write location.now value.now) ≡ true) }
     ensures said { IfOk result (λ op. op_statement op ≡ Write location.now value.now) }
@@ -163,7 +163,7 @@ fn read_pair(
     place: &[u8],
     other: &[u8],
     other_place: &[u8],
-) -> Result<Entry, Refusal>
+) -> Result<Entry, LineRefusal>
     ensures refused { IfErr result (IsRefusedFor (number_fault (has_numbers (Before process.now place.now other.now other_place.now)))) }
     ensures fine { IfOk result (λ _. has_numbers (Before process.now place.now other.now other_place.now) ≡ true) }
     ensures said { IfOk result (λ entry. statement_for entry ≡ Before process.now place.now other.now other_place.now) }
@@ -175,7 +175,7 @@ fn read_pair(
 }
 
 /// What a line adds that says this, where its numbers are numbers.
-pub fn read_entry(alloc: Global, statement: Statement<'_>) -> Result<Entry, Refusal>
+pub fn read_entry(alloc: Global, statement: Statement<'_>) -> Result<Entry, LineRefusal>
     ensures refused { IfErr result (IsRefusedFor (number_fault (has_numbers (said statement.entry)))) }
     ensures fine { IfOk result (λ _. has_numbers (said statement.entry) ≡ true) }
     ensures said { IfOk result (λ entry. statement_for entry ≡ said statement.entry) }

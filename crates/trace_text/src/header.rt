@@ -4,19 +4,21 @@ ghost use Rattle.std.specs.Prelude.{◌≡◌, ◌∷◌, [], true, false, codes
 ghost use Rattle.std.specs.Cmp.Lexicographic.{pointwise};
 ghost use Rattle.std.specs.List.{list_any};
 ghost use Rattle.std.specs.Str.{bytes_eq};
+ghost use Rattle.text_lines.specs.Fault.{IsRefusal};
 ghost use Rattle.text_lines.specs.Words.{words_of};
 ghost use Rattle.trace_text.specs.Header.{header_fault, IsHeaderLine};
 ghost use Rattle.text_lines.specs.Kept.{is_skipped};
 ghost use Rattle.trace_text.specs.Read.{HasHeader};
-ghost use Rattle.trace_text.specs.Refusal.{IsRefusedFor};
-ghost use Rattle.trace_text.specs.TraceFault.{is_header, IsTraceRefusal};
+ghost use Rattle.trace_text.specs.LineRefusal.{IsRefusedFor};
+ghost use Rattle.trace_text.specs.TraceFault.{is_header, HasTraceFault};
 ghost use Rattle.trace_text.specs.TraceText.{header_line};
 
 use crate::line::has_high_byte;
-use crate::refusal::Refusal;
+use crate::line_refusal::LineRefusal;
 use crate::trace_fault::{TraceCause, TraceFault};
 use std::alloc::Global;
 use text_lines::comments::is_skipped_line;
+use text_lines::fault::Fault;
 use text_lines::lines::cut_line;
 use text_lines::words::first_words;
 
@@ -55,7 +57,7 @@ fn version_of(words: &[&[u8]]) -> Option<bool>
 }
 
 /// Whether the header on this line is of version 2; nothing where the line is skipped.
-fn read_header_line(alloc: Global, line: &[u8]) -> Result<Option<bool>, Refusal>
+fn read_header_line(alloc: Global, line: &[u8]) -> Result<Option<bool>, LineRefusal>
     ensures refused { IfErr result (IsRefusedFor (header_fault line.now)) }
     ensures read { IfOk result (λ version. MatchOption version (is_skipped (words_of line.now) ≡ true) (IsHeaderLine line.now)) }
 {
@@ -64,17 +66,17 @@ fn read_header_line(alloc: Global, line: &[u8]) -> Result<Option<bool>, Refusal>
         return Ok(None);
     }
     if has_high_byte(line) {
-        return Err(Refusal::Fault(TraceCause::NotAscii));
+        return Err(LineRefusal::For(TraceCause::NotAscii));
     }
     match version_of(words.as_slice()) {
         Some(two) => Ok(Some(two)),
-        None => Err(Refusal::Fault(TraceCause::Header)),
+        None => Err(LineRefusal::For(TraceCause::Header)),
     }
 }
 
 /// Reads the lines up to the header.
 pub fn read_header(alloc: Global, text: &[u8]) -> Result<Header<'_>, TraceFault>
-    ensures refused { IfErr result (IsTraceRefusal text.now) }
+    ensures refused { IfErr result (IsRefusal (HasTraceFault text.now)) }
     ensures read { IfOk result (λ header. HasHeader text.now header.two header.rest.now header.next) }
 {
     let mut rest = text;
@@ -94,5 +96,5 @@ pub fn read_header(alloc: Global, text: &[u8]) -> Result<Header<'_>, TraceFault>
         rest = after;
         next += 1;
     }
-    Err(TraceFault::Line(TraceCause::Header, next))
+    Err(Fault::At(TraceCause::Header, next))
 }

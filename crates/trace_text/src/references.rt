@@ -5,14 +5,14 @@ ghost use Rattle.std.specs.List.{list_all, list_any};
 ghost use Rattle.std.specs.Str.{bytes_eq};
 ghost use Rattle.text_lines.specs.FirstFault.{IsFaultless};
 ghost use Rattle.text_lines.specs.Lines.{lines_of};
-ghost use Rattle.trace_text.specs.Refusal.{IsRefusedFor};
+ghost use Rattle.trace_text.specs.LineRefusal.{IsRefusedFor};
 ghost use Rattle.trace_text.specs.References.{is_of, is_among, fault_of_references, fault_of_line, IsRefusedByReferences};
 ghost use Rattle.trace_text.specs.Said.{said, said_source};
 ghost use Rattle.traces.specs.Place.{place_of};
 ghost use Rattle.trace_text.specs.TraceFault.{references_of, references_of_source, is_before_itself};
 
 use crate::entry::read_place;
-use crate::refusal::Refusal;
+use crate::line_refusal::LineRefusal;
 use crate::statement::{Source, Statement, read_statement};
 use crate::trace_fault::{TraceCause, TraceFault};
 use std::alloc::Global;
@@ -86,21 +86,26 @@ fn is_of_one(statement: Statement<'_>) -> bool
 }
 
 /// What is wrong with the operations that a line names.
-fn fault_of_names(processes: &[Process], statement: Statement<'_>) -> Result<(), Refusal>
+fn fault_of_names(processes: &[Process], statement: Statement<'_>) -> Result<(), LineRefusal>
     ensures refused { IfErr result (IsRefusedFor (fault_of_references processes.now (Some (said statement.entry)))) }
     ensures fine { OnOk result (fault_of_references processes.now (Some (said statement.entry)) ≡ None) }
 {
     if !all_are_known(processes, statement) {
-        return Err(Refusal::Fault(TraceCause::NoSuchOp));
+        return Err(LineRefusal::For(TraceCause::NoSuchOp));
     }
     if is_of_one(statement) {
-        return Err(Refusal::Fault(TraceCause::BeforeItself));
+        return Err(LineRefusal::For(TraceCause::BeforeItself));
     }
     Ok(())
 }
 
 /// Looks at the operations that a line names.
-fn check_line(alloc: Global, two: bool, processes: &[Process], line: &[u8]) -> Result<(), Refusal>
+fn check_line(
+    alloc: Global,
+    two: bool,
+    processes: &[Process],
+    line: &[u8],
+) -> Result<(), LineRefusal>
     ensures refused { IfErr result (IsRefusedFor (fault_of_line two processes.now line.now)) }
     ensures fine { OnOk result (fault_of_line two processes.now line.now ≡ None) }
 {

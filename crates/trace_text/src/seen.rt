@@ -2,12 +2,12 @@
 
 ghost use Rattle.std.specs.Prelude.{◌≡◌, ◌≤◌, [], List, ℕ, Some, None, false, OnOk, IfErr};
 ghost use Rattle.traces.specs.NameNumbers.{number_of};
-ghost use Rattle.trace_text.specs.Refusal.{IsRefusedFor};
+ghost use Rattle.trace_text.specs.LineRefusal.{IsRefusedFor};
 ghost use Rattle.trace_text.specs.Said.{said};
 ghost use Rattle.trace_text.specs.Statement.{Init, Final, Proc, Write, Before};
 ghost use Rattle.trace_text.specs.Seen.{has, IsSeen, Notes, NotesLocation, fault_behind, fault_of_location, fault_of_operation};
 
-use crate::refusal::Refusal;
+use crate::line_refusal::LineRefusal;
 use crate::statement::Statement;
 use crate::trace_fault::TraceCause;
 use std::alloc::Global;
@@ -58,7 +58,7 @@ impl<'a> Seen<'a> {
     }
 
     /// Takes the location of a line.
-    fn take_location(&mut self, location: &'a [u8]) -> Result<(), Refusal>
+    fn take_location(&mut self, location: &'a [u8]) -> Result<(), LineRefusal>
         requires { self.old.location_count ≤ 4096 }
         ensures refused { IfErr result (IsRefusedFor (fault_of_location self.old location.now)) }
         ensures fine { OnOk result (fault_of_location self.old location.now ≡ None) }
@@ -74,7 +74,7 @@ impl<'a> Seen<'a> {
             return Ok(());
         }
         if self.location_count >= MOST_LOCATIONS {
-            return Err(Refusal::Fault(TraceCause::TooManyLocations));
+            return Err(LineRefusal::For(TraceCause::TooManyLocations));
         }
         self.locations.insert(location, 0)?;
         self.location_count += 1;
@@ -82,42 +82,42 @@ impl<'a> Seen<'a> {
     }
 
     /// Takes an initial value.
-    fn take_initial(&mut self, location: &'a [u8]) -> Result<(), Refusal>
+    fn take_initial(&mut self, location: &'a [u8]) -> Result<(), LineRefusal>
         requires { self.old.location_count ≤ 4096 }
         ensures refused { IfErr result (IsRefusedFor (fault_behind self.old (Init location.now []))) }
         ensures noted { OnOk result (Notes self.old self.new (Init location.now [])) }
     {
         if has_name(&self.initial, location) {
-            return Err(Refusal::Fault(TraceCause::InitTwice));
+            return Err(LineRefusal::For(TraceCause::InitTwice));
         }
         self.initial.insert(location, 0)?;
         self.take_location(location)
     }
 
     /// Takes a final value.
-    fn take_final(&mut self, location: &'a [u8]) -> Result<(), Refusal>
+    fn take_final(&mut self, location: &'a [u8]) -> Result<(), LineRefusal>
         requires { self.old.location_count ≤ 4096 }
         ensures refused { IfErr result (IsRefusedFor (fault_behind self.old (Final location.now []))) }
         ensures noted { OnOk result (Notes self.old self.new (Final location.now [])) }
     {
         if has_name(&self.final_values, location) {
-            return Err(Refusal::Fault(TraceCause::FinalTwice));
+            return Err(LineRefusal::For(TraceCause::FinalTwice));
         }
         self.final_values.insert(location, 0)?;
         self.take_location(location)
     }
 
     /// Takes a process.
-    fn take_process(&mut self, name: &'a [u8]) -> Result<(), Refusal>
+    fn take_process(&mut self, name: &'a [u8]) -> Result<(), LineRefusal>
         requires { self.old.location_count ≤ 4096 }
         ensures refused { IfErr result (IsRefusedFor (fault_behind self.old (Proc name.now))) }
         ensures noted { OnOk result (Notes self.old self.new (Proc name.now)) }
     {
         if has_name(&self.processes, name) {
-            return Err(Refusal::Fault(TraceCause::ProcTwice));
+            return Err(LineRefusal::For(TraceCause::ProcTwice));
         }
         if self.process_count >= MOST_PROCESSES {
-            return Err(Refusal::Fault(TraceCause::TooManyProcs));
+            return Err(LineRefusal::For(TraceCause::TooManyProcs));
         }
         self.processes.insert(name, 0)?;
         self.process_count += 1;
@@ -125,33 +125,33 @@ impl<'a> Seen<'a> {
     }
 
     /// Takes an operation on a location.
-    fn take_operation(&mut self, location: &'a [u8]) -> Result<(), Refusal>
+    fn take_operation(&mut self, location: &'a [u8]) -> Result<(), LineRefusal>
         requires { self.old.location_count ≤ 4096 }
         ensures refused { IfErr result (IsRefusedFor (fault_behind self.old (Write location.now []))) }
         ensures noted { OnOk result (Notes self.old self.new (Write location.now [])) }
     {
         if self.operation_count >= MOST_OPERATIONS {
-            return Err(Refusal::Fault(TraceCause::TooManyOps));
+            return Err(LineRefusal::For(TraceCause::TooManyOps));
         }
         self.operation_count += 1;
         self.take_location(location)
     }
 
     /// Takes a `before` line.
-    fn take_before(&mut self) -> Result<(), Refusal>
+    fn take_before(&mut self) -> Result<(), LineRefusal>
         requires { self.old.location_count ≤ 4096 }
         ensures refused { IfErr result (IsRefusedFor (fault_behind self.old (Before [] [] [] []))) }
         ensures noted { OnOk result (Notes self.old self.new (Before [] [] [] [])) }
     {
         if self.before_count >= MOST_BEFORE_LINES {
-            return Err(Refusal::Fault(TraceCause::TooManyBefore));
+            return Err(LineRefusal::For(TraceCause::TooManyBefore));
         }
         self.before_count += 1;
         Ok(())
     }
 
     /// Takes what a line says, unless the lines before it make a fault of it.
-    pub fn take(&mut self, statement: Statement<'a>) -> Result<(), Refusal>
+    pub fn take(&mut self, statement: Statement<'a>) -> Result<(), LineRefusal>
         requires { self.old.location_count ≤ 4096 }
         ensures refused { IfErr result (IsRefusedFor (fault_behind self.old (said statement.entry))) }
         ensures noted { OnOk result (Notes self.old self.new (said statement.entry)) }

@@ -1,7 +1,6 @@
 //! What may be wrong with the text of a trace.
 
-use std::alloc::{AllocError, AllocFailed};
-use std::fmt;
+use text_lines::fault::{Cause, Fault};
 
 /// What is wrong with a line of a trace text, or with the whole.
 #[derive(Clone, Copy, Debug, PartialEq, Eq)]
@@ -40,23 +39,17 @@ pub enum TraceCause {
     TooManyBefore,
 }
 
-/// Why a text is not read as a trace.
-#[derive(Clone, Copy, Debug, PartialEq, Eq)]
-pub enum TraceFault {
-    /// There was no memory.
-    OutOfMemory,
-    /// The first fault of the text and its line, counted from 1.
-    Line(TraceCause, usize),
-}
+/// Why a text is not read as a trace: its first fault and its line, counted from 1, or want of memory.
+pub type TraceFault = Fault<TraceCause>;
 
-impl TraceCause {
-    ghost use Rattle.std.specs.Prelude.{◌≡◌};
+impl Cause for TraceCause {
     ghost use Rattle.trace_text.specs.TraceCauses.{cause_number, cause_name};
 
-    /// Its number among the faults of a trace text.
-    pub fn number(&self) -> u8
-        ensures { result ≡ cause_number self.now }
-    {
+    ghost number_of = { cause_number };
+
+    ghost name_of = { cause_name };
+
+    fn number(&self) -> u8 {
         match self {
             TraceCause::NotAscii => 2,
             TraceCause::Header => 3,
@@ -77,10 +70,7 @@ impl TraceCause {
         }
     }
 
-    /// Its name.
-    pub fn name(&self) -> &'static str
-        ensures { result.now ≡ cause_name self.now }
-    {
+    fn name(&self) -> &'static str {
         match self {
             TraceCause::NotAscii => "NotAscii",
             TraceCause::Header => "Header",
@@ -99,78 +89,5 @@ impl TraceCause {
             TraceCause::BeforeItself => "BeforeItself",
             TraceCause::TooManyBefore => "TooManyBefore",
         }
-    }
-}
-
-impl TraceFault {
-    ghost use Rattle.std.specs.Prelude.{◌≡◌};
-    ghost use Rattle.trace_text.specs.TraceCauses.{number_of, name_of, line_number_of};
-
-    /// Its number: 1 where there was no memory, else its cause's.
-    pub fn number(&self) -> u8
-        ensures { result ≡ number_of self.now }
-    {
-        match self {
-            TraceFault::OutOfMemory => 1,
-            TraceFault::Line(cause, _) => cause.number(),
-        }
-    }
-
-    /// Its name: `OutOfMemory`, or its cause's.
-    pub fn name(&self) -> &'static str
-        ensures { result.now ≡ name_of self.now }
-    {
-        match self {
-            TraceFault::OutOfMemory => "OutOfMemory",
-            TraceFault::Line(cause, _) => cause.name(),
-        }
-    }
-
-    /// The line at which it stands, counted from 1, where it has one.
-    pub fn place(&self) -> Option<usize>
-        ensures { result ≡ line_number_of self.now }
-    {
-        match self {
-            TraceFault::OutOfMemory => None,
-            TraceFault::Line(_, line) => Some(*line),
-        }
-    }
-}
-
-impl fmt::Display for TraceFault {
-    ghost use Rattle.std.specs.Prelude.{Some};
-    ghost use Rattle.trace_text.specs.TraceCauses.{printed};
-
-    ghost output = { λ fault. Some (printed fault) };
-
-    fn fmt<W: fmt::Write>(&self, f: &mut fmt::Formatter<W>) -> fmt::Result {
-        let number = self.number();
-        let name = self.name();
-        match self.place() {
-            Some(line) => write!(f, "{number} {name} at {line}"),
-            None => write!(f, "{number} {name}"),
-        }
-    }
-}
-
-impl From<AllocError> for TraceFault {
-    ghost use Rattle.std.specs.Prelude.{◌≡◌};
-    ghost use Rattle.trace_text.specs.declared.trace_fault.TraceFault.TheVariants.{OutOfMemory};
-
-    ghost from_gives = { λ _ e. e ≡ OutOfMemory };
-
-    fn from(_error: AllocError) -> TraceFault {
-        TraceFault::OutOfMemory
-    }
-}
-
-impl<T: Drop> From<AllocFailed<T>> for TraceFault {
-    ghost use Rattle.std.specs.Prelude.{◌≡◌};
-    ghost use Rattle.trace_text.specs.declared.trace_fault.TraceFault.TheVariants.{OutOfMemory};
-
-    ghost from_gives = { λ _ e. e ≡ OutOfMemory };
-
-    fn from(_failed: AllocFailed<T>) -> TraceFault {
-        TraceFault::OutOfMemory
     }
 }

@@ -1,12 +1,13 @@
 //! Reads the text of a trace.
 
 ghost use Rattle.std.specs.Prelude.{◌≡◌, ◌≤◌, [], ◌∷◌, ◌++◌, ℕ, List, None, OnOk, IfOk, IfErr, map};
+ghost use Rattle.text_lines.specs.Fault.{IsRefusal};
 ghost use Rattle.trace_text.specs.Progress.{IsProgress};
 ghost use Rattle.trace_text.specs.Read.{AreSaid, TakesLine, TakesWords, HasHeader, IsAllRead};
-ghost use Rattle.trace_text.specs.Refusal.{IsRefusedFor};
+ghost use Rattle.trace_text.specs.LineRefusal.{IsRefusedFor};
 ghost use Rattle.trace_text.specs.Said.{said};
 ghost use Rattle.trace_text.specs.Statement.{Statement as Said, statement_of};
-ghost use Rattle.trace_text.specs.TraceFault.{statement_fault, said_fault, trace_line_fault, IsTraceRefusal};
+ghost use Rattle.trace_text.specs.TraceFault.{statement_fault, said_fault, trace_line_fault, HasTraceFault};
 ghost use Rattle.trace_text.specs.TraceText.{SpellsTrace};
 ghost use Rattle.traces.specs.Trace.{IsTrace};
 
@@ -14,9 +15,9 @@ use crate::entry::read_entry;
 use crate::gathered::Gathered;
 use crate::header::{Header, read_header};
 use crate::line::has_high_byte;
+use crate::line_refusal::LineRefusal;
 use crate::place::fault_of_place;
 use crate::references::check_references;
-use crate::refusal::Refusal;
 use crate::seen::Seen;
 use crate::statement::{Statement, read_statement};
 use crate::trace_fault::{TraceCause, TraceFault};
@@ -47,14 +48,14 @@ impl<'a> TraceReader<'a> {
     }
 
     /// Takes what a line says.
-    fn take_statement(&mut self, alloc: Global, statement: Statement<'a>) -> Result<(), Refusal>
+    fn take_statement(&mut self, alloc: Global, statement: Statement<'a>) -> Result<(), LineRefusal>
         requires { self.old.seen.location_count ≤ 4096 }
         ensures refused { IfErr result (λ refusal. (ss : List Said) → IsProgress ss self.old → IsRefusedFor (statement_fault ss (said statement.entry)) refusal) }
         ensures taken { OnOk result ((ss : List Said) → IsProgress ss self.old →
             (statement_fault ss (said statement.entry) ≡ None) × IsProgress (ss ++ said statement.entry ∷ []) self.new) }
     {
         if let Some(cause) = fault_of_place(self.gathered.has_begun(), statement) {
-            return Err(Refusal::Fault(cause));
+            return Err(LineRefusal::For(cause));
         }
         let entry = read_entry(alloc, statement)?;
         self.seen.take(statement)?;
@@ -62,7 +63,12 @@ impl<'a> TraceReader<'a> {
     }
 
     /// Takes a line by its words.
-    fn take_words(&mut self, alloc: Global, two: bool, words: &[&'a [u8]]) -> Result<(), Refusal>
+    fn take_words(
+        &mut self,
+        alloc: Global,
+        two: bool,
+        words: &[&'a [u8]],
+    ) -> Result<(), LineRefusal>
         requires { self.old.seen.location_count ≤ 4096 }
         ensures refused { IfErr result (λ refusal. (ss : List Said) → IsProgress ss self.old →
             IsRefusedFor (said_fault ss (statement_of two (map (λ word. word.now) words.now))) refusal) }
@@ -70,12 +76,12 @@ impl<'a> TraceReader<'a> {
     {
         match read_statement(two, words) {
             Some(statement) => self.take_statement(alloc, statement),
-            None => Err(Refusal::Fault(TraceCause::UnknownLine)),
+            None => Err(LineRefusal::For(TraceCause::UnknownLine)),
         }
     }
 
     /// Takes a line.
-    fn take_line(&mut self, alloc: Global, two: bool, line: &'a [u8]) -> Result<(), Refusal>
+    fn take_line(&mut self, alloc: Global, two: bool, line: &'a [u8]) -> Result<(), LineRefusal>
         requires { self.old.seen.location_count ≤ 4096 }
         ensures refused { IfErr result (λ refusal. (before : List (List ℕ)) (ss : List Said) → AreSaid two before ss → IsProgress ss self.old →
             IsRefusedFor (trace_line_fault before line.now) refusal) }
@@ -86,7 +92,7 @@ impl<'a> TraceReader<'a> {
             return Ok(());
         }
         if has_high_byte(line) {
-            return Err(Refusal::Fault(TraceCause::NotAscii));
+            return Err(LineRefusal::For(TraceCause::NotAscii));
         }
         self.take_words(alloc, two, words.as_slice())
     }
@@ -99,7 +105,7 @@ fn read_body<'a>(
     header: &Header<'a>,
 ) -> Result<TraceReader<'a>, TraceFault>
     requires { HasHeader text.now header.now.two header.now.rest.now header.now.next }
-    ensures refused { IfErr result (IsTraceRefusal text.now) }
+    ensures refused { IfErr result (IsRefusal (HasTraceFault text.now)) }
     ensures read { IfOk result (λ reader. IsAllRead text.now header.now.two reader) }
 {
     let mut reader = TraceReader::new(alloc);
@@ -123,7 +129,7 @@ fn finish(
     reader: TraceReader<'_>,
 ) -> Result<Trace, TraceFault>
     requires { IsAllRead text.now two reader }
-    ensures refused { IfErr result (IsTraceRefusal text.now) }
+    ensures refused { IfErr result (IsRefusal (HasTraceFault text.now)) }
     ensures spelled { IfOk result (SpellsTrace text.now) }
 {
     let TraceReader { mut gathered, .. } = reader;
@@ -139,7 +145,7 @@ fn finish(
 pub fn read_trace(alloc: Global, text: &[u8]) -> Result<Trace, TraceFault>
     ensures trace { IfOk result IsTrace }
     ensures spelled { IfOk result (SpellsTrace text.now) }
-    ensures refused { IfErr result (IsTraceRefusal text.now) }
+    ensures refused { IfErr result (IsRefusal (HasTraceFault text.now)) }
 {
     let header = read_header(alloc, text)?;
     let reader = read_body(alloc, text, &header)?;

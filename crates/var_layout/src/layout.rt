@@ -1,6 +1,6 @@
 //! The layout of a trace's variables.
 
-ghost use Rattle.std.specs.Prelude.{◌≡◌, ◌≢◌, ◌<◌, ◌≤◌, ℕ, List, [], length, map, is_some, IsSome, IfOk, slice_get, false};
+ghost use Rattle.std.specs.Prelude.{◌≡◌, ◌≢◌, ◌<◌, ◌≤◌, ℕ, List, [], length, map, take, is_some, IsSome, IfOk, slice_get, false};
 ghost use Rattle.std.specs.Option.{option_and_then, option_copied, option_map, option_map_or};
 ghost use Rattle.traces.specs.declared.operation.OpName.{OpName};
 ghost use Rattle.traces.specs.Trace.{IsTrace};
@@ -20,7 +20,7 @@ use crate::choice_variables::{OpTable, op_tables};
 use crate::final_variables::{FinalTable, final_tables};
 use crate::numbering::Numbering;
 use crate::order_literal::order_lit;
-use crate::split_variables::split_variables;
+use crate::split_variables::push_first_splits;
 use dimacs::Lit;
 use reducer::reduced::Reduced;
 use std::alloc::{AllocError, Global};
@@ -43,7 +43,6 @@ pub struct Layout {
     operations: Vec<OpTable>,
     final_values: Vec<FinalTable>,
     before: Vec<(usize, usize)>,
-    splits: Vec<u32>,
     count: u32,
 }
 
@@ -55,7 +54,7 @@ impl Model for Layout {
 
     ghost view = { λ layout. layout.trace.value };
 
-    ghost invariant = { λ layout. IsLayout layout.trace.value layout.operations.items layout.final_values.items layout.before.items layout.splits.items layout.count };
+    ghost invariant = { λ layout. IsLayout layout.trace.value layout.operations.items layout.final_values.items layout.before.items layout.count };
 }
 
 impl Layout {
@@ -69,13 +68,11 @@ impl Layout {
         let (operations, next) = op_tables(alloc, &numbering, trace)?;
         let (final_values, next) = final_tables(alloc, &numbering, trace, next)?;
         let before = before_numbers(alloc, &numbering, trace.before())?;
-        let splits = split_variables(alloc, &numbering)?;
         Ok(Layout {
             trace: Snapshot::of(trace),
             operations,
             final_values,
             before,
-            splits,
             count: next - 1,
         })
     }
@@ -235,10 +232,14 @@ impl Layout {
         self.count
     }
 
-    /// The order variables of operations in conflict, of different processes.
-    pub fn splits(&self) -> &[u32]
-        ensures { result.now ≡ split.splits self.now }
+    /// The first of the split variables, no more than so many: the order variables of operations in conflict, of different
+    /// processes. No more rows of pairs are looked at than these need.
+    pub fn first_splits(&self, alloc: Global, most: usize) -> Result<Vec<u32>, AllocError>
+        ensures { IfOk result (λ variables. variables.items ≡ take most (split.splits self.now)) }
     {
-        self.splits.as_slice()
+        let mut variables = Vec::new(alloc);
+        push_first_splits(&mut variables, self, most)?;
+        variables.truncate(most);
+        Ok(variables)
     }
 }

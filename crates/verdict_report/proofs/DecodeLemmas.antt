@@ -9,16 +9,20 @@ use Rattle.traces.specs.Legal.{IsLegal}
 use Rattle.traces.specs.Trace.{TraceValue, IsTrace}
 use Rattle.trace_text.specs.TraceText.{SpellsTrace}
 use Rattle.reducer.specs.Expansion.{expansion}
-use Rattle.reducer.specs.declared.reduce_fault.ReduceFault.{ReduceFault}
-use Rattle.reducer.specs.declared.reduce_fault.ReduceFault.TheVariants.{OutOfMemory as NoReduceMemory, StillTooLarge as TooManyLeft}
-use Rattle.reducer.specs.Reduced.{ReducedValue, IsReduced, IsReduceRefusal, operation_count}
+use Rattle.text_lines.specs.declared.fault.Fault.{Fault as PartFault}
+use Rattle.text_lines.specs.declared.fault.Fault.TheVariants.{OutOfMemory as NoPartMemory, At}
+use Rattle.text_lines.specs.Fault.{IsRefusal}
+use Rattle.reducer.specs.declared.reduce_fault.ReduceCause.{ReduceCause}
+use Rattle.reducer.specs.Reduced.{ReducedValue, IsReduced, HasReduceFault, operation_count}
 use Rattle.reducer.proofs.ScheduleLemmas.{expansion_legal}
 use Rattle.clause_blocks.specs.Clauses.{clauses_of}
 use Rattle.clause_blocks.specs.ModelOrder.{IsInOrderOf}
+use Rattle.reducer.specs.declared.reduce_fault.ReduceCause.TheVariants.{StillTooLarge}
+use Rattle.schedule_decode.specs.declared.decode_fault.DecodeCause.TheVariants.{NotAModel}
 use Rattle.verdict_report.specs.declared.fault.Fault.{Fault}
-use Rattle.verdict_report.specs.declared.fault.Fault.TheVariants.{OutOfMemory, Device, InputTooLong, Trace, Schedule, Model, Cnf, Lrat, StillTooLarge, NotAModel, Check}
+use Rattle.verdict_report.specs.declared.fault.Fault.TheVariants.{OutOfMemory, Device, InputTooLong, Trace, Schedule, Model, Cnf, Lrat, Reduce, Decode, Check}
 use Rattle.verdict_report.specs.Admitted.{Admits}
-use Rattle.verdict_report.specs.Fault.{fault_of_reduction}
+use Rattle.verdict_report.specs.Fault.{fault_of_part}
 use Rattle.verdict_report.specs.DecodeEngine.{IsDecoding, IsDecodedFrom, IsSaidOfModel}
 
 module _ (r : ReducedValue) (ok : IsReduced r) (truth : List Bool) where
@@ -32,7 +36,7 @@ module _ (r : ReducedValue) (ok : IsReduced r) (truth : List Bool) where
     legal = subst (λ (s : List OpName). IsLegal r.whole s) (sym expanded) (expansion_legal r.whole kept ok.is_trace (subst (λ (t : TraceValue). IsLegal t kept) ok.reduction legal));
   }
 
-  pub false_clause : (clause : ℕ) → IsFirstFalse (value_of truth) (clauses_of r.kept) clause → IsDecodedFrom r truth (Err (NotAModel clause))
+  pub false_clause : (clause : ℕ) → IsFirstFalse (value_of truth) (clauses_of r.kept) clause → IsDecodedFrom r truth (Err (Decode NotAModel clause))
   false_clause clause first = subst (λ (t : TraceValue). IsFirstFalse (value_of truth) (clauses_of t) clause) ok.reduction first
 
   module _ (trace_text model_text : List ℕ) (spelled : SpellsTrace trace_text r.whole) (read : SpellsModel model_text truth) where
@@ -42,7 +46,7 @@ module _ (r : ReducedValue) (ok : IsReduced r) (truth : List Bool) where
     pub said : (result : Result (List OpName) Fault) → IsDecodedFrom r truth result → IsSaidOfModel trace_text model_text result
     said (Ok schedule) d = record { value = r.whole; admitted = admitted; truth = truth; spelled = read; decoded = d }
     said (Err OutOfMemory) d = tt
-    said (Err (NotAModel clause)) d = record { value = r.whole; admitted = admitted; truth = truth; spelled = read; first_false = d }
+    said (Err (Decode NotAModel clause)) d = record { value = r.whole; admitted = admitted; truth = truth; spelled = read; first_false = d }
     said (Err Device) d = absurd d
     said (Err InputTooLong) d = absurd d
     said (Err (Trace cause line)) d = absurd d
@@ -50,12 +54,12 @@ module _ (r : ReducedValue) (ok : IsReduced r) (truth : List Bool) where
     said (Err (Model cause line)) d = absurd d
     said (Err (Cnf cause line)) d = absurd d
     said (Err (Lrat cause line)) d = absurd d
-    said (Err (StillTooLarge left)) d = absurd d
+    said (Err (Reduce StillTooLarge left)) d = absurd d
     said (Err (Check fault step)) d = absurd d
 
 -- a trace that is not reduced, where both texts are read
 pub unreduced : (trace_text model_text : List ℕ) (value : TraceValue) → IsTrace value → SpellsTrace trace_text value → (truth : List Bool) → SpellsModel model_text truth →
-    (fault : ReduceFault) → IsReduceRefusal value fault → IsSaidOfModel trace_text model_text (Err (fault_of_reduction fault))
-unreduced trace_text model_text value is_trace spelled truth read NoReduceMemory refused = tt
-unreduced trace_text model_text value is_trace spelled truth read (TooManyLeft left) refused =
+    (fault : PartFault ReduceCause) → IsRefusal (HasReduceFault value) fault → IsSaidOfModel trace_text model_text (Err (fault_of_part Reduce fault))
+unreduced trace_text model_text value is_trace spelled truth read NoPartMemory refused = tt
+unreduced trace_text model_text value is_trace spelled truth read (At StillTooLarge left) refused =
     record { large = record { value = value; is_trace = is_trace; spelled = spelled; left_is = refused.1; many = refused.0 }; truth = truth; spelled = read }

@@ -1,5 +1,5 @@
 mod AdmittedLemmas
 mod DecodeLemmas
+mod EngineLemmas
 mod MeaningLemmas
 mod SourceLemmas
-mod TwoInputLemmas

@@ -7,8 +7,9 @@ use Rattle.trace_text.specs.TraceText.{SpellsTrace}
 use Rattle.reducer.specs.Reduced.{ReducedValue, IsReduced, operation_count}
 use Rattle.reducer.specs.Reduction.{kept_trace}
 use Rattle.clause_blocks.specs.Clauses.{formula_of}
+use Rattle.reducer.specs.declared.reduce_fault.ReduceCause.TheVariants.{StillTooLarge}
 use Rattle.verdict_report.specs.declared.fault.Fault.{Fault}
-use Rattle.verdict_report.specs.declared.fault.Fault.TheVariants.{OutOfMemory, Trace, StillTooLarge}
+use Rattle.verdict_report.specs.declared.fault.Fault.TheVariants.{OutOfMemory, Trace, Reduce}
 
 -- the text is admitted: it spells this trace, of which 160 operations at most are kept
 pub record Admits (text : List ℕ) (value : TraceValue) : Type 0 where
@@ -29,7 +30,7 @@ abbrev pub IsReducedFrom : List ℕ → Result ReducedValue Fault → Type 0
 IsReducedFrom text (Ok reduced) = IsReduced reduced × Admits text reduced.whole
 IsReducedFrom text (Err OutOfMemory) = ⊤
 IsReducedFrom text (Err (Trace cause line)) = HasTraceFault text cause line
-IsReducedFrom text (Err (StillTooLarge left)) = IsTooLarge text left
+IsReducedFrom text (Err (Reduce StillTooLarge left)) = IsTooLarge text left
 IsReducedFrom text (Err fault) = ⊥
 
 -- the text of the clause list of what is kept of a trace

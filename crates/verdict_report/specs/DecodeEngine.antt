@@ -1,5 +1,5 @@
 -- What the engine that decodes models answers and writes.
-use Rattle.std.specs.Prelude.{◌≡◌, ⊤, ℕ, Bool, List, Result, Ok, Err}
+use Rattle.std.specs.Prelude.{◌≡◌, ⊤, ℕ, Bool, List, [], ◌∷◌, Result, Ok, Err}
 use Rattle.model_reader.specs.declared.model_fault.ModelCause.{ModelCause}
 use Rattle.dimacs.specs.Assignment.{value_of}
 use Rattle.model_reader.specs.ModelFirstFault.{HasModelFault}
@@ -16,13 +16,15 @@ use Rattle.reducer.specs.Reduced.{ReducedValue}
 use Rattle.reducer.specs.Reduction.{kept_trace}
 use Rattle.clause_blocks.specs.Clauses.{clauses_of}
 use Rattle.clause_blocks.specs.ModelOrder.{IsInOrderOf}
+use Rattle.reducer.specs.declared.reduce_fault.ReduceCause.TheVariants.{StillTooLarge}
+use Rattle.schedule_decode.specs.declared.decode_fault.DecodeCause.TheVariants.{NotAModel}
 use Rattle.verdict_report.specs.declared.fault.Fault.{Fault}
-use Rattle.verdict_report.specs.declared.fault.Fault.TheVariants.{OutOfMemory, Trace, Model, StillTooLarge, NotAModel}
+use Rattle.verdict_report.specs.declared.fault.Fault.TheVariants.{OutOfMemory, Trace, Model, Reduce, Decode}
 use Rattle.verdict_report.specs.declared.status.Status.{Status}
 use Rattle.verdict_report.specs.declared.status.Status.TheVariants.{Yes}
 use Rattle.verdict_report.specs.Admitted.{Admits, IsTooLarge}
 use Rattle.verdict_report.specs.Runs.{SourceRun, SinkRun}
-use Rattle.verdict_report.specs.TwoInputs.{IsRunOfTwo}
+use Rattle.verdict_report.specs.Engine.{AtOnce, IsRunOfEngine, of_two}
 
 -- The truth values are a model of the clause list of what is kept of the trace. The schedule is that of the whole trace in
 -- which the kept operations stand in the order of the model, and it is legal.
@@ -37,7 +39,7 @@ pub record IsDecoding (value : TraceValue) (truth : List Bool) (schedule : List 
 abbrev pub IsDecodedFrom : ReducedValue → List Bool → Result (List OpName) Fault → Type 0
 IsDecodedFrom reduced truth (Ok schedule) = IsDecoding reduced.whole truth schedule
 IsDecodedFrom reduced truth (Err OutOfMemory) = ⊤
-IsDecodedFrom reduced truth (Err (NotAModel clause)) = IsFirstFalse (value_of truth) (clauses_of (kept_trace reduced.whole)) clause
+IsDecodedFrom reduced truth (Err (Decode NotAModel clause)) = IsFirstFalse (value_of truth) (clauses_of (kept_trace reduced.whole)) clause
 IsDecodedFrom reduced truth (Err fault) = ⊥
 
 -- the texts spell an admitted trace and truth values, which decode to the schedule
@@ -75,8 +77,8 @@ IsSaidOfModel trace_text model_text (Ok schedule) = AreDecoded trace_text model_
 IsSaidOfModel trace_text model_text (Err OutOfMemory) = ⊤
 IsSaidOfModel trace_text model_text (Err (Trace cause line)) = HasTraceFault trace_text cause line
 IsSaidOfModel trace_text model_text (Err (Model cause line)) = HasFaultyModel trace_text model_text cause line
-IsSaidOfModel trace_text model_text (Err (StillTooLarge left)) = HasTooLarge trace_text model_text left
-IsSaidOfModel trace_text model_text (Err (NotAModel clause)) = AreNoModel trace_text model_text clause
+IsSaidOfModel trace_text model_text (Err (Reduce StillTooLarge left)) = HasTooLarge trace_text model_text left
+IsSaidOfModel trace_text model_text (Err (Decode NotAModel clause)) = AreNoModel trace_text model_text clause
 IsSaidOfModel trace_text model_text (Err fault) = ⊥
 
 -- a text that is written always goes with this status
@@ -85,4 +87,5 @@ written_status schedule = Yes
 
 -- what the engine answers, by what the sources hand out and the sink takes
 abbrev pub IsRunOfDecode : SourceRun → SourceRun → SinkRun → Result Status Fault → Type 0
-IsRunOfDecode = IsRunOfTwo IsSaidOfModel canonical_schedule written_status
+IsRunOfDecode trace model out =
+    IsRunOfEngine AtOnce (of_two IsSaidOfModel) (λ schedule. canonical_schedule schedule ∷ []) written_status (trace ∷ model ∷ []) (out ∷ [])

@@ -1,5 +1,5 @@
 -- What the engine that judges schedules answers and writes.
-use Rattle.std.specs.Prelude.{⊤, ℕ, List, ◌++◌, codes, Result, Ok, Err}
+use Rattle.std.specs.Prelude.{⊤, ℕ, List, [], ◌∷◌, ◌++◌, codes, Result, Ok, Err}
 use Rattle.traces.specs.declared.judgement.Judgement.{Judgement}
 use Rattle.traces.specs.declared.operation.OpName.{OpName}
 use Rattle.schedule_text.specs.declared.schedule_fault.ScheduleCause.{ScheduleCause}
@@ -14,7 +14,7 @@ use Rattle.verdict_report.specs.declared.fault.Fault.TheVariants.{OutOfMemory, T
 use Rattle.verdict_report.specs.declared.status.Status.{Status}
 use Rattle.verdict_report.specs.Fault.{status_after}
 use Rattle.verdict_report.specs.Runs.{SourceRun, SinkRun}
-use Rattle.verdict_report.specs.TwoInputs.{IsRunOfTwo}
+use Rattle.verdict_report.specs.Engine.{AtOnce, IsRunOfEngine, of_two}
 
 -- the texts spell a trace and a schedule, of which this is the judgement
 pub record AreJudged (trace_text schedule_text : List ℕ) (judgement : Judgement) : Type 0 where
@@ -46,4 +46,5 @@ judgement_line judgement = judgement_text.printed judgement ++ codes "\n"
 
 -- what the engine answers, by what the sources hand out and the sink takes
 abbrev pub IsRunOfJudge : SourceRun → SourceRun → SinkRun → Result Status Fault → Type 0
-IsRunOfJudge = IsRunOfTwo IsSaidOfTexts judgement_line status_after
+IsRunOfJudge trace schedule out =
+    IsRunOfEngine AtOnce (of_two IsSaidOfTexts) (λ judgement. judgement_line judgement ∷ []) status_after (trace ∷ schedule ∷ []) (out ∷ [])

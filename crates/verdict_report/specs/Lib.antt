@@ -1,9 +1,9 @@
 pub mod Admitted
 pub mod CnfEngine
 pub mod DecodeEngine
+pub mod Engine
 pub mod Fault
 pub mod JudgeEngine
 pub mod LratEngine
 pub mod Reading
 pub mod Runs
-pub mod TwoInputs

@@ -1,5 +1,5 @@
 -- What the engine that checks LRAT proofs answers and writes.
-use Rattle.std.specs.Prelude.{⊤, ℕ, Bool, List, [], codes, Result, Ok, Err}
+use Rattle.std.specs.Prelude.{⊤, ℕ, Bool, List, [], ◌∷◌, codes, Result, Ok, Err}
 use Rattle.cnf_reader.specs.CnfReading.{SpellsCnf, HasCnfFault}
 use Rattle.dimacs.specs.Formula.{FormulaValue}
 use Rattle.dimacs.specs.Models.{IsModel}
@@ -15,7 +15,7 @@ use Rattle.verdict_report.specs.declared.fault.Fault.TheVariants.{OutOfMemory, C
 use Rattle.verdict_report.specs.declared.status.Status.{Status}
 use Rattle.verdict_report.specs.declared.status.Status.TheVariants.{Yes}
 use Rattle.verdict_report.specs.Runs.{SourceRun, SinkRun}
-use Rattle.verdict_report.specs.TwoInputs.{IsRunOfTwo}
+use Rattle.verdict_report.specs.Engine.{AtOnce, IsRunOfEngine, of_two}
 
 -- the texts spell a formula and a derivation that is accepted for it without a cube; so the formula has no model
 pub record AreAccepted (cnf_text proof_text : List ℕ) : Type 0 where
@@ -58,4 +58,5 @@ accepted_status accepted = Yes
 
 -- what the engine answers, by what the sources hand out and the sink takes
 abbrev pub IsRunOfLrat : SourceRun → SourceRun → SinkRun → Result Status Fault → Type 0
-IsRunOfLrat = IsRunOfTwo IsSaidOfProof accepted_line accepted_status
+IsRunOfLrat cnf proof out =
+    IsRunOfEngine AtOnce (of_two IsSaidOfProof) (λ accepted. accepted_line accepted ∷ []) accepted_status (cnf ∷ proof ∷ []) (out ∷ [])

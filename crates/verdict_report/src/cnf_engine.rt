@@ -2,11 +2,12 @@
 
 ghost use Rattle.std.specs.Prelude.{◌≤◌, OnOk};
 ghost use Rattle.verdict_report.specs.CnfEngine.{IsRunOfCnf, MeansSchedulable};
+ghost use Rattle.verdict_report.specs.Runs.{source_run, sink_run};
 
 use crate::admitted::reduce_text;
 use crate::fault::Fault;
+use crate::inputs::read_one;
 use crate::laws::satisfiable_exactly_where_schedulable;
-use crate::reading::read_whole;
 use crate::source::Source;
 use crate::status::Status;
 use clause_blocks::laws::formula_is_over_its_variables;
@@ -32,14 +33,14 @@ pub fn run_cnf<R: Threads + Sync, T: Source, W: Sink>(
     requires some { 1 ≤ workers }
     requires few { workers ≤ 8 }
     ensures run { IsRunOfCnf
-        (record { before = T.handed_out trace.old; now = T.handed_out trace.new; was_at_end = T.is_at_end trace.old; is_at_end = T.is_at_end trace.new; failures_before = T.failures trace.old; failures_now = T.failures trace.new })
-        (record { before = W.written out.old; now = W.written out.new; failures_before = W.failures out.old; failures_now = W.failures out.new })
+        (source_run T.handed_out T.is_at_end T.failures trace.old trace.new)
+        (sink_run W.written W.failures out.old out.new)
         result }
     ensures meaning { OnOk result (MeansSchedulable
-        (record { before = T.handed_out trace.old; now = T.handed_out trace.new; was_at_end = T.is_at_end trace.old; is_at_end = T.is_at_end trace.new; failures_before = T.failures trace.old; failures_now = T.failures trace.new })
-        (record { before = W.written out.old; now = W.written out.new; failures_before = W.failures out.old; failures_now = W.failures out.new })) }
+        (source_run T.handed_out T.is_at_end T.failures trace.old trace.new)
+        (sink_run W.written W.failures out.old out.new)) }
 {
-    let text = read_whole(alloc, trace)?;
+    let text = read_one(alloc, trace)?;
     let reduced = reduce_text(alloc, text.as_slice())?;
     formula_is_over_its_variables();
     satisfiable_exactly_where_schedulable();

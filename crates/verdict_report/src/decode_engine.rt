@@ -3,10 +3,11 @@
 ghost use Rattle.reducer.specs.Reduced.{IsReduced};
 ghost use Rattle.schedule_text.specs.ScheduleWritten.{canonical_schedule};
 ghost use Rattle.verdict_report.specs.DecodeEngine.{IsDecodedFrom, IsRunOfDecode, IsSaidOfModel, written_status};
-ghost use Rattle.verdict_report.specs.TwoInputs.{IsRunOfWriting};
+ghost use Rattle.verdict_report.specs.Engine.{IsRunOfWriting};
+ghost use Rattle.verdict_report.specs.Runs.{source_run, sink_run};
 
 use crate::fault::Fault;
-use crate::reading::read_whole;
+use crate::inputs::read_two;
 use crate::source::Source;
 use crate::status::Status;
 use dimacs::{Assignment, Sink, write_whole};
@@ -34,14 +35,13 @@ pub fn run_decode<R: Threads + Sync, T: Source, M: Source, W: Sink>(
     out: &mut W,
 ) -> Result<Status, Fault>
     ensures { IsRunOfDecode
-        (record { before = T.handed_out trace.old; now = T.handed_out trace.new; was_at_end = T.is_at_end trace.old; is_at_end = T.is_at_end trace.new; failures_before = T.failures trace.old; failures_now = T.failures trace.new })
-        (record { before = M.handed_out model.old; now = M.handed_out model.new; was_at_end = M.is_at_end model.old; is_at_end = M.is_at_end model.new; failures_before = M.failures model.old; failures_now = M.failures model.new })
-        (record { before = W.written out.old; now = W.written out.new; failures_before = W.failures out.old; failures_now = W.failures out.new })
+        (source_run T.handed_out T.is_at_end T.failures trace.old trace.new)
+        (source_run M.handed_out M.is_at_end M.failures model.old model.new)
+        (sink_run W.written W.failures out.old out.new)
         result }
 {
-    let trace_text = read_whole(alloc, trace)?;
-    let model_text = read_whole(alloc, model)?;
-    let schedule = decode_texts(alloc, rt, trace_text.as_slice(), model_text.as_slice())?;
+    let texts = read_two(alloc, trace, model)?;
+    let schedule = decode_texts(alloc, rt, texts.0.as_slice(), texts.1.as_slice())?;
     write_names(alloc, &schedule, out)
 }
 
@@ -77,7 +77,7 @@ fn decode_reduced<R: Threads + Sync>(
 /// Writes the schedule's text.
 fn write_names<W: Sink>(alloc: Global, schedule: &Schedule, out: &mut W) -> Result<Status, Fault>
     ensures { IsRunOfWriting (canonical_schedule schedule.now) (written_status schedule.now)
-        (record { before = W.written out.old; now = W.written out.new; failures_before = W.failures out.old; failures_now = W.failures out.new })
+        (sink_run W.written W.failures out.old out.new)
         result }
 {
     let text = write_schedule(alloc, schedule)?;

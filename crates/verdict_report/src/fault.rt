@@ -1,67 +1,151 @@
 //! Why an engine refuses.
 
-ghost use Rattle.std.specs.Prelude.{◌≡◌, ◌++◌, OnOk, OnErr};
-ghost use Rattle.dimacs.specs.Sink.{AppendsFront};
-ghost use Rattle.verdict_report.specs.Fault.{area_of, number_of, name_of, place_of, line_of, CountsSinkFailures};
+ghost use Rattle.std.specs.Prelude.{◌≡◌, Some};
 
-use crate::reading::ReadFault;
-use cnf_reader::{CnfCause, CnfFault};
-use dimacs::{Failed, Sink, SinkFault, write_whole};
-use lrat_check::lrat_fault::{LratCause, LratFault};
-use lrat_check::refusal::{Refusal, StepFault};
-use model_reader::{ModelCause, ModelFault};
-use reducer::reduce_fault::ReduceFault;
-use schedule_decode::decode_fault::DecodeFault;
-use schedule_text::schedule_fault::{ScheduleCause, ScheduleFault};
-use std::alloc::{AllocError, Global};
+use cnf_reader::CnfCause;
+use lrat_check::lrat_fault::LratCause;
+use lrat_check::refusal::StepFault;
+use model_reader::ModelCause;
+use reducer::reduce_fault::ReduceCause;
+use schedule_decode::decode_fault::DecodeCause;
+use schedule_text::schedule_fault::ScheduleCause;
 use std::fmt;
-use trace_text::trace_fault::{TraceCause, TraceFault};
+use text_lines::fault::Cause;
+use thiserror::Error;
+use trace_text::trace_fault::TraceCause;
 
-/// Why an engine refuses: the first refusal of its parts, in the order of its inputs.
-#[derive(Clone, Copy, Debug, PartialEq, Eq)]
+/// Why an engine refuses: the first refusal of its parts, in the order of its inputs. A part that refuses has an area here, with its
+/// cause and the place of it.
+#[derive(Clone, Copy, Debug, PartialEq, Eq, Error)]
 pub enum Fault {
     /// There was no memory.
+    #[error("memory")]
     OutOfMemory,
     /// A source or a sink failed.
+    #[error("device")]
     Device,
     /// An input has more bytes than the limit.
+    #[error("input 2 InputTooLong")]
     InputTooLong,
     /// The first fault of the trace and its line, counted from 1.
+    #[error("trace {number} {name} at {1}", number = .0.number(), name = .0.name())]
     Trace(TraceCause, usize),
     /// The first fault of the schedule and its line, counted from 1.
+    #[error("schedule {number} {name} at {1}", number = .0.number(), name = .0.name())]
     Schedule(ScheduleCause, usize),
     /// The first fault of the model and its line, counted from 1.
+    #[error("model {number} {name} at {1}", number = .0.number(), name = .0.name())]
     Model(ModelCause, usize),
     /// The first fault of the formula and its line, counted from 1.
+    #[error("cnf {number} {name} at {1}", number = .0.number(), name = .0.name())]
     Cnf(CnfCause, usize),
     /// The first fault of the proof's text and its line, counted from 1.
+    #[error("lrat {number} {name} at {1}", number = .0.number(), name = .0.name())]
     Lrat(LratCause, usize),
-    /// So many operations are left of the trace, and these are too many.
-    StillTooLarge(usize),
-    /// The truth values are no model: the clause of this number, counted from 1, is the first that they make false.
-    NotAModel(usize),
+    /// What is wrong with the trace after its reduction, and how many operations are left.
+    #[error("reduce {number} {name} at {1}", number = .0.number(), name = .0.name())]
+    Reduce(ReduceCause, usize),
+    /// What is wrong with the truth values, and the number of the first clause that they make false, counted from 1.
+    #[error("decode {number} {name} at {1}", number = .0.number(), name = .0.name())]
+    Decode(DecodeCause, usize),
     /// What is wrong with the first step of the proof that fails, and its number, counted from 1.
+    #[error("check {number} {name} at {1}", number = .0.number(), name = .0.name())]
     Check(StepFault, usize),
 }
 
+/// What is told of a fault.
+#[derive(Drop)]
+pub(crate) struct Told {
+    /// What refused.
+    pub area: &'static str,
+    /// The number, where it is printed.
+    pub number: Option<u8>,
+    /// The name.
+    pub name: &'static str,
+    /// The place, where there is one.
+    pub place: Option<usize>,
+}
+
+impl fmt::Display for Told {
+    ghost use Rattle.std.specs.Prelude.{Some};
+    ghost use Rattle.verdict_report.specs.Fault.{printed_parts};
+
+    ghost output = { λ told. Some (printed_parts told.area.now told.number told.name.now told.place) };
+
+    fn fmt<W: fmt::Write>(&self, f: &mut fmt::Formatter<W>) -> fmt::Result {
+        let area = self.area;
+        let name = self.name;
+        match self.number {
+            None => write!(f, "{area}"),
+            Some(number) => match self.place {
+                None => write!(f, "{area} {number} {name}"),
+                Some(place) => write!(f, "{area} {number} {name} at {place}"),
+            },
+        }
+    }
+}
+
+/// What is told of a cause at a place.
+fn located<C: Cause>(area: &'static str, cause: &C, place: usize) -> Told
+    ensures area { result.area.now ≡ area.now }
+    ensures number { result.number ≡ Some (C.number_of cause.now) }
+    ensures name { result.name.now ≡ C.name_of cause.now }
+    ensures place { result.place ≡ Some place }
+{
+    Told {
+        area,
+        number: Some(cause.number()),
+        name: cause.name(),
+        place: Some(place),
+    }
+}
+
 impl Fault {
+    ghost use Rattle.std.specs.Prelude.{◌≡◌};
+    ghost use Rattle.verdict_report.specs.Fault.{told, area_of, number_of, name_of, place_of};
+
+    /// What is told of it.
+    pub(crate) fn told(&self) -> Told
+        ensures area { result.area.now ≡ (told self.now).area }
+        ensures number { result.number ≡ (told self.now).number }
+        ensures name { result.name.now ≡ (told self.now).name }
+        ensures place { result.place ≡ (told self.now).place }
+    {
+        match self {
+            Fault::OutOfMemory => Told {
+                area: "memory",
+                number: None,
+                name: "OutOfMemory",
+                place: None,
+            },
+            Fault::Device => Told {
+                area: "device",
+                number: None,
+                name: "Device",
+                place: None,
+            },
+            Fault::InputTooLong => Told {
+                area: "input",
+                number: Some(2),
+                name: "InputTooLong",
+                place: None,
+            },
+            Fault::Trace(cause, line) => located("trace", cause, *line),
+            Fault::Schedule(cause, line) => located("schedule", cause, *line),
+            Fault::Model(cause, line) => located("model", cause, *line),
+            Fault::Cnf(cause, line) => located("cnf", cause, *line),
+            Fault::Lrat(cause, line) => located("lrat", cause, *line),
+            Fault::Reduce(cause, left) => located("reduce", cause, *left),
+            Fault::Decode(cause, clause) => located("decode", cause, *clause),
+            Fault::Check(cause, step) => located("check", cause, *step),
+        }
+    }
+
     /// What refused: `memory`, `device`, `input`, `trace`, `schedule`, `model`, `cnf`, `lrat`, `reduce`, `decode` or `check`.
     pub fn area(&self) -> &'static str
         ensures { result.now ≡ area_of self.now }
     {
-        match self {
-            Fault::OutOfMemory => "memory",
-            Fault::Device => "device",
-            Fault::InputTooLong => "input",
-            Fault::Trace(_, _) => "trace",
-            Fault::Schedule(_, _) => "schedule",
-            Fault::Model(_, _) => "model",
-            Fault::Cnf(_, _) => "cnf",
-            Fault::Lrat(_, _) => "lrat",
-            Fault::StillTooLarge(_) => "reduce",
-            Fault::NotAModel(_) => "decode",
-            Fault::Check(_, _) => "check",
-        }
+        self.told().area
     }
 
     /// Its number among the faults of its area. A fault of the device has none.
@@ -70,16 +154,7 @@ impl Fault {
     {
         match self {
             Fault::OutOfMemory => Some(1),
-            Fault::Device => None,
-            Fault::InputTooLong => Some(2),
-            Fault::Trace(cause, _) => Some(cause.number()),
-            Fault::Schedule(cause, _) => Some(cause.number()),
-            Fault::Model(cause, _) => Some(cause.number()),
-            Fault::Cnf(cause, _) => Some(cause.number()),
-            Fault::Lrat(cause, _) => Some(cause.number()),
-            Fault::StillTooLarge(_) => Some(2),
-            Fault::NotAModel(_) => Some(2),
-            Fault::Check(fault, _) => Some(fault.number()),
+            _ => self.told().number,
         }
     }
 
@@ -87,266 +162,13 @@ impl Fault {
     pub fn name(&self) -> &'static str
         ensures { result.now ≡ name_of self.now }
     {
-        match self {
-            Fault::OutOfMemory => "OutOfMemory",
-            Fault::Device => "Device",
-            Fault::InputTooLong => "InputTooLong",
-            Fault::Trace(cause, _) => cause.name(),
-            Fault::Schedule(cause, _) => cause.name(),
-            Fault::Model(cause, _) => cause.name(),
-            Fault::Cnf(cause, _) => cause.name(),
-            Fault::Lrat(cause, _) => cause.name(),
-            Fault::StillTooLarge(_) => "StillTooLarge",
-            Fault::NotAModel(_) => "NotAModel",
-            Fault::Check(fault, _) => fault.name(),
-        }
+        self.told().name
     }
 
     /// The line at which it stands, counted from 1, how many operations are left, the number of a clause, or a step.
     pub fn place(&self) -> Option<usize>
         ensures { result ≡ place_of self.now }
     {
-        match self {
-            Fault::Trace(_, line) => Some(*line),
-            Fault::Schedule(_, line) => Some(*line),
-            Fault::Model(_, line) => Some(*line),
-            Fault::Cnf(_, line) => Some(*line),
-            Fault::Lrat(_, line) => Some(*line),
-            Fault::StillTooLarge(left) => Some(*left),
-            Fault::NotAModel(clause) => Some(*clause),
-            Fault::Check(_, step) => Some(*step),
-            _ => None,
-        }
+        self.told().place
     }
-}
-
-impl fmt::Display for Fault {
-    ghost use Rattle.std.specs.Prelude.{Some};
-    ghost use Rattle.verdict_report.specs.Fault.{printed};
-
-    ghost output = { λ fault. Some (printed fault) };
-
-    fn fmt<W: fmt::Write>(&self, f: &mut fmt::Formatter<W>) -> fmt::Result {
-        let area = self.area();
-        let name = self.name();
-        match self {
-            Fault::OutOfMemory => write!(f, "{area}"),
-            Fault::Device => write!(f, "{area}"),
-            Fault::InputTooLong => {
-                let number = 2u8;
-                write!(f, "{area} {number} {name}")
-            }
-            Fault::Trace(cause, line) => {
-                let number = cause.number();
-                write!(f, "{area} {number} {name} at {line}")
-            }
-            Fault::Schedule(cause, line) => {
-                let number = cause.number();
-                write!(f, "{area} {number} {name} at {line}")
-            }
-            Fault::Model(cause, line) => {
-                let number = cause.number();
-                write!(f, "{area} {number} {name} at {line}")
-            }
-            Fault::Cnf(cause, line) => {
-                let number = cause.number();
-                write!(f, "{area} {number} {name} at {line}")
-            }
-            Fault::Lrat(cause, line) => {
-                let number = cause.number();
-                write!(f, "{area} {number} {name} at {line}")
-            }
-            Fault::StillTooLarge(left) => {
-                let number = 2u8;
-                write!(f, "{area} {number} {name} at {left}")
-            }
-            Fault::NotAModel(clause) => {
-                let number = 2u8;
-                write!(f, "{area} {number} {name} at {clause}")
-            }
-            Fault::Check(fault, step) => {
-                let number = fault.number();
-                write!(f, "{area} {number} {name} at {step}")
-            }
-        }
-    }
-}
-
-impl std::error::Error for Fault {}
-
-impl From<ReadFault> for Fault {
-    ghost use Rattle.std.specs.Prelude.{◌≡◌};
-    ghost use Rattle.verdict_report.specs.Fault.{fault_of_reading};
-
-    ghost from_gives = { λ fault e. e ≡ fault_of_reading fault };
-
-    fn from(fault: ReadFault) -> Fault {
-        match fault {
-            ReadFault::OutOfMemory => Fault::OutOfMemory,
-            ReadFault::Device => Fault::Device,
-            ReadFault::TooLong => Fault::InputTooLong,
-        }
-    }
-}
-
-impl From<TraceFault> for Fault {
-    ghost use Rattle.std.specs.Prelude.{◌≡◌};
-    ghost use Rattle.verdict_report.specs.Fault.{fault_of_trace};
-
-    ghost from_gives = { λ fault e. e ≡ fault_of_trace fault };
-
-    fn from(fault: TraceFault) -> Fault {
-        match fault {
-            TraceFault::OutOfMemory => Fault::OutOfMemory,
-            TraceFault::Line(cause, line) => Fault::Trace(cause, line),
-        }
-    }
-}
-
-impl From<ScheduleFault> for Fault {
-    ghost use Rattle.std.specs.Prelude.{◌≡◌};
-    ghost use Rattle.verdict_report.specs.Fault.{fault_of_schedule};
-
-    ghost from_gives = { λ fault e. e ≡ fault_of_schedule fault };
-
-    fn from(fault: ScheduleFault) -> Fault {
-        match fault {
-            ScheduleFault::OutOfMemory => Fault::OutOfMemory,
-            ScheduleFault::Line(cause, line) => Fault::Schedule(cause, line),
-        }
-    }
-}
-
-impl From<ModelFault> for Fault {
-    ghost use Rattle.std.specs.Prelude.{◌≡◌};
-    ghost use Rattle.verdict_report.specs.Fault.{fault_of_model};
-
-    ghost from_gives = { λ fault e. e ≡ fault_of_model fault };
-
-    fn from(fault: ModelFault) -> Fault {
-        match fault {
-            ModelFault::OutOfMemory => Fault::OutOfMemory,
-            ModelFault::Line(cause, line) => Fault::Model(cause, line),
-        }
-    }
-}
-
-impl From<CnfFault> for Fault {
-    ghost use Rattle.std.specs.Prelude.{◌≡◌};
-    ghost use Rattle.verdict_report.specs.Fault.{fault_of_cnf};
-
-    ghost from_gives = { λ fault e. e ≡ fault_of_cnf fault };
-
-    fn from(fault: CnfFault) -> Fault {
-        match fault {
-            CnfFault::OutOfMemory => Fault::OutOfMemory,
-            CnfFault::Line(cause, line) => Fault::Cnf(cause, line),
-        }
-    }
-}
-
-impl From<LratFault> for Fault {
-    ghost use Rattle.std.specs.Prelude.{◌≡◌};
-    ghost use Rattle.verdict_report.specs.Fault.{fault_of_lrat};
-
-    ghost from_gives = { λ fault e. e ≡ fault_of_lrat fault };
-
-    fn from(fault: LratFault) -> Fault {
-        match fault {
-            LratFault::OutOfMemory => Fault::OutOfMemory,
-            LratFault::Line(cause, line) => Fault::Lrat(cause, line),
-        }
-    }
-}
-
-impl From<Refusal> for Fault {
-    ghost use Rattle.std.specs.Prelude.{◌≡◌};
-    ghost use Rattle.verdict_report.specs.Fault.{fault_of_check};
-
-    ghost from_gives = { λ refusal e. e ≡ fault_of_check refusal };
-
-    fn from(refusal: Refusal) -> Fault {
-        match refusal {
-            Refusal::OutOfMemory => Fault::OutOfMemory,
-            Refusal::At(fault, step) => Fault::Check(fault, step),
-        }
-    }
-}
-
-impl From<DecodeFault> for Fault {
-    ghost use Rattle.std.specs.Prelude.{◌≡◌};
-    ghost use Rattle.verdict_report.specs.Fault.{fault_of_decoding};
-
-    ghost from_gives = { λ fault e. e ≡ fault_of_decoding fault };
-
-    fn from(fault: DecodeFault) -> Fault {
-        match fault {
-            DecodeFault::OutOfMemory => Fault::OutOfMemory,
-            DecodeFault::NotAModel(clause) => Fault::NotAModel(clause),
-        }
-    }
-}
-
-impl From<ReduceFault> for Fault {
-    ghost use Rattle.std.specs.Prelude.{◌≡◌};
-    ghost use Rattle.verdict_report.specs.Fault.{fault_of_reduction};
-
-    ghost from_gives = { λ fault e. e ≡ fault_of_reduction fault };
-
-    fn from(fault: ReduceFault) -> Fault {
-        match fault {
-            ReduceFault::OutOfMemory => Fault::OutOfMemory,
-            ReduceFault::StillTooLarge(left) => Fault::StillTooLarge(left),
-        }
-    }
-}
-
-impl From<SinkFault> for Fault {
-    ghost use Rattle.std.specs.Prelude.{◌≡◌};
-    ghost use Rattle.verdict_report.specs.Fault.{fault_of_sink};
-
-    ghost from_gives = { λ fault e. e ≡ fault_of_sink fault };
-
-    fn from(fault: SinkFault) -> Fault {
-        match fault {
-            SinkFault::OutOfMemory => Fault::OutOfMemory,
-            SinkFault::Device => Fault::Device,
-        }
-    }
-}
-
-impl From<AllocError> for Fault {
-    ghost use Rattle.std.specs.Prelude.{◌≡◌};
-    ghost use Rattle.verdict_report.specs.declared.fault.Fault.TheVariants.{OutOfMemory};
-
-    ghost from_gives = { λ _ e. e ≡ OutOfMemory };
-
-    fn from(_error: AllocError) -> Fault {
-        Fault::OutOfMemory
-    }
-}
-
-impl From<Failed> for Fault {
-    ghost use Rattle.std.specs.Prelude.{◌≡◌};
-    ghost use Rattle.verdict_report.specs.declared.fault.Fault.TheVariants.{Device};
-
-    ghost from_gives = { λ _ e. e ≡ Device };
-
-    fn from(_failed: Failed) -> Fault {
-        Fault::Device
-    }
-}
-
-/// Writes the line that tells the fault, as `refused: trace 13 TooManyOps at 4099`.
-pub fn write_fault<W: Sink>(alloc: Global, fault: &Fault, out: &mut W) -> Result<(), SinkFault>
-    ensures whole { OnOk result (W.written out.new ≡ W.written out.old ++ line_of fault.now) }
-    ensures front { OnErr result (AppendsFront (W.written out.old) (W.written out.new) (line_of fault.now)) }
-    ensures failures { CountsSinkFailures result (W.failures out.old) (W.failures out.new) }
-{
-    if let Fault::OutOfMemory = fault {
-        // This one takes no memory.
-        return Ok(write_whole(out, b"refused: memory\n")?);
-    }
-    let line = format!(in alloc; "refused: {fault}\n")?;
-    Ok(write_whole(out, line.as_bytes())?)
 }

@@ -2,10 +2,11 @@
 
 ghost use Rattle.verdict_report.specs.Fault.{status_after};
 ghost use Rattle.verdict_report.specs.JudgeEngine.{IsRunOfJudge, IsSaidOfTexts, judgement_line};
-ghost use Rattle.verdict_report.specs.TwoInputs.{IsRunOfWriting};
+ghost use Rattle.verdict_report.specs.Engine.{IsRunOfWriting};
+ghost use Rattle.verdict_report.specs.Runs.{source_run, sink_run};
 
 use crate::fault::Fault;
-use crate::reading::read_whole;
+use crate::inputs::read_two;
 use crate::source::Source;
 use crate::status::Status;
 use dimacs::{Sink, write_whole};
@@ -27,14 +28,13 @@ pub fn run_judge<T: Source, S: Source, W: Sink>(
     out: &mut W,
 ) -> Result<Status, Fault>
     ensures { IsRunOfJudge
-        (record { before = T.handed_out trace.old; now = T.handed_out trace.new; was_at_end = T.is_at_end trace.old; is_at_end = T.is_at_end trace.new; failures_before = T.failures trace.old; failures_now = T.failures trace.new })
-        (record { before = S.handed_out schedule.old; now = S.handed_out schedule.new; was_at_end = S.is_at_end schedule.old; is_at_end = S.is_at_end schedule.new; failures_before = S.failures schedule.old; failures_now = S.failures schedule.new })
-        (record { before = W.written out.old; now = W.written out.new; failures_before = W.failures out.old; failures_now = W.failures out.new })
+        (source_run T.handed_out T.is_at_end T.failures trace.old trace.new)
+        (source_run S.handed_out S.is_at_end S.failures schedule.old schedule.new)
+        (sink_run W.written W.failures out.old out.new)
         result }
 {
-    let trace_text = read_whole(alloc, trace)?;
-    let schedule_text = read_whole(alloc, schedule)?;
-    let judgement = judge_texts(alloc, trace_text.as_slice(), schedule_text.as_slice())?;
+    let texts = read_two(alloc, trace, schedule)?;
+    let judgement = judge_texts(alloc, texts.0.as_slice(), texts.1.as_slice())?;
     write_judgement(alloc, judgement, out)
 }
 
@@ -54,7 +54,7 @@ fn write_judgement<W: Sink>(
     out: &mut W,
 ) -> Result<Status, Fault>
     ensures { IsRunOfWriting (judgement_line judgement) (status_after judgement)
-        (record { before = W.written out.old; now = W.written out.new; failures_before = W.failures out.old; failures_now = W.failures out.new })
+        (sink_run W.written W.failures out.old out.new)
         result }
 {
     let line = format!(in alloc; "{judgement}\n")?;

@@ -1,10 +1,11 @@
 //! The engine that checks LRAT proofs, from bytes to bytes.
 
 ghost use Rattle.verdict_report.specs.LratEngine.{IsRunOfLrat, IsSaidOfProof, accepted_line, accepted_status};
-ghost use Rattle.verdict_report.specs.TwoInputs.{IsRunOfWriting};
+ghost use Rattle.verdict_report.specs.Engine.{IsRunOfWriting};
+ghost use Rattle.verdict_report.specs.Runs.{source_run, sink_run};
 
 use crate::fault::Fault;
-use crate::reading::read_whole;
+use crate::inputs::read_two;
 use crate::source::Source;
 use crate::status::Status;
 use cnf_reader::read_cnf;
@@ -25,14 +26,13 @@ pub fn run_lrat<C: Source, P: Source, W: Sink>(
     out: &mut W,
 ) -> Result<Status, Fault>
     ensures { IsRunOfLrat
-        (record { before = C.handed_out cnf.old; now = C.handed_out cnf.new; was_at_end = C.is_at_end cnf.old; is_at_end = C.is_at_end cnf.new; failures_before = C.failures cnf.old; failures_now = C.failures cnf.new })
-        (record { before = P.handed_out proof.old; now = P.handed_out proof.new; was_at_end = P.is_at_end proof.old; is_at_end = P.is_at_end proof.new; failures_before = P.failures proof.old; failures_now = P.failures proof.new })
-        (record { before = W.written out.old; now = W.written out.new; failures_before = W.failures out.old; failures_now = W.failures out.new })
+        (source_run C.handed_out C.is_at_end C.failures cnf.old cnf.new)
+        (source_run P.handed_out P.is_at_end P.failures proof.old proof.new)
+        (sink_run W.written W.failures out.old out.new)
         result }
 {
-    let cnf_text = read_whole(alloc, cnf)?;
-    let proof_text = read_whole(alloc, proof)?;
-    let accepted = check_texts(alloc, cnf_text.as_slice(), proof_text.as_slice())?;
+    let texts = read_two(alloc, cnf, proof)?;
+    let accepted = check_texts(alloc, texts.0.as_slice(), texts.1.as_slice())?;
     write_accepted(accepted, out)
 }
 
@@ -48,7 +48,7 @@ fn check_texts(alloc: Global, cnf_text: &[u8], proof_text: &[u8]) -> Result<Acce
 /// Writes that the proof is accepted.
 fn write_accepted<W: Sink>(_accepted: Accepted, out: &mut W) -> Result<Status, Fault>
     ensures { IsRunOfWriting (accepted_line _accepted) (accepted_status _accepted)
-        (record { before = W.written out.old; now = W.written out.new; failures_before = W.failures out.old; failures_now = W.failures out.new })
+        (sink_run W.written W.failures out.old out.new)
         result }
 {
     write_whole(out, b"ACCEPTED\n")?;

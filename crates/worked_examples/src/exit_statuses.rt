@@ -1,6 +1,12 @@
 //! The exit status of each outcome, and the line of each kind of fault.
 
+use cnf_reader::CnfCause;
 use dimacs::MemorySink;
+use lrat_check::lrat_fault::LratCause;
+use lrat_check::refusal::StepFault;
+use model_reader::ModelCause;
+use reducer::reduce_fault::ReduceCause;
+use schedule_decode::decode_fault::DecodeCause;
 use schedule_text::schedule_fault::ScheduleCause;
 use std::test::Fail;
 use trace_text::trace_fault::TraceCause;
@@ -29,6 +35,36 @@ fn tells_each_kind_of_fault(rt: HostRuntime) -> Result<(), Fail> {
             2,
             "refused: schedule 2 BadName at 1\n",
         ),
+        (
+            Fault::Model(ModelCause::Clash, 2),
+            2,
+            "refused: model 5 Clash at 2\n",
+        ),
+        (
+            Fault::Cnf(CnfCause::Trailing, 5),
+            2,
+            "refused: cnf 8 Trailing at 5\n",
+        ),
+        (
+            Fault::Lrat(LratCause::Unended, 1),
+            2,
+            "refused: lrat 4 Unended at 1\n",
+        ),
+        (
+            Fault::Reduce(ReduceCause::StillTooLarge, 161),
+            2,
+            "refused: reduce 2 StillTooLarge at 161\n",
+        ),
+        (
+            Fault::Decode(DecodeCause::NotAModel, 2),
+            2,
+            "refused: decode 2 NotAModel at 2\n",
+        ),
+        (
+            Fault::Check(StepFault::NoConflict, 1),
+            2,
+            "refused: check 4 NoConflict at 1\n",
+        ),
     ] {
         let mut error = MemorySink::new(rt.alloc());
         assert!(rt;
@@ -37,6 +73,11 @@ fn tells_each_kind_of_fault(rt: HostRuntime) -> Result<(), Fail> {
         );
         assert_eq!(rt; error.as_slice(), line.as_bytes());
         assert_eq!(rt; exit_status(&Err(fault)), status, "{line}");
+        // The derived text is the line's, without the word before it.
+        let mut told = String::from_str(rt.alloc(), "refused: ")?;
+        told.push_str(fault.to_string(rt.alloc())?.as_str())?;
+        told.push_str("\n")?;
+        assert_eq!(rt; told.as_str(), line);
     }
     Ok(())
 }

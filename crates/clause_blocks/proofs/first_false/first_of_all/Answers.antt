@@ -1,86 +1,87 @@
-use Rattle.std.proofs.Common.{rules, ℕ, ℤ, List, Some, None, not, ◌≡◌, ◌+◌, ◌++◌, ◌∙◌, length, position, ap, sym, arith}
+use Rattle.std.proofs.Common.{rules, ℤ, List, Some, None, not, ◌≡◌, ◌≤◌, ◌+◌, ◌∙◌, length, position, ap, sym, arith}
+use Rattle.std.specs.List.{flat_map, range_with_len}
 use Rattle.dimacs.specs.Assignment.{value_of, makes_some}
 use Rattle.reducer.specs.Reduced.{operation_count}
-use Rattle.clause_blocks.specs.Blocks.{program_order, transitivity, read_clauses, final_clauses, before_clauses}
-use Rattle.clause_blocks.proofs.CountLemmas.{few_transitivity}
-use Rattle.clause_blocks.proofs.PositionLemmas.{found_in_front, found_behind, none_in_both, place_within}
+use Rattle.clause_blocks.specs.Clauses.{pieces}
+use Rattle.clause_blocks.specs.Pieces.{clauses_in}
+use Rattle.clause_blocks.proofs.ListLemmas.{piece_at, all_pieces}
+use Rattle.clause_blocks.proofs.PieceLemmas.{counted_upto, few_upto, none_upto, found_at}
+use Rattle.clause_blocks.proofs.PositionLemmas.{place_within}
 use Rattle.clause_blocks.proofs.first_false.first_of_all.Goals as goal
-
-pub returns-in-Some-clause-place : goal.returns-in-Some-clause-place
-returns-in-Some-clause-place c =
-    let t = c.args.layout.now in
-    let test = λ (clause : List ℤ). not (makes_some (value_of c.args.assignment.now) clause) in
-    let first : c.as_slice.result.now ≡ program_order t = c.as_slice.ensures.value ∙ c.in_ok-first.ensures.clauses in
-    let last = read_clauses t ++ (final_clauses t ++ before_clauses t) in
-    let here : position test (program_order t) ≡ Some c.in-Some.place = ap (position test) (sym first) ∙ sym c.first_false.ensures ∙ c.in-Some.is in
-    sym (found_in_front test (program_order t) (transitivity (operation_count t) ++ last) c.in-Some.place here)
 
 pub overflow_add-result : goal.overflow_add-result
 overflow_add-result c =
-    let t = c.args.layout.now in
+    let t = c.args.clauses.now in
     let test = λ (clause : List ℤ). not (makes_some (value_of c.args.assignment.now) clause) in
-    let there : position test (transitivity (operation_count t)) ≡ Some c.in-Some-2.place = sym c.in_ok-place.ensures ∙ c.in-Some-2.is in
-    let within = place_within test (transitivity (operation_count t)) c.in-Some-2.place there in
-    let most = few_transitivity (operation_count t) c.is_layout.ensures.few in
-    let long : c.len.result ≡ length c.in_ok-first.first.items = search rules in
-    let few = c.in_ok-first.ensures.few in
-    omega (arith, within, most, long, few)
+    let same : clauses_in (operation_count c.layout-layout.result.now) c.piece-piece.result ≡ piece_at t c.loop-k.k = ap (λ u. clauses_in (operation_count u) c.piece-piece.result) c.layout-layout.ensures ∙ c.piece-piece.ensures in
+    let there : position test (piece_at t c.loop-k.k) ≡ Some c.in-Some.place = ap (position test) (sym same) ∙ sym c.in_ok-place.ensures ∙ c.in-Some.is in
+    let within = place_within test (piece_at t c.loop-k.k) c.in-Some.place there in
+    let low : c.loop-k.k + 1 ≤ length (pieces t) = search rules in
+    let more = counted_upto (piece_at t) c.loop-k.k in
+    let few = few_upto (piece_at t) (c.loop-k.k + 1) (length (pieces t)) low in
+    let all = ap length (all_pieces t) in
+    let most = c.few_clauses.ensures t c.is_clause_list.ensures.trace c.is_clause_list.ensures.few in
+    let counted = c.loop-k.invariant.counted in
+    omega (arith, within, more, few, all, most, counted)
 
-pub returns-in-Some-2-clause-place : goal.returns-in-Some-2-clause-place
-returns-in-Some-2-clause-place c =
-    let t = c.args.layout.now in
+pub returns-in-Some-clause-place : goal.returns-in-Some-clause-place
+returns-in-Some-clause-place c =
+    let t = c.args.clauses.now in
     let test = λ (clause : List ℤ). not (makes_some (value_of c.args.assignment.now) clause) in
-    let first : c.as_slice.result.now ≡ program_order t = c.as_slice.ensures.value ∙ c.in_ok-first.ensures.clauses in
-    let last = read_clauses t ++ (final_clauses t ++ before_clauses t) in
-    let triples = transitivity (operation_count t) in
-    let nothing : c.first_false.result ≡ None = cc in
-    let none : position test (program_order t) ≡ None = ap (position test) (sym first) ∙ sym c.first_false.ensures ∙ nothing in
-    let there : position test triples ≡ Some c.in-Some-2.place = sym c.in_ok-place.ensures ∙ c.in-Some-2.is in
-    let long : c.len.result ≡ length c.in_ok-first.first.items = search rules in
-    ap (λ n. Some (n + c.in-Some-2.place)) (long ∙ ap length c.in_ok-first.ensures.clauses)
-    ∙ sym (found_behind test (program_order t) (triples ++ last) c.in-Some-2.place none (found_in_front test triples last c.in-Some-2.place there))
+    let same : clauses_in (operation_count c.layout-layout.result.now) c.piece-piece.result ≡ piece_at t c.loop-k.k = ap (λ u. clauses_in (operation_count u) c.piece-piece.result) c.layout-layout.ensures ∙ c.piece-piece.ensures in
+    let there : position test (piece_at t c.loop-k.k) ≡ Some c.in-Some.place = ap (position test) (sym same) ∙ sym c.in_ok-place.ensures ∙ c.in-Some.is in
+    let low : c.loop-k.k + 1 ≤ length (pieces t) = search rules in
+    ap (λ before. Some (before + c.in-Some.place)) c.loop-k.invariant.counted
+    ∙ sym (found_at (piece_at t) test c.loop-k.k (length (pieces t)) c.in-Some.place low c.loop-k.invariant.none there)
+    ∙ ap (position test) (all_pieces t)
 
-pub returns-in-Some-2-clause-fits : goal.returns-in-Some-2-clause-fits
-returns-in-Some-2-clause-fits c =
-    let t = c.args.layout.now in
+pub returns-in-Some-clause-fits : goal.returns-in-Some-clause-fits
+returns-in-Some-clause-fits c =
+    let t = c.args.clauses.now in
     let test = λ (clause : List ℤ). not (makes_some (value_of c.args.assignment.now) clause) in
-    let there : position test (transitivity (operation_count t)) ≡ Some c.in-Some-2.place = sym c.in_ok-place.ensures ∙ c.in-Some-2.is in
-    let within = place_within test (transitivity (operation_count t)) c.in-Some-2.place there in
-    let most = few_transitivity (operation_count t) c.is_layout.ensures.few in
-    let long : c.len.result ≡ length c.in_ok-first.first.items = search rules in
-    let few = c.in_ok-first.ensures.few in
-    omega (arith, within, most, long, few)
+    let same : clauses_in (operation_count c.layout-layout.result.now) c.piece-piece.result ≡ piece_at t c.loop-k.k = ap (λ u. clauses_in (operation_count u) c.piece-piece.result) c.layout-layout.ensures ∙ c.piece-piece.ensures in
+    let there : position test (piece_at t c.loop-k.k) ≡ Some c.in-Some.place = ap (position test) (sym same) ∙ sym c.in_ok-place.ensures ∙ c.in-Some.is in
+    let within = place_within test (piece_at t c.loop-k.k) c.in-Some.place there in
+    let low : c.loop-k.k + 1 ≤ length (pieces t) = search rules in
+    let more = counted_upto (piece_at t) c.loop-k.k in
+    let few = few_upto (piece_at t) (c.loop-k.k + 1) (length (pieces t)) low in
+    let all = ap length (all_pieces t) in
+    let most = c.few_clauses.ensures t c.is_clause_list.ensures.trace c.is_clause_list.ensures.few in
+    let counted = c.loop-k.invariant.counted in
+    omega (arith, within, more, few, all, most, counted)
 
-behind_both : (a b place : ℕ) → a + b + place ≡ a + (b + place)
-behind_both a b place = omega arith
+pub overflow_add-before : goal.overflow_add-before
+overflow_add-before c =
+    let t = c.args.clauses.now in
+    let operations : c.operations-operations.result ≡ operation_count t = c.operations-operations.ensures ∙ ap operation_count c.layout-layout.ensures in
+    let own : c.count_in-before.result ≡ length (piece_at t c.loop-k.k) = c.count_in-before.ensures ∙ ap length (ap (λ m. clauses_in m c.piece-piece.result) operations ∙ c.piece-piece.ensures) in
+    let low : c.loop-k.k + 1 ≤ length (pieces t) = search rules in
+    let more = counted_upto (piece_at t) c.loop-k.k in
+    let few = few_upto (piece_at t) (c.loop-k.k + 1) (length (pieces t)) low in
+    let all = ap length (all_pieces t) in
+    let most = c.few_clauses.ensures t c.is_clause_list.ensures.trace c.is_clause_list.ensures.few in
+    let counted = c.loop-k.invariant.counted in
+    omega (arith, own, more, few, all, most, counted)
 
-pub returns-in-Some-first_false-clause-place : goal.returns-in-Some-first_false-clause-place
-returns-in-Some-first_false-clause-place c =
-    let t = c.args.layout.now in
+pub loop-k-preserved : goal.loop-k-preserved
+loop-k-preserved c =
+    let t = c.args.clauses.now in
     let test = λ (clause : List ℤ). not (makes_some (value_of c.args.assignment.now) clause) in
-    let first : c.as_slice.result.now ≡ program_order t = c.as_slice.ensures.value ∙ c.in_ok-first.ensures.clauses in
-    let last = read_clauses t ++ (final_clauses t ++ before_clauses t) in
-    let triples = transitivity (operation_count t) in
-    let nothing : c.first_false.result ≡ None = cc in
-    let none : position test (program_order t) ≡ None = ap (position test) (sym first) ∙ sym c.first_false.ensures ∙ nothing in
-    let nowhere : c.in_ok-place.field-0 ≡ None = cc in
-    let no_triple : position test triples ≡ None = sym c.in_ok-place.ensures ∙ nowhere in
-    let there : position test last ≡ Some c.in-Some-first_false.place = ap (position test) (sym (c.as_slice-2.ensures.value ∙ c.in_ok-last.ensures)) ∙ sym c.first_false-2.ensures ∙ c.in-Some-first_false.is in
-    let long : c.len-in-Some-first_false.result ≡ length c.in_ok-first.first.items = search rules in
-    (λ i. Some ((long ∙ ap length c.in_ok-first.ensures.clauses) i + c.count_transitivity.ensures.count i + c.in-Some-first_false.place))
-    ∙ ap Some (behind_both (length (program_order t)) (length triples) c.in-Some-first_false.place)
-    ∙ sym (found_behind test (program_order t) (triples ++ last) (length triples + c.in-Some-first_false.place) none (found_behind test triples last c.in-Some-first_false.place no_triple there))
+    let same : clauses_in (operation_count c.layout-layout.result.now) c.piece-piece.result ≡ piece_at t c.loop-k.k = ap (λ u. clauses_in (operation_count u) c.piece-piece.result) c.layout-layout.ensures ∙ c.piece-piece.ensures in
+    let operations : c.operations-operations.result ≡ operation_count t = c.operations-operations.ensures ∙ ap operation_count c.layout-layout.ensures in
+    let own : c.count_in-before.result ≡ length (piece_at t c.loop-k.k) = c.count_in-before.ensures ∙ ap length (ap (λ m. clauses_in m c.piece-piece.result) operations ∙ c.piece-piece.ensures) in
+    let nothing : c.in_ok-place.field-0 ≡ None = cc in
+    let here : position test (piece_at t c.loop-k.k) ≡ None = ap (position test) (sym same) ∙ sym c.in_ok-place.ensures ∙ nothing in
+    let more = counted_upto (piece_at t) c.loop-k.k in
+    let counted = c.loop-k.invariant.counted in
+    record {
+      none = none_upto (piece_at t) test c.loop-k.k c.loop-k.invariant.none here;
+      counted = omega (arith, own, more, counted);
+    }
 
 pub returns-clause-place : goal.returns-clause-place
 returns-clause-place c =
-    let t = c.args.layout.now in
+    let t = c.args.clauses.now in
     let test = λ (clause : List ℤ). not (makes_some (value_of c.args.assignment.now) clause) in
-    let first : c.as_slice.result.now ≡ program_order t = c.as_slice.ensures.value ∙ c.in_ok-first.ensures.clauses in
-    let last = read_clauses t ++ (final_clauses t ++ before_clauses t) in
-    let triples = transitivity (operation_count t) in
-    let nothing : c.first_false.result ≡ None = cc in
-    let none : position test (program_order t) ≡ None = ap (position test) (sym first) ∙ sym c.first_false.ensures ∙ nothing in
-    let nowhere : c.in_ok-place.field-0 ≡ None = cc in
-    let no_triple : position test triples ≡ None = sym c.in_ok-place.ensures ∙ nowhere in
-    let none_behind : position test last ≡ None = ap (position test) (sym (c.as_slice-2.ensures.value ∙ c.in_ok-last.ensures)) ∙ sym c.first_false-2.ensures ∙ c.in-None.is in
-    sym (none_in_both test (program_order t) (triples ++ last) none (none_in_both test triples last no_triple none_behind))
+    let end : c.loop-k.k ≡ length (pieces t) = search rules in
+    sym (ap (position test) (sym (all_pieces t)) ∙ ap (λ k. position test (flat_map (piece_at t) (range_with_len 0 k))) (sym end) ∙ c.loop-k.invariant.none)

@@ -7,9 +7,9 @@ use Rattle.schedule_decode.proofs.decode.schedule_of.Goals as goal
 
 pub returns-clause-ordered : goal.returns-clause-ordered
 returns-clause-ordered c =
-    in_schedule (value_of c.args.assignment.now) c.in_ok-layout.layout c.kept-trace.result.now c.args.reduced.now.kept c.in_ok-order.order.items c.as_slice-2.result.now c.in_ok-names.names.items c.as_slice.result.now c.in_ok-names_in_order.field-0.items c.new.result
-    c.in_ok-layout.ensures c.kept-trace.ensures.trace c.in_ok-names.ensures c.as_slice.ensures.value c.as_slice-2.ensures.value c.in_ok-names_in_order.ensures c.new.ensures c.in_ok-order.ensures
+    in_schedule (value_of c.args.assignment.now) c.args.layout.now c.kept-trace.result.now c.args.reduced.now.kept c.in_ok-order.order.items c.as_slice-2.result.now c.in_ok-names.names.items c.as_slice.result.now c.in_ok-names_in_order.field-0.items c.new.result
+    c.requires.same c.kept-trace.ensures.trace c.in_ok-names.ensures c.as_slice.ensures.value c.as_slice-2.ensures.value c.in_ok-names_in_order.ensures c.new.ensures c.in_ok-order.ensures
 
 pub returns-clause-legal : goal.returns-clause-legal
 returns-clause-legal c =
-    model_legal (value_of c.args.assignment.now) c.args.reduced.now.kept c.new.result (subst IsTrace c.kept-trace.ensures.trace c.is_trace.ensures) c.requires (returns-clause-ordered c)
+    model_legal (value_of c.args.assignment.now) c.args.reduced.now.kept c.new.result (subst IsTrace c.kept-trace.ensures.trace c.is_trace.ensures) c.requires.model (returns-clause-ordered c)

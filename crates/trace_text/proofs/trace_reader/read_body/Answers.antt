@@ -1,5 +1,6 @@
 use Rattle.std.proofs.Common.{sym, subst}
-use Rattle.trace_text.specs.TraceFault.{IsTraceRefusal}
+use Rattle.text_lines.specs.Fault.{IsRefusal}
+use Rattle.trace_text.specs.TraceFault.{HasTraceFault}
 use Rattle.trace_text.proofs.LineLemmas.{header_read, one_more_line, refused_at}
 use Rattle.trace_text.proofs.trace_reader.read_body.Goals as goal
 
@@ -11,5 +12,5 @@ loop-line-preserved c = one_more_line c.args.text.now c.args.header.now.two c.lo
     (c.in_default-take_line.ensures.taken c.loop-line.invariant.lines c.loop-line.invariant.ss c.loop-line.invariant.said c.loop-line.invariant.progress)
 
 pub returns-in-Err-clause-refused : goal.returns-in-Err-clause-refused
-returns-in-Err-clause-refused c = subst (λ fault. IsTraceRefusal c.args.text.now fault) (sym c.at.ensures) (refused_at c.args.text.now c.args.header.now.two c.loop-line.next c.loop-line.rest.now c.loop-line.reader c.in-Some.line.now c.in-Some.after.now c.in-Err.refusal c.loop-line.invariant c.in-Some.ensures.lines
+returns-in-Err-clause-refused c = subst (λ fault. IsRefusal (HasTraceFault c.args.text.now) fault) (sym c.at.ensures) (refused_at c.args.text.now c.args.header.now.two c.loop-line.next c.loop-line.rest.now c.loop-line.reader c.in-Some.line.now c.in-Some.after.now c.in-Err.refusal c.loop-line.invariant c.in-Some.ensures.lines
     (c.in-Err.ensures.refused c.loop-line.invariant.lines c.loop-line.invariant.ss c.loop-line.invariant.said c.loop-line.invariant.progress))

@@ -1,69 +1,30 @@
-use Rattle.std.proofs.Common.{rules, refl}
+use Rattle.std.proofs.Common.{refl, rules, [], ◌∷◌}
 use Rattle.std.proofs.lemmas.Result.{err_from_is_err_and}
-use Rattle.std.specs.Prelude.{Ok}
+use Rattle.verdict_report.specs.Engine.{AtOnce, of_two}
 use Rattle.verdict_report.specs.LratEngine.{IsSaidOfProof, accepted_line, accepted_status}
-use Rattle.verdict_report.specs.Runs.{SourceRun, SinkRun, HandsOut}
-use Rattle.verdict_report.specs.TwoInputs.{Reads}
-use Rattle.verdict_report.proofs.TwoInputLemmas.{written, unread}
+use Rattle.verdict_report.specs.Runs.{SourceRun, SinkRun, source_run, sink_run}
+use Rattle.verdict_report.proofs.EngineLemmas.{unread, refused, written}
 use Rattle.verdict_report.proofs.lrat_engine.run_lrat.Goals as goal
 
 pub returns : goal.returns
 returns g c =
-    let cnf : SourceRun = record {
-      before = g.C.Source.handed_out c.args.cnf.now;
-      now = g.C.Source.handed_out c.read_whole.new.source;
-      was_at_end = g.C.Source.is_at_end c.args.cnf.now;
-      is_at_end = g.C.Source.is_at_end c.read_whole.new.source;
-      failures_before = g.C.Source.failures c.args.cnf.now;
-      failures_now = g.C.Source.failures c.read_whole.new.source;
-    } in
-    let proof : SourceRun = record {
-      before = g.P.Source.handed_out c.args.proof.now;
-      now = g.P.Source.handed_out c.read_whole-2.new.source;
-      was_at_end = g.P.Source.is_at_end c.args.proof.now;
-      is_at_end = g.P.Source.is_at_end c.read_whole-2.new.source;
-      failures_before = g.P.Source.failures c.args.proof.now;
-      failures_now = g.P.Source.failures c.read_whole-2.new.source;
-    } in
-    let out : SinkRun = record {
-      before = g.W.Sink.written c.args.out.now;
-      now = g.W.Sink.written c.write_accepted.new.out;
-      failures_before = g.W.Sink.failures c.args.out.now;
-      failures_now = g.W.Sink.failures c.write_accepted.new.out;
-    } in
-    let reads : Reads IsSaidOfProof cnf proof (Ok c.in_ok-accepted.accepted) = record {
-      first_text = c.in_ok-cnf_text.cnf_text.items;
-      first_handed = record { handed = search rules; ended = search rules; within_limit = search rules };
-      second_text = c.in_ok-proof_text.proof_text.items;
-      second_handed = record { handed = search rules; ended = search rules; within_limit = search rules };
-      is_said = search rules;
-    } in
-    written IsSaidOfProof accepted_line accepted_status cnf proof out c.in_ok-accepted.accepted reads (search rules) (search rules) c.write_accepted.result c.write_accepted.ensures
+    let first : SourceRun = source_run g.C.Source.handed_out g.C.Source.is_at_end g.C.Source.failures c.args.cnf.now c.read_two.new.first in
+    let second : SourceRun = source_run g.P.Source.handed_out g.P.Source.is_at_end g.P.Source.failures c.args.proof.now c.read_two.new.second in
+    let out : SinkRun = sink_run g.W.Sink.written g.W.Sink.failures c.args.out.now c.write_accepted.new.out in
+    written (of_two IsSaidOfProof) accepted_line accepted_status (first ∷ second ∷ []) out (c.in_ok-texts.texts.0.items ∷ c.in_ok-texts.texts.1.items ∷ []) (search rules) c.in_ok-accepted.accepted (search rules) c.write_accepted.result c.write_accepted.ensures
 
-pub returns-in_err-proof_text : goal.returns-in_err-proof_text
-returns-in_err-proof_text g c =
-    let cnf : SourceRun = record {
-      before = g.C.Source.handed_out c.args.cnf.now;
-      now = g.C.Source.handed_out c.read_whole.new.source;
-      was_at_end = g.C.Source.is_at_end c.args.cnf.now;
-      is_at_end = g.C.Source.is_at_end c.read_whole.new.source;
-      failures_before = g.C.Source.failures c.args.cnf.now;
-      failures_now = g.C.Source.failures c.read_whole.new.source;
-    } in
-    let proof : SourceRun = record {
-      before = g.P.Source.handed_out c.args.proof.now;
-      now = g.P.Source.handed_out c.read_whole-2.new.source;
-      was_at_end = g.P.Source.is_at_end c.args.proof.now;
-      is_at_end = g.P.Source.is_at_end c.read_whole-2.new.source;
-      failures_before = g.P.Source.failures c.args.proof.now;
-      failures_now = g.P.Source.failures c.read_whole-2.new.source;
-    } in
-    let out : SinkRun = record {
-      before = g.W.Sink.written c.args.out.now;
-      now = g.W.Sink.written c.args.out.now;
-      failures_before = g.W.Sink.failures c.args.out.now;
-      failures_now = g.W.Sink.failures c.args.out.now;
-    } in
-    let handed : HandsOut cnf c.in_ok-cnf_text.cnf_text.items = record { handed = search rules; ended = search rules; within_limit = search rules } in
-    let p = err_from_is_err_and c.from_residual-in_err-proof_text.result c.from_residual-in_err-proof_text.ensures.1 in
-    rw (p.1, p.2) (unread IsSaidOfProof accepted_line accepted_status cnf proof out c.in_ok-cnf_text.cnf_text.items handed (search rules) refl refl c.read_whole-2.result c.in_err-proof_text.field-0.0 c.in_err-proof_text.was c.read_whole-2.ensures.failures c.read_whole-2.ensures.too_long c.read_whole-2.ensures.device)
+pub returns-in_err-texts : goal.returns-in_err-texts
+returns-in_err-texts g c =
+    let first : SourceRun = source_run g.C.Source.handed_out g.C.Source.is_at_end g.C.Source.failures c.args.cnf.now c.read_two.new.first in
+    let second : SourceRun = source_run g.P.Source.handed_out g.P.Source.is_at_end g.P.Source.failures c.args.proof.now c.read_two.new.second in
+    let out : SinkRun = sink_run g.W.Sink.written g.W.Sink.failures c.args.out.now c.args.out.now in
+    let p = err_from_is_err_and c.from_residual.result c.from_residual.ensures.1 in
+    rw (p.1, p.2) (unread (of_two IsSaidOfProof) (λ a. accepted_line a ∷ []) accepted_status (first ∷ second ∷ []) AtOnce (out ∷ []) ((refl, refl), tt) c.in_err-texts.field-0.0 (search rules))
+
+pub returns-in_err-accepted : goal.returns-in_err-accepted
+returns-in_err-accepted g c =
+    let first : SourceRun = source_run g.C.Source.handed_out g.C.Source.is_at_end g.C.Source.failures c.args.cnf.now c.read_two.new.first in
+    let second : SourceRun = source_run g.P.Source.handed_out g.P.Source.is_at_end g.P.Source.failures c.args.proof.now c.read_two.new.second in
+    let out : SinkRun = sink_run g.W.Sink.written g.W.Sink.failures c.args.out.now c.args.out.now in
+    let p = err_from_is_err_and c.from_residual-in_err-accepted.result c.from_residual-in_err-accepted.ensures.1 in
+    rw (p.1, p.2) (refused (of_two IsSaidOfProof) (λ a. accepted_line a ∷ []) accepted_status (first ∷ second ∷ []) AtOnce (out ∷ []) ((refl, refl), tt) (c.in_ok-texts.texts.0.items ∷ c.in_ok-texts.texts.1.items ∷ []) (search rules) (λ s. s) (λ s. s) c.in_err-accepted.field-0.0 (search rules))

@@ -1,0 +1,10 @@
+pub mod CoverLemmas
+pub mod GrownLemmas
+pub mod LeafLemmas
+pub mod ReaderLemmas
+pub mod SplitLemmas
+pub mod TextLawLemmas
+pub mod TextLemmas
+pub mod TreeLemmas
+pub mod WalkLemmas
+pub mod WrittenLemmas

@@ -1,0 +1,27 @@
+//! Trees that split on variables, the cubes of their leaves, which cover, and the text of a tree.
+#![tactic(auto)]
+
+mod cube;
+mod grown;
+pub mod laws;
+mod leaf_cubes;
+mod leaf_place;
+mod leaf_split;
+mod node;
+mod node_line;
+mod split_fault;
+mod tree;
+mod tree_fault;
+pub mod tree_laws;
+mod tree_reader;
+mod tree_writer;
+
+pub use cube::Cube;
+pub use grown::grow;
+pub use leaf_cubes::cubes;
+pub use leaf_split::split_leaf;
+pub use split_fault::SplitCause;
+pub use tree::Tree;
+pub use tree_fault::TreeCause;
+pub use tree_reader::read_tree;
+pub use tree_writer::write_tree;

@@ -1,0 +1,99 @@
+//! The reader of a tree's text.
+
+ghost use Rattle.std.specs.Prelude.{◌≡◌, None, Some, min, reverse, IfOk, IfErr, MatchResult, OnOk};
+ghost use Rattle.text_lines.specs.Fault.{IsRefusal};
+ghost use Rattle.text_lines.specs.Words.{words_of};
+ghost use Rattle.cube_tree.specs.TreeFault.{HasTreeFault, node_of, node_fault, due_below};
+ghost use Rattle.cube_tree.specs.TreeText.{SpellsTree};
+
+use crate::node::Node;
+use crate::node_line::read_node;
+use crate::tree::Tree;
+use crate::tree_fault::TreeCause;
+use std::alloc::{AllocError, Global};
+use text_lines::fault::Fault;
+use text_lines::lines::cut_line;
+
+/// The most splits above a leaf.
+const MOST_DEPTH: u32 = 20;
+
+/// The most leaves of a tree.
+const MOST_LEAVES: usize = 1024;
+
+/// The node on the line, which is due at this depth behind so many leaves.
+fn take_line(line: &[u8], depth: u32, leaves: usize) -> Result<Node, TreeCause>
+    ensures { MatchResult result
+        (λ node. (node_of (words_of line.now) ≡ Some node) × (node_fault depth leaves (Some node) ≡ None))
+        (λ cause. node_fault depth leaves (node_of (words_of line.now)) ≡ Some cause) }
+{
+    match read_node(line) {
+        None => Err(TreeCause::BadLine),
+        Some(Node::Split(variable)) => {
+            if depth >= MOST_DEPTH {
+                return Err(TreeCause::TooDeep);
+            }
+            Ok(Node::Split(variable))
+        }
+        Some(Node::Leaf) => {
+            if leaves >= MOST_LEAVES {
+                return Err(TreeCause::TooManyLeaves);
+            }
+            Ok(Node::Leaf)
+        }
+    }
+}
+
+/// Puts the depths of the nodes that are due below a node at this depth behind the others.
+fn push_due(due: &mut Vec<u32>, node: Node, depth: u32) -> Result<(), AllocError>
+    requires { node_fault depth 0 (Some node) ≡ None }
+    ensures { OnOk result (reverse due.new.items ≡ due_below node depth (reverse due.old.items)) }
+{
+    if let Node::Split(_) = node {
+        due.push(depth + 1)?;
+        due.push(depth + 1)?;
+    }
+    Ok(())
+}
+
+/// The lesser of the two.
+fn at_most(bytes: usize, most: usize) -> usize
+    ensures { result ≡ min most bytes }
+{
+    if bytes < most { bytes } else { most }
+}
+
+/// The tree that the text spells at its front, and how many bytes its lines take. What stands behind them is not looked at.
+///
+/// A line is `leaf`, or `split` and the number of a variable; behind a split stand the lines of its left and then those of
+/// its right tree. No line is skipped. The error is the first fault of the text, with its line, counted from 1, or
+/// `OutOfMemory`, which tells nothing of the text.
+pub fn read_tree(alloc: Global, text: &[u8]) -> Result<(Tree, usize), Fault<TreeCause>>
+    ensures spelled { IfOk result (λ read. SpellsTree text.now read.0 read.1) }
+    ensures faulty { IfErr result (λ fault. IsRefusal (HasTreeFault text.now) fault) }
+{
+    let mut nodes = Vec::new(alloc);
+    let mut due = Vec::new(alloc);
+    due.push(0)?;
+    let mut leaves = 0usize;
+    let mut number = 0usize;
+    let mut bytes = 0usize;
+    let mut rest = text;
+    while let Some(depth) = due.pop() {
+        number += 1;
+        let Some((line, after)) = cut_line(rest) else {
+            return Err(Fault::At(TreeCause::BadLine, number));
+        };
+        let node = match take_line(line, depth, leaves) {
+            Ok(node) => node,
+            Err(cause) => return Err(Fault::At(cause, number)),
+        };
+        push_due(&mut due, node, depth)?;
+        if let Node::Leaf = node {
+            leaves += 1;
+        }
+        nodes.push(node)?;
+        bytes += line.len() + 1;
+        rest = after;
+    }
+    Ok((Tree::of_nodes(nodes), at_most(bytes, text.len())))
+}

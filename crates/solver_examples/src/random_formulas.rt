@@ -1,0 +1,130 @@
+//! Random formulas, some with repeated literals, with tautologies and with clauses without literals, by themselves and in cubes.
+
+use crate::answers::{Shown, solve_and_check};
+use crate::formulas::{add, formula_of, literals_of};
+use crate::plain_solver::has_model;
+use dimacs::{Clause, Formula};
+use solver::Guide;
+use std::alloc::{AllocError, Global};
+use std::process::Abort;
+use std::test::Fail;
+
+/// Numbers that look random, and are the same in each run.
+#[derive(Drop)]
+pub struct Random {
+    state: u64,
+}
+
+impl Random {
+    /// The numbers of this seed.
+    pub fn new(seed: u64) -> Random {
+        Random {
+            state: seed.wrapping_mul(0x9E37_79B9_7F4A_7C15) | 1,
+        }
+    }
+
+    /// A number below 1000.
+    pub fn next(&mut self) -> u16 {
+        self.state ^= self.state << 13;
+        self.state ^= self.state >> 7;
+        self.state ^= self.state << 17;
+        ((self.state >> 32) % 1000) as u16
+    }
+
+    /// A literal of one of so many variables from this one on.
+    pub fn literal(&mut self, first: u16, variables: u16) -> i32 {
+        if variables == 0 {
+            return 1;
+        }
+        let variable = i32::from(self.next() % variables) + i32::from(first);
+        if self.next() % 2 == 0 {
+            variable
+        } else {
+            -variable
+        }
+    }
+}
+
+/// Adds a clause of so many random literals over eight variables, which may repeat.
+fn add_random(
+    alloc: Global,
+    random: &mut Random,
+    clauses: &mut Vec<Clause>,
+    length: u16,
+) -> Result<(), AllocError> {
+    let mut numbers = Vec::new(alloc);
+    for _ in 0..length {
+        numbers.push(random.literal(1, 8))?;
+    }
+    add(alloc, clauses, numbers.as_slice())
+}
+
+/// A random formula over eight variables.
+fn random_formula(alloc: Global, random: &mut Random) -> Result<Formula, AllocError> {
+    let mut clauses = Vec::new(alloc);
+    for _ in 0..20 + random.next() % 16 {
+        let kind = random.next();
+        let length = if kind < 5 {
+            0
+        } else if kind < 30 {
+            1
+        } else if kind < 200 {
+            2
+        } else if kind < 800 {
+            3
+        } else {
+            5
+        };
+        add_random(alloc, random, &mut clauses, length)?;
+    }
+    Ok(formula_of(alloc, 8, clauses))
+}
+
+/// Asserts that the solver finds what the plain solver finds, in the cube of these literals.
+pub fn assert_solved(
+    rt: &impl Abort,
+    alloc: Global,
+    formula: &Formula,
+    cube: &[i32],
+    guide: Guide,
+) -> Result<(), Fail> {
+    let cube = literals_of(alloc, cube)?;
+    let answer = solve_and_check(alloc, formula, cube.as_slice(), guide, 100_000)?;
+    if has_model(alloc, formula, cube.as_slice())? {
+        assert_eq!(rt; answer, Shown::Model);
+    } else {
+        assert!(rt; matches!(answer, Shown::NoModel(_)));
+    }
+    Ok(())
+}
+
+#[test]
+fn solves_random_formulas(rt: HostRuntime) -> Result<(), Fail> {
+    let alloc = rt.alloc();
+    let mut random = Random::new(1);
+    for _ in 0..400 {
+        let formula = random_formula(alloc, &mut random)?;
+        assert_solved(&rt, alloc, &formula, &[], Guide::none())?;
+        let cube = [random.literal(1, 8), random.literal(1, 8)];
+        assert_solved(&rt, alloc, &formula, &cube, Guide::none())?;
+    }
+    Ok(())
+}
+
+/// Whatever is wrong about a guide, what an answer shows is so.
+#[test]
+fn wrong_guides_cost_no_truth(rt: HostRuntime) -> Result<(), Fail> {
+    let alloc = rt.alloc();
+    let mut random = Random::new(2);
+    for _ in 0..100 {
+        let formula = random_formula(alloc, &mut random)?;
+        let known = has_model(alloc, &formula, &[])?;
+        for (elements, first) in [(4, 1), (3, 5), (4, 20), (5, 1), (192, 1), (193, 0), (3, 0)] {
+            let guide = Guide::with_order(elements, first);
+            let answer = solve_and_check(alloc, &formula, &[], guide, 1000)?;
+            assert!(rt; answer != Shown::Model || known);
+            assert!(rt; !matches!(answer, Shown::NoModel(_)) || !known);
+        }
+    }
+    Ok(())
+}

@@ -1,0 +1,174 @@
+//! How a refusal of a part becomes one of an engine.
+
+ghost use Rattle.std.specs.Prelude.{◌≡◌};
+
+use crate::fault::Fault;
+use crate::reading::ReadFault;
+use cnf_reader::CnfCause;
+use dimacs::{Failed, SinkFault};
+use lrat_check::lrat_fault::LratCause;
+use lrat_check::refusal::StepFault;
+use model_reader::ModelCause;
+use reducer::reduce_fault::ReduceCause;
+use schedule_decode::decode_fault::DecodeCause;
+use schedule_text::schedule_fault::ScheduleCause;
+use std::alloc::AllocError;
+use text_lines::fault::{Cause, Fault as PartFault};
+use trace_text::trace_fault::TraceCause;
+
+/// The causes of a part, which have an area among the faults of engines.
+pub trait Part: Cause {
+    ghost use Rattle.std.specs.Prelude.{◌≡◌, ℕ};
+    ghost use Rattle.verdict_report.specs.declared.fault.Fault.{Fault};
+
+    ghost refusal: { Self → ℕ → Fault };
+
+    /// The fault of an engine whose part refuses for this cause, at this place.
+    fn refused(self, place: usize) -> Fault
+        ensures { result ≡ refusal self place };
+}
+
+impl<C: Part> From<PartFault<C>> for Fault {
+    ghost use Rattle.std.specs.Prelude.{◌≡◌};
+    ghost use Rattle.verdict_report.specs.Fault.{fault_of_part};
+
+    ghost from_gives = { λ fault e. e ≡ fault_of_part C.refusal fault };
+
+    fn from(fault: PartFault<C>) -> Fault {
+        match fault {
+            PartFault::OutOfMemory => Fault::OutOfMemory,
+            PartFault::At(cause, place) => cause.refused(place),
+        }
+    }
+}
+
+impl Part for TraceCause {
+    ghost use Rattle.verdict_report.specs.declared.fault.Fault.TheVariants.{Trace};
+
+    ghost refusal = { Trace };
+
+    fn refused(self, line: usize) -> Fault {
+        Fault::Trace(self, line)
+    }
+}
+
+impl Part for ScheduleCause {
+    ghost use Rattle.verdict_report.specs.declared.fault.Fault.TheVariants.{Schedule};
+
+    ghost refusal = { Schedule };
+
+    fn refused(self, line: usize) -> Fault {
+        Fault::Schedule(self, line)
+    }
+}
+
+impl Part for ModelCause {
+    ghost use Rattle.verdict_report.specs.declared.fault.Fault.TheVariants.{Model};
+
+    ghost refusal = { Model };
+
+    fn refused(self, line: usize) -> Fault {
+        Fault::Model(self, line)
+    }
+}
+
+impl Part for CnfCause {
+    ghost use Rattle.verdict_report.specs.declared.fault.Fault.TheVariants.{Cnf};
+
+    ghost refusal = { Cnf };
+
+    fn refused(self, line: usize) -> Fault {
+        Fault::Cnf(self, line)
+    }
+}
+
+impl Part for ReduceCause {
+    ghost use Rattle.verdict_report.specs.declared.fault.Fault.TheVariants.{Reduce};
+
+    ghost refusal = { Reduce };
+
+    fn refused(self, left: usize) -> Fault {
+        Fault::Reduce(self, left)
+    }
+}
+
+impl Part for DecodeCause {
+    ghost use Rattle.verdict_report.specs.declared.fault.Fault.TheVariants.{Decode};
+
+    ghost refusal = { Decode };
+
+    fn refused(self, clause: usize) -> Fault {
+        Fault::Decode(self, clause)
+    }
+}
+
+impl Part for LratCause {
+    ghost use Rattle.verdict_report.specs.declared.fault.Fault.TheVariants.{Lrat};
+
+    ghost refusal = { Lrat };
+
+    fn refused(self, line: usize) -> Fault {
+        Fault::Lrat(self, line)
+    }
+}
+
+impl Part for StepFault {
+    ghost use Rattle.verdict_report.specs.declared.fault.Fault.TheVariants.{Check};
+
+    ghost refusal = { Check };
+
+    fn refused(self, step: usize) -> Fault {
+        Fault::Check(self, step)
+    }
+}
+
+impl From<ReadFault> for Fault {
+    ghost use Rattle.std.specs.Prelude.{◌≡◌};
+    ghost use Rattle.verdict_report.specs.Fault.{fault_of_reading};
+
+    ghost from_gives = { λ fault e. e ≡ fault_of_reading fault };
+
+    fn from(fault: ReadFault) -> Fault {
+        match fault {
+            ReadFault::OutOfMemory => Fault::OutOfMemory,
+            ReadFault::Device => Fault::Device,
+            ReadFault::TooLong => Fault::InputTooLong,
+        }
+    }
+}
+
+impl From<SinkFault> for Fault {
+    ghost use Rattle.std.specs.Prelude.{◌≡◌};
+    ghost use Rattle.verdict_report.specs.Fault.{fault_of_sink};
+
+    ghost from_gives = { λ fault e. e ≡ fault_of_sink fault };
+
+    fn from(fault: SinkFault) -> Fault {
+        match fault {
+            SinkFault::OutOfMemory => Fault::OutOfMemory,
+            SinkFault::Device => Fault::Device,
+        }
+    }
+}
+
+impl From<AllocError> for Fault {
+    ghost use Rattle.std.specs.Prelude.{◌≡◌};
+    ghost use Rattle.verdict_report.specs.declared.fault.Fault.TheVariants.{OutOfMemory};
+
+    ghost from_gives = { λ _ e. e ≡ OutOfMemory };
+
+    fn from(_error: AllocError) -> Fault {
+        Fault::OutOfMemory
+    }
+}
+
+impl From<Failed> for Fault {
+    ghost use Rattle.std.specs.Prelude.{◌≡◌};
+    ghost use Rattle.verdict_report.specs.declared.fault.Fault.TheVariants.{Device};
+
+    ghost from_gives = { λ _ e. e ≡ Device };
+
+    fn from(_failed: Failed) -> Fault {
+        Fault::Device
+    }
+}
