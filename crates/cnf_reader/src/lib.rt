@@ -7,8 +7,6 @@ mod cnf_header;
 pub mod cnf_laws;
 mod cnf_lines;
 mod cnf_reader;
-#[cfg(test)]
-mod cnf_reader_tests;
 mod cnf_words;
 
 pub use cnf_fault::{CnfCause, CnfFault};

@@ -8,8 +8,6 @@ mod judge_command;
 mod line;
 mod line_fault;
 mod lrat_command;
-#[cfg(test)]
-mod tests;
 
 pub use line::{Line, read_line};
 pub use line_fault::LineFault;

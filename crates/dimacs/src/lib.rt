@@ -5,10 +5,6 @@
 mod assignment;
 mod clause;
 mod clause_list;
-#[cfg(test)]
-mod clause_list_tests;
-#[cfg(test)]
-mod cnf_tests;
 mod cnf_writer;
 mod formula;
 mod line_buffer;
@@ -19,8 +15,6 @@ pub mod model_laws;
 mod short_sink;
 mod sink;
 mod sink_fault;
-#[cfg(test)]
-mod tests;
 mod transcript;
 mod variable_table;
 

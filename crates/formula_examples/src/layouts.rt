@@ -1,11 +1,8 @@
 //! The variables of small traces, and their formulas as values.
 
-use crate::run::{HAND_OFF, IRIW, STORE_BUFFERING, reduced_of};
-use clause_blocks::formula::formula;
-use dimacs::Assignment;
+use crate::traces_of_texts::{STORE_BUFFERING, reduced_of};
 use std::alloc::Global;
 use std::process::Abort;
-use std::test::Fail;
 use var_layout::candidate::{Candidate, Choice, FinalChoice};
 use var_layout::layout::{Chooser, Layout};
 
@@ -14,6 +11,10 @@ const TWO_UPDATES: &str = "vsc 1\ninit x 0\nfinal x 0\nproc P\nU x 0 1\nproc Q\n
 
 /// A value that nobody writes, and a final value that nobody leaves.
 const LOST_VALUES: &str = "vsc 1\nfinal y 5\nproc P\nR x 1\n";
+
+/// Independent reads of independent writes: two readers see two writes in opposite orders.
+const IRIW: &str =
+    "vsc 1\ninit x 0\ninit y 0\nproc P\nW x 1\nproc Q\nW y 1\nproc S\nR x 1\nR y 0\nproc T\nR y 1\nR x 0\n";
 
 fn layout_of(rt: &impl Abort, alloc: Global, text: &str) -> Layout {
     match Layout::of(alloc, &reduced_of(rt, alloc, text)) {
@@ -131,25 +132,4 @@ fn splits_on_conflicts_alone(rt: HostRuntime) {
     assert_eq!(rt; layout.count(), 19);
     assert_eq!(rt; first_splits(&rt, &layout, rt.alloc(), 4).as_slice(), [2u32, 5, 7, 8].as_slice());
     assert_eq!(rt; first_splits(&rt, &layout, rt.alloc(), 3).as_slice(), [2u32, 5, 7].as_slice());
-}
-
-#[test]
-fn evaluates_the_formula_of_the_hand_off(rt: HostRuntime) -> Result<(), Fail> {
-    let reduced = reduced_of(&rt, rt.alloc(), HAND_OFF);
-    for workers in [1, 2, 8] {
-        let formula = formula(rt.alloc(), &rt, &reduced, workers)?;
-        assert_eq!(rt; formula.variables(), 2);
-        assert_eq!(rt; formula.clauses().len(), 2);
-        for (values, first_false) in [
-            ([true, true], None),
-            ([true, false], Some(1)),
-            ([false, true], Some(2)),
-            ([false, false], Some(1)),
-        ] {
-            let assignment = Assignment::new(Vec::from_slice(rt.alloc(), &values)?);
-            let found = formula.eval(&assignment).err();
-            assert_eq!(rt; found.map(|f| f.clause), first_false);
-        }
-    }
-    Ok(())
 }

@@ -1,24 +1,21 @@
-//! The clause lists of small traces and of large ones, and the schedules of their models, from the bytes that go in to the
-//! bytes that come out.
+//! Tests of calls that no command reaches, and of devices that move few bytes a call or fail: formulas, models, derivations, the
+//! variables of a trace, and the engines that translate, decode and check proofs. `tests/examples` has what a command answers to
+//! a text.
 #![tactic(auto)]
 
 #[cfg(test)]
-mod answers;
+mod clause_lists;
 #[cfg(test)]
 mod decodings;
 #[cfg(test)]
 mod derivations;
 #[cfg(test)]
-mod devices;
+mod engines;
 #[cfg(test)]
-mod large_traces;
+mod formulas;
 #[cfg(test)]
 mod layouts;
 #[cfg(test)]
-mod models;
+mod solver_texts;
 #[cfg(test)]
-mod orders_and_origins;
-#[cfg(test)]
-mod refusals;
-#[cfg(test)]
-mod run;
+mod traces_of_texts;

@@ -14,6 +14,4 @@ pub mod lrat_writer;
 mod marks;
 mod propagation;
 pub mod refusal;
-#[cfg(test)]
-mod tests;
 mod true_literals;

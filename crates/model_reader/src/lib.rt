@@ -4,8 +4,6 @@
 mod model_fault;
 mod model_line;
 mod model_reader;
-#[cfg(test)]
-mod model_tests;
 pub mod model_text_laws;
 
 pub use model_fault::{ModelCause, ModelFault};

@@ -131,6 +131,3 @@ pub fn read_schedule(alloc: Global, text: &[u8]) -> Result<Schedule, ScheduleFau
     }
     Ok(Schedule::new(names))
 }
-
-#[cfg(test)]
-mod tests;

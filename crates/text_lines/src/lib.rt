@@ -8,6 +8,4 @@ pub mod fault;
 pub mod first_fault;
 pub mod lines;
 pub mod numbers;
-#[cfg(test)]
-mod tests;
 pub mod words;

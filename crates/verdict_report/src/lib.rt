@@ -15,8 +15,6 @@ mod refused_parts;
 mod short_source;
 mod source;
 mod status;
-#[cfg(test)]
-mod tests;
 
 pub use cnf_engine::run_cnf;
 pub use decode_engine::run_decode;

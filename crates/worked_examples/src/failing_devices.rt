@@ -1,10 +1,12 @@
-//! Sources and sinks that fail at one of their calls.
+//! The engine that judges, over devices that move a byte a call and fail at one of their calls.
 
-use crate::run::HAND_OFF;
 use dimacs::{MemorySink, ShortSink};
 use std::alloc::Global;
 use std::process::Abort;
 use verdict_report::{Fault, ShortSource, Status, run_judge, write_fault};
+
+/// A process writes a value, and another one reads it.
+const HAND_OFF: &str = "vsc 1\nproc P\nW x 1\nproc Q\nR x 1\n";
 
 /// The order that explains the read of the hand-off.
 const SCHEDULE: &str = "P.1\nQ.1\n";
@@ -32,22 +34,19 @@ fn assert_runs(
 
 #[test]
 fn tells_each_failure_of_a_source(rt: HostRuntime) {
-    for call in 1..=HAND_OFF.len() + 1 {
-        let schedule = ShortSource::new(SCHEDULE.as_bytes(), 1);
+    let [last, behind] = [HAND_OFF.len() + 1, SCHEDULE.len() + 1];
+    for call in 1..=last {
+        let schedule = failing_at(SCHEDULE, behind + 1);
         let trace = failing_at(HAND_OFF, call);
         assert_runs(&rt, rt.alloc(), trace, schedule, Err(Fault::Device), b"");
     }
-    for call in 1..=SCHEDULE.len() + 1 {
+    for call in 1..=behind {
+        let trace = failing_at(HAND_OFF, last + 1);
         let schedule = failing_at(SCHEDULE, call);
-        let trace = ShortSource::new(HAND_OFF.as_bytes(), 1);
         assert_runs(&rt, rt.alloc(), trace, schedule, Err(Fault::Device), b"");
     }
-}
-
-#[test]
-fn answers_where_the_failing_call_never_comes(rt: HostRuntime) {
-    let trace = failing_at(HAND_OFF, HAND_OFF.len() + 2);
-    let schedule = failing_at(SCHEDULE, SCHEDULE.len() + 2);
+    let trace = failing_at(HAND_OFF, last + 1);
+    let schedule = failing_at(SCHEDULE, behind + 1);
     assert_runs(
         &rt,
         rt.alloc(),
@@ -60,7 +59,7 @@ fn answers_where_the_failing_call_never_comes(rt: HostRuntime) {
 
 #[test]
 fn reads_both_texts_before_it_judges_one(rt: HostRuntime) {
-    let trace = ShortSource::new(b"no trace", 1);
+    let trace = ShortSource::new(b"no trace", 7);
     assert_runs(
         &rt,
         rt.alloc(),
@@ -71,36 +70,29 @@ fn reads_both_texts_before_it_judges_one(rt: HostRuntime) {
     );
 }
 
-/// Asserts what is written of the answer for this schedule, by a sink that takes a byte a call and fails at one.
-fn assert_writes_a_front(
-    rt: &impl Abort,
-    alloc: Global,
-    schedule: &str,
-    line: &[u8],
-    status: Status,
-) {
-    for call in 1..=line.len() + 1 {
-        let mut trace = ShortSource::new(HAND_OFF.as_bytes(), 1);
-        let mut schedule = ShortSource::new(schedule.as_bytes(), 1);
-        let mut output = ShortSink::new(alloc, 1).failing_at(call as u64);
-        let outcome = run_judge(alloc, &mut trace, &mut schedule, &mut output);
-        let answer = if call <= line.len() {
-            Err(Fault::Device)
-        } else {
-            Ok(status)
-        };
-        assert_eq!(rt; outcome, answer, "at {call}");
-        assert_eq!(rt; output.as_slice(), &line[..call - 1], "at {call}");
-    }
-}
-
 #[test]
 fn tells_each_failure_of_the_sink(rt: HostRuntime) {
     for (schedule, line, status) in [
-        (SCHEDULE, "LEGAL\n", Status::Yes),
-        ("Q.1\n", "ILLEGAL 4 WrongRead at 1\n", Status::No),
+        (SCHEDULE, b"LEGAL\n".as_slice(), Status::Yes),
+        (
+            "Q.1\n",
+            b"ILLEGAL 4 WrongRead at 1\n".as_slice(),
+            Status::No,
+        ),
     ] {
-        assert_writes_a_front(&rt, rt.alloc(), schedule, line.as_bytes(), status);
+        for call in 1..=line.len() + 1 {
+            let mut trace = ShortSource::new(HAND_OFF.as_bytes(), 7);
+            let mut names = ShortSource::new(schedule.as_bytes(), 7);
+            let mut output = ShortSink::new(rt.alloc(), 1).failing_at(call as u64);
+            let outcome = run_judge(rt.alloc(), &mut trace, &mut names, &mut output);
+            let answer = if call <= line.len() {
+                Err(Fault::Device)
+            } else {
+                Ok(status)
+            };
+            assert_eq!(rt; outcome, answer, "at {call}");
+            assert_eq!(rt; output.as_slice(), &line[..call - 1], "at {call}");
+        }
     }
 }
 

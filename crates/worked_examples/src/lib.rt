@@ -1,33 +1,16 @@
-//! Whole runs of `vsc` over texts in memory: the bytes that go in, the bytes that come out, and the exit status.
+//! Tests of calls that no command reaches, and of devices that move few bytes a call or fail: lines and words, sinks and
+//! sources, traces and schedules, and the engine that judges. `tests/examples` has what a command answers to a text.
 #![tactic(auto)]
 
 #[cfg(test)]
-mod answers;
-#[cfg(test)]
 mod canonical_texts;
 #[cfg(test)]
-mod causes;
+mod devices;
 #[cfg(test)]
 mod exit_statuses;
 #[cfg(test)]
 mod failing_devices;
 #[cfg(test)]
-mod layout;
-#[cfg(test)]
-mod limits;
-#[cfg(test)]
-mod named_operations;
+mod lines_and_words;
 #[cfg(test)]
 mod reductions;
-#[cfg(test)]
-mod refusals;
-#[cfg(test)]
-mod run;
-#[cfg(test)]
-mod trace_faults;
-#[cfg(test)]
-mod trace_limits;
-#[cfg(test)]
-mod versions;
-#[cfg(test)]
-mod whole_traces;

@@ -1,12 +1,13 @@
-//! Literals, clauses, formulas and their text, with ample memory: what the calls answer then.
-use crate::{
-    Assignment, Clause, FirstFalse, Formula, Lit, MAX_VARIABLE, ShortSink, SinkFault, are_literals,
-    write_cnf,
+//! Literals, clauses, formulas and their text, and truth values.
+
+use dimacs::{
+    Assignment, Clause, Formula, Lit, MAX_VARIABLE, ShortSink, SinkFault, are_literals, write_cnf,
 };
 use std::alloc::{AllocError, Global};
 use std::test::Fail;
 
-fn literals_of(alloc: Global, numbers: &[i32]) -> Result<Vec<Lit>, AllocError> {
+/// The literals of these numbers, of which none is 0.
+pub fn literals_of(alloc: Global, numbers: &[i32]) -> Result<Vec<Lit>, AllocError> {
     let mut literals = Vec::new(alloc);
     for number in numbers {
         literals.push(Lit::new(*number).unwrap_or_default())?;
@@ -15,7 +16,7 @@ fn literals_of(alloc: Global, numbers: &[i32]) -> Result<Vec<Lit>, AllocError> {
 }
 
 /// The formula of these clauses, if they are over its variables.
-fn formula_of(
+pub fn formula_of(
     alloc: Global,
     variables: u32,
     lists: &[&[i32]],
@@ -33,10 +34,9 @@ fn formula_of(
 
 #[test]
 fn writes_formulas(rt: HostRuntime) -> Result<(), Fail> {
-    let cases: [(u32, &[&[i32]], &[u8]); 4] = [
+    let cases: [(u32, &[&[i32]], &[u8]); 3] = [
         (0, &[], b"p cnf 0 0\n"),
         (2, &[&[2], &[-2, 1]], b"p cnf 2 2\n2 0\n-2 1 0\n"),
-        (1, &[&[1], &[-1]], b"p cnf 1 2\n1 0\n-1 0\n"),
         (
             4_194_304,
             &[&[], &[4, -4, 4_194_304, -4_194_304, 10, -9]],
@@ -50,66 +50,10 @@ fn writes_formulas(rt: HostRuntime) -> Result<(), Fail> {
             assert_eq!(rt; write_cnf(rt.alloc(), &formula, &mut sink), Ok(()));
             assert_eq!(rt; sink.as_slice(), text);
         }
-    }
-    Ok(())
-}
-
-#[test]
-fn writes_a_front_where_the_sink_fails(rt: HostRuntime) -> Result<(), Fail> {
-    let formula = formula_of(rt.alloc(), 2, &[&[2], &[-2, 1]])?.ok_or("not over its variables")?;
-    let mut sink = ShortSink::new(rt.alloc(), 1).failing_at(20);
-    assert_eq!(rt;
-        write_cnf(rt.alloc(), &formula, &mut sink),
-        Err(SinkFault::Device)
-    );
-    assert_eq!(rt; sink.as_slice(), b"p cnf 2 2\n2 0\n-2 1 ".as_slice());
-    Ok(())
-}
-
-#[test]
-fn writes_long_texts_in_pieces(rt: HostRuntime) -> Result<(), Fail> {
-    let mut clauses = Vec::new(rt.alloc());
-    for _ in 0..20_000 {
-        let clause = Clause::ternary(
-            rt.alloc(),
-            Lit::positive(1),
-            Lit::positive(2),
-            Lit::positive(3),
-        );
-        clauses.push(clause).map_err(|_| "memory")?;
-    }
-    assert!(rt; Formula::fits(3, clauses.as_slice()));
-    let formula = Formula::new(3, clauses);
-    let mut sink = ShortSink::new(rt.alloc(), usize::MAX).failing_at(3);
-    assert_eq!(rt;
-        write_cnf(rt.alloc(), &formula, &mut sink),
-        Err(SinkFault::Device)
-    );
-    let mut whole = ShortSink::new(rt.alloc(), usize::MAX);
-    assert_eq!(rt; write_cnf(rt.alloc(), &formula, &mut whole), Ok(()));
-    assert_eq!(rt; whole.as_slice().len(), 160_014);
-    assert!(rt; whole.as_slice().starts_with(sink.as_slice()));
-    assert!(rt; whole.as_slice().ends_with(b"\n1 2 3 0\n"));
-    Ok(())
-}
-
-#[test]
-fn finds_the_first_false_clause(rt: HostRuntime) -> Result<(), Fail> {
-    let formula = formula_of(rt.alloc(), 2, &[&[2], &[-2, 1]])?.ok_or("not over its variables")?;
-    let cases: [(&[bool], Option<usize>); 5] = [
-        (&[true, true], None),
-        (&[true, true, false], None),
-        (&[false, true], Some(2)),
-        (&[true, false], Some(1)),
-        (&[], Some(1)),
-    ];
-    for (values, first) in cases {
-        let assignment = Assignment::new(Vec::from_slice(rt.alloc(), values)?);
-        let found = formula
-            .eval(&assignment)
-            .err()
-            .map(|FirstFalse { clause }| clause);
-        assert_eq!(rt; found, first);
+        let mut sink = ShortSink::new(rt.alloc(), 1).failing_at(8);
+        let written = write_cnf(rt.alloc(), &formula, &mut sink);
+        assert_eq!(rt; written, Err(SinkFault::Device));
+        assert_eq!(rt; sink.as_slice(), &text[..7]);
     }
     assert!(rt; formula_of(rt.alloc(), 1, &[&[2]])?.is_none());
     Ok(())
@@ -119,17 +63,13 @@ fn finds_the_first_false_clause(rt: HostRuntime) -> Result<(), Fail> {
 fn gives_its_parts_back(rt: HostRuntime) -> Result<(), Fail> {
     let formula = formula_of(rt.alloc(), 2, &[&[2], &[-2, 1]])?.ok_or("not over its variables")?;
     formula.is_formula();
-    assert_eq!(rt; formula.variables(), 2);
-    assert_eq!(rt; formula.clauses().len(), 2);
     let clauses = formula.into_clauses();
     assert_eq!(rt; clauses.len(), 2);
     assert!(rt; Formula::fits(MAX_VARIABLE, clauses.as_slice()));
     let again = Formula::new(MAX_VARIABLE, clauses);
-    let mut sink = ShortSink::new(rt.alloc(), usize::MAX);
-    assert_eq!(rt; write_cnf(rt.alloc(), &again, &mut sink), Ok(()));
     assert_eq!(rt;
-        sink.as_slice(),
-        b"p cnf 4194304 2\n2 0\n-2 1 0\n".as_slice()
+        (again.variables(), again.clauses().len()),
+        (MAX_VARIABLE, 2)
     );
     let assignment = Assignment::new(Vec::from_slice(rt.alloc(), &[true, false])?);
     assert!(rt; assignment.into_values().as_slice() == [true, false].as_slice());
@@ -139,21 +79,14 @@ fn gives_its_parts_back(rt: HostRuntime) -> Result<(), Fail> {
 #[test]
 fn gives_values_to_variables(rt: HostRuntime) -> Result<(), Fail> {
     let assignment = Assignment::new(Vec::from_slice(rt.alloc(), &[true, false])?);
-    for (variable, value) in [
-        (0, false),
-        (1, true),
-        (2, false),
-        (3, false),
-        (u32::MAX, false),
-    ] {
+    for (variable, value) in [(0, false), (1, true), (2, false), (u32::MAX, false)] {
         assert_eq!(rt; assignment.value(variable), value, "at {variable}");
     }
-    let cases: [(&[i32], bool); 5] = [
+    let cases: [(&[i32], bool); 4] = [
         (&[], true),
         (&[1, -2, -3], true),
         (&[1, 2], false),
         (&[-1], false),
-        (&[1, 3], false),
     ];
     for (numbers, made) in cases {
         let literals = literals_of(rt.alloc(), numbers)?;
@@ -169,8 +102,10 @@ fn keeps_literals_in_clauses(rt: HostRuntime) -> Result<(), Fail> {
         assert!(rt; Lit::new(number).is_none(), "at {number}");
     }
     let last = Lit::new(-4_194_304).ok_or("no literal")?;
-    assert_eq!(rt; last.variable(), MAX_VARIABLE);
-    assert_eq!(rt; last.number(), -4_194_304);
+    assert_eq!(rt;
+        (last.variable(), last.number()),
+        (MAX_VARIABLE, -4_194_304)
+    );
     assert!(rt; !last.is_positive() && last.negated() == Lit::positive(MAX_VARIABLE));
     let [first, second] = [Lit::positive(7), Lit::positive(9).negated()];
     assert!(rt; Clause::unit(rt.alloc(), first).as_slice() == [first].as_slice());

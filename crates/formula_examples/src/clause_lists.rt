@@ -1,7 +1,9 @@
 //! Lists of clauses, however they are kept: what the calls answer.
 
-use crate::{Assignment, Clause, ClauseList, FirstFalse, Formula, ListedClause, Lit};
-use std::alloc::{AllocError, Global};
+use crate::traces_of_texts::{HAND_OFF, reduced_of};
+use clause_blocks::formula::formula;
+use dimacs::{Assignment, Clause, ClauseList, FirstFalse, Formula, ListedClause, Lit};
+use std::alloc::Global;
 use std::process::Abort;
 use std::test::Fail;
 
@@ -31,19 +33,7 @@ impl ClauseList for PlainList {
     }
 }
 
-/// The formula of two variables that says that both are true.
-fn both_true(alloc: Global) -> Result<Option<Formula>, AllocError> {
-    let [first, second] = [Lit::positive(1), Lit::positive(2)];
-    let mut clauses = Vec::new(alloc);
-    clauses.push(Clause::unit(alloc, second))?;
-    clauses.push(Clause::binary(alloc, second.negated(), first))?;
-    if !Formula::fits(2, clauses.as_slice()) {
-        return Ok(None);
-    }
-    Ok(Some(Formula::new(2, clauses)))
-}
-
-/// Asserts what a list of these two clauses answers.
+/// Asserts what a list of the two clauses of the hand-off answers.
 fn assert_answers<F: ClauseList>(rt: &impl Abort, alloc: Global, list: &F) -> Result<(), Fail> {
     assert_eq!(rt; list.variables(), 2);
     assert_eq!(rt; list.count(), 2);
@@ -56,10 +46,10 @@ fn assert_answers<F: ClauseList>(rt: &impl Abort, alloc: Global, list: &F) -> Re
     ];
     for (values, first) in cases {
         let assignment = Assignment::new(Vec::from_slice(alloc, values)?);
-        let found = list
-            .eval(&assignment)
-            .err()
-            .map(|FirstFalse { clause }| clause);
+        let found = match list.eval(&assignment) {
+            Ok(()) => None,
+            Err(FirstFalse { clause }) => Some(clause),
+        };
         assert_eq!(rt; found, first);
     }
     Ok(())
@@ -67,9 +57,13 @@ fn assert_answers<F: ClauseList>(rt: &impl Abort, alloc: Global, list: &F) -> Re
 
 #[test]
 fn answers_however_it_is_kept(rt: HostRuntime) -> Result<(), Fail> {
-    let formula = both_true(rt.alloc())?.ok_or("not over its variables")?;
-    assert_answers(&rt, rt.alloc(), &formula)?;
-    assert_answers(&rt, rt.alloc(), &PlainList { formula })
+    let reduced = reduced_of(&rt, rt.alloc(), HAND_OFF);
+    for workers in [1, 2, 8] {
+        let formula = formula(rt.alloc(), &rt, &reduced, workers)?;
+        assert_answers(&rt, rt.alloc(), &formula)?;
+        assert_answers(&rt, rt.alloc(), &PlainList { formula })?;
+    }
+    Ok(())
 }
 
 #[test]

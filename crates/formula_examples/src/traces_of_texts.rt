@@ -1,0 +1,24 @@
+//! The traces that the tests share.
+
+use reducer::reduced::{Reduced, reduce};
+use std::alloc::Global;
+use std::process::Abort;
+use trace_text::trace_reader::read_trace;
+
+/// A process writes a value, and another one reads it.
+pub const HAND_OFF: &str = "vsc 1\nproc P\nW x 1\nproc Q\nR x 1\n";
+
+/// Each of two processes writes one location and then reads the initial value of the other's.
+pub const STORE_BUFFERING: &str =
+    "vsc 1\ninit x 0\ninit y 0\nproc P\nW x 1\nR y 0\nproc Q\nW y 1\nR x 0\n";
+
+/// The trace of this text, reduced.
+pub fn reduced_of(rt: &impl Abort, alloc: Global, text: &str) -> Reduced {
+    let Ok(trace) = read_trace(alloc, text.as_bytes()) else {
+        panic!(rt; "the trace is refused");
+    };
+    match reduce(alloc, &trace) {
+        Ok(reduced) => reduced,
+        Err(_) => panic!(rt; "the trace is not reduced"),
+    }
+}
