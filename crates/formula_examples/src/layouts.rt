@@ -96,8 +96,14 @@ fn numbers_the_variables_of_store_buffering(rt: HostRuntime) {
     assert!(rt; is_initial(choice_of(&rt, &layout, 3, 0), 8));
     assert_eq!(rt; choices_of(&rt, &layout, 1).len(), 1);
     assert_eq!(rt; layout.void_var(Chooser::Read(1)), None);
-    assert_eq!(rt; first_splits(&rt, &layout, rt.alloc(), 21).as_slice(), [3u32, 4].as_slice());
-    assert_eq!(rt; first_splits(&rt, &layout, rt.alloc(), 1).as_slice(), [3u32].as_slice());
+    assert_eq!(rt;
+        first_splits(&rt, &layout, rt.alloc(), 21).as_slice(),
+        [3u32, 4].as_slice()
+    );
+    assert_eq!(rt;
+        first_splits(&rt, &layout, rt.alloc(), 1).as_slice(),
+        [3u32].as_slice()
+    );
     assert_eq!(rt; layout.final_values(), 0);
 }
 
@@ -114,7 +120,10 @@ fn numbers_the_variables_of_two_updates(rt: HostRuntime) {
     let finals: &[FinalChoice] = finals_of(&rt, &layout, 0);
     assert!(rt; finals.len() == 1 && finals[0].writer == 1 && finals[0].variable == 5);
     assert_eq!(rt; layout.void_var(Chooser::Final(0)), None);
-    assert_eq!(rt; first_splits(&rt, &layout, rt.alloc(), 21).as_slice(), [1u32].as_slice());
+    assert_eq!(rt;
+        first_splits(&rt, &layout, rt.alloc(), 21).as_slice(),
+        [1u32].as_slice()
+    );
 }
 
 #[test]
@@ -130,6 +139,12 @@ fn has_void_variables_for_lost_values(rt: HostRuntime) {
 fn splits_on_conflicts_alone(rt: HostRuntime) {
     let layout = layout_of(&rt, rt.alloc(), IRIW);
     assert_eq!(rt; layout.count(), 19);
-    assert_eq!(rt; first_splits(&rt, &layout, rt.alloc(), 4).as_slice(), [2u32, 5, 7, 8].as_slice());
-    assert_eq!(rt; first_splits(&rt, &layout, rt.alloc(), 3).as_slice(), [2u32, 5, 7].as_slice());
+    assert_eq!(rt;
+        first_splits(&rt, &layout, rt.alloc(), 4).as_slice(),
+        [2u32, 5, 7, 8].as_slice()
+    );
+    assert_eq!(rt;
+        first_splits(&rt, &layout, rt.alloc(), 3).as_slice(),
+        [2u32, 5, 7].as_slice()
+    );
 }

@@ -39,6 +39,7 @@ left_is t location j = at (name_at t j)
     under : (o : Option Op) → option_and_then (λ op. if bytes_eq (location_of op) location then value_left op else None) o ≡ option_and_then (left_by location) o
     under None = refl
     under (Some op) = refl
+
     at : (n : Option OpName) → option_and_then (value_left_at t location) n ≡ option_and_then (left_by location) (option_and_then (operation_at t) n)
     at None = refl
     at (Some n) = under (operation_at t n)
@@ -53,6 +54,7 @@ among_others p n i j apart within =
   where
     other : (w : ℕ) → w ≡ j → not (w == i) ≡ true
     other w e = let far : w ≢ i = λ f. apart (sym f ∙ e) in grind (arith, nat_tests)
+
     kept : (b : Bool) → (b && true) ≡ b
     kept true = refl
     kept false = refl

@@ -26,11 +26,7 @@ fn is_split(layout: &Layout, i: usize, j: usize) -> bool
 }
 
 /// Puts the variables of the pairs that begin with operation i behind the others.
-fn push_splits(
-    variables: &mut Vec<u32>,
-    layout: &Layout,
-    i: usize,
-) -> Result<(), AllocError>
+fn push_splits(variables: &mut Vec<u32>, layout: &Layout, i: usize) -> Result<(), AllocError>
     requires { i < operation_count layout.now }
     ensures { OnOk result (variables.new.items ≡ variables.old.items ++ split.splits_among layout.now (map (λ j. (i, j)) (numbers_above (operation_count layout.now) i))) }
 {
