@@ -3,6 +3,7 @@ pub mod RefuteLemmas
 pub mod ActiveLemmas
 pub mod CheckLemmas
 pub mod SoundLemmas
+pub mod RatLemmas
 pub mod RefusalLemmas
 pub mod ListLemmas
 pub mod LratLineLemmas

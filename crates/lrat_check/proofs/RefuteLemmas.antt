@@ -1,7 +1,7 @@
 -- Hints, one after the other.
 use Rattle.std.proofs.Common.{◌≡◌, ℕ, List, [], ◌∷◌, ◌++◌, refl, sym, subst, inl, inr}
 use Rattle.std.specs.Prelude.{ℤ, Option, Some, None}
-use Rattle.lrat_check.specs.Justified.{Refutes, FailsToRefute}
+use Rattle.lrat_check.specs.Refuted.{Refutes, FailsToRefute}
 use Rattle.lrat_check.specs.Propagation.{Falsifies, IsUnit, HasTwoUnfalsified}
 use Rattle.lrat_check.specs.declared.refusal.StepFault.{StepFault}
 use Rattle.lrat_check.specs.declared.refusal.StepFault.TheVariants.{UnknownHint, NotUnit, NoConflict}

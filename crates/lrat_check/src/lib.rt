@@ -4,6 +4,8 @@
 mod active_clauses;
 pub mod checker;
 pub mod derivation;
+mod hint_groups;
+pub mod hints;
 pub mod ids;
 pub mod laws;
 pub mod lrat_fault;
@@ -13,6 +15,7 @@ pub mod lrat_reader;
 pub mod lrat_writer;
 mod marks;
 mod propagation;
+mod rat;
 pub mod refusal;
 #[cfg(test)]
 mod tests;

@@ -2,7 +2,9 @@
 
 ghost use Rattle.std.specs.Prelude.{◌≡◌, [], ◌∷◌, ◌++◌, ℕ, List, ℤ, false, Some, None, IfOk, MatchOption, MatchResult};
 ghost use Rattle.lrat_check.specs.ClauseAt.{clause_at};
-ghost use Rattle.lrat_check.specs.Justified.{Refutes, FailsToRefute, IsJustified, IsUnjustified};
+ghost use Rattle.lrat_check.specs.Hints.{first_hints};
+ghost use Rattle.lrat_check.specs.Justified.{IsJustified, IsUnjustified};
+ghost use Rattle.lrat_check.specs.Refuted.{Refutes, FailsToRefute};
 ghost use Rattle.lrat_check.specs.Propagation.{is_falsified};
 ghost use Rattle.lrat_check.specs.Standing.{IsStanding, IsAssumed};
 ghost use Rattle.text_lines.specs.Fault.{IsRefusalAt};
@@ -101,15 +103,18 @@ fn refute<F: ClauseList>(
     formula: &F,
     active: &ActiveClauses,
     trues: &mut TrueLiterals,
-    hints: &[u64],
+    hints: &[i64],
     number: usize,
 ) -> Result<(), Refusal>
     ensures { MatchResult result
-        (λ _. Refutes (clause_at (F.formula formula.now).clauses active.now) trues.old hints.now)
-        (λ refusal. IsRefusalAt (λ fault. FailsToRefute (clause_at (F.formula formula.now).clauses active.now) trues.old hints.now fault) number refusal) }
+        (λ _. Refutes (clause_at (F.formula formula.now).clauses active.now) trues.old (first_hints hints.now))
+        (λ refusal. IsRefusalAt (λ fault. FailsToRefute (clause_at (F.formula formula.now).clauses active.now) trues.old (first_hints hints.now) fault) number refusal) }
 {
     for hint in hints {
-        let Some(standing) = standing_at(&*formula, &*active, *hint, trues) else {
+        if *hint < 0 {
+            break;
+        }
+        let Some(standing) = standing_at(&*formula, &*active, hint.unsigned_abs(), trues) else {
             return Err(Refusal::At(StepFault::UnknownHint, number));
         };
         match standing {
@@ -127,7 +132,7 @@ pub fn justify<F: ClauseList>(
     active: &ActiveClauses,
     trues: &mut TrueLiterals,
     clause: &[Lit],
-    hints: &[u64],
+    hints: &[i64],
     number: usize,
 ) -> Result<(), Refusal>
     ensures { MatchResult result
