@@ -1,8 +1,9 @@
 //! Assignments: a truth value for each variable.
-ghost use Rattle.std.specs.Prelude.{◌≡◌};
+ghost use Rattle.std.specs.Prelude.{◌≡◌, IfOk};
 ghost use Rattle.dimacs.specs.Assignment.{value_of, makes_true, makes_all, makes_some};
 
 use crate::literal::Lit;
+use std::alloc::{AllocError, Global};
 use std::marker::Model;
 
 /// A truth value for each variable: those of 1, 2 and so on, and false past its end.
@@ -25,6 +26,15 @@ impl Assignment {
         ensures { result ≡ values.items }
     {
         Assignment { values }
+    }
+
+    /// A copy of it.
+    pub fn copied(&self, alloc: Global) -> Result<Assignment, AllocError>
+        ensures { IfOk result (λ copy. copy ≡ self.now) }
+    {
+        Ok(Assignment {
+            values: Vec::from_slice(alloc, self.values.as_slice())?,
+        })
     }
 
     /// The values of the variables 1, 2 and so on.

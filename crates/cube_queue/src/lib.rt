@@ -1,0 +1,18 @@
+//! Cubes as jobs: what is handed to a worker, what comes back, and the search that settles the leaves of a tree.
+#![tactic(auto)]
+
+mod gate;
+mod job;
+mod job_cube;
+pub mod options;
+mod outcome;
+mod search_fault;
+mod searching;
+
+pub use gate::{Gate, OpenGate};
+pub use job::{Job, Settled};
+pub use job_cube::{JobCube, MOST_LITERALS};
+pub use options::{BadOption, Options};
+pub use outcome::Outcome;
+pub use search_fault::SearchFault;
+pub use searching::search;

@@ -1,0 +1,16 @@
+//! What a worker says of a cube. Nobody trusts it.
+use dimacs::Assignment;
+use lrat_check::derivation::Derivation;
+
+/// What a worker says of a cube. It is an answer to be checked, and may be wrong.
+#[derive(Drop)]
+pub enum Outcome {
+    /// A model of the formula that makes all literals of the cube true.
+    Model(Assignment),
+    /// A derivation that shows that there is none.
+    Refuted(Derivation),
+    /// The search ended without either.
+    Open,
+    /// The cube was not searched, since a lower leaf has a model.
+    Skipped,
+}

@@ -1,0 +1,55 @@
+-- What one slot's answer is worth.
+use Rattle.std.proofs.Common.{◌≡◌, ◌⊎◌, ℕ, zero, suc, ◌<◌, ◌+◌, ℤ, Bool, List, length, get_or, Some, refl, sym, ◌∙◌, ap, subst, inl, inr, arith}
+use Rattle.std.specs.Prelude.{IsTrue, ◌↔◌}
+use Rattle.std.specs.List.{slice_get}
+use Rattle.std.proofs.lemmas.Option.{slice_get_read}
+use Rattle.cube_queue.specs.declared.outcome.Outcome.TheVariants.{Model, Refuted}
+use Rattle.dimacs.specs.Assignment.{value_of}
+use Rattle.lrat_check.specs.declared.derivation.Step.{Step}
+use Rattle.result_ledger.specs.declared.slot.Slot.{Slot}
+use Rattle.result_ledger.specs.Verdict.{IsModelIn, IsProofIn, IsModelAnswer, IsProofAnswer, HasModelAt, HasProofAt, HaveNoModelBefore}
+
+-- an answer that is no model in the cube
+pub no_model_answer : (clauses : List (List ℤ)) (slot : Slot) (found : List Bool) → slot.outcome ≡ Some (Model found) → (IsModelIn clauses slot.cube (value_of found) → ⊥) → (truth : List Bool) → IsModelAnswer clauses slot truth → ⊥
+no_model_answer clauses slot found said wrong truth h =
+    let both : Some (Model found) ≡ Some (Model truth) = sym said ∙ h.answer in
+    let same : found ≡ truth = cc both in
+    wrong (subst (λ (values : List Bool). IsModelIn clauses slot.cube (value_of values)) (sym same) h.confirmed)
+
+-- an answer that is a derivation is right exactly where that is accepted
+pub proof_answer : (clauses : List (List ℤ)) (slot : Slot) (steps : List Step) (proved : Bool) → slot.outcome ≡ Some (Refuted steps) → (IsTrue proved ↔ IsProofIn clauses slot.cube steps) → IsTrue proved ↔ IsProofAnswer clauses slot
+proof_answer clauses slot steps proved said right = (
+  λ h. record { steps = steps; answer = said; confirmed = right.0 h },
+  λ h.
+      let both : Some (Refuted steps) ≡ Some (Refuted h.steps) = sym said ∙ h.answer in
+      let same : steps ≡ h.steps = cc both in
+      right.1 (subst (λ (values : List Step). IsProofIn clauses slot.cube values) (sym same) h.confirmed),
+)
+
+order : (a b : ℕ) → a < b + 1 → (a < b) ⊎ (a ≡ b)
+order zero zero h = inr refl
+order zero (suc b) h = inl (omega arith)
+order (suc a) zero h = absurd (omega arith)
+order (suc a) (suc b) h = elim (order a b (omega arith)) [ inl l ↦ inl (omega (arith, l)) | inr e ↦ inr (ap suc e) ]
+
+-- the element that was read
+pub read : (slots : List Slot) (leaf : ℕ) (slot : Slot) → leaf < length slots → slot ≡ get_or slots leaf slot → slice_get slots leaf ≡ Some slot
+read slots leaf slot below is = slice_get_read slots (length slots) leaf slot refl below is
+
+-- one more leaf has no model for its answer
+pub none_on : (clauses : List (List ℤ)) (slots : List Slot) (leaf : ℕ) (slot : Slot) → slice_get slots leaf ≡ Some slot → ((truth : List Bool) → IsModelAnswer clauses slot truth → ⊥) → HaveNoModelBefore clauses slots leaf → HaveNoModelBefore clauses slots (leaf + 1)
+none_on clauses slots leaf slot there none before other truth below h = elim (order other leaf below) [
+  | inl less ↦ before other truth less h
+  | inr same ↦
+      let at : slice_get slots leaf ≡ Some h.slot = subst (λ (n : ℕ). slice_get slots n ≡ Some h.slot) same h.there in
+      let both : Some slot ≡ Some h.slot = sym there ∙ at in
+      let slots_same : slot ≡ h.slot = cc both in
+      none truth (subst (λ (x : Slot). IsModelAnswer clauses x truth) (sym slots_same) h.holds)
+]
+
+-- a leaf whose answer is no proof
+pub not_proved : (clauses : List (List ℤ)) (slots : List Slot) (leaf : ℕ) (slot : Slot) → slice_get slots leaf ≡ Some slot → (IsProofAnswer clauses slot → ⊥) → HasProofAt clauses slots leaf → ⊥
+not_proved clauses slots leaf slot there wrong h =
+    let both : Some slot ≡ Some h.slot = sym there ∙ h.there in
+    let slots_same : slot ≡ h.slot = cc both in
+    wrong (subst (λ (x : Slot). IsProofAnswer clauses x) (sym slots_same) h.holds)

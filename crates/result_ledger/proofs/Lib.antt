@@ -1,0 +1,6 @@
+pub mod AnswerLemmas
+pub mod CoverLemmas
+pub mod RisingLemmas
+pub mod SlotLemmas
+pub mod VerdictLemmas
+pub mod WithoutLemmas

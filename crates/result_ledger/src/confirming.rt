@@ -1,0 +1,145 @@
+//! Whether answers are right.
+ghost use Rattle.std.specs.Prelude.{◌≡◌, ◌<◌, ◌≤◌, ◌↔◌, Bool, List, length, IsTrue, IfOk, MatchOption, Some};
+ghost use Rattle.cube_queue.specs.declared.outcome.Outcome.TheVariants.{Model, Refuted};
+ghost use Rattle.dimacs.specs.Assignment.{value_of};
+ghost use Rattle.lrat_check.specs.declared.derivation.Step.{Step};
+ghost use Rattle.result_ledger.specs.Verdict.{IsModelIn, IsProofIn, IsModelAnswer, IsProofAnswer, HasModelAt, HasProofAt, HaveNoModelBefore, AreWithout};
+
+use crate::slot::Slot;
+use cube_queue::Outcome;
+use dimacs::{Assignment, Formula, Lit};
+use lrat_check::checker::check;
+use lrat_check::derivation::Derivation;
+use lrat_check::laws::never_accepted_and_refused;
+use lrat_check::refusal::Refusal;
+use std::alloc::{AllocError, Global};
+
+/// The truth values of an answer that says that they are a model.
+fn said_model(outcome: &Option<Outcome>) -> Option<&Assignment>
+    ensures { MatchOption result
+        ((truth : List Bool) → outcome.now ≡ Some (Model truth) → ⊥)
+        (λ found. outcome.now ≡ Some (Model found.now)) }
+{
+    match outcome {
+        Some(Outcome::Model(assignment)) => Some(assignment),
+        Some(Outcome::Refuted(_)) => None,
+        Some(Outcome::Open) => None,
+        Some(Outcome::Skipped) => None,
+        None => None,
+    }
+}
+
+/// The derivation of an answer that says that there is no model.
+fn said_derivation(outcome: &Option<Outcome>) -> Option<&Derivation>
+    ensures { MatchOption result
+        ((steps : List Step) → outcome.now ≡ Some (Refuted steps) → ⊥)
+        (λ found. outcome.now ≡ Some (Refuted found.now)) }
+{
+    match outcome {
+        Some(Outcome::Refuted(derivation)) => Some(derivation),
+        Some(Outcome::Model(_)) => None,
+        Some(Outcome::Open) => None,
+        Some(Outcome::Skipped) => None,
+        None => None,
+    }
+}
+
+/// Whether the assignment is a model of the formula and makes all literals of the cube true.
+fn is_model_in(formula: &Formula, cube: &[Lit], assignment: &Assignment) -> bool
+    ensures { IsTrue result ↔ IsModelIn formula.now.clauses cube.now (value_of assignment.now) }
+{
+    if !assignment.makes(cube) {
+        return false;
+    }
+    match formula.eval(assignment) {
+        Ok(()) => true,
+        Err(_) => false,
+    }
+}
+
+/// Whether the derivation is accepted for the cube.
+fn is_proof_in(
+    alloc: Global,
+    formula: &Formula,
+    cube: &[Lit],
+    derivation: &Derivation,
+) -> Result<bool, AllocError>
+    ensures { IfOk result (λ proved. IsTrue proved ↔ IsProofIn formula.now.clauses cube.now derivation.now) }
+{
+    never_accepted_and_refused();
+    let _steps = derivation.steps();
+    match check(alloc, formula, cube, derivation) {
+        Ok(_) => Ok(true),
+        Err(Refusal::At(_, _)) => Ok(false),
+        Err(Refusal::OutOfMemory) => Err(AllocError),
+    }
+}
+
+/// The truth values of the slot's answer, where it is a model that makes the cube true.
+fn model_of<'a>(formula: &Formula, slot: &'a Slot) -> Option<&'a Assignment>
+    ensures { MatchOption result
+        ((truth : List Bool) → IsModelAnswer formula.now.clauses slot.now truth → ⊥)
+        (λ found. IsModelAnswer formula.now.clauses slot.now found.now) }
+{
+    let assignment = said_model(&slot.outcome)?;
+    if is_model_in(formula, slot.cube.as_slice(), assignment) {
+        Some(assignment)
+    } else {
+        None
+    }
+}
+
+/// Whether the slot's answer is a derivation that is accepted for its cube.
+fn is_proved(alloc: Global, formula: &Formula, slot: &Slot) -> Result<bool, AllocError>
+    ensures { IfOk result (λ proved. IsTrue proved ↔ IsProofAnswer formula.now.clauses slot.now) }
+{
+    let Some(derivation) = said_derivation(&slot.outcome) else {
+        return Ok(false);
+    };
+    let proved = is_proof_in(alloc, formula, slot.cube.as_slice(), derivation)?;
+    Ok(proved)
+}
+
+/// The lowest leaf that has a model for its answer.
+#[derive(Drop)]
+pub(crate) struct FirstModel<'a> {
+    /// Its number.
+    pub(crate) leaf: usize,
+    /// The truth values of its answer.
+    pub(crate) assignment: &'a Assignment,
+}
+
+/// The lowest leaf that has a model for its answer, if there is one.
+pub(crate) fn first_model<'a>(formula: &Formula, slots: &'a [Slot]) -> Option<FirstModel<'a>>
+    ensures { MatchOption result
+        (HaveNoModelBefore formula.now.clauses slots.now (length slots.now))
+        (λ found. HasModelAt formula.now.clauses slots.now found.leaf found.assignment.now × HaveNoModelBefore formula.now.clauses slots.now found.leaf × (found.leaf < length slots.now)) }
+{
+    for leaf in 0..slots.len() {
+        match model_of(formula, &slots[leaf]) {
+            Some(assignment) => return Some(FirstModel { leaf, assignment }),
+            None => {}
+        }
+    }
+    None
+}
+
+/// The leaves without a derivation that is accepted, rising.
+pub(crate) fn without_proof(
+    alloc: Global,
+    formula: &Formula,
+    slots: &[Slot],
+) -> Result<Vec<u32>, AllocError>
+    requires { length slots.now ≤ 1024 }
+    ensures { IfOk result (λ leaves. AreWithout (HasProofAt formula.now.clauses slots.now) (length slots.now) leaves.items) }
+{
+    let mut leaves = Vec::new(alloc);
+    for leaf in 0..slots.len() {
+        let proved = is_proved(alloc, formula, &slots[leaf])?;
+        if proved {
+            continue;
+        }
+        leaves.push(leaf as u32)?;
+    }
+    Ok(leaves)
+}

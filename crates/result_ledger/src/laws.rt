@@ -1,0 +1,35 @@
+//! Laws of verdicts.
+ghost use Rattle.std.specs.Prelude.{◌≡◌, ℕ, ℤ, Bool, List, IsTrue, Some};
+ghost use Rattle.std.specs.List.{list_all, Contains, slice_get};
+ghost use Rattle.cube_tree.specs.Covers.{Covers};
+ghost use Rattle.dimacs.specs.Formula.{FormulaValue, is_formula};
+ghost use Rattle.dimacs.specs.Literal.{is_clause};
+ghost use Rattle.dimacs.specs.Models.{IsModel};
+ghost use Rattle.result_ledger.specs.Ledger.{cubes_in};
+ghost use Rattle.result_ledger.specs.Verdict.{IsVerdict, IsModelIn, AgreeUpToModel};
+ghost use Rattle.result_ledger.specs.declared.slot.Slot.{Slot};
+ghost use Rattle.result_ledger.specs.declared.verdict.Verdict.{Verdict};
+ghost use Rattle.result_ledger.specs.declared.verdict.Verdict.TheVariants.{Inconsistent, Unknown};
+
+/// The verdict is a function of the answers by leaf: ledgers that agree up to the lowest leaf that has a model for its answer,
+/// and at all leaves where none has, have the same verdict. So the order in which answers arrive changes nothing.
+pub fn agreeing_ledgers_agree()
+    ensures { (clauses : List (List ℤ)) (first second : List Slot) (one other : Verdict) →
+        AgreeUpToModel clauses first second → IsVerdict clauses first one → IsVerdict clauses second other → one ≡ other }
+{}
+
+/// Where the cubes cover and the verdict is that the formula is inconsistent, it has no model.
+pub fn inconsistent_has_no_model()
+    ensures { (formula : FormulaValue) (slots : List Slot) (count : ℕ) →
+        IsTrue (is_formula formula) → IsTrue (list_all is_clause (cubes_in slots)) → Covers (cubes_in slots) →
+        IsVerdict formula.clauses slots (Inconsistent count) → (value : ℕ → Bool) → IsModel value formula.clauses → ⊥ }
+{}
+
+/// Where the cubes cover and the verdict is open, each model of the formula makes all literals of some listed leaf's cube
+/// true.
+pub fn unknown_holds_all_models()
+    ensures { (formula : FormulaValue) (slots : List Slot) (leaves : List ℕ) →
+        IsTrue (is_formula formula) → IsTrue (list_all is_clause (cubes_in slots)) → Covers (cubes_in slots) →
+        IsVerdict formula.clauses slots (Unknown leaves) → (value : ℕ → Bool) → IsModel value formula.clauses →
+        (leaf : ℕ) × (slot : Slot) × Contains leaves leaf × (slice_get slots leaf ≡ Some slot) × IsModelIn formula.clauses slot.cube value }
+{}

@@ -1,0 +1,17 @@
+//! The ledger of a tree's leaves: what was answered for each of them, and the verdict that follows.
+#![tactic(auto)]
+
+mod confirming;
+mod entry_fault;
+mod laws;
+mod leaves;
+mod ledger;
+mod slot;
+mod verdict;
+
+pub use entry_fault::EntryFault;
+pub use laws::{agreeing_ledgers_agree, inconsistent_has_no_model, unknown_holds_all_models};
+pub use leaves::Leaves;
+pub use ledger::Ledger;
+pub use slot::Slot;
+pub use verdict::Verdict;

@@ -1,0 +1,14 @@
+//! Verdicts.
+use crate::leaves::Leaves;
+use dimacs::Assignment;
+
+/// What follows from the answers for all leaves of a tree.
+#[derive(Drop)]
+pub enum Verdict {
+    /// The answer for this leaf is a model, and for no lower one.
+    Consistent(u32, Assignment),
+    /// No leaf has a model for its answer, and all of them, so many, have a derivation that is accepted.
+    Inconsistent(u32),
+    /// No leaf has a model for its answer, and these, rising, have no derivation that is accepted.
+    Unknown(Leaves),
+}
