@@ -39,7 +39,3 @@ pub record IsWrittenStep (words : List (List ℕ)) (step : Step) : Type 0 where
 pub record IsLineOf (line : List ℕ) (step : Step) : Type 0 where
   pub said : is_skipped (words_of line) ≡ false
   pub step_is : IsWrittenStep (words_of line) step
-
--- whether the absolute value is an id
-abbrev pub is_id_number : ℤ → Bool
-is_id_number z = is_id (nat_abs z)

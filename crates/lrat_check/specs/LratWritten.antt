@@ -11,7 +11,7 @@ list_text numbers = flat_map (λ z. 32 ∷ signed_decimal z) numbers ++ codes " 
 
 -- a step as its line: words parted by single spaces, and a line feed
 abbrev pub step_line : Step → List ℕ
-step_line (Addition id literals hints) = decimal id ++ (list_text literals ++ (list_text (map pos hints) ++ codes "\n"))
+step_line (Addition id literals hints) = decimal id ++ (list_text literals ++ (list_text hints ++ codes "\n"))
 step_line (Deletion first ids) = decimal first ++ (codes " d" ++ (list_text (map pos ids) ++ codes "\n"))
 
 -- one step a line

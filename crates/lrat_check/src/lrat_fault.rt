@@ -11,8 +11,6 @@ pub enum LratCause {
     BadNumber,
     /// The line ends before its last `0`.
     Unended,
-    /// A negative hint, as clauses have them that are no consequences.
-    RatLine,
 }
 
 /// Why a text is not read as a derivation: its first fault and its line, counted from 1, or want of memory.
@@ -30,7 +28,6 @@ impl Cause for LratCause {
             LratCause::BadLine => 2,
             LratCause::BadNumber => 3,
             LratCause::Unended => 4,
-            LratCause::RatLine => 5,
         }
     }
 
@@ -39,7 +36,6 @@ impl Cause for LratCause {
             LratCause::BadLine => "BadLine",
             LratCause::BadNumber => "BadNumber",
             LratCause::Unended => "Unended",
-            LratCause::RatLine => "RatLine",
         }
     }
 }

@@ -26,6 +26,15 @@ fn push_literal(text: &mut Vec<u8>, literal: Lit) -> Result<(), AllocError>
     text.extend_from_slice(buffer.format(literal.number()).as_bytes())
 }
 
+/// Appends a space and the hint.
+fn push_hint(text: &mut Vec<u8>, hint: i64) -> Result<(), AllocError>
+    ensures { OnOk result (text.new.items ≡ text.old.items ++ 32 ∷ signed_decimal hint) }
+{
+    let mut buffer = Buffer::new();
+    text.push(b' ')?;
+    text.extend_from_slice(buffer.format(hint).as_bytes())
+}
+
 /// Appends the literals, each behind a space, and 0.
 fn push_literals(text: &mut Vec<u8>, literals: &[Lit]) -> Result<(), AllocError>
     ensures { OnOk result (text.new.items ≡ text.old.items ++ list_text literals.now) }
@@ -47,6 +56,16 @@ fn push_ids(text: &mut Vec<u8>, ids: &[u64]) -> Result<(), AllocError>
     text.extend_from_slice(b" 0")
 }
 
+/// Appends the hints, each behind a space, and 0.
+fn push_hints(text: &mut Vec<u8>, hints: &[i64]) -> Result<(), AllocError>
+    ensures { OnOk result (text.new.items ≡ text.old.items ++ list_text hints.now) }
+{
+    for hint in hints {
+        push_hint(text, *hint)?;
+    }
+    text.extend_from_slice(b" 0")
+}
+
 /// Appends the step as its line.
 fn push_step(text: &mut Vec<u8>, step: &Step) -> Result<(), AllocError>
     ensures { OnOk result (text.new.items ≡ text.old.items ++ step_line step.now) }
@@ -59,7 +78,7 @@ fn push_step(text: &mut Vec<u8>, step: &Step) -> Result<(), AllocError>
         } => {
             push_number(text, *id)?;
             push_literals(text, literals.as_slice())?;
-            push_ids(text, hints.as_slice())?;
+            push_hints(text, hints.as_slice())?;
         }
         Step::Deletion { first, ids } => {
             push_number(text, *first)?;
