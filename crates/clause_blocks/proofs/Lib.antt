@@ -14,6 +14,7 @@ pub mod OperationLemmas
 pub mod OperationNumberLemmas
 pub mod OrderLiteralLemmas
 pub mod PieceLemmas
+pub mod PlaceLemmas
 pub mod PositionLemmas
 pub mod RangeSentLemmas
 pub mod ReadLemmas

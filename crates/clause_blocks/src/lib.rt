@@ -6,6 +6,7 @@ mod final_clauses;
 pub mod first_false;
 pub mod formula;
 pub mod laws;
+mod listed_clauses;
 pub mod meaning;
 mod program_order;
 mod read_clauses;
