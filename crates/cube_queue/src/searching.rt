@@ -10,15 +10,15 @@ use crate::options::Options;
 use crate::outcome::Outcome;
 use crate::search_fault::SearchFault;
 use cube_tree::{Cube, Tree, cubes};
-use dimacs::{Formula, Lit};
+use dimacs::{ClauseList, Lit};
 use solver::{Answer, Guide, solve};
 use std::alloc::Global;
 use std::thread::Threads;
 
 /// What the solver says of the cube. A search that finds no memory leaves it open.
-fn outcome_of(
+fn outcome_of<L: ClauseList>(
     alloc: Global,
-    formula: &Formula,
+    formula: &L,
     guide: Guide,
     cube: &[Lit],
     budget: u64,
@@ -32,9 +32,9 @@ fn outcome_of(
 }
 
 /// Settles the job, behind the gate.
-fn settle_job<G: Gate>(
+fn settle_job<L: ClauseList, G: Gate>(
     alloc: Global,
-    formula: &Formula,
+    formula: &L,
     guide: Guide,
     job: Job,
     budget: u64,
@@ -64,10 +64,10 @@ fn job_of(alloc: Global, cubes: &[Cube], leaf: u32) -> Job
 /// it.
 ///
 /// A worker that finds no memory in a cube leaves that cube open.
-pub fn search<R: Threads + Sync, G: Gate>(
+pub fn search<R: Threads + Sync, L: ClauseList, G: Gate>(
     alloc: Global,
     rt: &R,
-    formula: &Formula,
+    formula: &L,
     guide: Guide,
     tree: &Tree,
     which: &[u32],
