@@ -1,12 +1,11 @@
 //! Whether answers are right.
 ghost use Rattle.std.specs.Prelude.{◌≡◌, ◌<◌, ◌≤◌, ◌↔◌, Bool, List, length, IsTrue, IfOk, MatchOption, Some};
 ghost use Rattle.cube_queue.specs.declared.outcome.Outcome.TheVariants.{Model, Refuted};
-ghost use Rattle.dimacs.specs.Assignment.{value_of};
 ghost use Rattle.lrat_check.specs.declared.derivation.Step.{Step};
-ghost use Rattle.result_ledger.specs.Verdict.{IsModelIn, IsProofIn, IsModelAnswer, IsProofAnswer, HasModelAt, HasProofAt, HaveNoModelBefore, AreWithout};
+ghost use Rattle.result_ledger.specs.Verdict.{IsProofIn, IsModelAnswer, IsProofAnswer, HasModelAt, HasProofAt, HaveNoModelBefore, AreWithout};
 
 use crate::slot::Slot;
-use cube_queue::Outcome;
+use cube_queue::{Outcome, is_model_in};
 use dimacs::{Assignment, ClauseList, Lit};
 use lrat_check::checker::check;
 use lrat_check::derivation::Derivation;
@@ -41,19 +40,6 @@ fn said_derivation(outcome: &Option<Outcome>) -> Option<&Derivation>
         Some(Outcome::Open) => None,
         Some(Outcome::Skipped) => None,
         None => None,
-    }
-}
-
-/// Whether the assignment is a model of the formula and makes all literals of the cube true.
-fn is_model_in<L: ClauseList>(formula: &L, cube: &[Lit], assignment: &Assignment) -> bool
-    ensures { IsTrue result ↔ IsModelIn (L.formula formula.now).clauses cube.now (value_of assignment.now) }
-{
-    if !assignment.makes(cube) {
-        return false;
-    }
-    match formula.eval(assignment) {
-        Ok(()) => true,
-        Err(_) => false,
     }
 }
 
@@ -110,7 +96,10 @@ pub(crate) struct FirstModel<'a> {
 }
 
 /// The lowest leaf that has a model for its answer, if there is one.
-pub(crate) fn first_model<'a, L: ClauseList>(formula: &L, slots: &'a [Slot]) -> Option<FirstModel<'a>>
+pub(crate) fn first_model<'a, L: ClauseList>(
+    formula: &L,
+    slots: &'a [Slot],
+) -> Option<FirstModel<'a>>
     ensures { MatchOption result
         (HaveNoModelBefore (L.formula formula.now).clauses slots.now (length slots.now))
         (λ found. HasModelAt (L.formula formula.now).clauses slots.now found.leaf found.assignment.now × HaveNoModelBefore (L.formula formula.now).clauses slots.now found.leaf × (found.leaf < length slots.now)) }
