@@ -15,8 +15,8 @@ pub mod OperationNumberLemmas
 pub mod OrderLiteralLemmas
 pub mod PieceLemmas
 pub mod PlaceLemmas
-pub mod PositionLemmas
 pub mod RangeSentLemmas
+pub mod RankLemmas
 pub mod ReadLemmas
 pub mod ScheduleChoiceLemmas
 pub mod ScheduleLawLemmas

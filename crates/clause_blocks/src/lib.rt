@@ -9,6 +9,7 @@ pub mod laws;
 mod listed_clauses;
 pub mod meaning;
 mod program_order;
+mod ranks;
 mod read_clauses;
 pub mod stream_cnf;
 pub mod trace_clauses;

@@ -1,14 +1,18 @@
 //! The clause list of a reduced trace as a formula that is seen by its clauses.
 
-ghost use Rattle.std.specs.Prelude.{◌≡◌, ◌<◌, ◌++◌, [], length, slice_index_or};
+ghost use Rattle.std.specs.Prelude.{◌≡◌, ◌<◌, ◌≤◌, ◌++◌, [], length, slice_index_or, take, OnOk, IfErr};
+ghost use Rattle.dimacs.specs.Assignment.{value_of};
+ghost use Rattle.dimacs.specs.Models.{IsModel, IsFirstFalse};
 ghost use Rattle.reducer.specs.Reduced.{operation_count};
 ghost use Rattle.clause_blocks.specs.Blocks as blocks;
+ghost use Rattle.clause_blocks.specs.Clauses.{clauses_of};
 ghost use Rattle.clause_blocks.specs.Triples.{clause_of_triple};
 
 use crate::laws::{clauses_are_clauses, formula_is_over_its_variables};
+use crate::ranks::puts_in_order;
 use crate::trace_clauses::TraceClauses;
 use crate::triple_table::Triple;
-use dimacs::{Clause, ClauseList, ListedClause};
+use dimacs::{Assignment, Clause, ClauseList, FirstFalse, ListedClause};
 use var_layout::layout::Layout;
 
 /// The clause of transitivity that a triple stands for.
@@ -66,6 +70,29 @@ impl TraceClauses {
     }
 }
 
+impl TraceClauses {
+    /// Whether the assignment makes the clauses at these places true. If not, the first one that it makes false.
+    fn eval_between(
+        &self,
+        from: usize,
+        to: usize,
+        assignment: &Assignment,
+    ) -> Result<(), FirstFalse>
+        requires rising { from ≤ to }
+        requires within { to ≤ length (clauses_of self.now) }
+        requires so_far { IsModel (value_of assignment.now) (take from (clauses_of self.now)) }
+        ensures model { OnOk result (IsModel (value_of assignment.now) (take to (clauses_of self.now))) }
+        ensures first { IfErr result (λ found. IsFirstFalse (value_of assignment.now) (clauses_of self.now) found.clause) }
+    {
+        for place in from..to {
+            if !assignment.satisfies(self.clause(place).as_slice()) {
+                return Err(FirstFalse { clause: place + 1 });
+            }
+        }
+        Ok(())
+    }
+}
+
 impl ClauseList for TraceClauses {
     ghost use Rattle.clause_blocks.specs.Clauses.{formula_of};
 
@@ -85,6 +112,18 @@ impl ClauseList for TraceClauses {
             return ListedClause::lent(&first[place]);
         }
         self.later_clause(place - first.len())
+    }
+
+    /// Transitivity is looked at clause by clause only if the assignment does not put the operations in an order.
+    fn eval(&self, assignment: &Assignment) -> Result<(), FirstFalse> {
+        let order = self.program_order().len();
+        let circles = self.triples().count();
+        let count = self.clause_count();
+        self.eval_between(0, order, assignment)?;
+        if !puts_in_order(self.layout(), assignment) {
+            self.eval_between(order, order + circles, assignment)?;
+        }
+        self.eval_between(order + circles, count, assignment)
     }
 
     fn is_formula(&self) {

@@ -52,7 +52,7 @@ impl Model for TraceClauses {
 }
 
 /// How many clauses a piece has.
-pub(crate) fn count_in(operations: usize, piece: Piece<'_>) -> usize
+fn count_in(operations: usize, piece: Piece<'_>) -> usize
     requires { operations ≤ 160 }
     ensures { result ≡ length (clauses_in operations piece.entry) }
 {
