@@ -3,3 +3,4 @@ mod DecodeLemmas
 mod EngineLemmas
 mod MeaningLemmas
 mod SourceLemmas
+mod VerifyLemmas
