@@ -45,7 +45,7 @@ second_true : (a b : Bool) → (a && b) ≡ true → b ≡ true
 second_true true b h = h
 second_true false b h = absurd (cc)
 
-all_append : {X : Type 0} (p : X → Bool) (xs ys : List X) → list_all p xs ≡ true → list_all p ys ≡ true → list_all p (xs ++ ys) ≡ true
+pub all_append : {X : Type 0} (p : X → Bool) (xs ys : List X) → list_all p xs ≡ true → list_all p ys ≡ true → list_all p (xs ++ ys) ≡ true
 all_append p [] ys h k = k
 all_append p (x ∷ xs) ys h k = both_true (p x) (list_all p (xs ++ ys)) (first_true (p x) (list_all p xs) h) (all_append p xs ys (second_true (p x) (list_all p xs) h) k)
 
@@ -53,7 +53,7 @@ all_map : {X A : Type 0} (p : A → Bool) (f : X → A) (xs : List X) → ((x : 
 all_map p f [] h = refl
 all_map p f (x ∷ xs) h = both_true (p (f x)) (list_all p (map f xs)) (h x (head_in x xs)) (all_map p f xs (λ y d. h y (tail_in x xs y d)))
 
-all_flat : {X A : Type 0} (p : A → Bool) (f : X → List A) (xs : List X) → ((x : X) → Contains xs x → list_all p (f x) ≡ true) → list_all p (flat_map f xs) ≡ true
+pub all_flat : {X A : Type 0} (p : A → Bool) (f : X → List A) (xs : List X) → ((x : X) → Contains xs x → list_all p (f x) ≡ true) → list_all p (flat_map f xs) ≡ true
 all_flat p f [] h = refl
 all_flat p f (x ∷ xs) h = all_append p (f x) (flat_map f xs) (h x (head_in x xs)) (all_flat p f xs (λ y d. h y (tail_in x xs y d)))
 
@@ -65,7 +65,7 @@ all_if p false xs ys h k = k refl
 one : {X : Type 0} (p : X → Bool) (x : X) → p x ≡ true → list_all p (x ∷ []) ≡ true
 one p x h = both_true (p x) true h refl
 
-two : {X : Type 0} (p : X → Bool) (x y : X) → p x ≡ true → p y ≡ true → list_all p (x ∷ y ∷ []) ≡ true
+pub two : {X : Type 0} (p : X → Bool) (x y : X) → p x ≡ true → p y ≡ true → list_all p (x ∷ y ∷ []) ≡ true
 two p x y h k = both_true (p x) (p y && true) h (one p y k)
 
 three : {X : Type 0} (p : X → Bool) (x y z : X) → p x ≡ true → p y ≡ true → p z ≡ true → list_all p (x ∷ y ∷ z ∷ []) ≡ true

@@ -14,8 +14,9 @@ pub mod OperationLemmas
 pub mod OperationNumberLemmas
 pub mod OrderLiteralLemmas
 pub mod PieceLemmas
-pub mod PositionLemmas
+pub mod PlaceLemmas
 pub mod RangeSentLemmas
+pub mod RankLemmas
 pub mod ReadLemmas
 pub mod ScheduleChoiceLemmas
 pub mod ScheduleLawLemmas

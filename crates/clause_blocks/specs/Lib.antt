@@ -5,4 +5,5 @@ pub mod FinalClauses
 pub mod ModelOrder
 pub mod Pieces
 pub mod Ranges
+pub mod Ranks
 pub mod Triples

@@ -1,6 +1,7 @@
 -- What a trace's clause list keeps, and what is given of a piece.
 use Rattle.std.specs.Prelude.{◌≡◌, ℕ, ℤ, List}
 use Rattle.traces.specs.Trace.{TraceValue}
+use Rattle.reducer.specs.Reduced.{operation_count}
 use Rattle.clause_blocks.specs.declared.trace_clauses.Piece.{Piece}
 use Rattle.clause_blocks.specs.declared.trace_clauses.Piece.TheVariants.{Stored, TransitivityFrom}
 use Rattle.clause_blocks.specs.Blocks.{program_order, transitivity_from, read_clauses, final_clauses, before_clauses}
@@ -10,8 +11,9 @@ abbrev pub clauses_in : ℕ → Piece → List (List ℤ)
 clauses_in n (Stored clauses) = clauses.now
 clauses_in n (TransitivityFrom i) = transitivity_from n i
 
--- the families that are stored
-pub record AreStored (t : TraceValue) (order reads finals pairs : List (List ℤ)) : Type 0 where
+-- the families that are stored, and for how many operations there is a table of transitivity
+pub record AreStored (t : TraceValue) (tabled : ℕ) (order reads finals pairs : List (List ℤ)) : Type 0 where
+  pub in_table : tabled ≡ operation_count t
   pub in_order : order ≡ program_order t
   pub in_reads : reads ≡ read_clauses t
   pub in_finals : finals ≡ final_clauses t

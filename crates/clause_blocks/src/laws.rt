@@ -1,14 +1,16 @@
 //! Laws of the clauses.
 
-ghost use Rattle.std.specs.Prelude.{◌≡◌, ◌≤◌, ◌*◌, ◌-◌, ◌/◌, ℕ, length, IsTrue};
+ghost use Rattle.std.specs.Prelude.{◌≡◌, ◌≤◌, ◌*◌, ◌-◌, ◌/◌, ℕ, Bool, length, IsTrue};
 ghost use Rattle.std.specs.List.{list_all};
 ghost use Rattle.dimacs.specs.Formula.{is_formula};
 ghost use Rattle.dimacs.specs.Literal.{is_clause};
+ghost use Rattle.dimacs.specs.Models.{IsModel};
 ghost use Rattle.traces.specs.Trace.{TraceValue, IsTrace};
 ghost use Rattle.reducer.specs.Reduced.{operation_count};
 ghost use Rattle.clause_blocks.specs.Blocks.{transitivity};
 ghost use Rattle.clause_blocks.specs.Clauses.{clauses_of, formula_of};
 ghost use Rattle.clause_blocks.specs.Examples.{store_buffering_formula, two_updates, two_updates_formula, late_read, late_read_formula, lost_values, lost_values_formula};
+ghost use Rattle.clause_blocks.specs.Ranks.{AreRanks};
 ghost use Rattle.var_layout.specs.StoreBuffering.{store_buffering};
 
 /// The formulas of small traces.
@@ -27,6 +29,11 @@ pub fn formula_is_over_its_variables()
 /// How many clauses of transitivity there are for n operations.
 pub fn transitivity_has_so_many_clauses()
     ensures { (n : ℕ) → length (transitivity n) ≡ n * (n - 1) * (n - 2) / 3 }
+{}
+
+/// Truth values that put the operations in the order of some ranks make each clause of transitivity true.
+pub fn ranked_without_circle()
+    ensures { (value : ℕ → Bool) (n : ℕ) (rank : ℕ → ℕ) → AreRanks value n rank → IsModel value (transitivity n) }
 {}
 
 /// A trace of 160 operations at most has no more clauses than the header of a formula's text may tell.

@@ -3,6 +3,7 @@
 ghost use Rattle.std.specs.Prelude.{◌≡◌, ◌<◌, ◌≤◌, [], length, slice_index_or, IfOk};
 ghost use Rattle.traces.specs.Trace.{IsTrace};
 ghost use Rattle.reducer.specs.Reduced.{operation_count};
+ghost use Rattle.clause_blocks.specs.Blocks as blocks;
 ghost use Rattle.clause_blocks.specs.Clauses as list;
 ghost use Rattle.clause_blocks.specs.Pieces.{clauses_in};
 
@@ -12,6 +13,7 @@ use crate::laws::few_clauses;
 use crate::program_order::push_program_order;
 use crate::read_clauses::push_read_clauses;
 use crate::transitivity::count_transitivity_from;
+use crate::triple_table::TripleTable;
 use dimacs::Clause;
 use reducer::reduced::Reduced;
 use std::alloc::{AllocError, Global};
@@ -31,6 +33,7 @@ pub enum Piece<'a> {
 #[derive(Drop)]
 pub struct TraceClauses {
     layout: Layout,
+    triples: TripleTable,
     program_order: Vec<Clause>,
     reads: Vec<Clause>,
     final_values: Vec<Clause>,
@@ -45,11 +48,11 @@ impl Model for TraceClauses {
 
     ghost view = { λ clauses. clauses.layout };
 
-    ghost invariant = { λ clauses. AreStored clauses.layout clauses.program_order.items clauses.reads.items clauses.final_values.items clauses.before.items };
+    ghost invariant = { λ clauses. AreStored clauses.layout clauses.triples clauses.program_order.items clauses.reads.items clauses.final_values.items clauses.before.items };
 }
 
 /// How many clauses a piece has.
-pub(crate) fn count_in(operations: usize, piece: Piece<'_>) -> usize
+fn count_in(operations: usize, piece: Piece<'_>) -> usize
     requires { operations ≤ 160 }
     ensures { result ≡ length (clauses_in operations piece.entry) }
 {
@@ -65,6 +68,8 @@ impl TraceClauses {
         ensures { IfOk result (λ clauses. clauses ≡ reduced.now.kept) }
     {
         let layout = Layout::of(alloc, reduced)?;
+        layout.is_layout();
+        let triples = TripleTable::of(alloc, layout.operations())?;
         let mut program_order = Vec::new(alloc);
         push_program_order(alloc, &layout, &mut program_order)?;
         let mut reads = Vec::new(alloc);
@@ -75,6 +80,7 @@ impl TraceClauses {
         push_before_clauses(alloc, &layout, &mut before)?;
         Ok(TraceClauses {
             layout,
+            triples,
             program_order,
             reads,
             final_values,
@@ -97,6 +103,41 @@ impl TraceClauses {
         ensures { result.now ≡ self.now }
     {
         &self.layout
+    }
+
+    /// Where the clauses of transitivity stand.
+    pub(crate) fn triples(&self) -> &TripleTable
+        ensures { result.now ≡ operation_count self.now }
+    {
+        &self.triples
+    }
+
+    /// The clauses of program order.
+    pub(crate) fn program_order(&self) -> &[Clause]
+        ensures { result.now ≡ blocks.program_order self.now }
+    {
+        self.program_order.as_slice()
+    }
+
+    /// The clauses of what is read.
+    pub(crate) fn reads(&self) -> &[Clause]
+        ensures { result.now ≡ blocks.read_clauses self.now }
+    {
+        self.reads.as_slice()
+    }
+
+    /// The clauses of final values.
+    pub(crate) fn final_values(&self) -> &[Clause]
+        ensures { result.now ≡ blocks.final_clauses self.now }
+    {
+        self.final_values.as_slice()
+    }
+
+    /// The clauses of before pairs.
+    pub(crate) fn before(&self) -> &[Clause]
+        ensures { result.now ≡ blocks.before_clauses self.now }
+    {
+        self.before.as_slice()
     }
 
     /// How many pieces there are.

@@ -20,16 +20,16 @@ bad_option o =
     else if nat_lt o.rounds 1 || nat_lt 4 o.rounds then Some Rounds
     else None
 
--- its number
-abbrev pub number_of : BadOption → ℕ
-number_of Workers = 2
-number_of Split = 3
-number_of Budget = 4
-number_of Rounds = 5
+-- the number of a cause
+abbrev pub cause_number : BadOption → ℕ
+cause_number Workers = 2
+cause_number Split = 3
+cause_number Budget = 4
+cause_number Rounds = 5
 
--- its name
-abbrev pub name_of : BadOption → List ℕ
-name_of Workers = codes "Workers"
-name_of Split = codes "Split"
-name_of Budget = codes "Budget"
-name_of Rounds = codes "Rounds"
+-- the name of a cause
+abbrev pub cause_name : BadOption → List ℕ
+cause_name Workers = codes "Workers"
+cause_name Split = codes "Split"
+cause_name Budget = codes "Budget"
+cause_name Rounds = codes "Rounds"

@@ -4,6 +4,7 @@
 mod gate;
 mod job;
 mod job_cube;
+mod models;
 pub mod options;
 mod outcome;
 mod search_fault;
@@ -12,6 +13,7 @@ mod searching;
 pub use gate::{Gate, OpenGate};
 pub use job::{Job, Settled};
 pub use job_cube::{JobCube, MOST_LITERALS};
+pub use models::is_model_in;
 pub use options::{BadOption, Options};
 pub use outcome::Outcome;
 pub use search_fault::SearchFault;

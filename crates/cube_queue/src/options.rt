@@ -1,8 +1,9 @@
 //! The options of a search.
 ghost use Rattle.std.specs.Prelude.{◌≡◌, ◌≤◌, ◌↔◌, IsOk, IfOk, IfErr, MatchResult, Some, None, Err};
-ghost use Rattle.cube_queue.specs.Options.{OptionsValue, bad_option, number_of, name_of};
+ghost use Rattle.cube_queue.specs.Options.{OptionsValue, bad_option};
 
 use std::marker::Model;
+use text_lines::fault::Cause;
 
 /// How a search goes about its work. No verdict rests on it.
 #[derive(Clone, Copy)]
@@ -39,11 +40,14 @@ pub enum BadOption {
     Rounds,
 }
 
-impl BadOption {
-    /// Its number.
-    pub fn number(self) -> u8
-        ensures { result ≡ number_of self }
-    {
+impl Cause for BadOption {
+    ghost use Rattle.cube_queue.specs.Options.{cause_number, cause_name};
+
+    ghost number_of = { cause_number };
+
+    ghost name_of = { cause_name };
+
+    fn number(&self) -> u8 {
         match self {
             BadOption::Workers => 2,
             BadOption::Split => 3,
@@ -52,10 +56,7 @@ impl BadOption {
         }
     }
 
-    /// Its name, as the variant is spelled.
-    pub fn name(self) -> &'static str
-        ensures { result.now ≡ name_of self }
-    {
+    fn name(&self) -> &'static str {
         match self {
             BadOption::Workers => "Workers",
             BadOption::Split => "Split",

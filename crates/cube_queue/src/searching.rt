@@ -1,28 +1,33 @@
 //! The search that settles the leaves of a tree.
-ghost use Rattle.std.specs.Prelude.{◌≡◌, ◌<◌, length, IfOk, Some};
+ghost use Rattle.std.specs.Prelude.{◌≡◌, ◌⊎◌, ◌<◌, length, IsTrue, IfOk, Some};
 ghost use Rattle.std.specs.List.{slice_get};
-ghost use Rattle.cube_tree.specs.CubeTree.{cubes_of};
+ghost use Rattle.cube_queue.specs.declared.outcome.Outcome.TheVariants.{Skipped};
+ghost use Rattle.cube_queue.specs.Models.{IsModelResult};
 ghost use Rattle.cube_queue.specs.Results.{AreLeaves, AreResultsOf};
+ghost use Rattle.cube_tree.specs.CubeTree.{cubes_of};
 
 use crate::gate::Gate;
 use crate::job::{Job, Settled};
+use crate::models::is_model_in;
 use crate::options::Options;
 use crate::outcome::Outcome;
 use crate::search_fault::SearchFault;
 use cube_tree::{Cube, Tree, cubes};
-use dimacs::{Formula, Lit};
+use dimacs::{ClauseList, Lit};
 use solver::{Answer, Guide, solve};
 use std::alloc::Global;
 use std::thread::Threads;
 
 /// What the solver says of the cube. A search that finds no memory leaves it open.
-fn outcome_of(
+fn outcome_of<L: ClauseList>(
     alloc: Global,
-    formula: &Formula,
+    formula: &L,
     guide: Guide,
     cube: &[Lit],
     budget: u64,
-) -> Outcome {
+) -> Outcome
+    ensures { result ≡ Skipped → ⊥ }
+{
     match solve(alloc, formula, cube, guide, budget) {
         Ok(Answer::Model(assignment)) => Outcome::Model(assignment),
         Ok(Answer::Refuted(derivation)) => Outcome::Refuted(derivation),
@@ -31,23 +36,43 @@ fn outcome_of(
     }
 }
 
-/// Settles the job, behind the gate.
-fn settle_job<G: Gate>(
+/// Settles the job: its cube is searched, or skipped where a lower one has a model.
+fn settle_job<L: ClauseList>(
     alloc: Global,
-    formula: &Formula,
+    formula: &L,
     guide: Guide,
     job: Job,
     budget: u64,
-    gate: &G,
+    has_model_below: bool,
 ) -> Settled
     ensures ticket { result.ticket ≡ job.ticket }
     ensures cube { result.cube ≡ job.cube }
+    ensures skipped { result.outcome ≡ Skipped → IsTrue has_model_below }
 {
-    let ticket = job.ticket();
-    gate.before(0, ticket);
+    if has_model_below {
+        return job.settle(Outcome::Skipped);
+    }
     let outcome = outcome_of(alloc, formula, guide, job.cube(), budget);
-    gate.after(0, ticket);
     job.settle(outcome)
+}
+
+/// Whether the result is a model of the formula that makes its cube true.
+fn is_model_result<L: ClauseList>(formula: &L, settled: &Settled) -> bool
+    ensures { IsTrue result → IsModelResult (L.formula formula.now).clauses settled.now }
+{
+    match settled.outcome() {
+        Outcome::Model(assignment) => is_model_in(formula, settled.cube(), assignment),
+        Outcome::Refuted(_) => false,
+        Outcome::Open => false,
+        Outcome::Skipped => false,
+    }
+}
+
+/// Whether a model is known after this result: there was one before, or the result is one.
+fn knows_model<L: ClauseList>(formula: &L, known_before: bool, settled: &Settled) -> bool
+    ensures { IsTrue result → IsTrue known_before ⊎ IsModelResult (L.formula formula.now).clauses settled.now }
+{
+    known_before || is_model_result(formula, settled)
 }
 
 /// The job of a leaf, where these are the cubes of all leaves.
@@ -59,15 +84,16 @@ fn job_of(alloc: Global, cubes: &[Cube], leaf: u32) -> Job
     Job::new(alloc, leaf, cubes[leaf as usize].as_slice())
 }
 
-/// Searches the cubes of these leaves of the tree, behind the gate. There is one result for each of them, with its cube, and
-/// no other. What a result says of its cube is to be checked. The guide tells what is known of the formula, and nothing rests on
-/// it.
+/// Searches the cubes of these leaves of the tree, between the two calls of the gate. There is one result for each of them, with
+/// its cube, and no other. What a result says of its cube is to be checked. The guide tells what is known of the formula, and
+/// nothing rests on it.
 ///
-/// A worker that finds no memory in a cube leaves that cube open.
-pub fn search<R: Threads + Sync, G: Gate>(
+/// A worker that finds no memory in a cube leaves that cube open. After a result that is a model of the formula and makes its
+/// cube true, the cubes of higher leaves are skipped.
+pub fn search<R: Threads + Sync, L: ClauseList, G: Gate>(
     alloc: Global,
     rt: &R,
-    formula: &Formula,
+    formula: &L,
     guide: Guide,
     tree: &Tree,
     which: &[u32],
@@ -75,14 +101,18 @@ pub fn search<R: Threads + Sync, G: Gate>(
     gate: &G,
 ) -> Result<Vec<Settled>, SearchFault>
     requires { AreLeaves (cubes_of tree.now) which.now }
-    ensures { IfOk result (λ results. AreResultsOf (cubes_of tree.now) which.now results.items) }
+    ensures { IfOk result (λ results. AreResultsOf (L.formula formula.now).clauses (cubes_of tree.now) which.now results.items) }
 {
     let cubes = cubes(alloc, tree)?;
     let mut results = Vec::with_capacity(alloc, which.len())?;
+    let mut has_model = false;
     for leaf in which {
         let job = job_of(alloc, cubes.as_slice(), *leaf);
-        let settled = settle_job(alloc, formula, guide, job, options.budget(), gate);
+        gate.before(0, *leaf);
+        let settled = settle_job(alloc, formula, guide, job, options.budget(), has_model);
+        has_model = knows_model(formula, has_model, &settled);
         results.push(settled)?;
+        gate.after(0, *leaf);
     }
     Ok(results)
 }

@@ -4,9 +4,11 @@
 //! Nothing here is believed: whoever uses it checks what comes of it.
 #![tactic(auto)]
 
+mod element_sets;
 mod order_matrix;
 pub mod tables;
 mod triple_ids;
 
-pub use order_matrix::{Implied, MOST_ELEMENTS, OrderMatrix};
+pub use element_sets::{ElementSets, MOST_ELEMENTS, next_element};
+pub use order_matrix::{Implied, OrderMatrix};
 pub use triple_ids::TripleIds;

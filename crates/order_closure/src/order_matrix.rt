@@ -1,13 +1,8 @@
 //! A closed strict order as sets of bits.
 
+use crate::element_sets::{ElementSets, MOST_ELEMENTS, next_element};
 use crate::tables::{at, piece, put};
 use std::alloc::{AllocError, Global};
-
-/// So many elements an order has at most.
-pub const MOST_ELEMENTS: u32 = 192;
-
-/// So many words of 64 bits a set of elements takes.
-const WORDS: u32 = 3;
 
 /// A literal of the order that follows, and the element over which it does: x(a,c) over b, from x(a,b) and x(b,c).
 #[derive(Clone, Copy)]
@@ -27,43 +22,14 @@ pub struct Implied {
 pub struct OrderMatrix {
     elements: u32,
     variables: u32,
-    words: u32,
-    behind: Vec<u64>,
-    before: Vec<u64>,
+    behind: ElementSets,
+    before: ElementSets,
     /// For each element i the number y(i,j) less j.
     bases: Vec<u32>,
     /// For each variable its two elements, i in the upper half.
     pairs: Vec<u32>,
     implied: Vec<Implied>,
     count: u32,
-}
-
-/// The element's bit in its word of a set.
-#[inline(always)]
-fn bit(element: u32) -> u64 {
-    1 << (element & 63)
-}
-
-/// The place of the element's word in the sets of another one.
-#[inline(always)]
-fn word_of(owner: u32, element: u32) -> u32 {
-    owner.wrapping_mul(WORDS).wrapping_add(element >> 6)
-}
-
-/// Puts the element into the set of its owner.
-#[inline(always)]
-fn insert(sets: &mut [u64], owner: u32, element: u32) {
-    let place = word_of(owner, element);
-    let word = at(sets, place, 0);
-    put(sets, place, word | bit(element));
-}
-
-/// Takes the element out of the set of its owner.
-#[inline(always)]
-fn take_out(sets: &mut [u64], owner: u32, element: u32) {
-    let place = word_of(owner, element);
-    let word = at(sets, place, 0);
-    put(sets, place, word & !bit(element));
 }
 
 impl OrderMatrix {
@@ -78,9 +44,8 @@ impl OrderMatrix {
         let mut matrix = OrderMatrix {
             elements,
             variables,
-            words: (elements.wrapping_add(63) >> 6).min(WORDS),
-            behind: vec![in alloc; 0; (elements.wrapping_mul(WORDS)) as usize]?,
-            before: vec![in alloc; 0; (elements.wrapping_mul(WORDS)) as usize]?,
+            behind: ElementSets::new(alloc, elements)?,
+            before: ElementSets::new(alloc, elements)?,
             bases: vec![in alloc; 0; elements as usize]?,
             pairs: vec![in alloc; 0; variables.wrapping_add(1) as usize]?,
             implied: vec![in alloc; nothing; variables.wrapping_add(1) as usize]?,
@@ -136,15 +101,17 @@ impl OrderMatrix {
         }
     }
 
-    /// How many elements stand before this one. Elements with fewer before them come first in an order of all that
-    /// extends this one.
-    pub fn count_before(&self, element: u32) -> u32 {
-        let mut count: u32 = 0;
-        for w in 0..WORDS {
-            let place = element.wrapping_mul(WORDS).wrapping_add(w);
-            count = count.wrapping_add(at(self.before.as_slice(), place, 0).count_ones());
-        }
-        count
+    /// Which elements stand behind each.
+    #[inline(always)]
+    pub fn behind(&self) -> &ElementSets {
+        &self.behind
+    }
+
+    /// Which elements stand before each. Elements with fewer before them come first in an order of all that extends this
+    /// one.
+    #[inline(always)]
+    pub fn before(&self) -> &ElementSets {
+        &self.before
     }
 
     /// Notes that a stands before b over the element.
@@ -162,19 +129,15 @@ impl OrderMatrix {
     /// Puts a before all elements that stand behind b and not yet behind a, over b.
     #[inline(always)]
     fn inherit_behind(&mut self, a: u32, b: u32) {
-        for w in 0..self.words {
-            let own = a.wrapping_mul(WORDS).wrapping_add(w);
-            let behind_a = at(self.behind.as_slice(), own, 0);
-            let from = b.wrapping_mul(WORDS).wrapping_add(w);
-            let mut added = at(self.behind.as_slice(), from, 0) & !behind_a;
-            put(self.behind.as_mut_slice(), own, behind_a | added);
+        for w in 0..self.behind.words() {
+            let behind_a = self.behind.word(a, w);
+            let mut added = self.behind.word(b, w) & !behind_a;
+            self.behind.set_word(a, w, behind_a | added);
             for _ in 0..64 {
-                if added == 0 {
+                let Some(c) = next_element(&mut added, w) else {
                     break;
-                }
-                let c = w.wrapping_mul(64).wrapping_add(added.trailing_zeros());
-                added &= added.wrapping_sub(1);
-                insert(self.before.as_mut_slice(), c, a);
+                };
+                self.before.insert(c, a);
                 self.imply(a, c, b);
             }
         }
@@ -186,29 +149,21 @@ impl OrderMatrix {
     pub fn add(&mut self, a: u32, b: u32) {
         self.count = 0;
         self.inherit_behind(a, b);
-        insert(self.behind.as_mut_slice(), a, b);
-        for v in 0..self.words {
-            let before_a = at(
-                self.before.as_slice(),
-                a.wrapping_mul(WORDS).wrapping_add(v),
-                0,
-            );
-            let place = b.wrapping_mul(WORDS).wrapping_add(v);
-            let before_b = at(self.before.as_slice(), place, 0);
-            let mut added = before_a & !before_b;
-            put(self.before.as_mut_slice(), place, before_b | added);
+        self.behind.insert(a, b);
+        for v in 0..self.before.words() {
+            let before_b = self.before.word(b, v);
+            let mut added = self.before.word(a, v) & !before_b;
+            self.before.set_word(b, v, before_b | added);
             for _ in 0..64 {
-                if added == 0 {
+                let Some(c) = next_element(&mut added, v) else {
                     break;
-                }
-                let c = v.wrapping_mul(64).wrapping_add(added.trailing_zeros());
-                added &= added.wrapping_sub(1);
-                insert(self.behind.as_mut_slice(), c, b);
+                };
+                self.behind.insert(c, b);
                 self.imply(c, b, a);
                 self.inherit_behind(c, b);
             }
         }
-        insert(self.before.as_mut_slice(), b, a);
+        self.before.insert(b, a);
     }
 
     /// What followed from the pair that was added last.
@@ -221,7 +176,7 @@ impl OrderMatrix {
     /// were added or followed later too.
     #[inline(always)]
     pub fn remove(&mut self, a: u32, b: u32) {
-        take_out(self.behind.as_mut_slice(), a, b);
-        take_out(self.before.as_mut_slice(), b, a);
+        self.behind.take_out(a, b);
+        self.before.take_out(b, a);
     }
 }

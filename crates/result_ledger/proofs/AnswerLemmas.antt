@@ -7,7 +7,8 @@ use Rattle.cube_queue.specs.declared.outcome.Outcome.TheVariants.{Model, Refuted
 use Rattle.dimacs.specs.Assignment.{value_of}
 use Rattle.lrat_check.specs.declared.derivation.Step.{Step}
 use Rattle.result_ledger.specs.declared.slot.Slot.{Slot}
-use Rattle.result_ledger.specs.Verdict.{IsModelIn, IsProofIn, IsModelAnswer, IsProofAnswer, HasProofAt, HaveNoModelBefore}
+use Rattle.cube_queue.specs.Models.{IsModelIn}
+use Rattle.result_ledger.specs.Verdict.{IsProofIn, IsModelAnswer, IsProofAnswer, HasProofAt, HaveNoModelBefore}
 
 -- an answer that is no model in the cube
 pub no_model_answer : (clauses : List (List ℤ)) (slot : Slot) (found : List Bool) → slot.outcome ≡ Some (Model found) → (IsModelIn clauses slot.cube (value_of found) → ⊥) → (truth : List Bool) → IsModelAnswer clauses slot truth → ⊥

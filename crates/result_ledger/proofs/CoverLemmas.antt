@@ -12,7 +12,8 @@ use Rattle.lrat_check.proofs.SoundLemmas.{no_model, formula_no_zero, cube_no_zer
 use Rattle.result_ledger.specs.declared.slot.Slot.{Slot}
 use Rattle.result_ledger.specs.declared.verdict.Verdict.TheVariants.{Inconsistent, Unknown}
 use Rattle.result_ledger.specs.Ledger.{cubes_in}
-use Rattle.result_ledger.specs.Verdict.{IsModelIn, HasProofAt, IsVerdict}
+use Rattle.cube_queue.specs.Models.{IsModelIn}
+use Rattle.result_ledger.specs.Verdict.{HasProofAt, IsVerdict}
 
 -- the element between the two parts of a list, at its place
 pub in_parts : {X Y : Type 0} (f : X → Y) (xs : List X) (before : List Y) (y : Y) (after : List Y) → map f xs ≡ before ++ y ∷ after → (x : X) × (slice_get xs (length before) ≡ Some x) × (f x ≡ y)

@@ -2,5 +2,6 @@ pub mod AnswerLemmas
 pub mod CoverLemmas
 pub mod RisingLemmas
 pub mod SlotLemmas
+pub mod SplitLemmas
 pub mod VerdictLemmas
 pub mod WithoutLemmas

@@ -50,14 +50,14 @@ pub record IsSplitAt (leaf : ℕ) (cubes : List (List ℤ)) (old new : List Slot
   pub new_is : new ≡ take leaf old ++ (empty_slot left ∷ (empty_slot right ∷ drop (leaf + 1) old))
   pub cubes_are : cubes_in new ≡ cubes
 
--- the number of a fault
-abbrev pub number_of : EntryFault → ℕ
-number_of Stranger = 2
-number_of Double = 3
-number_of WrongCube = 4
+-- the number of a cause
+abbrev pub cause_number : EntryFault → ℕ
+cause_number Stranger = 2
+cause_number Double = 3
+cause_number WrongCube = 4
 
--- the name of a fault
-abbrev pub name_of : EntryFault → List ℕ
-name_of Stranger = codes "Stranger"
-name_of Double = codes "Double"
-name_of WrongCube = codes "WrongCube"
+-- the name of a cause
+abbrev pub cause_name : EntryFault → List ℕ
+cause_name Stranger = codes "Stranger"
+cause_name Double = codes "Double"
+cause_name WrongCube = codes "WrongCube"

@@ -1,20 +1,15 @@
 -- The verdict on a formula, by what was answered for each leaf of a tree.
 use Rattle.std.specs.Prelude.{◌≡◌, ◌≢◌, ◌⊎◌, ℕ, ◌<◌, ℤ, Bool, IsTrue, List, [], length, Some}
 use Rattle.std.specs.List.{AllPairs, Contains, slice_get}
-use Rattle.dimacs.specs.Assignment.{value_of, makes_all}
-use Rattle.dimacs.specs.Models.{IsModel}
+use Rattle.dimacs.specs.Assignment.{value_of}
 use Rattle.lrat_check.specs.declared.derivation.Step.{Step}
 use Rattle.lrat_check.specs.Checked.{IsAccepted}
 use Rattle.lrat_check.specs.Derivation.{are_steps}
 use Rattle.cube_queue.specs.declared.outcome.Outcome.TheVariants.{Model, Refuted}
+use Rattle.cube_queue.specs.Models.{IsModelIn}
 use Rattle.result_ledger.specs.declared.slot.Slot.{Slot}
 use Rattle.result_ledger.specs.declared.verdict.Verdict.{Verdict}
 use Rattle.result_ledger.specs.declared.verdict.Verdict.TheVariants.{Consistent, Inconsistent, Unknown}
-
--- the truth values are a model of the clauses, and make all literals of the cube true
-pub record IsModelIn (clauses : List (List ℤ)) (cube : List ℤ) (value : ℕ → Bool) : Type 0 where
-  pub model : IsModel value clauses
-  pub inside : IsTrue (makes_all value cube)
 
 -- the steps add clauses of literals, and are accepted as a derivation of the empty clause from the clauses and the cube
 pub record IsProofIn (clauses : List (List ℤ)) (cube : List ℤ) (steps : List Step) : Type 0 where

@@ -1,13 +1,12 @@
 //! Whether answers are right.
 ghost use Rattle.std.specs.Prelude.{◌≡◌, ◌<◌, ◌≤◌, ◌↔◌, Bool, List, length, IsTrue, IfOk, MatchOption, Some};
 ghost use Rattle.cube_queue.specs.declared.outcome.Outcome.TheVariants.{Model, Refuted};
-ghost use Rattle.dimacs.specs.Assignment.{value_of};
 ghost use Rattle.lrat_check.specs.declared.derivation.Step.{Step};
-ghost use Rattle.result_ledger.specs.Verdict.{IsModelIn, IsProofIn, IsModelAnswer, IsProofAnswer, HasModelAt, HasProofAt, HaveNoModelBefore, AreWithout};
+ghost use Rattle.result_ledger.specs.Verdict.{IsProofIn, IsModelAnswer, IsProofAnswer, HasModelAt, HasProofAt, HaveNoModelBefore, AreWithout};
 
 use crate::slot::Slot;
-use cube_queue::Outcome;
-use dimacs::{Assignment, Formula, Lit};
+use cube_queue::{Outcome, is_model_in};
+use dimacs::{Assignment, ClauseList, Lit};
 use lrat_check::checker::check;
 use lrat_check::derivation::Derivation;
 use lrat_check::laws::never_accepted_and_refused;
@@ -44,27 +43,14 @@ fn said_derivation(outcome: &Option<Outcome>) -> Option<&Derivation>
     }
 }
 
-/// Whether the assignment is a model of the formula and makes all literals of the cube true.
-fn is_model_in(formula: &Formula, cube: &[Lit], assignment: &Assignment) -> bool
-    ensures { IsTrue result ↔ IsModelIn formula.now.clauses cube.now (value_of assignment.now) }
-{
-    if !assignment.makes(cube) {
-        return false;
-    }
-    match formula.eval(assignment) {
-        Ok(()) => true,
-        Err(_) => false,
-    }
-}
-
 /// Whether the derivation is accepted for the cube.
-fn is_proof_in(
+fn is_proof_in<L: ClauseList>(
     alloc: Global,
-    formula: &Formula,
+    formula: &L,
     cube: &[Lit],
     derivation: &Derivation,
 ) -> Result<bool, AllocError>
-    ensures { IfOk result (λ proved. IsTrue proved ↔ IsProofIn formula.now.clauses cube.now derivation.now) }
+    ensures { IfOk result (λ proved. IsTrue proved ↔ IsProofIn (L.formula formula.now).clauses cube.now derivation.now) }
 {
     never_accepted_and_refused();
     let _steps = derivation.steps();
@@ -76,10 +62,10 @@ fn is_proof_in(
 }
 
 /// The truth values of the slot's answer, where it is a model that makes the cube true.
-fn model_of<'a>(formula: &Formula, slot: &'a Slot) -> Option<&'a Assignment>
+fn model_of<'a, L: ClauseList>(formula: &L, slot: &'a Slot) -> Option<&'a Assignment>
     ensures { MatchOption result
-        ((truth : List Bool) → IsModelAnswer formula.now.clauses slot.now truth → ⊥)
-        (λ found. IsModelAnswer formula.now.clauses slot.now found.now) }
+        ((truth : List Bool) → IsModelAnswer (L.formula formula.now).clauses slot.now truth → ⊥)
+        (λ found. IsModelAnswer (L.formula formula.now).clauses slot.now found.now) }
 {
     let assignment = said_model(&slot.outcome)?;
     if is_model_in(formula, slot.cube.as_slice(), assignment) {
@@ -90,8 +76,8 @@ fn model_of<'a>(formula: &Formula, slot: &'a Slot) -> Option<&'a Assignment>
 }
 
 /// Whether the slot's answer is a derivation that is accepted for its cube.
-fn is_proved(alloc: Global, formula: &Formula, slot: &Slot) -> Result<bool, AllocError>
-    ensures { IfOk result (λ proved. IsTrue proved ↔ IsProofAnswer formula.now.clauses slot.now) }
+fn is_proved<L: ClauseList>(alloc: Global, formula: &L, slot: &Slot) -> Result<bool, AllocError>
+    ensures { IfOk result (λ proved. IsTrue proved ↔ IsProofAnswer (L.formula formula.now).clauses slot.now) }
 {
     let Some(derivation) = said_derivation(&slot.outcome) else {
         return Ok(false);
@@ -110,10 +96,13 @@ pub(crate) struct FirstModel<'a> {
 }
 
 /// The lowest leaf that has a model for its answer, if there is one.
-pub(crate) fn first_model<'a>(formula: &Formula, slots: &'a [Slot]) -> Option<FirstModel<'a>>
+pub(crate) fn first_model<'a, L: ClauseList>(
+    formula: &L,
+    slots: &'a [Slot],
+) -> Option<FirstModel<'a>>
     ensures { MatchOption result
-        (HaveNoModelBefore formula.now.clauses slots.now (length slots.now))
-        (λ found. HasModelAt formula.now.clauses slots.now found.leaf found.assignment.now × HaveNoModelBefore formula.now.clauses slots.now found.leaf × (found.leaf < length slots.now)) }
+        (HaveNoModelBefore (L.formula formula.now).clauses slots.now (length slots.now))
+        (λ found. HasModelAt (L.formula formula.now).clauses slots.now found.leaf found.assignment.now × HaveNoModelBefore (L.formula formula.now).clauses slots.now found.leaf × (found.leaf < length slots.now)) }
 {
     for leaf in 0..slots.len() {
         match model_of(formula, &slots[leaf]) {
@@ -125,13 +114,13 @@ pub(crate) fn first_model<'a>(formula: &Formula, slots: &'a [Slot]) -> Option<Fi
 }
 
 /// The leaves without a derivation that is accepted, rising.
-pub(crate) fn without_proof(
+pub(crate) fn without_proof<L: ClauseList>(
     alloc: Global,
-    formula: &Formula,
+    formula: &L,
     slots: &[Slot],
 ) -> Result<Vec<u32>, AllocError>
     requires { length slots.now ≤ 1024 }
-    ensures { IfOk result (λ leaves. AreWithout (HasProofAt formula.now.clauses slots.now) (length slots.now) leaves.items) }
+    ensures { IfOk result (λ leaves. AreWithout (HasProofAt (L.formula formula.now).clauses slots.now) (length slots.now) leaves.items) }
 {
     let mut leaves = Vec::new(alloc);
     for leaf in 0..slots.len() {

@@ -1,6 +1,6 @@
 //! Why a result is not entered.
-ghost use Rattle.std.specs.Prelude.{◌≡◌};
-ghost use Rattle.result_ledger.specs.Ledger.{number_of, name_of};
+
+use text_lines::fault::Cause;
 
 /// Why a result is not entered.
 #[derive(Clone, Copy, Debug, PartialEq, Eq)]
@@ -13,11 +13,14 @@ pub enum EntryFault {
     WrongCube,
 }
 
-impl EntryFault {
-    /// Its number.
-    pub fn number(self) -> u8
-        ensures { result ≡ number_of self }
-    {
+impl Cause for EntryFault {
+    ghost use Rattle.result_ledger.specs.Ledger.{cause_number, cause_name};
+
+    ghost number_of = { cause_number };
+
+    ghost name_of = { cause_name };
+
+    fn number(&self) -> u8 {
         match self {
             EntryFault::Stranger => 2,
             EntryFault::Double => 3,
@@ -25,10 +28,7 @@ impl EntryFault {
         }
     }
 
-    /// Its name, as the variant is spelled.
-    pub fn name(self) -> &'static str
-        ensures { result.now ≡ name_of self }
-    {
+    fn name(&self) -> &'static str {
         match self {
             EntryFault::Stranger => "Stranger",
             EntryFault::Double => "Double",

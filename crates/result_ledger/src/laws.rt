@@ -1,12 +1,14 @@
 //! Laws of verdicts.
-ghost use Rattle.std.specs.Prelude.{◌≡◌, ℕ, ℤ, Bool, List, IsTrue, Some};
+ghost use Rattle.std.specs.Prelude.{◌≡◌, ◌<◌, ℕ, ℤ, Bool, List, IsTrue, Some};
 ghost use Rattle.std.specs.List.{list_all, Contains, slice_get};
+ghost use Rattle.cube_queue.specs.Models.{IsModelIn};
 ghost use Rattle.cube_tree.specs.Covers.{Covers};
+ghost use Rattle.cube_tree.specs.CubeTree.{CubeTree, leaves, cubes_of, with_split};
 ghost use Rattle.dimacs.specs.Formula.{FormulaValue, is_formula};
 ghost use Rattle.dimacs.specs.Literal.{is_clause};
 ghost use Rattle.dimacs.specs.Models.{IsModel};
-ghost use Rattle.result_ledger.specs.Ledger.{cubes_in};
-ghost use Rattle.result_ledger.specs.Verdict.{IsVerdict, IsModelIn, AgreeUpToModel};
+ghost use Rattle.result_ledger.specs.Ledger.{cubes_in, SplitsCube};
+ghost use Rattle.result_ledger.specs.Verdict.{IsVerdict, AgreeUpToModel};
 ghost use Rattle.result_ledger.specs.declared.slot.Slot.{Slot};
 ghost use Rattle.result_ledger.specs.declared.verdict.Verdict.{Verdict};
 ghost use Rattle.result_ledger.specs.declared.verdict.Verdict.TheVariants.{Inconsistent, Unknown};
@@ -32,4 +34,9 @@ pub fn unknown_holds_all_models()
         IsTrue (is_formula formula) → IsTrue (list_all is_clause (cubes_in slots)) → Covers (cubes_in slots) →
         IsVerdict formula.clauses slots (Unknown leaves) → (value : ℕ → Bool) → IsModel value formula.clauses →
         (leaf : ℕ) × (slot : Slot) × Contains leaves leaf × (slice_get slots leaf ≡ Some slot) × IsModelIn formula.clauses slot.cube value }
+{}
+
+/// A tree whose leaf was split has the cubes of the tree before with that leaf's cube replaced by two, as `Ledger::split` asks.
+pub fn split_tree_splits_a_cube()
+    ensures { (tree : CubeTree) (leaf variable : ℕ) → leaf < leaves tree → SplitsCube leaf (cubes_of tree) (cubes_of (with_split leaf variable tree)) }
 {}

@@ -15,7 +15,7 @@ use crate::verdict::Verdict;
 use cube_queue::{JobCube, MOST_LITERALS, Settled};
 use cube_tree::laws::a_cube_for_each_leaf;
 use cube_tree::{Cube, Tree, cubes};
-use dimacs::{Formula, Lit};
+use dimacs::{ClauseList, Lit};
 use std::alloc::{AllocError, Global};
 use std::marker::Model;
 use std::thread::Threads;
@@ -223,16 +223,16 @@ impl Ledger {
 
     /// The verdict that follows from the answers. Each model is tried on the formula, and each derivation is checked: no
     /// answer is believed.
-    pub fn confirm<R: Threads + Sync>(
+    pub fn confirm<R: Threads + Sync, L: ClauseList>(
         &self,
         alloc: Global,
         rt: &R,
-        formula: &Formula,
+        formula: &L,
         workers: u32,
     ) -> Result<Verdict, AllocError>
         requires some { 1 ≤ workers }
         requires few { workers ≤ 8 }
-        ensures { IfOk result (λ verdict. IsVerdict formula.now.clauses self.now verdict) }
+        ensures { IfOk result (λ verdict. IsVerdict (L.formula formula.now).clauses self.now verdict) }
     {
         let slots = self.slots.as_slice();
         match first_model(formula, slots) {

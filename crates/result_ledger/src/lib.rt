@@ -10,7 +10,10 @@ mod slot;
 mod verdict;
 
 pub use entry_fault::EntryFault;
-pub use laws::{agreeing_ledgers_agree, inconsistent_has_no_model, unknown_holds_all_models};
+pub use laws::{
+    agreeing_ledgers_agree, inconsistent_has_no_model, split_tree_splits_a_cube,
+    unknown_holds_all_models,
+};
 pub use leaves::Leaves;
 pub use ledger::Ledger;
 pub use slot::Slot;

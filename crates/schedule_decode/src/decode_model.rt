@@ -11,17 +11,16 @@ ghost use Rattle.schedule_decode.specs.Decode.{HasDecodeFault};
 
 use crate::decode::schedule_of;
 use crate::decode_fault::{DecodeCause, DecodeFault};
-use clause_blocks::first_false::first_false_of;
 use clause_blocks::trace_clauses::TraceClauses;
-use dimacs::Assignment;
+use dimacs::{Assignment, ClauseList};
 use reducer::reduced::Reduced;
 use std::alloc::Global;
 use std::thread::Threads;
 use text_lines::fault::Fault;
 use traces::schedule::Schedule;
 
-/// The schedule in which a model of the trace's clauses puts the operations, as `decode` gives it. The clauses are made in
-/// pieces, and no formula is held.
+/// The schedule in which a model of the trace's clauses puts the operations, as `decode` gives it. No formula is
+/// held: of transitivity, single clauses are made only if the truth values put the operations in no order.
 pub fn decode_model<R: Threads + Sync>(
     alloc: Global,
     rt: &R,
@@ -34,7 +33,7 @@ pub fn decode_model<R: Threads + Sync>(
     ensures refused { IfErr result (IsRefusal (HasDecodeFault (value_of assignment.now) (clauses_of reduced.now.kept))) }
 {
     let clauses = TraceClauses::of(alloc, reduced)?;
-    if let Some(found) = first_false_of(alloc, &clauses, assignment)? {
+    if let Err(found) = clauses.eval(assignment) {
         return Err(Fault::At(DecodeCause::NotAModel, found.clause));
     }
     Ok(schedule_of(alloc, reduced, clauses.layout(), assignment)?)

@@ -1,6 +1,6 @@
 //! Which variable is decided next.
 
-use order_closure::tables::{at, put};
+use order_closure::tables::{at, put, size};
 use std::alloc::{AllocError, Global};
 
 /// Where activities grow past this, all are made smaller.
@@ -40,10 +40,17 @@ impl Activities {
         })
     }
 
-    /// The variable can be decided from now on.
+    /// The variable is to be decided.
+    #[inline(always)]
     pub fn want(&mut self, variable: u32) {
         put(self.wanted.as_mut_slice(), variable, 1);
-        self.insert(variable);
+    }
+
+    /// All variables that are to be decided can be taken, by their numbers.
+    pub fn offer_wanted(&mut self) {
+        for variable in 0..size(self.wanted.as_slice()) {
+            self.insert(variable);
+        }
     }
 
     /// How active the variable is.

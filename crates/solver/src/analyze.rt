@@ -14,7 +14,7 @@ pub const IMPLIED: u8 = 2;
 /// The clause that made it true is a hint.
 pub const NEEDED: u8 = 3;
 
-impl Search {
+impl<'a> Search<'a> {
     /// The mark of the variable.
     #[inline(always)]
     pub fn mark(&self, variable: u32) -> u8 {

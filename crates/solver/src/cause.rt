@@ -15,6 +15,8 @@ pub enum Cause {
     Stored { place: u32 },
     /// The order, over this element.
     Over { element: u32 },
+    /// The clause of the choice with this variable, for this writer.
+    Choice { choice: u32, writer: u32 },
 }
 
 /// A clause with its number, to be gone over: either in the store, or of at most three literals.

@@ -1,6 +1,8 @@
 //! What a caller knows of a formula.
 
+use crate::readings::{Choice, Readings};
 use order_closure::MOST_ELEMENTS;
+use order_closure::tables::size;
 
 /// What the caller of `solve` knows of the formula: which of its clauses say that an order is transitive.
 ///
@@ -13,9 +15,10 @@ use order_closure::MOST_ELEMENTS;
 /// is none or a derivation that a checker refuses, as any solver may that has a mistake. So it costs time, and never truth:
 /// whoever asks evaluates the model or checks the derivation, and no contract rests on the guide.
 #[derive(Clone, Copy)]
-pub struct Guide {
+pub struct Guide<'a> {
     elements: u32,
     first: u32,
+    readings: Option<&'a Readings>,
 }
 
 /// How many clauses say that an order of so many elements is transitive.
@@ -26,26 +29,42 @@ fn transitivity_of(elements: u32) -> u32 {
     triples / 3
 }
 
-impl Guide {
+impl<'a> Guide<'a> {
     /// Nothing is known of the formula.
-    pub fn none() -> Guide {
+    pub fn none() -> Guide<'a> {
         Guide {
             elements: 0,
             first: 1,
+            readings: None,
         }
     }
 
     /// The formula has the clauses of an order of so many elements, and the first of these has this number, counted from 1.
     /// An order of more than 192 elements, and one of fewer than 3, is no help.
-    pub fn with_order(elements: u32, first: u32) -> Guide {
+    pub fn with_order(elements: u32, first: u32) -> Guide<'a> {
         if elements < 3 || elements > MOST_ELEMENTS {
             return Guide::none();
         }
-        Guide { elements, first }
+        Guide {
+            elements,
+            first,
+            readings: None,
+        }
     }
 
-    /// The guide, or none where the formula is too small for it.
-    pub fn fitting(self, variables: u32, clauses: usize) -> Guide {
+    /// The same, where these reads of the order are known too. They are no help where they are of another number of elements.
+    pub fn with_readings(self, readings: &'a Readings) -> Guide<'a> {
+        if readings.elements() != self.elements {
+            return self;
+        }
+        Guide {
+            readings: Some(readings),
+            ..self
+        }
+    }
+
+    /// What of the guide fits a formula of so many variables and clauses.
+    pub fn fitting(self, variables: u32, clauses: usize) -> Guide<'a> {
         let pairs = self.elements.wrapping_mul(self.elements.wrapping_sub(1)) / 2;
         if pairs > variables
             || self.first == 0
@@ -53,7 +72,27 @@ impl Guide {
         {
             return Guide::none();
         }
+        let last = pairs.saturating_add(size(self.choices()));
+        if last > variables {
+            return Guide {
+                readings: None,
+                ..self
+            };
+        }
         self
+    }
+
+    /// What is known of reads, if anything is.
+    pub fn readings(self) -> Option<&'a Readings> {
+        self.readings
+    }
+
+    /// The choices that are known, with gaps.
+    pub fn choices(self) -> &'a [Option<Choice>] {
+        match self.readings {
+            Some(readings) => readings.choices(),
+            None => &[],
+        }
     }
 
     /// How many elements the order has.

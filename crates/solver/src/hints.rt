@@ -5,7 +5,7 @@ use crate::search::Search;
 use order_closure::tables::put;
 use std::alloc::AllocError;
 
-impl Search {
+impl<'a> Search<'a> {
     /// The literal of the variable that is true.
     #[inline(always)]
     pub fn true_literal(&self, variable: u32) -> u32 {

@@ -11,8 +11,10 @@
 mod activities;
 mod analyze;
 mod answer;
+mod candidates;
 mod cause;
 mod codes;
+mod follow_reads;
 mod guide;
 mod hints;
 mod intake;
@@ -20,6 +22,7 @@ mod log;
 mod minimise;
 mod ordered_trail;
 mod propagate;
+mod readings;
 mod reduce;
 mod restart;
 mod search;
@@ -31,4 +34,5 @@ mod watches;
 
 pub use answer::Answer;
 pub use guide::Guide;
+pub use readings::{Choice, Readings};
 pub use solving::solve;

@@ -8,7 +8,7 @@ use std::alloc::AllocError;
 /// So many causes are looked at for one literal at most. A literal for which that is not enough stays in the clause.
 const FUEL: u32 = 2000;
 
-impl Search {
+impl<'a> Search<'a> {
     /// A bit for the level of the variable, one of 32: where a level has no bit among those of the clause, it has no literal there.
     #[inline(always)]
     fn level_bit(&self, variable: u32) -> u32 {

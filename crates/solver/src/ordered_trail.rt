@@ -1,9 +1,11 @@
 //! A trail with an order that is closed at each assignment.
 
 use crate::activities::Activities;
+use crate::candidates::Candidates;
 use crate::cause::{Cause, Reason};
 use crate::codes::NEVER;
 use crate::guide::Guide;
+use crate::readings::Readings;
 use crate::store::Store;
 use crate::trail::Trail;
 use order_closure::tables::at;
@@ -14,22 +16,44 @@ use std::alloc::{AllocError, Global};
 /// becomes true with it, so that its clauses never come into conflict and are never looked at. (To close the order only when
 /// the literal is propagated was slower by up to two in a prototype.)
 #[derive(Drop)]
-pub struct OrderedTrail {
+pub struct OrderedTrail<'a> {
     /// The trail. Literals are made true by `assign` alone.
     pub trail: Trail,
     order: OrderMatrix,
     ids: TripleIds,
+    /// What is known of reads, if anything is.
+    pub readings: Option<&'a Readings>,
+    /// Which choices are open, and which are made.
+    pub candidates: Candidates,
 }
 
-impl OrderedTrail {
+impl<'a> OrderedTrail<'a> {
     /// No literal of so many variables is true.
-    pub fn new(alloc: Global, variables: u32, guide: Guide) -> Result<OrderedTrail, AllocError> {
+    pub fn new(
+        alloc: Global,
+        variables: u32,
+        guide: Guide<'a>,
+    ) -> Result<OrderedTrail<'a>, AllocError> {
         let order = OrderMatrix::new(alloc, guide.elements())?;
+        let mut candidates = Candidates::new(alloc, guide.elements())?;
+        for choice in guide.choices() {
+            if let Some(choice) = choice {
+                candidates.offer(*choice);
+            }
+        }
         Ok(OrderedTrail {
             trail: Trail::new(alloc, variables, order.variables())?,
             order,
             ids: TripleIds::new(alloc, guide.elements(), guide.first())?,
+            readings: guide.readings(),
+            candidates,
         })
+    }
+
+    /// The order as far as it is known.
+    #[inline(always)]
+    pub fn order(&self) -> &OrderMatrix {
+        &self.order
     }
 
     /// The value of the literal.
@@ -44,6 +68,10 @@ impl OrderedTrail {
         self.trail.push(literal, cause);
         if literal >> 1 <= self.order.variables() {
             self.close(literal);
+        } else if let Some(readings) = self.readings
+            && let Some(choice) = readings.choice(literal >> 1)
+        {
+            self.candidates.settle(choice, literal & 1 == 0);
         }
     }
 
@@ -68,6 +96,10 @@ impl OrderedTrail {
             Cause::Decision => Reason::of_literals(0, NEVER, NEVER, NEVER),
             Cause::Clause { id, first, second } => Reason::of_literals(id, first, second, NEVER),
             Cause::Stored { place } => store.reason(place),
+            Cause::Choice { choice, writer } => match self.readings {
+                Some(readings) => self.clause_of_choice(readings, choice, writer),
+                None => Reason::of_literals(0, NEVER, NEVER, NEVER),
+            },
             Cause::Over { element } => {
                 let (a, b) = self.order.ends(literal);
                 Reason::of_literals(
@@ -96,6 +128,10 @@ impl OrderedTrail {
             if literal >> 1 <= self.order.variables() {
                 let (a, b) = self.order.ends(literal);
                 self.order.remove(a, b);
+            } else if let Some(readings) = self.readings
+                && let Some(choice) = readings.choice(literal >> 1)
+            {
+                self.candidates.reopen(choice, literal & 1 == 0);
             }
             activities.insert(literal >> 1);
         }
@@ -110,7 +146,8 @@ impl OrderedTrail {
         for element in 0..elements {
             ranks.push(
                 self.order
-                    .count_before(element)
+                    .before()
+                    .count(element)
                     .wrapping_mul(256)
                     .wrapping_add(element),
             )?;

@@ -41,7 +41,11 @@ fn next_touched(others: &[Others], from: u32, values: &[u8]) -> u32 {
 
 /// Propagates through the clauses of two and three literals with this one, which has become false. The clause whose literals
 /// are all false, if there is one.
-fn visit_small(trail: &mut OrderedTrail, small: &SmallClauses, falsified: u32) -> Option<Reason> {
+fn visit_small(
+    trail: &mut OrderedTrail<'_>,
+    small: &SmallClauses,
+    falsified: u32,
+) -> Option<Reason> {
     let others = small.others(falsified);
     let start = small.start(falsified);
     let mut place: u32 = 0;
@@ -90,7 +94,12 @@ fn count_false(literals: &[u32], values: &[u8]) -> u32 {
 
 /// Looks at a clause one of whose watched literals has become false.
 #[inline(always)]
-fn visit_clause(trail: &mut OrderedTrail, words: &mut [u32], clause: u32, falsified: u32) -> Visit {
+fn visit_clause(
+    trail: &mut OrderedTrail<'_>,
+    words: &mut [u32],
+    clause: u32,
+    falsified: u32,
+) -> Visit {
     let begin = clause.wrapping_add(HEADER);
     let behind_first = begin.wrapping_add(1);
     let mut first = at(words, begin, 0);
@@ -123,7 +132,7 @@ fn visit_clause(trail: &mut OrderedTrail, words: &mut [u32], clause: u32, falsif
 /// Propagates through the clauses of the store that watch this literal, which has become false. The clause whose literals are
 /// all false, if there is one, or 0.
 fn visit_stored(
-    trail: &mut OrderedTrail,
+    trail: &mut OrderedTrail<'_>,
     store: &mut Store,
     watches: &mut Watches,
     falsified: u32,
@@ -156,7 +165,7 @@ fn visit_stored(
     Ok(conflict)
 }
 
-impl Search {
+impl<'a> Search<'a> {
     /// Makes true what follows from the literals that are true, until nothing more follows, or until all literals of a clause are
     /// false: that clause.
     pub fn propagate(&mut self) -> Result<Option<Reason>, AllocError> {
@@ -164,6 +173,9 @@ impl Search {
             let Some(literal) = self.trail.trail.next() else {
                 return Ok(None);
             };
+            if let Err(conflict) = self.trail.follow_reads(literal) {
+                return Ok(Some(conflict));
+            }
             let falsified = literal ^ 1;
             if let Some(conflict) = visit_small(&mut self.trail, &self.small, falsified) {
                 return Ok(Some(conflict));

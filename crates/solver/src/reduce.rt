@@ -17,7 +17,7 @@ pub const REDUCTION_GROWTH: u32 = 50;
 /// Clauses of so many levels and fewer are kept for good.
 const KEPT_RANK: u32 = 2;
 
-impl Search {
+impl<'a> Search<'a> {
     /// The clause was used in this conflict, if it is a learned one.
     pub fn note_use(&mut self, place: u32) {
         let clause = place.wrapping_sub(HEADER);

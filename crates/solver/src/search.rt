@@ -10,12 +10,14 @@ use crate::guide::Guide;
 use crate::intake::{Intake, Unit};
 use crate::log::Log;
 use crate::ordered_trail::OrderedTrail;
+use crate::readings::Readings;
 use crate::reduce::FIRST_REDUCTION;
 use crate::restart::Restarts;
 use crate::small_clauses::{SmallClause, SmallClauses};
 use crate::store::Store;
 use crate::trail::{FALSE, OPEN, TRUE};
 use crate::watches::Watches;
+use order_closure::next_element;
 use order_closure::tables::{at, put, size};
 use std::alloc::{AllocError, Global};
 
@@ -32,7 +34,7 @@ pub enum Outcome {
 
 /// All that the search knows.
 #[derive(Drop)]
-pub struct Search {
+pub struct Search<'a> {
     pub alloc: Global,
     pub variables: u32,
 
@@ -46,7 +48,7 @@ pub struct Search {
     pub refuted_at_start: Option<Reason>,
 
     // What is true, and what is decided next.
-    pub trail: OrderedTrail,
+    pub trail: OrderedTrail<'a>,
     pub activities: Activities,
 
     // The conflict at hand.
@@ -74,14 +76,14 @@ pub struct Search {
     pub reduction_gap: u32,
 }
 
-impl Search {
+impl<'a> Search<'a> {
     /// A search through these clauses over so many variables. Nothing is decided yet.
     pub fn new(
         alloc: Global,
         variables: u32,
-        guide: Guide,
+        guide: Guide<'a>,
         intake: Intake,
-    ) -> Result<Search, AllocError> {
+    ) -> Result<Search<'a>, AllocError> {
         let literals = variables.wrapping_mul(2).wrapping_add(2);
         let places = variables.wrapping_add(1) as usize;
         let Intake {
@@ -118,7 +120,9 @@ impl Search {
             reduction_gap: FIRST_REDUCTION,
         };
         search.want_small(small.as_slice());
+        search.want_reads();
         search.attach_long()?;
+        search.activities.offer_wanted();
         search.assume(units.as_slice());
         if empty != 0 {
             search.refuted_at_start = Some(Reason::of_literals(empty, NEVER, NEVER, NEVER));
@@ -148,7 +152,7 @@ impl Search {
     }
 }
 
-impl Search {
+impl<'a> Search<'a> {
     /// The variables of these clauses can be decided. Variables that stand in none of the clauses that were read need no
     /// decision: what is known of an order, with no clause of these false, always extends to an order of all.
     fn want_small(&mut self, clauses: &[SmallClause]) {
@@ -157,6 +161,39 @@ impl Search {
             self.activities.want(clause.second >> 1);
             if clause.third != NEVER {
                 self.activities.want(clause.third >> 1);
+            }
+        }
+    }
+
+    /// The variables of choices can be decided, and those of the pairs of which their clauses speak.
+    fn want_reads(&mut self) {
+        let Some(readings) = self.trail.readings else {
+            return;
+        };
+        for choice in readings.choices() {
+            if let Some(choice) = choice {
+                self.activities.want(choice.variable);
+            }
+        }
+        for element in 0..readings.elements() {
+            let is_read = self.trail.candidates.readers.count(element) > 0;
+            let reads = self.trail.candidates.writers.count(element) > 0;
+            if is_read || reads || readings.variable_without_writer(element) != 0 {
+                self.want_pairs(readings, element);
+            }
+        }
+    }
+
+    /// The variables of the pairs of this element and a writer of its location can be decided.
+    fn want_pairs(&mut self, readings: &Readings, element: u32) {
+        for number in 0..readings.writers().words() {
+            let mut writers = readings.writers().word(element, number);
+            for _ in 0..64 {
+                let Some(writer) = next_element(&mut writers, number) else {
+                    break;
+                };
+                let literal = self.trail.order().literal(element, writer);
+                self.activities.want(literal >> 1);
             }
         }
     }

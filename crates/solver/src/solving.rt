@@ -23,7 +23,7 @@ fn variables_of<L: ClauseList>(formula: &L, cube: &[Lit]) -> u32 {
 
 /// The values of all variables where the search has come to an end without a conflict. Those of an order that is known in part are
 /// those of an order of all elements that extends it; where nothing is known of another variable, it is false.
-fn assignment_of(alloc: Global, search: &Search) -> Result<Assignment, AllocError> {
+fn assignment_of(alloc: Global, search: &Search<'_>) -> Result<Assignment, AllocError> {
     let ranks = search.trail.ranks(alloc)?;
     let mut values = Vec::with_capacity(alloc, search.variables as usize)?;
     for place in 0..search.variables {
@@ -49,7 +49,7 @@ pub fn solve<L: ClauseList>(
     alloc: Global,
     formula: &L,
     cube: &[Lit],
-    guide: Guide,
+    guide: Guide<'_>,
     budget: u64,
 ) -> Result<Answer, AllocError>
     ensures { IfOk result (λ answer. IsWithin budget answer) }

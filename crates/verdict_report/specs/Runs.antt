@@ -48,7 +48,3 @@ pub record HandsOut (source : SourceRun) (text : List ℕ) : Type 0 where
 -- the source handed out nothing, is at its end exactly if it was before, and did not fail
 abbrev pub IsUntouched : SourceRun → Type 0
 IsUntouched source = (source.now ≡ source.before) × (source.is_at_end ≡ source.was_at_end) × (source.failures_now ≡ source.failures_before)
-
--- the sink took nothing
-abbrev pub TakesNothing : SinkRun → Type 0
-TakesNothing out = out.now ≡ out.before

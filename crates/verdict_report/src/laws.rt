@@ -8,9 +8,11 @@ ghost use Rattle.traces.specs.declared.operation.OpName.{OpName};
 ghost use Rattle.traces.specs.Legal.{IsLegal};
 ghost use Rattle.traces.specs.Trace.{TraceValue};
 ghost use Rattle.reducer.specs.Reduction.{kept_trace};
-ghost use Rattle.clause_blocks.specs.Clauses.{clauses_of};
-ghost use Rattle.verdict_report.specs.Admitted.{Admits, IsTooLarge};
+ghost use Rattle.cnf_reader.specs.CnfReading.{SpellsCnf};
+ghost use Rattle.clause_blocks.specs.Clauses.{clauses_of, formula_of};
+ghost use Rattle.verdict_report.specs.Admitted.{Admits, IsTooLarge, cnf_of};
 ghost use Rattle.verdict_report.specs.CnfEngine.{Translates};
+ghost use Rattle.verdict_report.specs.LratEngine.{AreAccepted};
 ghost use Rattle.verdict_report.specs.Runs.{SourceRun, HandsOut};
 
 /// The same text gives the same clause list, to the byte.
@@ -37,4 +39,14 @@ pub fn never_admitted_and_refused()
 pub fn satisfiable_exactly_where_schedulable()
     ensures { (text : List ℕ) (value : TraceValue) → Admits text value →
         ((truth : ℕ → Bool) × IsModel truth (clauses_of (kept_trace value))) ↔ ((names : List OpName) × IsLegal value names) }
+{}
+
+/// The text that is written of an admitted trace spells the formula of what is kept of it, as a reader of formulas takes it.
+pub fn written_text_spells()
+    ensures { (text : List ℕ) (value : TraceValue) → Admits text value → SpellsCnf (cnf_of value) (formula_of (kept_trace value)) }
+{}
+
+/// A proof that is accepted for the text that is written of an admitted trace shows that the whole trace has no legal schedule.
+pub fn accepted_proof_shows_no_schedule()
+    ensures { (text proof : List ℕ) (value : TraceValue) (names : List OpName) → Admits text value → AreAccepted (cnf_of value) proof → IsLegal value names → ⊥ }
 {}

@@ -15,8 +15,10 @@ loop-leaf-preserved g c =
     let there : slice_get (cubes_of c.args.tree.now) (get_or c.args.which.now c.loop-leaf.leaf-index 0) ≡ Some c.job_of-job.result.cube =
     subst (λ (cubes : List (List ℤ)). slice_get cubes (get_or c.args.which.now c.loop-leaf.leaf-index 0) ≡ Some c.job_of-job.result.cube) cubes_are c.job_of-job.ensures.cube in
     rw c.in_ok-push.ensures.items
-    (one_more (cubes_of c.args.tree.now) c.args.which.now c.loop-leaf.leaf-index c.loop-leaf.results.items c.settle_job-settled.result c.job_of-job.result.cube
-    c.loop-leaf.invariant (omega arith) (c.settle_job-settled.ensures.ticket ∙ c.job_of-job.ensures.ticket) there c.settle_job-settled.ensures.cube)
+    (one_more (g.L.ClauseList.formula c.args.formula.now).clauses (cubes_of c.args.tree.now) c.args.which.now c.loop-leaf.leaf-index c.loop-leaf.results.items c.loop-leaf.has_model
+    c.requires c.loop-leaf.invariant (omega arith) c.settle_job-settled.result c.job_of-job.result.cube
+    (c.settle_job-settled.ensures.ticket ∙ c.job_of-job.ensures.ticket) there c.settle_job-settled.ensures.cube c.settle_job-settled.ensures.skipped
+    c.knows_model-has_model.result c.knows_model-has_model.ensures)
 
 pub returns : goal.returns
-returns g c = all_settled (cubes_of c.args.tree.now) c.args.which.now c.loop-leaf.leaf-index c.loop-leaf.results.items c.requires (omega arith) c.loop-leaf.invariant
+returns g c = all_settled (g.L.ClauseList.formula c.args.formula.now).clauses (cubes_of c.args.tree.now) c.args.which.now c.loop-leaf.leaf-index c.loop-leaf.results.items c.loop-leaf.has_model c.requires (omega arith) c.loop-leaf.invariant

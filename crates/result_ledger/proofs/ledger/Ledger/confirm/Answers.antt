@@ -7,7 +7,7 @@ use Rattle.result_ledger.proofs.ledger.Ledger.confirm.Goals as goal
 
 pub returns-in_ok-truth-in-Some : goal.returns-in_ok-truth-in-Some
 returns-in_ok-truth-in-Some g c =
-    let clauses = c.args.formula.now.clauses in
+    let clauses = (g.L.ClauseList.formula c.args.formula.now).clauses in
     let found = c.in-Some.found in
     let slots_are : c.as_slice-slots.result.now ≡ c.args.self.now = c.as_slice-slots.ensures.value ∙ c.self.view_is in
     let here : HasModelAt clauses c.args.self.now found.leaf found.assignment.now = subst (λ (slots : List Slot). HasModelAt clauses slots found.leaf found.assignment.now) slots_are c.in-Some.ensures.0 in
@@ -16,7 +16,7 @@ returns-in_ok-truth-in-Some g c =
 
 pub returns-then-is_empty : goal.returns-then-is_empty
 returns-then-is_empty g c =
-    let clauses = c.args.formula.now.clauses in
+    let clauses = (g.L.ClauseList.formula c.args.formula.now).clauses in
     let slots_are : c.as_slice-slots.result.now ≡ c.args.self.now = c.as_slice-slots.ensures.value ∙ c.self.view_is in
     let none : HaveNoModelBefore clauses c.args.self.now (length c.args.self.now) = subst (λ (slots : List Slot). HaveNoModelBefore clauses slots (length slots)) slots_are c.in-None.ensures in
     let left : AreWithout (HasProofAt clauses c.args.self.now) (length c.args.self.now) c.in_ok-leaves-in-None.leaves.items =
@@ -27,7 +27,7 @@ returns-then-is_empty g c =
 
 pub returns-else-is_empty : goal.returns-else-is_empty
 returns-else-is_empty g c =
-    let clauses = c.args.formula.now.clauses in
+    let clauses = (g.L.ClauseList.formula c.args.formula.now).clauses in
     let slots_are : c.as_slice-slots.result.now ≡ c.args.self.now = c.as_slice-slots.ensures.value ∙ c.self.view_is in
     let none : HaveNoModelBefore clauses c.args.self.now (length c.args.self.now) = subst (λ (slots : List Slot). HaveNoModelBefore clauses slots (length slots)) slots_are c.in-None.ensures in
     let left : AreWithout (HasProofAt clauses c.args.self.now) (length c.args.self.now) c.in_ok-leaves-in-None.leaves.items =

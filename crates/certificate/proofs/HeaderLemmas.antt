@@ -1,0 +1,115 @@
+-- The lines up to the header, and the parts of a text behind it.
+use Rattle.std.proofs.Common.{◌≡◌, ◌⊎◌, ℕ, ◌+◌, ◌*◌, ◌<◌, ◌≤◌, List, [], ◌∷◌, ◌++◌, length, drop, true, false, refl, ap, sym, ◌∙◌, subst, inl, inr, arith, append_assoc, append-nil, length-append}
+use Rattle.std.specs.List.{list_all}
+use Rattle.std.proofs.lemmas.Bool.{and_from}
+use Rattle.std.proofs.lemmas.List.{length_push}
+use Rattle.std.proofs.lemmas.List.Folds.{list_all-append}
+use Rattle.text_lines.specs.Lines.{lines_of}
+use Rattle.text_lines.specs.Words.{words_of}
+use Rattle.cube_tree.specs.CubeTree.{CubeTree, leaf, split, leaves}
+use Rattle.cube_tree.specs.TreeText.{tree_lines, SpellsTree, line_bytes}
+use Rattle.cube_tree.specs.TreeFault.{HasTreeFault}
+use Rattle.cube_tree.specs.declared.tree_fault.TreeCause.{TreeCause}
+use Rattle.cube_tree.proofs.TextLemmas.{most_bytes}
+use Rattle.lrat_check.specs.LratFaults.{HasLratFault}
+use Rattle.lrat_check.specs.declared.lrat_fault.LratCause.{LratCause}
+use Rattle.certificate.specs.CertFaults.{IsNoHeader, IsSilent, LacksHeader, HasFaultInTree, HasFaultInSections, HasCertFault}
+use Rattle.certificate.specs.CertLine.{is_silent, is_header}
+use Rattle.certificate.specs.CertRead.{HasTreeFaultBehind, HasSectionFaultBehind}
+use Rattle.certificate.specs.CertText.{IsHeaded}
+use Rattle.certificate.specs.declared.cert_fault.CertCause.{CertCause}
+use Rattle.certificate.specs.declared.cert_fault.CertCause.TheVariants.{Header}
+use Rattle.text_lines.specs.declared.fault.Fault.{Fault}
+use Rattle.text_lines.specs.declared.fault.Fault.TheVariants.{OutOfMemory, At}
+use Rattle.text_lines.specs.Fault.{IsRefusal}
+
+-- lines that say nothing
+pub record IsSilentSoFar (text : List ℕ) (number : ℕ) (rest : List ℕ) : Type 0 where
+  pub done : List (List ℕ)
+  pub parts : lines_of text ≡ done ++ lines_of rest
+  pub counted : number ≡ length done
+  pub silent : list_all is_silent done ≡ true
+  pub behind : number + length rest ≤ length text
+
+pub none_yet : (text : List ℕ) → IsSilentSoFar text 0 text
+none_yet text = record { done = []; parts = refl; counted = refl; silent = refl; behind = omega arith }
+
+pub next_silent : (text : List ℕ) (number : ℕ) (rest line after : List ℕ) → IsSilentSoFar text number rest → lines_of rest ≡ line ∷ lines_of after → length after < length rest → is_silent line ≡ true →
+    IsSilentSoFar text (number + 1) after
+next_silent text number rest line after h cut shorter silent = record {
+  done = h.done ++ line ∷ [];
+  parts = h.parts ∙ ap (λ ls. h.done ++ ls) cut ∙ sym (append_assoc h.done (line ∷ []) (lines_of after));
+  counted = omega (arith, h.counted, length_push h.done line);
+  silent = list_all-append is_silent h.done (line ∷ []) ∙ and_from _ _ h.silent (and_from _ true silent refl);
+  behind = omega (arith, h.behind, shorter);
+}
+
+pub found : (text : List ℕ) (number : ℕ) (rest line after : List ℕ) → IsSilentSoFar text number rest → lines_of rest ≡ line ∷ lines_of after → is_header (words_of line) ≡ true → IsHeaded text after (number + 1)
+found text number rest line after h cut says = record {
+  before = h.done;
+  header = line;
+  parts = h.parts ∙ ap (λ ls. h.done ++ ls) cut;
+  counted = omega (arith, h.counted);
+  silent = h.silent;
+  says = says;
+}
+
+pub other_first : (text : List ℕ) (number : ℕ) (rest line after : List ℕ) → IsSilentSoFar text number rest → lines_of rest ≡ line ∷ lines_of after → is_silent line ≡ false → is_header (words_of line) ≡ false →
+    LacksHeader text Header (number + 1)
+other_first text number rest line after h cut said other = (
+  refl,
+  inl (record {
+    before = h.done;
+    first = line;
+    after = lines_of after;
+    parts = h.parts ∙ ap (λ ls. h.done ++ ls) cut;
+    counted = omega (arith, h.counted);
+    silent = h.silent;
+    said = said;
+    other = other;
+  }),
+)
+
+pub none_first : (text : List ℕ) (number : ℕ) (rest : List ℕ) → IsSilentSoFar text number rest → lines_of rest ≡ [] → LacksHeader text Header (number + 1)
+none_first text number rest h nothing =
+    let all : lines_of text ≡ h.done = h.parts ∙ ap (λ ls. h.done ++ ls) nothing ∙ append-nil h.done in
+    (refl, inr (record { silent = ap (list_all is_silent) all ∙ h.silent; behind = omega (arith, h.counted, ap length all) }))
+
+-- a tree has a split less than leaves
+pub line_count : (tree : CubeTree) → length (tree_lines tree) + 1 ≡ 2 * leaves tree
+line_count leaf = refl
+line_count (split v left right) = omega (arith, length-append (tree_lines left) (tree_lines right), line_count left, line_count right)
+
+-- a text has no more lines than bytes, and one
+lines_below : (lines : List (List ℕ)) → length lines ≤ line_bytes lines
+lines_below [] = omega arith
+lines_below (line ∷ lines) = omega (arith, lines_below lines)
+
+pub few_lines : (text : List ℕ) → length (lines_of text) ≤ length text + 1
+few_lines text = omega (arith, lines_below (lines_of text), most_bytes text)
+
+within : (lines before after : List (List ℕ)) (line : List ℕ) (place : ℕ) → lines ≡ before ++ line ∷ after → place ≡ length before + 1 → place ≤ length lines
+within lines before after line place parts counted = omega (arith, counted, ap length parts ∙ length-append before (line ∷ after))
+
+pub lrat_place : (text : List ℕ) (cause : LratCause) (place : ℕ) → HasLratFault text cause place → place ≤ length text + 1
+lrat_place text cause place f = omega (arith, few_lines text, within (lines_of text) f.before f.after f.item place f.parts f.counted)
+
+pub tree_place : (text : List ℕ) (cause : TreeCause) (place : ℕ) → HasTreeFault text cause place → place ≤ length text + 2
+tree_place text cause place (inl f) = omega (arith, few_lines text, within (lines_of text) f.before f.after f.item place f.parts f.counted)
+tree_place text cause place (inr f) = omega (arith, few_lines text, f.behind)
+
+-- refusals of the parts are refusals of the text
+pub no_header : (text : List ℕ) (fault : Fault CertCause) → IsRefusal (LacksHeader text) fault → IsRefusal (HasCertFault text) fault
+no_header text OutOfMemory h = tt
+no_header text (At cause line) h = inl h
+
+pub bad_tree : (text behind : List ℕ) (header : ℕ) (fault : Fault CertCause) → IsHeaded text behind header → IsRefusal (HasTreeFaultBehind header behind) fault → IsRefusal (HasCertFault text) fault
+bad_tree text behind header OutOfMemory headed h = tt
+bad_tree text behind header (At cause line) headed h =
+    inr (inl (record { behind = behind; header = header; tree_cause = h.tree_cause; place = h.place; headed = headed; fault = h.fault; told = h.told; counted = h.counted }))
+
+pub bad_section : (text behind : List ℕ) (header : ℕ) (tree : CubeTree) (bytes lines : ℕ) (fault : Fault CertCause) → IsHeaded text behind header → SpellsTree behind tree bytes → lines ≡ length (tree_lines tree) →
+    IsRefusal (HasSectionFaultBehind (header + lines) (lines_of (drop bytes behind))) fault → IsRefusal (HasCertFault text) fault
+bad_section text behind header tree bytes lines OutOfMemory headed spelled count h = tt
+bad_section text behind header tree bytes lines (At cause line) headed spelled count h =
+    inr (inr (record { behind = behind; header = header; tree = tree; bytes = bytes; place = h.place; headed = headed; spelled = spelled; fault = h.fault; counted = h.counted ∙ ap (λ (n : ℕ). (header + n) + h.place) count }))

@@ -1,0 +1,11 @@
+pub mod HeaderLemmas
+pub mod LineCutLemmas
+pub mod SectionCutLemmas
+pub mod SectionLemmas
+pub mod SectionReadLemmas
+pub mod RecheckLemmas
+pub mod WriteLemmas
+pub mod TextLawLemmas
+pub mod RecheckLawLemmas
+pub mod RefusalLemmas
+pub mod WrittenLemmas

@@ -1,0 +1,5 @@
+use Rattle.certificate.specs.Rechecked.{AreProvedBelow}
+use Rattle.certificate.proofs.rechecking.first_refused.Given as goal
+
+abbrev pub invariant-loop-leaf : goal.invariant-loop-leaf
+invariant-loop-leaf g l = AreProvedBelow (g.L.ClauseList.formula l.clauses).clauses l.cubes l.sections l.leaf

@@ -1,0 +1,5 @@
+use Rattle.certificate.proofs.WrittenLemmas.{written_spells}
+use Rattle.certificate.proofs.text_laws.canonical_spells.Goals as goal
+
+pub returns : goal.returns
+returns c = written_spells

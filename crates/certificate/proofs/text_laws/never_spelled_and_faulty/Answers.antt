@@ -1,0 +1,5 @@
+use Rattle.certificate.proofs.TextLawLemmas.{never_both}
+use Rattle.certificate.proofs.text_laws.never_spelled_and_faulty.Goals as goal
+
+pub returns : goal.returns
+returns c = never_both

@@ -1,0 +1,5 @@
+use Rattle.certificate.proofs.WrittenLemmas.{written_read}
+use Rattle.certificate.proofs.text_laws.written_is_read.Goals as goal
+
+pub returns : goal.returns
+returns c = written_read

@@ -1,0 +1,77 @@
+//! What the lines of a certificate say.
+
+ghost use Rattle.std.specs.Prelude.{◌≡◌, ◌==◌, slice_index};
+ghost use Rattle.std.specs.Str.{bytes_eq};
+ghost use Rattle.text_lines.specs.Words.{words_of};
+ghost use Rattle.certificate.specs.CertLine.{is_silent, is_header, begun_by, is_end};
+
+use text_lines::numbers::read_plain;
+use text_lines::words::cut_word;
+
+/// Whether the word is this text.
+fn is_word(word: &[u8], text: &str) -> bool
+    ensures { result ≡ bytes_eq word.now text.now }
+{
+    word == text.as_bytes()
+}
+
+/// Whether the first word of a line begins a comment.
+fn begins_comment(word: &[u8]) -> bool
+    ensures { result ≡ (slice_index word.now 0 == 99) }
+{
+    !word.is_empty() && word[0] == b'c'
+}
+
+/// Whether the line says nothing: it has no words, or is a comment.
+pub(crate) fn is_silent_line(line: &[u8]) -> bool
+    ensures { result ≡ is_silent line.now }
+{
+    match cut_word(line) {
+        None => true,
+        Some((word, _)) => begins_comment(word),
+    }
+}
+
+/// Whether the line is the header, `vsc-cert 1`.
+pub(crate) fn is_header_line(line: &[u8]) -> bool
+    ensures { result ≡ is_header (words_of line.now) }
+{
+    let Some((word, rest)) = cut_word(line) else {
+        return false;
+    };
+    let Some((version, rest)) = cut_word(rest) else {
+        return false;
+    };
+    if cut_word(rest).is_some() {
+        return false;
+    }
+    is_word(word, "vsc-cert") && is_word(version, "1")
+}
+
+/// The leaf whose section the line begins, as `proof` and a plain number.
+pub(crate) fn read_begin(line: &[u8]) -> Option<u32>
+    ensures { result ≡ begun_by (words_of line.now) }
+{
+    let (word, rest) = cut_word(line)?;
+    let (number, rest) = cut_word(rest)?;
+    if cut_word(rest).is_some() || !is_word(word, "proof") {
+        return None;
+    }
+    match read_plain(number, u64::from(u32::MAX)) {
+        Some(leaf) => Some(leaf as u32),
+        None => None,
+    }
+}
+
+/// Whether the line ends a section.
+pub(crate) fn is_end_line(line: &[u8]) -> bool
+    ensures { result ≡ is_end (words_of line.now) }
+{
+    let Some((word, rest)) = cut_word(line) else {
+        return false;
+    };
+    if cut_word(rest).is_some() {
+        return false;
+    }
+    is_word(word, "end")
+}

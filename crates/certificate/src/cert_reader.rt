@@ -1,0 +1,91 @@
+//! The reader of a certificate's text.
+
+ghost use Rattle.std.specs.Prelude.{◌≡◌, ◌<◌, ◌≤◌, ◌+◌, ◌*◌, ◌^◌, length, IfOk, IfErr};
+ghost use Rattle.text_lines.specs.Fault.{IsRefusal};
+ghost use Rattle.cube_tree.specs.TreeText.{SpellsTree, tree_lines};
+ghost use Rattle.certificate.specs.CertFaults.{LacksHeader, HasCertFault};
+ghost use Rattle.certificate.specs.CertText.{IsHeaded, SpellsCertificate};
+ghost use Rattle.certificate.specs.CertCause.{of_tree};
+ghost use Rattle.certificate.specs.CertRead.{HasTreeFaultBehind};
+
+use crate::cert_fault::{CertCause, CertFault};
+use crate::cert_line::{is_header_line, is_silent_line};
+use crate::certificate::Certificate;
+use crate::section_reader::read_sections;
+use cube_tree::tree_laws::other_lines_are_behind;
+use cube_tree::{Tree, TreeCause, read_tree};
+use std::alloc::Global;
+use text_lines::fault::Fault;
+use text_lines::lines::cut_line;
+
+/// What follows the header, and the number of its line.
+fn read_header(text: &[u8]) -> Result<(&[u8], usize), CertFault>
+    ensures headed { IfOk result (λ read. IsHeaded text.now read.0.now read.1) }
+    ensures shorter { IfOk result (λ read. read.1 + length read.0.now ≤ length text.now) }
+    ensures faulty { IfErr result (λ fault. IsRefusal (LacksHeader text.now) fault) }
+{
+    let mut number = 0usize;
+    let mut rest = text;
+    while let Some((line, after)) = cut_line(rest) {
+        number += 1;
+        if is_header_line(line) {
+            return Ok((after, number));
+        }
+        if !is_silent_line(line) {
+            return Err(CertFault::At(CertCause::Header, number));
+        }
+        rest = after;
+    }
+    Err(CertFault::At(CertCause::Header, number + 1))
+}
+
+/// What is wrong with the tree, as it is told of the certificate.
+fn cause_of_tree(cause: TreeCause) -> CertCause
+    ensures { result ≡ of_tree cause }
+{
+    match cause {
+        TreeCause::BadLine => CertCause::BadTree,
+        TreeCause::TooDeep => CertCause::TooDeep,
+        TreeCause::TooManyLeaves => CertCause::TooManyLeaves,
+    }
+}
+
+/// The tree at the front of the text, which stands behind so many lines of the certificate, and how many bytes it takes.
+fn read_tree_behind(alloc: Global, text: &[u8], before: usize) -> Result<(Tree, usize), CertFault>
+    requires { before + length text.now + 2 < 2 ^ 64 }
+    ensures spelled { IfOk result (λ read. SpellsTree text.now read.0 read.1) }
+    ensures faulty { IfErr result (λ fault. IsRefusal (HasTreeFaultBehind before text.now) fault) }
+{
+    match read_tree(alloc, text) {
+        Ok(read) => Ok(read),
+        Err(Fault::OutOfMemory) => Err(CertFault::OutOfMemory),
+        Err(Fault::At(cause, place)) => Err(CertFault::At(cause_of_tree(cause), before + place)),
+    }
+}
+
+/// How many lines the tree has.
+fn count_lines(tree: &Tree) -> usize
+    ensures lines { result ≡ length (tree_lines tree.now) }
+    ensures few { result < 2048 }
+{
+    tree.covers();
+    2 * tree.leaves() as usize - 1
+}
+
+/// The certificate that the text spells.
+///
+/// Its first line that is not skipped is `vsc-cert 1`. At once behind it stands a tree, and behind that one section after the other: a
+/// line `proof` with a leaf's number, a derivation (LRAT), and a line `end`. Lines without words and those whose first word begins with
+/// `c` are skipped outside the tree. The error is the first fault of the text, with its line, counted from 1, or `OutOfMemory`, which
+/// tells nothing of the text. Whether the certificate shows anything is for [`recheck`](crate::recheck).
+pub fn read_cert(alloc: Global, text: &[u8]) -> Result<Certificate, CertFault>
+    ensures spelled { IfOk result (λ certificate. SpellsCertificate text.now certificate) }
+    ensures faulty { IfErr result (λ fault. IsRefusal (HasCertFault text.now) fault) }
+{
+    other_lines_are_behind();
+    let (behind, header) = read_header(text)?;
+    let (tree, bytes) = read_tree_behind(alloc, behind, header)?;
+    let lines = count_lines(&tree);
+    let sections = read_sections(alloc, &behind[bytes..], header + lines)?;
+    Ok(Certificate { tree, sections })
+}

@@ -1,0 +1,65 @@
+//! The reader of the sections of a certificate's text.
+
+ghost use Rattle.std.specs.Prelude.{◌<◌, ◌+◌, ◌^◌, length, IfOk, IfErr};
+ghost use Rattle.text_lines.specs.Fault.{IsRefusal};
+ghost use Rattle.text_lines.specs.Lines.{lines_of};
+ghost use Rattle.lrat_check.specs.LratText.{SpellsDerivation};
+ghost use Rattle.certificate.specs.CertText.{AreSections};
+ghost use Rattle.certificate.specs.CertRead.{HasLratFaultBehind, HasSectionFaultBehind};
+
+use crate::cert_fault::{CertCause, CertFault};
+use crate::cert_line::{is_silent_line, read_begin};
+use crate::certificate::{Section, Sections};
+use crate::section_text::cut_section;
+use lrat_check::derivation::Derivation;
+use lrat_check::lrat_fault::LratFault;
+use lrat_check::lrat_reader::read_lrat;
+use std::alloc::Global;
+use text_lines::lines::cut_line;
+
+/// The derivation that the lines spell, which stand behind so many lines of the certificate.
+fn read_steps(alloc: Global, lines: &[u8], before: usize) -> Result<Derivation, CertFault>
+    requires { before + length lines.now + 1 < 2 ^ 64 }
+    ensures spelled { IfOk result (λ derivation. SpellsDerivation lines.now derivation) }
+    ensures faulty { IfErr result (λ fault. IsRefusal (HasLratFaultBehind before lines.now) fault) }
+{
+    match read_lrat(alloc, lines) {
+        Ok(derivation) => Ok(derivation),
+        Err(LratFault::OutOfMemory) => Err(CertFault::OutOfMemory),
+        Err(LratFault::At(_, place)) => Err(CertFault::At(CertCause::BadLrat, before + place)),
+    }
+}
+
+/// The sections that the text spells, which stands behind so many lines of the certificate.
+pub(crate) fn read_sections(
+    alloc: Global,
+    text: &[u8],
+    before: usize,
+) -> Result<Sections, CertFault>
+    requires { before + length text.now + 2 < 2 ^ 64 }
+    ensures spelled { IfOk result (λ sections. AreSections (lines_of text.now) sections) }
+    ensures faulty { IfErr result (λ fault. IsRefusal (HasSectionFaultBehind before (lines_of text.now)) fault) }
+{
+    let mut sections = Vec::new(alloc);
+    let mut number = before;
+    let mut rest = text;
+    while let Some((line, after)) = cut_line(rest) {
+        number += 1;
+        rest = after;
+        if is_silent_line(line) {
+            continue;
+        }
+        let Some(leaf) = read_begin(line) else {
+            return Err(CertFault::At(CertCause::BadLine, number));
+        };
+        let (inside, from_end, count) = cut_section(after);
+        let derivation = read_steps(alloc, inside, number)?;
+        number += count + 1;
+        let Some((_, behind)) = cut_line(from_end) else {
+            return Err(CertFault::At(CertCause::BadLine, number));
+        };
+        sections.push(Section { leaf, derivation })?;
+        rest = behind;
+    }
+    Ok(Sections::new(sections))
+}

@@ -1,0 +1,36 @@
+//! Where the lines of a section end.
+
+ghost use Rattle.std.specs.Prelude.{◌≡◌, ◌+◌, ◌≤◌, min, length};
+ghost use Rattle.text_lines.specs.Lines.{lines_of};
+ghost use Rattle.certificate.specs.CertRead.{IsSectionCut};
+
+use crate::cert_line::is_end_line;
+use text_lines::lines::cut_line;
+
+/// The lesser of the two.
+fn at_most(bytes: usize, most: usize) -> usize
+    ensures { result ≡ min most bytes }
+{
+    if bytes < most { bytes } else { most }
+}
+
+/// The lines before the first one that ends a section, the text from that line on, and how many lines stand before it. Where no line
+/// ends a section, these are all lines, and a text without lines.
+pub(crate) fn cut_section(text: &[u8]) -> (&[u8], &[u8], usize)
+    ensures cut { IsSectionCut (lines_of text.now) (lines_of result.0.now) (lines_of result.1.now) result.2 }
+    ensures shorter { result.2 + length result.1.now ≤ length text.now }
+    ensures within { length result.0.now ≤ length text.now }
+{
+    let mut bytes = 0;
+    let mut count = 0;
+    let mut rest = text;
+    while let Some((line, after)) = cut_line(rest) {
+        if is_end_line(line) {
+            return (&text[..at_most(bytes, text.len())], rest, count);
+        }
+        bytes += line.len() + 1;
+        count += 1;
+        rest = after;
+    }
+    (text, rest, count)
+}

@@ -1,0 +1,67 @@
+//! Whether truth values put the operations in an order: one look at each pair of them, in place of one at each three.
+
+ghost use Rattle.std.specs.Prelude.{◌≡◌, ◌<◌, length, slice_index, IsTrue};
+ghost use Rattle.dimacs.specs.Assignment.{value_of, makes_true};
+ghost use Rattle.dimacs.specs.Models.{IsModel};
+ghost use Rattle.reducer.specs.Reduced.{operation_count};
+ghost use Rattle.clause_blocks.specs.Blocks as blocks;
+ghost use Rattle.clause_blocks.specs.Ranks.{IsRankedFrom};
+
+use crate::laws::ranked_without_circle;
+use dimacs::Assignment;
+use var_layout::layout::Layout;
+
+/// Whether the assignment says that operation i stands before the later operation j.
+fn stands_before(layout: &Layout, assignment: &Assignment, i: usize, j: usize) -> bool
+    requires rising { i < j }
+    requires within { j < operation_count layout.now }
+    ensures { result ≡ makes_true (value_of assignment.now) (blocks.stands_before layout.now i j) }
+{
+    assignment.makes(&[layout.order_lit(i, j)])
+}
+
+/// How many operations stand before each one, as the assignment says. Wrong ranks would cost time and no more, since each
+/// pair is compared with them.
+fn ranks(layout: &Layout, assignment: &Assignment) -> [u8; 160] {
+    layout.is_layout();
+    let mut ranks = [0u8; 160];
+    for i in 0..layout.operations() {
+        for j in i + 1..layout.operations() {
+            let later = if stands_before(layout, assignment, i, j) {
+                j
+            } else {
+                i
+            };
+            ranks[later] = ranks[later].wrapping_add(1);
+        }
+    }
+    ranks
+}
+
+/// Whether the assignment says of an operation and each later one that the one of the lower rank stands first.
+fn agrees_from(layout: &Layout, assignment: &Assignment, ranks: &[u8; 160], i: usize) -> bool
+    requires { i < operation_count layout.now }
+    ensures { IsTrue result → IsRankedFrom (value_of assignment.now) (operation_count layout.now) (slice_index ranks.now) i }
+{
+    layout.is_layout();
+    for j in i + 1..layout.operations() {
+        if stands_before(layout, assignment, i, j) != (ranks[i] < ranks[j]) {
+            return false;
+        }
+    }
+    true
+}
+
+/// Whether the assignment puts the operations in an order, so that no three of them stand in a circle.
+pub(crate) fn puts_in_order(layout: &Layout, assignment: &Assignment) -> bool
+    ensures { IsTrue result → IsModel (value_of assignment.now) (blocks.transitivity (operation_count layout.now)) }
+{
+    ranked_without_circle();
+    let ranks = ranks(layout, assignment);
+    for i in 0..layout.operations() {
+        if !agrees_from(layout, assignment, &ranks, i) {
+            return false;
+        }
+    }
+    true
+}

@@ -1,0 +1,4 @@
+pub mod Counting
+pub mod Machine
+pub mod Refused
+pub mod Run

@@ -1,0 +1,81 @@
+//! The hands of the workers.
+ghost use Rattle.std.specs.Prelude.{◌≡◌, ◌<◌, ◌≤◌, ℕ, Option, length, replicate, slice_index_or, slice_set, None};
+ghost use Rattle.std.specs.List.{list_any};
+ghost use Rattle.dealing.specs.Machine.{is_in_hand};
+
+use std::marker::Model;
+
+/// The most workers of a machine.
+pub(crate) const MOST_WORKERS: usize = 8;
+
+/// What each worker has in its hand: a ticket, or nothing. Of the eight places those of the machine's workers count.
+#[derive(Drop)]
+pub(crate) struct Hands {
+    places: [Option<u32>; MOST_WORKERS],
+    workers: usize,
+}
+
+impl Model for Hands {
+    ghost use Rattle.std.specs.Prelude.{◌≡◌, List, ℕ, ◌≤◌, Option, take, length};
+
+    ghost Value = { List (Option ℕ) };
+
+    ghost view = { λ hands. take hands.workers hands.places };
+
+    ghost invariant = { λ hands. (hands.workers ≤ 8) × (length hands.places ≡ 8) };
+}
+
+/// Whether the ticket is in this hand.
+fn is_in_hand(hand: Option<u32>, ticket: u32) -> bool
+    ensures { result ≡ is_in_hand ticket hand }
+{
+    match hand {
+        Some(held) => held == ticket,
+        None => false,
+    }
+}
+
+impl Hands {
+    /// So many empty hands.
+    pub(crate) fn new(workers: u32) -> Hands
+        requires { workers ≤ 8 }
+        ensures { result ≡ replicate workers None }
+    {
+        Hands {
+            places: [None; MOST_WORKERS],
+            workers: workers as usize,
+        }
+    }
+
+    /// How many there are.
+    pub(crate) fn len(&self) -> usize
+        ensures { result ≡ length self.now }
+    {
+        self.workers
+    }
+
+    /// What the worker has in its hand.
+    pub(crate) fn hand(&self, worker: u32) -> Option<u32>
+        requires { worker < length self.now }
+        ensures { result ≡ slice_index_or self.now worker None }
+    {
+        self.places[worker as usize]
+    }
+
+    /// Puts this into the worker's hand, in place of what it had.
+    pub(crate) fn put(&mut self, worker: u32, hand: Option<u32>)
+        requires { worker < length self.old }
+        ensures { self.new ≡ slice_set self.old worker hand }
+    {
+        self.places[worker as usize] = hand;
+    }
+
+    /// Whether the ticket is in some hand.
+    pub(crate) fn have(&self, ticket: u32) -> bool
+        ensures { result ≡ list_any (is_in_hand ticket) self.now }
+    {
+        self.places[..self.workers]
+            .iter()
+            .any(|hand| is_in_hand(*hand, ticket))
+    }
+}

@@ -1,0 +1,17 @@
+//! The dealing machine: jobs go from a queue into the hands of workers, and their outcomes through a second queue into a ledger.
+//! Over every list of events, each job is in exactly one place, and is settled by the worker that took it.
+#![tactic(auto)]
+
+mod event;
+mod given;
+mod hands;
+pub mod laws;
+mod machine;
+mod refused;
+#[cfg(test)]
+mod tests;
+
+pub use event::Event;
+pub use given::Given;
+pub use machine::Machine;
+pub use refused::Refused;

@@ -1,0 +1,148 @@
+//! What a caller knows of the reads of an order.
+
+use order_closure::tables::{at, put};
+use order_closure::{ElementSets, MOST_ELEMENTS};
+use std::alloc::{AllocError, Global};
+
+/// So many variables choices have at most. One with a larger number is left to the clauses.
+const MOST_VARIABLES: u32 = 1 << 16;
+
+/// A choice: where its variable is true, the reader has its value from this writer.
+#[derive(Clone, Copy)]
+pub struct Choice {
+    /// The variable.
+    pub variable: u32,
+    /// The element that reads.
+    pub reader: u32,
+    /// The element from which the value comes, or none where it is the one before all writers.
+    pub writer: Option<u32>,
+    /// The number of the first of its clauses, counted from 1.
+    pub first: u32,
+}
+
+/// What a caller of `solve` knows of the reads of an order: which elements write where others read, and which clauses say what a
+/// choice means. With y of `Guide`, let x(i,j) be `y(i,j)` for i below j, and `-y(j,i)` otherwise.
+///
+/// A choice with the variable s and without a writer has the clauses `-s x(r,q)`, for all writers q of the reader r that it
+/// knows. One with the writer w has the clause `-s x(w,r)`, and then `-s x(q,w) x(r,q)` for all these q other than w. All go by
+/// rising q and stand one behind the other.
+///
+/// Nobody believes this either: what is wrong in it costs time, and never truth (see `Guide`).
+#[derive(Drop)]
+pub struct Readings {
+    elements: u32,
+    /// The last variable of the order.
+    base: u32,
+    /// For each element those others that write its location.
+    writers: ElementSets,
+    /// The choices by their variables, counted from the first one behind the order's.
+    choices: Vec<Option<Choice>>,
+    /// For each reader and each writer the variable of the choice, or 0; behind the writers the one of the choice without a
+    /// writer.
+    variables: Vec<u32>,
+}
+
+impl Readings {
+    /// Nothing is known of the reads of an order of so many elements, 192 at most.
+    pub fn new(alloc: Global, elements: u32) -> Result<Readings, AllocError> {
+        let elements = elements.min(MOST_ELEMENTS);
+        let pairs = elements.wrapping_mul(elements.wrapping_add(1));
+        Ok(Readings {
+            elements,
+            base: elements.wrapping_mul(elements.wrapping_sub(1)) / 2,
+            writers: ElementSets::new(alloc, elements)?,
+            choices: Vec::new(alloc),
+            variables: vec![in alloc; 0; pairs as usize]?,
+        })
+    }
+
+    /// The writer writes the location that the element reads or writes, and is another one.
+    pub fn add_writer(&mut self, element: u32, writer: u32) {
+        if element != writer && writer < self.elements {
+            self.writers.insert(element, writer);
+        }
+    }
+
+    /// Adds a choice. They are added by rising variables; others, and those that are of no two elements of the order, are left to
+    /// their clauses.
+    pub fn add_choice(&mut self, choice: Choice) -> Result<(), AllocError> {
+        let place = choice.variable.wrapping_sub(self.base).wrapping_sub(1);
+        let column = choice.writer.unwrap_or(self.elements);
+        if place >= MOST_VARIABLES
+            || (place as usize) < self.choices.len()
+            || choice.reader >= self.elements
+            || column > self.elements
+            || column == choice.reader
+        {
+            return Ok(());
+        }
+        for _ in self.choices.len()..place as usize {
+            self.choices.push(None)?;
+        }
+        self.choices.push(Some(choice))?;
+        let place = self.place_of(choice.reader, column);
+        put(self.variables.as_mut_slice(), place, choice.variable);
+        Ok(())
+    }
+
+    /// The place of the choice of this reader and this writer.
+    #[inline(always)]
+    fn place_of(&self, reader: u32, column: u32) -> u32 {
+        reader
+            .wrapping_mul(self.elements.wrapping_add(1))
+            .wrapping_add(column)
+    }
+
+    /// For how many elements this is.
+    pub fn elements(&self) -> u32 {
+        self.elements
+    }
+
+    /// All choices, with gaps.
+    pub fn choices(&self) -> &[Option<Choice>] {
+        self.choices.as_slice()
+    }
+
+    /// For each element those others that write its location.
+    #[inline(always)]
+    pub fn writers(&self) -> &ElementSets {
+        &self.writers
+    }
+
+    /// The choice of this variable, if it is one.
+    #[inline(always)]
+    pub fn choice(&self, variable: u32) -> Option<Choice> {
+        let place = variable.wrapping_sub(self.base).wrapping_sub(1);
+        at(self.choices.as_slice(), place, None)
+    }
+
+    /// The variable of the choice of this reader and this writer, or 0.
+    #[inline(always)]
+    pub fn variable(&self, reader: u32, writer: u32) -> u32 {
+        at(self.variables.as_slice(), self.place_of(reader, writer), 0)
+    }
+
+    /// The variable of the choice of this reader without a writer, or 0.
+    #[inline(always)]
+    pub fn variable_without_writer(&self, reader: u32) -> u32 {
+        self.variable(reader, self.elements)
+    }
+
+    /// The number behind that of the choice's last clause: there are as many as writers.
+    pub fn behind(&self, choice: Choice) -> u32 {
+        choice.first.wrapping_add(self.writers.count(choice.reader))
+    }
+
+    /// The number of the choice's clause for this writer.
+    pub fn clause_of(&self, choice: Choice, writer: u32) -> u32 {
+        let place = self.writers.count_below(choice.reader, writer);
+        let place = match choice.writer {
+            None => place,
+            Some(chosen) if chosen == writer => 0,
+            // The clause of the chosen writer stands before those of all others.
+            Some(chosen) if writer < chosen => place.wrapping_add(1),
+            Some(_) => place,
+        };
+        choice.first.wrapping_add(place)
+    }
+}
