@@ -1,10 +1,10 @@
 -- Counts of literals, with one clause more or less.
-use Rattle.std.proofs.Common.{◌≡◌, ◌⊎◌, ℕ, zero, suc, ◌+◌, ◌-◌, ◌<◌, ◌≤◌, Bool, true, false, cond, not, eqb, ◌||◌, List, [], ◌∷◌, ◌++◌, length, replicate, get_or, take, refl, ap, sym, ◌∙◌, subst, inl, inr, length-append, arith}
+use Rattle.std.proofs.Common.{◌≡◌, ℕ, zero, suc, ◌+◌, ◌-◌, ◌<◌, Bool, true, false, cond, not, eqb, ◌||◌, List, [], ◌∷◌, ◌++◌, length, replicate, get_or, take, refl, ap, sym, ◌∙◌, subst, inl, inr, length-append, arith}
 use Rattle.std.specs.Prelude.{ℤ, Option, Some, None}
 use Rattle.std.specs.List.{filter}
 use Rattle.std.specs.Option.{option_map, unwrap_or}
 use Rattle.std.specs.Ordering.{int_eq}
-use Rattle.std.proofs.lemmas.Bool.{cases_Bool, or_cases, or_parts, cond-true, cond-false, eqb-true, eq-eqb, ne_eqb, false≢true, true≢false, false_from_ne_true}
+use Rattle.std.proofs.lemmas.Bool.{cases_Bool, or_cases, or_parts, cond-false, eqb-true, eq-eqb, ne_eqb, false≢true}
 use Rattle.std.proofs.lemmas.List.{length-replicate}
 use Rattle.std.proofs.lemmas.List.Elements.{filter-append}
 use Rattle.std.proofs.lemmas.List.Filters.{length-filter_more, length-filter_both}
@@ -96,12 +96,13 @@ put_in false z clause o h = omega arith
 pub count_more : (f g : ℕ → Option (List ℤ)) (id : ℕ) (clause : List ℤ) (z : ℤ) (n m : ℕ) → f id ≡ None → ((other : ℕ) → g other ≡ cond (eqb id other) (Some clause) (f other)) → m ≡ n + times clause z →
     IsCount f z n → IsCount g z m
 count_more f g id clause z n m free same more (ids, each, many) = (
-    replicate (times clause z) id ++ ids,
-    (λ other. repeats_append (replicate (times clause z) id) ids other
-        ∙ (λ i. repeats_replicate (times clause z) id other i + each other i)
-        ∙ put_in (eqb id other) z clause (f other) (λ e. ap f (sym (eqb-true id other e)) ∙ free)
-        ∙ ap (shown z) (sym (same other))),
-    (let long = length-append (replicate (times clause z) id) ids in let front = length-replicate (times clause z) id in omega (arith, long, front, many, more)))
+  replicate (times clause z) id ++ ids,
+  (λ other. repeats_append (replicate (times clause z) id) ids other
+      ∙ (λ i. repeats_replicate (times clause z) id other i + each other i)
+      ∙ put_in (eqb id other) z clause (f other) (λ e. ap f (sym (eqb-true id other e)) ∙ free)
+      ∙ ap (shown z) (sym (same other))),
+  (let long = length-append (replicate (times clause z) id) ids in let front = length-replicate (times clause z) id in omega (arith, long, front, many, more)),
+)
 
 pub are_more : (f g : ℕ → Option (List ℤ)) (id : ℕ) (clause : List ℤ) (old new : LiteralCounts) → f id ≡ None → ((other : ℕ) → g other ≡ cond (eqb id other) (Some clause) (f other)) →
     ((z : ℤ) → count_of new z ≡ count_of old z + times clause z) → AreCounts f old → AreCounts g new
@@ -114,9 +115,10 @@ taken_out false z o = refl
 
 pub count_less : (f g : ℕ → Option (List ℤ)) (id : ℕ) (z : ℤ) (n m : ℕ) → ((other : ℕ) → g other ≡ cond (eqb id other || false) None (f other)) → m ≡ n - times_at f z id → IsCount f z n → IsCount g z m
 count_less f g id z n m same less (ids, each, many) = (
-    filter (λ k. not (eqb k id)) ids,
-    (λ other. left_out ids id other ∙ ap (cond (eqb id other) 0) (each other) ∙ taken_out (eqb id other) z (f other) ∙ ap (shown z) (sym (same other))),
-    (let both = length-filter_both (λ k. eqb k id) (λ k. not (eqb k id)) (λ k. refl) ids in let here = each id in omega (arith, both, here, many, less)))
+  filter (λ k. not (eqb k id)) ids,
+  (λ other. left_out ids id other ∙ ap (cond (eqb id other) 0) (each other) ∙ taken_out (eqb id other) z (f other) ∙ ap (shown z) (sym (same other))),
+  (let both = length-filter_both (λ k. eqb k id) (λ k. not (eqb k id)) (λ k. refl) ids in let here = each id in omega (arith, both, here, many, less)),
+)
 
 pub are_less : (f g : ℕ → Option (List ℤ)) (id : ℕ) (clause : List ℤ) (old new : LiteralCounts) → f id ≡ Some clause → ((other : ℕ) → g other ≡ cond (eqb id other || false) None (f other)) →
     ((z : ℤ) → count_of new z ≡ count_of old z - times clause z) → AreCounts f old → AreCounts g new
@@ -140,9 +142,9 @@ place_apart x z h e = grind (arith, ints, nat_tests, h, e)
 
 pub place_same : (x z : ℤ) → eqb (place_of x) (place_of z) ≡ int_eq x z
 place_same x z = elim (cases_Bool (int_eq x z)) [
-    | inl same ↦ ap (λ y. eqb (place_of x) (place_of y)) (sym (int_same x z same)) ∙ eq-eqb (place_of x) (place_of x) refl ∙ sym same
-    | inr apart ↦ ne_eqb (place_of x) (place_of z) (place_apart x z apart) ∙ sym apart
-  ]
+  | inl same ↦ ap (λ y. eqb (place_of x) (place_of y)) (sym (int_same x z same)) ∙ eq-eqb (place_of x) (place_of x) refl ∙ sym same
+  | inr apart ↦ ne_eqb (place_of x) (place_of z) (place_apart x z apart) ∙ sym apart
+]
 
 -- counts that go up and down with each literal
 pub raised : (old new first place : ℕ) (clause : List ℤ) (i : ℕ) (x z : ℤ) → i < length clause → x ≡ get_or clause i x → place ≡ place_of x → new ≡ old + cond (eqb place (place_of z)) 1 0 →

@@ -1,11 +1,11 @@
 -- Groups, one after the other.
-use Rattle.std.proofs.Common.{◌≡◌, ◌⊎◌, ℕ, zero, suc, ◌+◌, ◌-◌, Bool, true, false, cond, not, eqb, ◌||◌, List, [], ◌∷◌, ◌++◌, length, refl, ap, sym, ◌∙◌, subst, inl, inr, append_assoc, append-nil, rules, arith}
+use Rattle.std.proofs.Common.{◌≡◌, ℕ, ◌-◌, Bool, true, false, cond, eqb, ◌||◌, List, [], ◌∷◌, ◌++◌, length, refl, ap, sym, ◌∙◌, subst, inl, inr, append_assoc, append-nil, rules, arith}
 use Rattle.std.specs.Prelude.{ℤ, neg_ℤ, Option, Some, None, MatchBool}
-use Rattle.std.specs.List.{list_any, filter}
+use Rattle.std.specs.List.{filter}
 use Rattle.std.specs.Option.{option_map, unwrap_or}
-use Rattle.std.proofs.lemmas.Bool.{cases_Bool, cond-true, cond-false, eqb-true, or_cases, or_left, or_right, or_parts, false≢true, true≢false, false_from_ne_true}
+use Rattle.std.proofs.lemmas.Bool.{cases_Bool, cond-false, eqb-true, false≢true}
 use Rattle.std.proofs.lemmas.List.Folds.{list_any-append}
-use Rattle.lrat_check.specs.Counts.{times, times_at, repeats, IsCount}
+use Rattle.lrat_check.specs.Counts.{times, times_at, IsCount}
 use Rattle.lrat_check.specs.Hints.{Group, has_group}
 use Rattle.lrat_check.specs.Propagation.{has}
 use Rattle.lrat_check.specs.Rat.{IsSettled, IsUnsettled, AreSettled, AreUnsettled, HasAllGroups, LacksGroup}
@@ -74,8 +74,8 @@ pass_new active z groups left rest group old new count less h e fresh adds takes
       split = h.split ∙ ap (λ l. h.before ++ l) e ∙ sym (append_assoc h.before (group ∷ []) rest);
       among = λ id. adds id ∙ ap (cond (eqb group.id id) true) (h.among id) ∙ sym (swap_or (has_group h.before id) (eqb group.id id)) ∙ sym (has_push h.before group id);
       many = count_less (without_groups h.before active) (without_groups (h.before ++ group ∷ []) active) group.id z count less
-        (λ id. ap (λ b. cond b None (active id)) (has_push h.before group id) ∙ cond_or (has_group h.before id) (eqb group.id id) (active id))
-        (takes ∙ ap (λ o. count - unwrap_or (option_map (λ clause. times clause z) o) 0) (sym there)) h.many;
+          (λ id. ap (λ b. cond b None (active id)) (has_push h.before group id) ∙ cond_or (has_group h.before id) (eqb group.id id) (active id))
+          (takes ∙ ap (λ o. count - unwrap_or (option_map (λ clause. times clause z) o) 0) (sym there)) h.many;
     }
 
 -- a group whose id was passed before
@@ -101,10 +101,10 @@ pass_again active z groups left rest group old new count h e known adds =
 -- nothing is left of the count: each clause has a group
 pub all_counted : (active : ℕ → Option (List ℤ)) (pivot : ℤ) (groups : List Group) (n : ℕ) → n ≡ 0 → IsCount (without_groups groups active) (neg_ℤ pivot) n → HasAllGroups active pivot groups
 all_counted active pivot groups n zeros ([], each, many) = λ id clause known opposed. elim (cases_Bool (has_group groups id)) [
-    | inl there ↦ there
-    | inr missing ↦ absurd (some_times clause (neg_ℤ pivot) opposed
-        (sym (each id ∙ ap (λ o. unwrap_or (option_map (λ c. times c (neg_ℤ pivot)) o) 0) (cond-false (has_group groups id) None (active id) missing ∙ known))))
-  ]
+  | inl there ↦ there
+  | inr missing ↦ absurd (some_times clause (neg_ℤ pivot) opposed
+      (sym (each id ∙ ap (λ o. unwrap_or (option_map (λ c. times c (neg_ℤ pivot)) o) 0) (cond-false (has_group groups id) None (active id) missing ∙ known))))
+]
 all_counted active pivot groups n zeros (other ∷ ids, each, many) = absurd (omega (arith, zeros, many))
 
 -- something is left: a clause has none
@@ -117,9 +117,9 @@ lacking : (active : ℕ → Option (List ℤ)) (pivot : ℤ) (groups : List Grou
 lacking active pivot groups id true o has_it known more = absurd (more refl)
 lacking active pivot groups id false None has_it known more = absurd (more refl)
 lacking active pivot groups id false (Some clause) has_it known more = elim (cases_Bool (has clause (neg_ℤ pivot))) [
-    | inl opposed ↦ (id, clause, known, opposed, has_it)
-    | inr not_there ↦ absurd (more (no_times clause (neg_ℤ pivot) not_there))
-  ]
+  | inl opposed ↦ (id, clause, known, opposed, has_it)
+  | inr not_there ↦ absurd (more (no_times clause (neg_ℤ pivot) not_there))
+]
 
 pub one_lacks : (active : ℕ → Option (List ℤ)) (pivot : ℤ) (groups : List Group) (n : ℕ) → (n ≡ 0 → ⊥) → IsCount (without_groups groups active) (neg_ℤ pivot) n → LacksGroup active pivot groups
 one_lacks active pivot groups n more ([], each, many) = absurd (more (sym many))

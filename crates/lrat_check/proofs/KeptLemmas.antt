@@ -1,12 +1,11 @@
 -- The clauses that are counted so far, where all are counted.
-use Rattle.std.proofs.Common.{◌≡◌, ◌≢◌, ◌⊎◌, ℕ, zero, suc, ◌+◌, ◌-◌, ◌<◌, ◌≤◌, Bool, true, false, cond, eqb, leb, rules, ◌||◌, List, [], ◌∷◌, length, refl, ap, sym, ◌∙◌, subst, inl, inr, le-leb, leb-true, arith}
+use Rattle.std.proofs.Common.{◌≡◌, ℕ, zero, suc, ◌+◌, ◌<◌, Bool, true, false, cond, eqb, leb, rules, ◌||◌, List, [], ◌∷◌, refl, ap, sym, ◌∙◌, subst, inl, inr, le-leb, leb-true, arith}
 use Rattle.std.specs.Prelude.{ℤ, Option, Some, None}
 use Rattle.std.specs.Borrow.{Bor}
 use Rattle.std.specs.List.{list_any, IsDistinct, AllByRecursion}
 use Rattle.std.specs.Map.{keys_of, lookup}
 use Rattle.std.specs.Option.{option_map, option_or, is_some}
-use Rattle.std.proofs.lemmas.Bool.{cases_Bool, cond-true, cond-false, eqb-true, eq-eqb, ne_eqb, or_cases, or_left, or_parts, false≢true, true≢false, false_from_ne_true, cases_eq, cases_lt}
-use Rattle.lrat_check.specs.Active.{at_start}
+use Rattle.std.proofs.lemmas.Bool.{cond-true, cond-false, eqb-true, eq-eqb, ne_eqb, or_cases, or_left, or_parts, false≢true, true≢false, false_from_ne_true, cases_eq, cases_lt}
 use Rattle.lrat_check.specs.ClauseAt.{up_to}
 use Rattle.lrat_check.specs.Counted.{AreRightCounts}
 use Rattle.lrat_check.specs.Counts.{times, count_of, AreCounts}
@@ -19,17 +18,17 @@ above id last h = false_from_ne_true (leb id last) (λ e. (let low = leb-true id
 
 next_same : (id last : ℕ) → (id ≡ last + 1 → ⊥) → leb id (last + 1) ≡ leb id last
 next_same id last apart = elim (cases_lt last id) [
-    | inl more ↦ (let past : last + 1 < id = omega (arith, more, apart) in above id (last + 1) past ∙ sym (above id last more))
-    | inr low ↦ le-leb id (last + 1) (omega (arith, low)) ∙ sym (le-leb id last low)
-  ]
+  | inl more ↦ (let past : last + 1 < id = omega (arith, more, apart) in above id (last + 1) past ∙ sym (above id last more))
+  | inr low ↦ le-leb id (last + 1) (omega (arith, low)) ∙ sym (le-leb id last low)
+]
 
 one_on : (f : ℕ → Option (List ℤ)) (last id : ℕ) (o : Option (List ℤ)) → f (last + 1) ≡ o → up_to (last + 1) f id ≡ cond (eqb (last + 1) id) o (up_to last f id)
 one_on f last id o e = elim (cases_eq (last + 1) id) [
-    | inl same ↦ ap (λ n. up_to (last + 1) f n) (sym same)
-        ∙ cond-true (leb (last + 1) (last + 1)) (f (last + 1)) None (le-leb (last + 1) (last + 1) (omega arith)) ∙ e
-        ∙ sym (ap (λ n. cond (eqb (last + 1) n) o (up_to last f id)) (sym same) ∙ cond-true (eqb (last + 1) (last + 1)) o (up_to last f id) (search rules))
-    | inr apart ↦ ap (λ b. cond b (f id) None) (next_same id last (λ e. apart (sym e))) ∙ sym (cond-false (eqb (last + 1) id) o (up_to last f id) (ne_eqb (last + 1) id apart))
-  ]
+  | inl same ↦ ap (λ n. up_to (last + 1) f n) (sym same)
+      ∙ cond-true (leb (last + 1) (last + 1)) (f (last + 1)) None (le-leb (last + 1) (last + 1) (omega arith)) ∙ e
+      ∙ sym (ap (λ n. cond (eqb (last + 1) n) o (up_to last f id)) (sym same) ∙ cond-true (eqb (last + 1) (last + 1)) o (up_to last f id) (search rules))
+  | inr apart ↦ ap (λ b. cond b (f id) None) (next_same id last (λ e. apart (sym e))) ∙ sym (cond-false (eqb (last + 1) id) o (up_to last f id) (ne_eqb (last + 1) id apart))
+]
 
 pub up_to_more : (f : ℕ → Option (List ℤ)) (last : ℕ) (clause : List ℤ) (old new : LiteralCounts) → f (last + 1) ≡ Some clause → ((z : ℤ) → count_of new z ≡ count_of old z + times clause z) →
     AreCounts (up_to last f) old → AreCounts (up_to (last + 1) f) new
@@ -54,9 +53,9 @@ up_to_none f counts none h = are_same_counts (λ id. None) (up_to 0 f) counts fi
 
 pub up_to_all : (f : ℕ → Option (List ℤ)) (last : ℕ) (counts : LiteralCounts) → ((id : ℕ) → last < id → f id ≡ None) → AreCounts (up_to last f) counts → AreCounts f counts
 up_to_all f last counts none h = are_same_counts (up_to last f) f counts (λ id. elim (cases_lt last id) [
-    | inl more ↦ none id more ∙ sym (cond-false (leb id last) (f id) None (above id last more))
-    | inr low ↦ sym (cond-true (leb id last) (f id) None (le-leb id last low))
-  ]) h
+  | inl more ↦ none id more ∙ sym (cond-false (leb id last) (f id) None (above id last more))
+  | inr low ↦ sym (cond-true (leb id last) (f id) None (le-leb id last low))
+]) h
 
 -- Those at the start, and those added whose entries in the map were passed; these entries are left.
 abbrev pub is_left : List (ℕ × Bor (List ℤ)) → ℕ → Bool
@@ -76,9 +75,9 @@ passed_more kept added id clause entries old new free known last more h =
     are_more (passed kept added ((id, clause) ∷ entries)) (passed kept added entries) id clause.now old new
     ((λ i. option_or (free i) (cond (eqb id id || is_left entries id) None (added id))) ∙ cond-true (eqb id id || is_left entries id) None (added id) (or_left (eqb id id) (is_left entries id) (search rules)))
     (λ other. found_on (eqb id other) (is_left entries other) (kept other) (added other) clause.now
-        (λ e. ap kept (sym (eqb-true id other e)) ∙ free)
-        (λ e. ap added (sym (eqb-true id other e)) ∙ known)
-        (λ e. ap (is_left entries) (sym (eqb-true id other e)) ∙ last))
+    (λ e. ap kept (sym (eqb-true id other e)) ∙ free)
+    (λ e. ap added (sym (eqb-true id other e)) ∙ known)
+    (λ e. ap (is_left entries) (sym (eqb-true id other e)) ∙ last))
     more h
 
 shadowed : (b c : Bool) (kept added : Option (List ℤ)) (clause : List ℤ) → (b ≡ true → kept ≡ Some clause) → option_or kept (cond c None added) ≡ option_or kept (cond (b || c) None added)
@@ -139,9 +138,9 @@ hidden_none false o h = h
 -- what is not active is not taken out
 pub without_none : (active : ℕ → Option (List ℤ)) (id : ℕ) → active id ≡ None → (other : ℕ) → cond (eqb id other || false) None (active other) ≡ active other
 without_none active id h other = none_on (eqb id other || false) (active other) (λ e. elim (or_cases (eqb id other) false e) [
-    | inl same ↦ ap active (sym (eqb-true id other same)) ∙ h
-    | inr never ↦ absurd (false≢true never)
-  ])
+  | inl same ↦ ap active (sym (eqb-true id other same)) ∙ h
+  | inr never ↦ absurd (false≢true never)
+])
 
 pub right_same : (f g : ℕ → Option (List ℤ)) (counts : Option LiteralCounts) → ((id : ℕ) → g id ≡ f id) → AreRightCounts f counts → AreRightCounts g counts
 right_same f g counts h k = subst (λ (active : ℕ → Option (List ℤ)). AreRightCounts active counts) (sym (same_active g f h)) k

@@ -14,7 +14,7 @@ use Rattle.lrat_check.specs.Checked.{IsRight, ends, Accepts, IsAccepted}
 use Rattle.lrat_check.specs.Derivation.{is_step, are_steps}
 use Rattle.lrat_check.specs.Hints.{Group, has_group, first_hints, groups_of}
 use Rattle.lrat_check.specs.Justified.{IsImplied, IsJustified}
-use Rattle.lrat_check.specs.Rat.{Reaches, others, IsSettled, AreSettled, IsRat}
+use Rattle.lrat_check.specs.Rat.{Reaches, others, IsSettled, AreSettled}
 use Rattle.lrat_check.specs.Refuted.{Refutes, negated}
 use Rattle.lrat_check.specs.Propagation.{has, is_tautology, is_falsified}
 use Rattle.lrat_check.specs.Sound.{has_no_zero, HaveNoZero, Satisfies, HasModel}

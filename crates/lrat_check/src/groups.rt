@@ -67,16 +67,7 @@ pub fn settle_all<F: ClauseList>(
 {
     let mut rest = hints;
     while let Some((id, after)) = cut_group(rest) {
-        settle(
-            formula,
-            active,
-            trues,
-            pivot,
-            reached,
-            id,
-            after,
-            number,
-        )?;
+        settle(formula, active, trues, pivot, reached, id, after, number)?;
         rest = after;
     }
     Ok(())
@@ -104,8 +95,8 @@ pub fn has_all<F: ClauseList>(
 ) -> Result<bool, AllocError>
     ensures { IfOk result (λ all. IsCount (clause_at (F.formula formula.now).clauses active.now) (neg_ℤ pivot) count →
         MatchBool all
-            (HasAllGroups (clause_at (F.formula formula.now).clauses active.now) pivot (groups_of hints.now))
-            (LacksGroup (clause_at (F.formula formula.now).clauses active.now) pivot (groups_of hints.now))) }
+        (HasAllGroups (clause_at (F.formula formula.now).clauses active.now) pivot (groups_of hints.now))
+        (LacksGroup (clause_at (F.formula formula.now).clauses active.now) pivot (groups_of hints.now))) }
 {
     if count == 0 {
         return Ok(true);

@@ -21,7 +21,11 @@ pub fn times(clause: &[Lit], literal: Lit) -> usize
 fn count_at(counts: &[usize], place: usize) -> usize
     ensures { result ≡ count_in counts.now place }
 {
-    if place < counts.len() { counts[place] } else { 0 }
+    if place < counts.len() {
+        counts[place]
+    } else {
+        0
+    }
 }
 
 /// Makes the table reach to this place. Its counts stay as they are.

@@ -111,8 +111,8 @@ pub fn propagate<F: ClauseList>(
 ) -> Result<bool, Refusal>
     ensures { MatchResult result
         (λ refuted. MatchBool refuted
-            (Refutes (clause_at (F.formula formula.now).clauses active.now) trues.old (first_hints hints.now))
-            (Reaches (clause_at (F.formula formula.now).clauses active.now) trues.old (first_hints hints.now) trues.new))
+        (Refutes (clause_at (F.formula formula.now).clauses active.now) trues.old (first_hints hints.now))
+        (Reaches (clause_at (F.formula formula.now).clauses active.now) trues.old (first_hints hints.now) trues.new))
         (λ refusal. IsRefusalAt (λ fault. FailsToRefute (clause_at (F.formula formula.now).clauses active.now) trues.old (first_hints hints.now) fault × (fault ≢ NoConflict)) number refusal) }
 {
     for hint in hints {
@@ -143,8 +143,8 @@ pub fn is_implied<F: ClauseList>(
 ) -> Result<bool, Refusal>
     ensures { MatchResult result
         (λ implied. MatchBool implied
-            (IsImplied (clause_at (F.formula formula.now).clauses active.now) clause.now hints.now)
-            ((is_tautology clause.now ≡ false) × Reaches (clause_at (F.formula formula.now).clauses active.now) (negated clause.now) (first_hints hints.now) trues.new))
+        (IsImplied (clause_at (F.formula formula.now).clauses active.now) clause.now hints.now)
+        ((is_tautology clause.now ≡ false) × Reaches (clause_at (F.formula formula.now).clauses active.now) (negated clause.now) (first_hints hints.now) trues.new))
         (λ refusal. IsRefusalAt (λ fault. IsUnjustified (clause_at (F.formula formula.now).clauses active.now) clause.now hints.now fault) number refusal) }
 {
     if assume_negation(trues, clause)? {

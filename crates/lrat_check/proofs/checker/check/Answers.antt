@@ -22,9 +22,11 @@ loop-i-preserved g c =
     let steps = c.steps-steps.result.now in
     let step = c.index-steps-i.result in
     let next : drop c.loop-i.i steps ≡ step ∷ drop (c.loop-i.i + 1) steps = next_step steps c.loop-i.i step (omega arith) c.index-steps-i.is in
-    let right = c.in_ok-take_step.ensures c.loop-i.invariant.1 in
-    (walk_on (at_start formula.clauses c.args.cube.now) c.args.derivation.now (clause_at formula.clauses c.loop-i.active.clauses) (clause_at formula.clauses c.take_step.new.active.clauses) (c.loop-i.i + 1) (drop c.loop-i.i steps) step (drop (c.loop-i.i + 1) steps)
-    c.loop-i.invariant.0 next right.0 (sym right.1 ∙ c.if-branch.false) right.2, right.3)
+    let right = c.in_ok-take_step.ensures c.loop-i.invariant.1 in (
+      walk_on (at_start formula.clauses c.args.cube.now) c.args.derivation.now (clause_at formula.clauses c.loop-i.active.clauses) (clause_at formula.clauses c.take_step.new.active.clauses) (c.loop-i.i + 1) (drop c.loop-i.i steps) step (drop (c.loop-i.i + 1) steps)
+          c.loop-i.invariant.0 next right.0 (sym right.1 ∙ c.if-branch.false) right.2,
+      right.3,
+    )
 
 pub returns-then-branch-clause-sound : goal.returns-then-branch-clause-sound
 returns-then-branch-clause-sound g c =
@@ -44,6 +46,7 @@ pub loop-i-init : goal.loop-i-init
 loop-i-init g c =
     let clauses = (g.F.ClauseList.formula c.args.formula.now).clauses in
     let start = at_start clauses c.args.cube.now in
-    let active = clause_at clauses c.at_start-active.result.clauses in
-    (subst (λ (steps : List Step). IsWalked start c.args.derivation.now active 1 steps) (sym c.steps-steps.ensures.steps) (walk_start start active c.args.derivation.now (c.at_start-active.ensures.active clauses)),
-        c.at_start-active.ensures.counted clauses)
+    let active = clause_at clauses c.at_start-active.result.clauses in (
+      subst (λ (steps : List Step). IsWalked start c.args.derivation.now active 1 steps) (sym c.steps-steps.ensures.steps) (walk_start start active c.args.derivation.now (c.at_start-active.ensures.active clauses)),
+      c.at_start-active.ensures.counted clauses,
+    )

@@ -1,4 +1,4 @@
-use Rattle.std.proofs.Common.{◌≡◌, ℕ, ◌-◌, ◌∙◌, true, false, not, eqb, ap, sym, neg_ℤ, rules}
+use Rattle.std.proofs.Common.{◌≡◌, ◌-◌, ◌∙◌, true, eqb, ap, sym, neg_ℤ, rules}
 use Rattle.std.specs.HashSet.{contains}
 use Rattle.std.specs.List.{list_any}
 use Rattle.std.proofs.lemmas.Bool.{eqb-true, eq-eqb, not-true, true≢false}

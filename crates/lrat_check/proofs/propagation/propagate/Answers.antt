@@ -1,5 +1,5 @@
-use Rattle.std.proofs.Common.{◌≡◌, ◌+◌, ◌∙◌, refl, ap, sym, subst, rules, SFits, w64, drop, get_or, List, ℤ, false, arith, length, ◌<◌}
-use Rattle.std.specs.Prelude.{pos, nat_abs, Some}
+use Rattle.std.proofs.Common.{◌≡◌, ◌+◌, ◌∙◌, refl, ap, sym, subst, rules, SFits, w64, drop, get_or, List, ℤ, false, arith}
+use Rattle.std.specs.Prelude.{pos, nat_abs}
 use Rattle.std.specs.Int.{is_negative}
 use Rattle.std.proofs.lemmas.Int.{to_z-of_z}
 use Rattle.lrat_check.specs.ClauseAt.{clause_at}
@@ -18,10 +18,12 @@ returns-in-Unfalsified g c =
     let fits : SFits w64 z = search rules in
     let plain : is_negative z ≡ false = ap is_negative (sym (to_z-of_z w64 z fits)) ∙ c.if-hint-lt0.false in
     let id : c.unsigned_abs.result ≡ nat_abs z = search rules in
-    let known = c.in-Some.ensures in
-    (on_two active c.args.trues.now (first_hints hints) c.loop-hint.trues (first_hints (drop i hints)) c.unsigned_abs.result (first_hints (drop (i + 1) hints)) known.0
-    c.loop-hint.invariant (id_next hints i c.unsigned_abs.result (omega arith) plain id) known.1
-    (subst (λ (standing : Standing). IsStanding c.loop-hint.trues known.0 standing) c.in-Unfalsified.is known.2), refl)
+    let known = c.in-Some.ensures in (
+      on_two active c.args.trues.now (first_hints hints) c.loop-hint.trues (first_hints (drop i hints)) c.unsigned_abs.result (first_hints (drop (i + 1) hints)) known.0
+          c.loop-hint.invariant (id_next hints i c.unsigned_abs.result (omega arith) plain id) known.1
+          (subst (λ (standing : Standing). IsStanding c.loop-hint.trues known.0 standing) c.in-Unfalsified.is known.2),
+      refl,
+    )
 
 pub loop-hint-preserved : goal.loop-hint-preserved
 loop-hint-preserved g c =

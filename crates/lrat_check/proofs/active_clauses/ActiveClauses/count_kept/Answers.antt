@@ -1,7 +1,6 @@
-use Rattle.std.proofs.Common.{◌≡◌, ◌+◌, ◌∙◌, refl, sym, subst, ℕ, ℤ, List, length, arith, rules}
+use Rattle.std.proofs.Common.{◌≡◌, ◌+◌, refl, length, arith, rules}
 use Rattle.lrat_check.specs.Active.{at_start}
-use Rattle.lrat_check.specs.ClauseAt.{kept_at, up_to}
-use Rattle.lrat_check.specs.Counts.{AreCounts}
+use Rattle.lrat_check.specs.ClauseAt.{kept_at}
 use Rattle.lrat_check.specs.Marks.{marked_at}
 use Rattle.lrat_check.proofs.ActiveLemmas.{nothing_at}
 use Rattle.lrat_check.proofs.KeptLemmas.{up_to_none, up_to_all, hidden_none}
