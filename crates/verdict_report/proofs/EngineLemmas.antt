@@ -8,7 +8,7 @@ use Rattle.dimacs.specs.declared.sink_fault.SinkFault.TheVariants.{OutOfMemory a
 use Rattle.dimacs.specs.Sink.{AppendsFront}
 use Rattle.dimacs.specs.SinkFault.{failures_told}
 use Rattle.verdict_report.specs.declared.fault.Fault.{Fault}
-use Rattle.verdict_report.specs.declared.fault.Fault.TheVariants.{OutOfMemory, Device, InputTooLong, Trace, Schedule, Model, Cnf, Lrat, Reduce, Decode, Check}
+use Rattle.verdict_report.specs.declared.fault.Fault.TheVariants.{OutOfMemory, Device, InputTooLong, Trace, Schedule, Model, Cnf, Lrat, Reduce, Decode, Check, Search}
 use Rattle.verdict_report.specs.declared.reading.ReadFault.{ReadFault}
 use Rattle.verdict_report.specs.declared.reading.ReadFault.TheVariants.{OutOfMemory as NoReadMemory, Device as SourceFails, TooLong}
 use Rattle.verdict_report.specs.declared.reading.TheConstants.{INPUT_LIMIT}
@@ -84,6 +84,7 @@ module _ {A : Type 0} (said : List (List ℕ) → Result A Fault → Type 0) (te
     refused d l (Reduce cause left) s = (record { texts = texts; handed = handed; is_said = s }, none)
     refused d l (Decode cause clause) s = (record { texts = texts; handed = handed; is_said = s }, none)
     refused d l (Check cause step) s = (record { texts = texts; handed = handed; is_said = s }, none)
+    refused d l (Search fault) s = (record { texts = texts; handed = handed; is_said = s }, none)
 
 -- an engine with one sink writes its answer
 module _ {A : Type 0} (said : List (List ℕ) → Result A Fault → Type 0) (text_of : A → List ℕ) (status_of : A → Status) (sources : List SourceRun) (out : SinkRun) (texts : List (List ℕ)) (handed : HandOut sources texts) (answer : A) (is_said : said texts (Ok answer)) where
@@ -103,6 +104,7 @@ module _ {A : Type 0} (said : List (List ℕ) → Result A Fault → Type 0) (te
   written (Err (Reduce cause left)) w = absurd w
   written (Err (Decode cause clause)) w = absurd w
   written (Err (Check cause step)) w = absurd w
+  written (Err (Search fault)) w = absurd w
 
   -- while it is made, and the sink fails or memory runs out behind a front
   pub cut_off : (fault : SinkFault) → AppendsFront out.before out.now (text_of answer) → out.failures_now ≡ out.failures_before + failures_told fault →

@@ -3,4 +3,5 @@ mod DecodeLemmas
 mod EngineLemmas
 mod MeaningLemmas
 mod SourceLemmas
+mod VerifyLemmas
 mod WrittenTextLemmas

@@ -15,8 +15,11 @@ use Rattle.reducer.specs.ReduceCauses as reduce
 use Rattle.schedule_decode.specs.DecodeCauses as decode
 use Rattle.schedule_text.specs.ScheduleCauses as schedule
 use Rattle.trace_text.specs.TraceCauses as trace
+use Rattle.cube_queue.specs.SearchFault as search
+use Rattle.cube_queue.specs.declared.search_fault.SearchFault.{SearchFault}
+use Rattle.cube_queue.specs.declared.search_fault.SearchFault.TheVariants.{OutOfMemory as NoMemoryToSearch, Cut, NoThread}
 use Rattle.verdict_report.specs.declared.fault.Fault.{Fault}
-use Rattle.verdict_report.specs.declared.fault.Fault.TheVariants.{OutOfMemory, Device, InputTooLong, Trace, Schedule, Model, Cnf, Lrat, Reduce, Decode, Check}
+use Rattle.verdict_report.specs.declared.fault.Fault.TheVariants.{OutOfMemory, Device, InputTooLong, Trace, Schedule, Model, Cnf, Lrat, Reduce, Decode, Check, Search}
 use Rattle.verdict_report.specs.declared.reading.ReadFault.{ReadFault}
 use Rattle.verdict_report.specs.declared.reading.ReadFault.TheVariants.{OutOfMemory as NoReadMemory, Device as SourceFailed, TooLong}
 use Rattle.verdict_report.specs.declared.status.Status.{Status}
@@ -44,6 +47,7 @@ told (Cnf cause line) = located (codes "cnf") (cnf.cause_number cause) (cnf.caus
 told (Lrat cause line) = located (codes "lrat") (lrat.cause_number cause) (lrat.cause_name cause) line
 told (Reduce cause left) = located (codes "reduce") (reduce.cause_number cause) (reduce.cause_name cause) left
 told (Decode cause clause) = located (codes "decode") (decode.cause_number cause) (decode.cause_name cause) clause
+told (Search fault) = record { area = codes "search"; number = Some (search.number_of fault); name = search.name_of fault; place = None }
 told (Check cause step) = located (codes "check") (check.fault_number cause) (check.fault_name cause) step
 
 -- what refused
@@ -85,6 +89,12 @@ abbrev pub fault_of_reading : ReadFault → Fault
 fault_of_reading NoReadMemory = OutOfMemory
 fault_of_reading SourceFailed = Device
 fault_of_reading TooLong = InputTooLong
+
+-- want of memory is the engine's own
+abbrev pub fault_of_search : SearchFault → Fault
+fault_of_search NoMemoryToSearch = OutOfMemory
+fault_of_search Cut = Search Cut
+fault_of_search NoThread = Search NoThread
 
 abbrev pub fault_of_sink : SinkFault → Fault
 fault_of_sink NoRoom = OutOfMemory

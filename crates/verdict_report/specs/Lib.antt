@@ -7,3 +7,4 @@ pub mod JudgeEngine
 pub mod LratEngine
 pub mod Reading
 pub mod Runs
+pub mod VerifyEngine

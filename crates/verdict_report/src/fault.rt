@@ -3,6 +3,7 @@
 ghost use Rattle.std.specs.Prelude.{◌≡◌, Some};
 
 use cnf_reader::CnfCause;
+use cube_queue::SearchFault;
 use lrat_check::lrat_fault::LratCause;
 use lrat_check::refusal::StepFault;
 use model_reader::ModelCause;
@@ -51,6 +52,9 @@ pub enum Fault {
     /// What is wrong with the first step of the proof that fails, and its number, counted from 1.
     #[error("check {number} {name} at {1}", number = .0.number(), name = .0.name())]
     Check(StepFault, usize),
+    /// Why the search has no results. Want of memory is `OutOfMemory`, as everywhere.
+    #[error("search {number} {name}", number = .0.number(), name = .0.name())]
+    Search(SearchFault),
 }
 
 /// What is told of a fault.
@@ -138,10 +142,17 @@ impl Fault {
             Fault::Reduce(cause, left) => located("reduce", cause, *left),
             Fault::Decode(cause, clause) => located("decode", cause, *clause),
             Fault::Check(cause, step) => located("check", cause, *step),
+            Fault::Search(fault) => Told {
+                area: "search",
+                number: Some(fault.number()),
+                name: fault.name(),
+                place: None,
+            },
         }
     }
 
-    /// What refused: `memory`, `device`, `input`, `trace`, `schedule`, `model`, `cnf`, `lrat`, `reduce`, `decode` or `check`.
+    /// What refused: `memory`, `device`, `input`, `trace`, `schedule`, `model`, `cnf`, `lrat`, `reduce`, `decode`, `check`
+    /// or `search`.
     pub fn area(&self) -> &'static str
         ensures { result.now ≡ area_of self.now }
     {

@@ -15,6 +15,7 @@ mod refused_parts;
 mod short_source;
 mod source;
 mod status;
+mod verify_engine;
 
 pub use cnf_engine::run_cnf;
 pub use decode_engine::run_decode;
@@ -27,3 +28,4 @@ pub use refused_parts::Part;
 pub use short_source::ShortSource;
 pub use source::Source;
 pub use status::{Status, exit_status};
+pub use verify_engine::run_verify;

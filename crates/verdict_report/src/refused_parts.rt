@@ -5,6 +5,7 @@ ghost use Rattle.std.specs.Prelude.{◌≡◌};
 use crate::fault::Fault;
 use crate::reading::ReadFault;
 use cnf_reader::CnfCause;
+use cube_queue::SearchFault;
 use dimacs::{Failed, SinkFault};
 use lrat_check::lrat_fault::LratCause;
 use lrat_check::refusal::StepFault;
@@ -133,6 +134,21 @@ impl From<ReadFault> for Fault {
             ReadFault::OutOfMemory => Fault::OutOfMemory,
             ReadFault::Device => Fault::Device,
             ReadFault::TooLong => Fault::InputTooLong,
+        }
+    }
+}
+
+impl From<SearchFault> for Fault {
+    ghost use Rattle.std.specs.Prelude.{◌≡◌};
+    ghost use Rattle.verdict_report.specs.Fault.{fault_of_search};
+
+    ghost from_gives = { λ fault e. e ≡ fault_of_search fault };
+
+    fn from(fault: SearchFault) -> Fault {
+        match fault {
+            SearchFault::OutOfMemory => Fault::OutOfMemory,
+            SearchFault::Cut => Fault::Search(SearchFault::Cut),
+            SearchFault::NoThread => Fault::Search(SearchFault::NoThread),
         }
     }
 }

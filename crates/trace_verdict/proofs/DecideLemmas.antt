@@ -1,0 +1,126 @@
+-- From the verdict on the formula of a kept trace to what is decided of the whole trace.
+use Rattle.std.proofs.Common.{◌≡◌, ℕ, zero, suc, ◌+◌, ◌<◌, ◌≤◌, ℤ, Bool, true, List, [], ◌∷◌, ◌++◌, length, map, take, get_or, Some, refl, sym, ◌∙◌, ap, subst, arith}
+use Rattle.std.proofs.Math.Seq.{take-suc}
+use Rattle.std.proofs.lemmas.List.{map-append, take_all}
+use Rattle.std.specs.List.{list_all, Contains, slice_get}
+use Rattle.std.proofs.lemmas.Option.{slice_get_within, slice_get_read, get_or_from_slice_get}
+use Rattle.traces.proofs.ElementLemmas.{to_map, from_map}
+use Rattle.traces.specs.declared.operation.OpName.{OpName}
+use Rattle.traces.specs.Legal.{IsLegal}
+use Rattle.reducer.specs.Reduced.{ReducedValue, IsReduced}
+use Rattle.reducer.specs.Reduction.{kept_trace}
+use Rattle.reducer.proofs.InterleavingLemmas.{reduced}
+use Rattle.reducer.proofs.ScheduleLemmas.{expansion_legal, reduction_legal}
+use Rattle.reducer.specs.Expansion.{expansion}
+use Rattle.reducer.proofs.TraceLemmas.{kept_is_trace}
+use Rattle.traces.specs.Trace.{TraceValue, IsTrace}
+use Rattle.clause_blocks.proofs.ScheduleLawLemmas.{schedule_values}
+use Rattle.clause_blocks.specs.Clauses.{clauses_of, formula_of}
+use Rattle.cube_tree.specs.Covers.{Covers}
+use Rattle.cube_tree.specs.CubeTree.{CubeTree, cubes_of, leaves, IsCubeTree}
+use Rattle.dimacs.specs.Assignment.{makes_all, value_of}
+use Rattle.dimacs.specs.Formula.{FormulaValue, is_formula}
+use Rattle.dimacs.specs.Literal.{is_clause}
+use Rattle.dimacs.specs.Models.{IsModel}
+use Rattle.lrat_check.specs.declared.derivation.Step.{Step}
+use Rattle.result_ledger.specs.declared.slot.Slot.{Slot}
+use Rattle.result_ledger.specs.declared.verdict.Verdict.{Verdict}
+use Rattle.result_ledger.specs.declared.verdict.Verdict.TheVariants.{Consistent as HasModel, Inconsistent, Unknown}
+use Rattle.result_ledger.specs.Ledger.{cubes_in}
+use Rattle.result_ledger.specs.Verdict.{IsProofIn, HasProofAt, IsVerdict}
+use Rattle.result_ledger.proofs.CoverLemmas.{no_model_anywhere, model_in_listed}
+use Rattle.result_ledger.proofs.SlotLemmas.{as_many, cube_at}
+use Rattle.trace_verdict.specs.declared.decision.Decision.TheVariants.{Inconsistent as IsInconsistent, Unknown as IsUnknown}
+use Rattle.trace_verdict.specs.Decision.{IsDecided, IsRefuted, AreCubesOf}
+
+-- a legal schedule of what is kept becomes one of the whole trace
+pub expanded_legal : (r : ReducedValue) → IsReduced r → (kept schedule : List OpName) → IsLegal r.kept kept → schedule ≡ expansion r.whole kept → IsLegal r.whole schedule
+expanded_legal r ok kept schedule legal expanded =
+    subst (λ (s : List OpName). IsLegal r.whole s) (sym expanded) (expansion_legal r.whole kept ok.is_trace (subst (λ (t : TraceValue). IsLegal t kept) ok.reduction legal))
+
+-- ---- the cubes of leaves
+
+any_default : (xs : List ℕ) (k d e : ℕ) → k < length xs → get_or xs k d ≡ get_or xs k e
+any_default [] k d e h = absurd (omega arith)
+any_default (x ∷ xs) zero d e h = refl
+any_default (x ∷ xs) (suc k) d e h = any_default xs k d e (omega arith)
+
+-- the element at a place is in the list
+pub at_place : (xs : List ℕ) (k : ℕ) → k < length xs → Contains xs (get_or xs k 0)
+at_place xs k within = (k, within, any_default xs k (get_or xs k 0) 0 within)
+
+-- one cube more
+pub next_cube : (slots : List Slot) (listed : List ℕ) (k : ℕ) (cubes : List (List ℤ)) (cube : List ℤ) → k < length listed → AreCubesOf slots (take k listed) cubes →
+    slice_get (cubes_in slots) (get_or listed k 0) ≡ Some cube → AreCubesOf slots (take (k + 1) listed) (cubes ++ cube ∷ [])
+next_cube slots listed k cubes cube within so there =
+    let one : k + 1 ≡ suc k = omega arith in
+    let longer : take (k + 1) listed ≡ take k listed ++ get_or listed k 0 ∷ [] = ap (λ (n : ℕ). take n listed) one ∙ take-suc listed k 0 within in
+    map-append Some cubes (cube ∷ [])
+    ∙ ap (λ cs. cs ++ Some cube ∷ []) so
+    ∙ ap (λ c. map (slice_get (cubes_in slots)) (take k listed) ++ c ∷ []) (sym there)
+    ∙ sym (map-append (slice_get (cubes_in slots)) (take k listed) (get_or listed k 0 ∷ []))
+    ∙ ap (map (slice_get (cubes_in slots))) (sym longer)
+
+-- all of them
+pub all_cubes : (slots : List Slot) (listed : List ℕ) (k : ℕ) (cubes : List (List ℤ)) → length listed ≤ k → AreCubesOf slots (take k listed) cubes → AreCubesOf slots listed cubes
+all_cubes slots listed k cubes whole so = so ∙ ap (map (slice_get (cubes_in slots))) (take_all k listed whole)
+
+-- ---- what follows from the verdict
+
+-- a model
+pub is_model : (clauses : List (List ℤ)) (t : TraceValue) (slots : List Slot) (leaf : ℕ) (truth : List Bool) (verdict : Verdict) → verdict ≡ HasModel leaf truth → clauses ≡ clauses_of t → IsVerdict clauses slots verdict → IsModel (value_of truth) (clauses_of t)
+is_model clauses t slots leaf truth verdict is same h =
+    let at : IsVerdict clauses slots (HasModel leaf truth) = subst (λ (v : Verdict). IsVerdict clauses slots v) is h in
+    subst (λ (cs : List (List ℤ)). IsModel (value_of truth) cs) same at.0.holds.confirmed.model
+
+-- leaves that are listed
+pub listed_within : (clauses : List (List ℤ)) (slots : List Slot) (listed : List ℕ) (verdict : Verdict) → verdict ≡ Unknown listed → IsVerdict clauses slots verdict → (leaf : ℕ) → Contains listed leaf → leaf < length slots
+listed_within clauses slots listed verdict is h leaf among =
+    let at : IsVerdict clauses slots (Unknown listed) = subst (λ (v : Verdict). IsVerdict clauses slots v) is h in
+    (at.1.each leaf among).0
+
+-- a schedule of the whole trace gives a model of the clauses of what is kept of it
+model_of_schedule : (t : TraceValue) → IsTrace t → (names : List OpName) → IsLegal t names → (truth : ℕ → Bool) × IsModel truth (clauses_of (kept_trace t))
+model_of_schedule t ok names legal =
+    let made = schedule_values (kept_trace t) (reduced t names) (kept_is_trace t ok) (reduction_legal t names ok legal) in
+    (made.0, made.1)
+
+module _ (r : ReducedValue) (ok : IsReduced r) (f : FormulaValue) (f_is : f ≡ formula_of r.kept) (fine : is_formula f ≡ true)
+    (tree : CubeTree) (slots : List Slot) (same : cubes_in slots ≡ cubes_of tree) (clean : list_all is_clause (cubes_in slots) ≡ true) (covers : Covers (cubes_of tree)) where
+  clauses_are : f.clauses ≡ clauses_of (kept_trace r.whole)
+  clauses_are = ap (λ (x : FormulaValue). x.clauses) f_is ∙ ap clauses_of ok.reduction
+
+  slots_cover : Covers (cubes_in slots)
+  slots_cover = subst Covers (sym same) covers
+
+  -- the derivation for a cube of the tree
+  proof_of : ((leaf : ℕ) → leaf < length slots → HasProofAt f.clauses slots leaf) → (cube : List ℤ) → Contains (cubes_of tree) cube → (steps : List Step) × IsProofIn (clauses_of (kept_trace r.whole)) cube steps
+  proof_of all cube (k, l, e) =
+      let long : length (cubes_of tree) ≡ length slots = ap length (sym same) ∙ as_many slots in
+      let p = all k (omega (arith, l, long)) in
+      let mine : slice_get (cubes_of tree) k ≡ Some p.slot.cube = subst (λ (cs : List (List ℤ)). slice_get cs k ≡ Some p.slot.cube) same (cube_at slots k p.slot p.there) in
+      let is : p.slot.cube ≡ cube = sym (get_or_from_slice_get (cubes_of tree) k p.slot.cube cube mine) ∙ e in
+      let here : IsProofIn f.clauses cube p.holds.steps = subst (λ (c : List ℤ). IsProofIn f.clauses c p.holds.steps) is p.holds.confirmed in
+      (p.holds.steps, subst (λ (cs : List (List ℤ)). IsProofIn cs cube p.holds.steps) clauses_are here)
+
+  pub inconsistent : (count : ℕ) → IsCubeTree tree → length (cubes_of tree) ≡ leaves tree → IsVerdict f.clauses slots (Inconsistent count) → IsDecided r.whole (IsInconsistent count)
+  inconsistent count is_tree many h = (
+    record {
+      tree = tree;
+      is_tree = is_tree;
+      counted = h.2 ∙ sym (as_many slots) ∙ ap length same ∙ many;
+      proofs = proof_of h.1;
+    },
+    λ names legal.
+        let model = model_of_schedule r.whole ok.is_trace names legal in
+        no_model_anywhere f slots count fine clean slots_cover h model.0 (subst (λ (cs : List (List ℤ)). IsModel model.0 cs) (sym clauses_are) model.1),
+  )
+
+  pub unknown : (listed : List ℕ) (cubes : List (List ℤ)) → IsVerdict f.clauses slots (Unknown listed) → AreCubesOf slots listed cubes → IsDecided r.whole (IsUnknown cubes)
+  unknown listed cubes h are value model =
+      let (leaf, slot, within, there, holds) = model_in_listed f slots listed fine clean slots_cover h value (subst (λ (cs : List (List ℤ)). IsModel value cs) (sym clauses_are) model) in
+      let some_cube : Contains (map (slice_get (cubes_in slots)) listed) (Some slot.cube) =
+      subst (λ c. Contains (map (slice_get (cubes_in slots)) listed) c) (cube_at slots leaf slot there) (to_map (slice_get (cubes_in slots)) listed leaf within) in
+      let (cube, among, is) = from_map Some cubes (Some slot.cube) (subst (λ cs. Contains cs (Some slot.cube)) (sym are) some_cube) in
+      let cubes_same : cube ≡ slot.cube = cc is in
+      (cube, among, subst (λ (c : List ℤ). makes_all value c ≡ true) (sym cubes_same) holds.inside)

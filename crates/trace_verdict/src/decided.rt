@@ -1,0 +1,11 @@
+//! How far a search has come.
+use cube_tree::Tree;
+use result_ledger::{Ledger, Verdict};
+
+/// A tree, the ledger of its leaves, and the verdict that follows from it.
+#[derive(Drop)]
+pub(crate) struct Decided {
+    pub(crate) tree: Tree,
+    pub(crate) ledger: Ledger,
+    pub(crate) verdict: Verdict,
+}

@@ -1,0 +1,122 @@
+//! From a reduced trace to what is decided of it.
+ghost use Rattle.std.specs.Prelude.{◌≡◌, ◌<◌, ℕ, length, IfOk};
+ghost use Rattle.std.specs.List.{Contains};
+ghost use Rattle.clause_blocks.specs.Clauses.{clauses_of};
+ghost use Rattle.dimacs.specs.Assignment.{value_of};
+ghost use Rattle.dimacs.specs.Models.{IsModel};
+ghost use Rattle.traces.specs.Legal.{IsLegal};
+ghost use Rattle.trace_verdict.specs.Decision.{IsDecided, AreCubesOf};
+ghost use Rattle.trace_verdict.specs.Rounds.{IsConfirmed};
+
+use crate::cubes::Cubes;
+use crate::decided::Decided;
+use crate::decision::Decision;
+use crate::rounds::search_in_rounds;
+use clause_blocks::trace_clauses::TraceClauses;
+use cube_queue::{Gate, JobCube, Options, SearchFault};
+use cube_tree::laws::a_cube_for_each_leaf;
+use dimacs::model_laws::never_model_and_first_false;
+use dimacs::{Assignment, ClauseList};
+use reducer::expand::expand;
+use reducer::reduced::Reduced;
+use result_ledger::{Ledger, Verdict, inconsistent_has_no_model, unknown_holds_all_models};
+use schedule_decode::decode_fault::DecodeCause;
+use schedule_decode::decode_model::decode_model;
+use solver::Guide;
+use std::alloc::{AllocError, Global};
+use std::thread::Threads;
+use text_lines::fault::Fault;
+use traces::schedule::Schedule;
+use var_layout::layout::Layout;
+
+/// What is known of the trace's clauses: where those of transitivity stand. They come after those of program order.
+fn guide_of(layout: &Layout) -> Guide {
+    layout.is_layout();
+    let operations = layout.operations();
+    let mut first: u32 = 1;
+    for i in 1..operations {
+        if layout.in_one_process(i - 1, i) {
+            first = first.saturating_add(1);
+        }
+    }
+    Guide::with_order(operations as u32, first)
+}
+
+/// The schedule of the whole trace in which a model puts the kept operations. It is legal.
+fn schedule_of<R: Threads + Sync>(
+    alloc: Global,
+    rt: &R,
+    reduced: &Reduced,
+    truth: &Assignment,
+) -> Result<Schedule, AllocError>
+    requires { IsModel (value_of truth.now) (clauses_of reduced.now.kept) }
+    ensures { IfOk result (λ schedule. IsLegal reduced.now.whole schedule) }
+{
+    let _kept = reduced.kept();
+    never_model_and_first_false();
+    match decode_model(alloc, rt, reduced, truth) {
+        Ok(kept) => expand(alloc, reduced, &kept),
+        Err(Fault::OutOfMemory) => Err(AllocError),
+        Err(Fault::At(DecodeCause::NotAModel, _)) => unreachable!(),
+    }
+}
+
+/// The cubes of these leaves, in order.
+fn cubes_of_leaves(alloc: Global, ledger: &Ledger, leaves: &[u32]) -> Result<Cubes, AllocError>
+    requires { (leaf : ℕ) → Contains leaves.now leaf → leaf < length ledger.now }
+    ensures { IfOk result (λ cubes. AreCubesOf ledger.now leaves.now cubes) }
+{
+    let mut cubes = Vec::with_capacity(alloc, leaves.len())?;
+    for leaf in leaves {
+        cubes.push(JobCube::of(alloc, ledger.cube(*leaf)))?;
+    }
+    Ok(Cubes::new(cubes))
+}
+
+/// What is decided of the whole trace, by the verdict on the clauses of what is kept of it.
+fn decision_of<R: Threads + Sync>(
+    alloc: Global,
+    rt: &R,
+    reduced: &Reduced,
+    clauses: &TraceClauses,
+    decided: &Decided,
+) -> Result<Decision, AllocError>
+    requires clauses { clauses.now ≡ reduced.now.kept }
+    requires confirmed { IsConfirmed (clauses_of clauses.now) decided.now }
+    ensures { IfOk result (λ decision. IsDecided reduced.now.whole decision) }
+{
+    let _kept = reduced.kept();
+    clauses.is_formula();
+    decided.tree.covers();
+    decided.ledger.has_clauses();
+    a_cube_for_each_leaf();
+    inconsistent_has_no_model();
+    unknown_holds_all_models();
+    match &decided.verdict {
+        Verdict::Consistent(_, truth) => {
+            let schedule = schedule_of(alloc, rt, reduced, truth)?;
+            Ok(Decision::Consistent(schedule))
+        }
+        Verdict::Inconsistent(count) => Ok(Decision::Inconsistent(*count)),
+        Verdict::Unknown(leaves) => {
+            let cubes = cubes_of_leaves(alloc, &decided.ledger, leaves.as_slice())?;
+            Ok(Decision::Unknown(cubes))
+        }
+    }
+}
+
+/// Decides whether the whole trace has a legal schedule, as far as the options let the search go.
+pub fn decide<R: Threads + Sync, G: Gate>(
+    alloc: Global,
+    rt: &R,
+    reduced: &Reduced,
+    options: &Options,
+    gate: &G,
+) -> Result<Decision, SearchFault>
+    ensures { IfOk result (λ decision. IsDecided reduced.now.whole decision) }
+{
+    let clauses = TraceClauses::of(alloc, reduced)?;
+    let guide = guide_of(clauses.layout());
+    let decided = search_in_rounds(alloc, rt, &clauses, guide, options, gate)?;
+    Ok(decision_of(alloc, rt, reduced, &clauses, &decided)?)
+}

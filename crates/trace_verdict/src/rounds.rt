@@ -1,0 +1,139 @@
+//! The rounds of a search: the leaves of a tree are searched, and those that stay open are split.
+ghost use Rattle.std.specs.Prelude.{◌≡◌, IfOk};
+ghost use Rattle.clause_blocks.specs.Clauses.{clauses_of};
+ghost use Rattle.cube_queue.specs.Results.{AreLeaves};
+ghost use Rattle.cube_tree.specs.CubeTree.{cubes_of};
+ghost use Rattle.result_ledger.specs.Ledger.{cubes_in};
+ghost use Rattle.trace_verdict.specs.Rounds.{IsConfirmed};
+
+use crate::decided::Decided;
+use crate::splitting::split_all;
+use clause_blocks::trace_clauses::TraceClauses;
+use cube_queue::{Gate, MOST_LITERALS, Options, SearchFault, Settled, search};
+use cube_tree::{Tree, grow};
+use result_ledger::{Ledger, Verdict};
+use solver::Guide;
+use std::alloc::{AllocError, Global};
+use std::thread::Threads;
+
+/// Enters the results. One that the ledger refuses is dropped, and its leaf stays open.
+fn enter_all(ledger: &mut Ledger, results: Vec<Settled>)
+    ensures { cubes_in ledger.new ≡ cubes_in ledger.old }
+{
+    for settled in results {
+        let _entered = ledger.enter(settled);
+    }
+}
+
+/// The leaves of the tree that have no answer.
+fn open_leaves(alloc: Global, _tree: &Tree, ledger: &Ledger) -> Result<Vec<u32>, AllocError>
+    requires { cubes_in ledger.now ≡ cubes_of _tree.now }
+    ensures { IfOk result (λ leaves. AreLeaves (cubes_of _tree.now) leaves.items) }
+{
+    ledger.unanswered(alloc)
+}
+
+/// Searches the leaves that have no answer, and confirms what was answered for all of them.
+fn search_open<R: Threads + Sync, G: Gate>(
+    alloc: Global,
+    rt: &R,
+    clauses: &TraceClauses,
+    guide: Guide,
+    tree: Tree,
+    ledger: Ledger,
+    options: &Options,
+    gate: &G,
+) -> Result<Decided, SearchFault>
+    requires { cubes_in ledger ≡ cubes_of tree }
+    ensures { IfOk result (λ decided. IsConfirmed (clauses_of clauses.now) decided) }
+{
+    let which = open_leaves(alloc, &tree, &ledger)?;
+    let results = search(
+        alloc,
+        rt,
+        clauses,
+        guide,
+        &tree,
+        which.as_slice(),
+        options,
+        gate,
+    )?;
+    let mut ledger = ledger;
+    enter_all(&mut ledger, results);
+    let verdict = ledger.confirm(alloc, rt, clauses, options.workers())?;
+    Ok(Decided {
+        tree,
+        ledger,
+        verdict,
+    })
+}
+
+/// One more round, where the verdict is open: the open leaves are split, and the new leaves are searched.
+fn search_again<R: Threads + Sync, G: Gate>(
+    alloc: Global,
+    rt: &R,
+    clauses: &TraceClauses,
+    guide: Guide,
+    variables: &[u32],
+    decided: Decided,
+    options: &Options,
+    gate: &G,
+) -> Result<Decided, SearchFault>
+    requires { IsConfirmed (clauses_of clauses.now) decided }
+    ensures { IfOk result (λ decided. IsConfirmed (clauses_of clauses.now) decided) }
+{
+    let Decided {
+        tree,
+        ledger,
+        verdict,
+    } = decided;
+    let Verdict::Unknown(open) = &verdict else {
+        return Ok(Decided {
+            tree,
+            ledger,
+            verdict,
+        });
+    };
+    let before = ledger.leaves();
+    let (tree, ledger) = split_all(alloc, variables, tree, ledger, open.as_slice())?;
+    if ledger.leaves() == before {
+        return Ok(Decided {
+            tree,
+            ledger,
+            verdict,
+        });
+    }
+    search_open(alloc, rt, clauses, guide, tree, ledger, options, gate)
+}
+
+/// Searches in rounds, at most as many as the options say.
+pub(crate) fn search_in_rounds<R: Threads + Sync, G: Gate>(
+    alloc: Global,
+    rt: &R,
+    clauses: &TraceClauses,
+    guide: Guide,
+    options: &Options,
+    gate: &G,
+) -> Result<Decided, SearchFault>
+    ensures { IfOk result (λ decided. IsConfirmed (clauses_of clauses.now) decided) }
+{
+    let layout = clauses.layout();
+    // A cube that may be split has fewer literals, so one of these variables is not among them where there are so many.
+    let variables = layout.first_splits(alloc, MOST_LITERALS)?;
+    let tree = grow(alloc, layout, options.split())?;
+    let ledger = Ledger::new(alloc, &tree)?;
+    let mut decided = search_open(alloc, rt, clauses, guide, tree, ledger, options, gate)?;
+    for _round in 1..options.rounds() {
+        decided = search_again(
+            alloc,
+            rt,
+            clauses,
+            guide,
+            variables.as_slice(),
+            decided,
+            options,
+            gate,
+        )?;
+    }
+    Ok(decided)
+}

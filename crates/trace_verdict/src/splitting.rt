@@ -1,0 +1,91 @@
+//! Open leaves are split.
+ghost use Rattle.std.specs.Prelude.{◌≡◌, ◌≤◌, IfOk, IfSome};
+ghost use Rattle.cube_tree.specs.CubeTree.{cubes_of};
+ghost use Rattle.result_ledger.specs.Ledger.{cubes_in};
+ghost use Rattle.trace_verdict.specs.Rounds.{IsGrown};
+
+use cube_tree::laws::split_changes_one_leaf;
+use cube_tree::{Tree, split_leaf};
+use dimacs::{Lit, MAX_VARIABLE};
+use result_ledger::Ledger;
+use std::alloc::{AllocError, Global};
+use text_lines::fault::Fault;
+
+/// Whether one of the literals is of the variable.
+fn has_variable(literals: &[Lit], variable: u32) -> bool {
+    literals
+        .iter()
+        .any(|literal| literal.variable() == variable)
+}
+
+/// The first of these variables that the cube does not have.
+fn next_variable(variables: &[u32], cube: &[Lit]) -> Option<u32>
+    ensures { IfSome result (λ variable. (1 ≤ variable) × (variable ≤ MAX_VARIABLE)) }
+{
+    for variable in variables {
+        let variable = *variable;
+        if 1 <= variable && variable <= MAX_VARIABLE && !has_variable(cube, variable) {
+            return Some(variable);
+        }
+    }
+    None
+}
+
+/// The tree and its ledger with this leaf split on the first of the variables that its cube does not have. They stay as they
+/// are where there is no such leaf or no such variable, or where the tree may not grow.
+fn split_one(
+    alloc: Global,
+    variables: &[u32],
+    tree: Tree,
+    ledger: Ledger,
+    leaf: u32,
+) -> Result<(Tree, Ledger), AllocError>
+    requires { cubes_in ledger ≡ cubes_of tree }
+    ensures { IfOk result (λ after. IsGrown ledger after.0 after.1) }
+{
+    if leaf >= ledger.leaves() {
+        return Ok((tree, ledger));
+    }
+    let Some(variable) = next_variable(variables, ledger.cube(leaf)) else {
+        return Ok((tree, ledger));
+    };
+    split_changes_one_leaf();
+    match split_leaf(alloc, tree, leaf, variable) {
+        Ok(tree) => match ledger.split(alloc, leaf, &tree) {
+            Ok(ledger) => Ok((tree, ledger)),
+            Err((_, error)) => Err(error),
+        },
+        Err((tree, Fault::At(_, _))) => Ok((tree, ledger)),
+        Err((_, Fault::OutOfMemory)) => Err(AllocError),
+    }
+}
+
+/// The tree and its ledger with these leaves split, rising, as far as they can be. A leaf's number is that before the first
+/// split.
+pub(crate) fn split_all(
+    alloc: Global,
+    variables: &[u32],
+    tree: Tree,
+    ledger: Ledger,
+    leaves: &[u32],
+) -> Result<(Tree, Ledger), AllocError>
+    requires { cubes_in ledger ≡ cubes_of tree }
+    ensures { IfOk result (λ after. IsGrown ledger after.0 after.1) }
+{
+    let before = ledger.leaves();
+    let mut tree = tree;
+    let mut ledger = ledger;
+    for leaf in leaves {
+        let more = ledger.leaves() - before;
+        let (next_tree, next_ledger) = split_one(
+            alloc,
+            variables,
+            tree,
+            ledger,
+            leaf.saturating_add(more),
+        )?;
+        tree = next_tree;
+        ledger = next_ledger;
+    }
+    Ok((tree, ledger))
+}

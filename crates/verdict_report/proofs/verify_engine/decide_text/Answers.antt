@@ -1,0 +1,17 @@
+use Rattle.std.proofs.Common.{rules}
+use Rattle.std.proofs.lemmas.Result.{err_from_is_err_and}
+use Rattle.verdict_report.proofs.VerifyLemmas.{unreduced, unsearched}
+use Rattle.verdict_report.proofs.verify_engine.decide_text.Goals as goal
+
+pub returns : goal.returns
+returns g c = record { value = c.in_ok-reduced.reduced.whole; admitted = search rules; decided = c.in_ok-decide.ensures }
+
+pub returns-in_err-reduced : goal.returns-in_err-reduced
+returns-in_err-reduced g c =
+    let p = err_from_is_err_and c.from_residual.result c.from_residual.ensures.1 in
+    rw (p.1, p.2) (unreduced c.args.text.now c.in_err-reduced.field-0.0 (search rules))
+
+pub returns-in_err-decide : goal.returns-in_err-decide
+returns-in_err-decide g c =
+    let p = err_from_is_err_and c.from_residual-in_err-decide.result c.from_residual-in_err-decide.ensures.1 in
+    rw (p.1, p.2) (unsearched c.args.text.now c.in_ok-reduced.reduced.whole (search rules) c.in_err-decide.field-0.0)

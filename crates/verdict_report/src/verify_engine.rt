@@ -1,0 +1,79 @@
+//! The engine that decides whether a trace has a legal schedule, from bytes to bytes.
+
+ghost use Rattle.std.specs.Prelude.{◌≡◌};
+ghost use Rattle.trace_verdict.specs.Decision.{report};
+ghost use Rattle.verdict_report.specs.Engine.{IsRunOfWriting};
+ghost use Rattle.verdict_report.specs.Runs.{source_run, sink_run};
+ghost use Rattle.verdict_report.specs.VerifyEngine.{IsRunOfVerify, IsSaidOfTrace, status_of_decision};
+
+use crate::admitted::reduce_text;
+use crate::fault::Fault;
+use crate::inputs::read_one;
+use crate::source::Source;
+use crate::status::Status;
+use cube_queue::{Gate, Options};
+use dimacs::{Sink, write_whole};
+use std::alloc::Global;
+use std::thread::Threads;
+use trace_verdict::{Decision, decide, report_of};
+
+/// Decides whether the trace that the source hands out has a legal schedule, and writes the report: CONSISTENT and a legal
+/// schedule of the whole trace; INCONSISTENT, where each cube of some tree is refuted by a derivation that is accepted, so that
+/// there is no legal schedule; or UNKNOWN and cubes in which all models of the trace's clauses are.
+///
+/// The first refusal stands: of a source that fails, an input past the limit, the trace's text, a trace of which more than
+/// 160 operations are kept, the search, want of memory, or the sink. Before the last a front of the report may have been
+/// written, and before the others nothing.
+pub fn run_verify<R: Threads + Sync, T: Source, G: Gate, W: Sink>(
+    alloc: Global,
+    rt: &R,
+    trace: &mut T,
+    options: &Options,
+    gate: &G,
+    out: &mut W,
+) -> Result<Status, Fault>
+    ensures { IsRunOfVerify
+        (source_run T.handed_out T.is_at_end T.failures trace.old trace.new)
+        (sink_run W.written W.failures out.old out.new)
+        result }
+{
+    let text = read_one(alloc, trace)?;
+    let decision = decide_text(alloc, rt, text.as_slice(), options, gate)?;
+    write_report(alloc, &decision, out)
+}
+
+/// What is decided of the trace that the text spells.
+fn decide_text<R: Threads + Sync, G: Gate>(
+    alloc: Global,
+    rt: &R,
+    text: &[u8],
+    options: &Options,
+    gate: &G,
+) -> Result<Decision, Fault>
+    ensures { IsSaidOfTrace text.now result }
+{
+    let reduced = reduce_text(alloc, text)?;
+    Ok(decide(alloc, rt, &reduced, options, gate)?)
+}
+
+/// The status that goes with a decision.
+fn status_of(decision: &Decision) -> Status
+    ensures { result ≡ status_of_decision decision.now }
+{
+    match decision {
+        Decision::Consistent(_) => Status::Yes,
+        Decision::Inconsistent(_) => Status::No,
+        Decision::Unknown(_) => Status::Unknown,
+    }
+}
+
+/// Writes the report, and gives the status for it.
+fn write_report<W: Sink>(alloc: Global, decision: &Decision, out: &mut W) -> Result<Status, Fault>
+    ensures { IsRunOfWriting (report decision.now) (status_of_decision decision.now)
+        (sink_run W.written W.failures out.old out.new)
+        result }
+{
+    let text = report_of(alloc, decision)?;
+    write_whole(out, text.as_slice())?;
+    Ok(status_of(decision))
+}
