@@ -133,24 +133,27 @@ top = (built vsc_app).top
 abbrev built_at : ℕ → Shape
 built_at k = unwrap_or (slice_get (built vsc_app).subs k) top
 
--- the commands as a parse sees them; `help` stands behind them
+-- the commands as a parse sees them; `help` stands after them
+abbrev pub verify_built : Shape
+verify_built = built_at 0
+
 abbrev pub judge_built : Shape
-judge_built = built_at 0
+judge_built = built_at 1
 
 abbrev pub cnf_built : Shape
-cnf_built = built_at 1
+cnf_built = built_at 2
 
 abbrev pub decode_built : Shape
-decode_built = built_at 2
+decode_built = built_at 3
 
 abbrev pub lrat_built : Shape
-lrat_built = built_at 3
+lrat_built = built_at 4
 
 abbrev pub commands : List Shape
-commands = judge_built ∷ cnf_built ∷ decode_built ∷ lrat_built ∷ []
+commands = verify_built ∷ judge_built ∷ cnf_built ∷ decode_built ∷ lrat_built ∷ []
 
 abbrev help_built : Shape
-help_built = built_at 4
+help_built = built_at 5
 
 -- a parse enters one of the commands, with words at which it finds no fault
 pub record Enters (met : Option (Text × List Row)) : Type 0 where

@@ -48,13 +48,15 @@ keeps_text reading.AsWritten = true
 keeps_text reading.WithoutMinus = true
 keeps_text _ = false
 
-abbrev pub is_set : ArgAction → Bool
-is_set action.Set = true
-is_set _ = false
+-- each use gives the argument a value: of its own, or for a flag the one that stands for it
+abbrev pub gives_value : ArgAction → Rule → Bool
+gives_value action.Set a = nat_lt 0 (unwrap_or_range a.range).start_inclusive
+gives_value action.SetTrue a = is_given_text a.missing
+gives_value _ a = false
 
 -- the argument asks for help or the version, or has a value at each use
 abbrev pub is_request_or_valued : Rule → Bool
-is_request_or_valued a = is_request (action_of a) || (is_set (action_of a) && nat_lt 0 (unwrap_or_range a.range).start_inclusive)
+is_request_or_valued a = is_request (action_of a) || gives_value (action_of a) a
 
 -- the values that a use of an argument passes are accepted
 pub accepted : (ignore_case : Bool) (parser : ValueParser) (vs : List Text) → values_kinds ignore_case parser vs ≡ [] → list_all (accepts ignore_case parser) vs ≡ true
@@ -67,9 +69,18 @@ accepted ignore_case parser (v ∷ vs) none =
     here true none = refl
     here false none = absurd (kind_comes _ _ none)
 
-some_values : (a : Rule) (least most : ℕ) (vs : List Text) → nat_lt 0 least ≡ true → range_kinds least most (length vs) ≡ [] → is_given_text (values_or_missing a vs) ≡ true
-some_values a least most [] positive none = absurd (kind_comes _ _ (rw positive at none))
-some_values a least most (v ∷ vs) positive none = refl
+some_values : (x : ArgAction) (a : Rule) (most : ℕ) (vs : List Text) → gives_value x a ≡ true → range_kinds (unwrap_or_range a.range).start_inclusive most (length vs) ≡ [] →
+    is_given_text (values_or_missing a vs) ≡ true
+some_values x a most (v ∷ vs) gives none = refl
+some_values action.Set a most [] gives none = absurd (kind_comes _ _ (rw gives at none))
+some_values action.SetTrue a most [] gives none = gives
+some_values action.SetFalse a most [] gives none = absurd (true≢false (sym gives))
+some_values action.Append a most [] gives none = absurd (true≢false (sym gives))
+some_values action.Count a most [] gives none = absurd (true≢false (sym gives))
+some_values action.Help a most [] gives none = absurd (true≢false (sym gives))
+some_values action.HelpShort a most [] gives none = absurd (true≢false (sym gives))
+some_values action.HelpLong a most [] gives none = absurd (true≢false (sym gives))
+some_values action.Version a most [] gives none = absurd (true≢false (sym gives))
 
 given_more : (vs ws : List Text) → is_given_text ws ≡ true → is_given_text (vs ++ ws) ≡ true
 given_more [] ws e = e
@@ -131,25 +142,26 @@ module _ (ok : Text → Text → Bool) where
 
   -- ---- one use of an argument
 
-  given_used_as : (x : ArgAction) (positive again : Bool) (a : Rule) (vs : List Text) (rows : List Row) → Fits a
-      → (is_request x || (is_set x && positive)) ≡ true → (positive ≡ true → is_given_text vs ≡ true) → action_fault x again a vs rows ≡ []
+  given_used_as : (x : ArgAction) (gives again : Bool) (a : Rule) (vs : List Text) (rows : List Row) → Fits a → gives ≡ gives_value x a
+      → (is_request x || gives) ≡ true → (gives ≡ true → is_given_text vs ≡ true) → action_fault x again a vs rows ≡ []
       → all_given rows ≡ true → all_given (used_as x a.id (reading_by a) vs rows) ≡ true
-  given_used_as action.Set positive again a vs rows fit valued some none h =
+  given_used_as action.Set gives again a vs rows fit is valued some none h =
       given_values a.id (reading_by a) _ vs (without a.id rows) (some valued) fit.kept (fit.sound vs (no_kind_of_both _ _ none).1) (given_without a.id rows h)
-  given_used_as action.Append positive again a vs rows fit valued some none h = absurd (true≢false (sym valued))
-  given_used_as action.SetTrue positive again a vs rows fit valued some none h = absurd (true≢false (sym valued))
-  given_used_as action.SetFalse positive again a vs rows fit valued some none h = absurd (true≢false (sym valued))
-  given_used_as action.Count positive again a vs rows fit valued some none h = absurd (true≢false (sym valued))
-  given_used_as action.Help positive again a vs rows fit valued some none h = absurd (kind_comes _ _ none)
-  given_used_as action.HelpShort positive again a vs rows fit valued some none h = absurd (kind_comes _ _ none)
-  given_used_as action.HelpLong positive again a vs rows fit valued some none h = absurd (kind_comes _ _ none)
-  given_used_as action.Version positive again a vs rows fit valued some none h = absurd (kind_comes _ _ none)
+  given_used_as action.SetTrue gives again a vs rows fit is valued some none h =
+      given_values a.id (reading_by a) _ vs (without a.id rows) (some valued) fit.kept (fit.sound vs (no_kind_of_both _ _ none).1) (given_without a.id rows h)
+  given_used_as action.Append gives again a vs rows fit is valued some none h = absurd (true≢false (sym valued ∙ is))
+  given_used_as action.SetFalse gives again a vs rows fit is valued some none h = absurd (true≢false (sym valued ∙ is))
+  given_used_as action.Count gives again a vs rows fit is valued some none h = absurd (true≢false (sym valued ∙ is))
+  given_used_as action.Help gives again a vs rows fit is valued some none h = absurd (kind_comes _ _ none)
+  given_used_as action.HelpShort gives again a vs rows fit is valued some none h = absurd (kind_comes _ _ none)
+  given_used_as action.HelpLong gives again a vs rows fit is valued some none h = absurd (kind_comes _ _ none)
+  given_used_as action.Version gives again a vs rows fit is valued some none h = absurd (kind_comes _ _ none)
 
   given_used : (again : Bool) (a : Rule) (vs : List Text) (rows : List Row) → Fits a → use_fault again a vs rows ≡ []
       → all_given rows ≡ true → all_given (used a vs rows) ≡ true
   given_used again a vs rows fit none h =
       let parts = no_kind_of_both _ _ none in
-      given_used_as (action_of a) _ again a (values_or_missing a vs) rows fit fit.valued (λ positive. some_values a _ _ vs positive parts.0) parts.1 h
+      given_used_as (action_of a) _ again a (values_or_missing a vs) rows fit refl fit.valued (λ gives. some_values (action_of a) a _ vs gives parts.0) parts.1 h
 
   -- ---- the argument that is found
 

@@ -7,3 +7,5 @@ mod FoundLemmas
 mod GivenLemmas
 mod JudgeLemmas
 mod LratLemmas
+mod NumberLemmas
+mod VerifyLemmas

@@ -1,13 +1,16 @@
 -- The command line of `vsc`, in the words of `clap`.
-use Rattle.std.specs.Prelude.{◌≡◌, ◌⊎◌, ◌≤◌, ⊤, IsSomeAnd, ℕ, List, [], ◌∷◌, Option, Some, codes, option_and_then, option_map, pos, true}
+use Rattle.std.specs.Prelude.{◌≡◌, ◌⊎◌, ◌≤◌, ⊤, IsSomeAnd, ℕ, Bool, List, [], ◌∷◌, Option, Some, codes, option_and_then, option_map, pos, true}
 use Rattle.std.specs.Str.Parse.{IsNumeral, digits_value, without_leading_plus}
 use Rattle.clap.specs.Words.{App, IsAmong, Rule, Text, fault_of, first_of, new_app, new_rule, subcommand_of, with_rule, with_subcommand}
 use Rattle.clap.specs.Simple.{on_top}
-use Rattle.clap.specs.declared.builder.value_parser.ValueParser.TheVariants.{Signed}
+use Rattle.clap.specs.Values.{bool_text}
+use Rattle.clap.specs.declared.builder.action.ArgAction.TheVariants.{SetTrue}
+use Rattle.clap.specs.declared.builder.value_parser.ValueParser.TheVariants.{Signed, Unsigned}
 use Rattle.clap.specs.declared.error.kind.ErrorKind.{ErrorKind}
 use Rattle.clap.specs.declared.error.kind.ErrorKind.TheVariants.{OutOfMemory}
 use Rattle.command_line.specs.declared.line.Line.{Line}
-use Rattle.command_line.specs.declared.line.Line.TheVariants.{Cnf, Decode, Judge, Lrat}
+use Rattle.command_line.specs.declared.line.Line.TheVariants.{Cnf, Decode, Judge, Lrat, Verify}
+use Rattle.command_line.specs.declared.line.SearchNumbers.{SearchNumbers}
 
 -- ---- the commands
 
@@ -23,6 +26,42 @@ workers_rule = record (new_rule (codes "workers")) {
   defaults = codes "4" ∷ [];
   parser = Some (Signed (pos 1) (pos 8));
 }
+
+-- --split N, a number from 0 to 10, and 3 where it is not given
+abbrev pub split_rule : Rule
+split_rule = record (new_rule (codes "split")) {
+  long = Some (codes "split");
+  value_names = 1;
+  defaults = codes "3" ∷ [];
+  parser = Some (Unsigned 0 10);
+}
+
+-- --budget N, a number from 0 to 1,000,000,000, and 100,000 where it is not given
+abbrev pub budget_rule : Rule
+budget_rule = record (new_rule (codes "budget")) {
+  long = Some (codes "budget");
+  value_names = 1;
+  defaults = codes "100000" ∷ [];
+  parser = Some (Unsigned 0 1000000000);
+}
+
+-- --rounds N, a number from 1 to 4, and 1 where it is not given
+abbrev pub rounds_rule : Rule
+rounds_rule = record (new_rule (codes "rounds")) {
+  long = Some (codes "rounds");
+  value_names = 1;
+  defaults = codes "1" ∷ [];
+  parser = Some (Unsigned 1 4);
+}
+
+-- --progress, a flag
+abbrev pub progress_rule : Rule
+progress_rule = record (new_rule (codes "progress")) { long = Some (codes "progress"); action = Some SetTrue }
+
+-- verify TRACE [--workers N] [--split N] [--budget N] [--rounds N] [--progress]
+abbrev pub verify_app : App
+verify_app =
+    with_rule (with_rule (with_rule (with_rule (with_rule (with_rule (new_app (codes "verify")) (required_path (codes "trace"))) workers_rule) split_rule) budget_rule) rounds_rule) progress_rule
 
 -- judge TRACE SCHEDULE
 abbrev pub judge_app : App
@@ -48,7 +87,7 @@ program_app = on_top (λ s. record s { has_version = true; subcommand_required =
 
 abbrev pub vsc_app : App
 vsc_app =
-    with_subcommand (with_subcommand (with_subcommand (with_subcommand program_app judge_app.top) cnf_app.top) decode_app.top) lrat_app.top
+    with_subcommand (with_subcommand (with_subcommand (with_subcommand (with_subcommand program_app verify_app.top) judge_app.top) cnf_app.top) decode_app.top) lrat_app.top
 
 -- ---- what the words ask for
 
@@ -66,18 +105,18 @@ pub record AsksToJudge (command : Option Text) (given : Text → Option Text) (t
   pub trace_path : given (codes "trace") ≡ Some trace
   pub schedule_path : given (codes "schedule") ≡ Some schedule
 
--- the text is the number in decimal digits, behind a plus or none, and the number is from 1 to 8
-pub record IsNumberOfWorkers (text : Text) (workers : ℕ) : Type 0 where
+-- the text is the number in decimal digits, after a plus or none, and the number is in this range
+pub record IsNumberWithin (least most : ℕ) (text : Text) (number : ℕ) : Type 0 where
   pub numeral : IsNumeral 10 (without_leading_plus text)
-  pub value : workers ≡ digits_value 10 (without_leading_plus text)
-  pub least : 1 ≤ workers
-  pub most : workers ≤ 8
+  pub value : number ≡ digits_value 10 (without_leading_plus text)
+  pub above : least ≤ number
+  pub below : number ≤ most
 
 -- the command is to write the formula of the trace in a file, with this many threads
 pub record AsksForCnf (command : Option Text) (given : Text → Option Text) (trace : Text) (workers : ℕ) : Type 0 where
   pub command_name : command ≡ Some (codes "cnf")
   pub trace_path : given (codes "trace") ≡ Some trace
-  pub workers_text : IsSomeAnd (given (codes "workers")) (λ text. IsNumberOfWorkers text workers)
+  pub workers_text : IsSomeAnd (given (codes "workers")) (λ text. IsNumberWithin 1 8 text workers)
 
 -- the command is to make a schedule of the trace in one file from the solver's answer in another
 pub record AsksToDecode (command : Option Text) (given : Text → Option Text) (trace model : Text) : Type 0 where
@@ -91,23 +130,44 @@ pub record AsksToCheckProof (command : Option Text) (given : Text → Option Tex
   pub cnf_path : given (codes "cnf") ≡ Some cnf
   pub proof_path : given (codes "proof") ≡ Some proof
 
+-- the command is to decide whether the trace in a file has a legal schedule, by a search of these numbers, with or without its progress
+pub record AsksToVerify (command : Option Text) (given : Text → Option Text) (trace : Text) (numbers : SearchNumbers) (progress : Bool) : Type 0 where
+  pub command_name : command ≡ Some (codes "verify")
+  pub trace_path : given (codes "trace") ≡ Some trace
+  pub workers_text : IsSomeAnd (given (codes "workers")) (λ text. IsNumberWithin 1 8 text numbers.workers)
+  pub split_text : IsSomeAnd (given (codes "split")) (λ text. IsNumberWithin 0 10 text numbers.split)
+  pub budget_text : IsSomeAnd (given (codes "budget")) (λ text. IsNumberWithin 0 1000000000 text numbers.budget)
+  pub rounds_text : IsSomeAnd (given (codes "rounds")) (λ text. IsNumberWithin 1 4 text numbers.rounds)
+  pub progress_text : given (codes "progress") ≡ Some (bool_text progress)
+
 -- a command with what is given for its arguments asks for the line
 abbrev pub AsksFor : (command : Option Text) (given : Text → Option Text) → Line → Type 0
 AsksFor command given (Judge trace schedule) = AsksToJudge command given trace.now schedule.now
 AsksFor command given (Cnf trace workers) = AsksForCnf command given trace.now workers
 AsksFor command given (Decode trace model) = AsksToDecode command given trace.now model.now
 AsksFor command given (Lrat cnf proof) = AsksToCheckProof command given cnf.now proof.now
+AsksFor command given (Verify trace numbers progress) = AsksToVerify command given trace.now numbers progress
 
 -- the words ask for the line
 abbrev pub Asks : List Text → Line → Type 0
 Asks words = AsksFor (command_in words) (given_in words)
 
--- a line that asks for a number of workers asks for 1 to 8
-abbrev pub HasFewWorkers : Line → Type 0
-HasFewWorkers (Judge trace schedule) = ⊤
-HasFewWorkers (Cnf trace workers) = (1 ≤ workers) × (workers ≤ 8)
-HasFewWorkers (Decode trace model) = ⊤
-HasFewWorkers (Lrat cnf proof) = ⊤
+-- the numbers of a search are in their ranges
+pub record AreSearchNumbers (numbers : SearchNumbers) : Type 0 where
+  pub some_workers : 1 ≤ numbers.workers
+  pub few_workers : numbers.workers ≤ 8
+  pub few_splits : numbers.split ≤ 10
+  pub small_budget : numbers.budget ≤ 1000000000
+  pub some_rounds : 1 ≤ numbers.rounds
+  pub few_rounds : numbers.rounds ≤ 4
+
+-- the numbers that a line asks for are in their ranges
+abbrev pub IsWithinRanges : Line → Type 0
+IsWithinRanges (Judge trace schedule) = ⊤
+IsWithinRanges (Cnf trace workers) = (1 ≤ workers) × (workers ≤ 8)
+IsWithinRanges (Decode trace model) = ⊤
+IsWithinRanges (Lrat cnf proof) = ⊤
+IsWithinRanges (Verify trace numbers progress) = AreSearchNumbers numbers
 
 -- ---- what is wrong with the words
 

@@ -1,3 +1,3 @@
-pub mod CnfCommand
+pub mod Arguments
 pub mod CommandLine
 pub mod LineFault

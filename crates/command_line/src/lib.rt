@@ -8,6 +8,8 @@ mod judge_command;
 mod line;
 mod line_fault;
 mod lrat_command;
+mod numbers;
+mod verify_command;
 
-pub use line::{Line, read_line};
+pub use line::{Line, SearchNumbers, read_line};
 pub use line_fault::LineFault;

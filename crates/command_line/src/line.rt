@@ -3,13 +3,14 @@
 ghost use Rattle.std.specs.Prelude.{◌≡◌, IfErr, IfOk, OnOk, true};
 ghost use Rattle.clap.specs.Words.{FailsBy, fault_of, kind_of, subcommand_of, subcommand_rows_of, takes};
 ghost use Rattle.clap.specs.Walk.{texts};
-ghost use Rattle.command_line.specs.CommandLine.{Asks, HasFewWorkers, IsFaultOf, IsFaultless, vsc_app};
+ghost use Rattle.command_line.specs.CommandLine.{Asks, IsFaultOf, IsFaultless, IsWithinRanges, vsc_app};
 
 use crate::cnf_command::{cnf_line, new_cnf_command};
 use crate::decode_command::{decode_line, new_decode_command};
 use crate::judge_command::{judge_line, new_judge_command};
 use crate::line_fault::LineFault;
 use crate::lrat_command::{lrat_line, new_lrat_command};
+use crate::verify_command::{new_verify_command, verify_line};
 use clap::error::ErrorKind;
 use clap::{ArgMatches, Command, Error};
 use std::alloc::Global;
@@ -22,17 +23,48 @@ const ABOUT: &str =
 const AFTER_HELP: &str =
     "'vsc <COMMAND> --help' says what the files of a command are, with an example.";
 
+/// How a search goes about its work.
+#[derive(Clone, Copy)]
+pub struct SearchNumbers {
+    /// How many threads may search, 1 to 8.
+    pub workers: u32,
+    /// On how many variables the search is split at first, 0 to 10.
+    pub split: u32,
+    /// After how many conflicts the search of a cube is given up, 0 to 1,000,000,000.
+    pub budget: u64,
+    /// How many rounds there are at most, 1 to 4.
+    pub rounds: u32,
+}
+
 /// What a command line asks for. A path is that of a file, as it was given.
 #[derive(Clone, Copy)]
 pub enum Line<'a> {
     /// To judge a schedule against a trace.
-    Judge { trace: &'a str, schedule: &'a str },
+    Judge {
+        trace: &'a str,
+        schedule: &'a str,
+    },
     /// To write the formula of a trace, with 1 to 8 threads.
-    Cnf { trace: &'a str, workers: u32 },
+    Cnf {
+        trace: &'a str,
+        workers: u32,
+    },
     /// To turn a model of the formula of a trace into a schedule of the trace.
-    Decode { trace: &'a str, model: &'a str },
+    Decode {
+        trace: &'a str,
+        model: &'a str,
+    },
     /// To check a proof that a formula has no model.
-    Lrat { cnf: &'a str, proof: &'a str },
+    Lrat {
+        cnf: &'a str,
+        proof: &'a str,
+    },
+    /// To decide whether a trace has a legal schedule, and to tell of the progress or not.
+    Verify {
+        trace: &'a str,
+        numbers: SearchNumbers,
+        progress: bool,
+    },
 }
 
 // What `clap` makes of the words.
@@ -43,6 +75,7 @@ fn matches_of<'a>(alloc: Global, words: &'a [&'a str]) -> Result<ArgMatches<'a>,
     ensures memory { IfErr result (λ e. takes vsc_app (texts words.now) ≡ true
         → kind_of e ≡ ErrorKind.OutOfMemory) }
 {
+    let verify = new_verify_command(alloc)?;
     let judge = new_judge_command(alloc)?;
     let cnf = new_cnf_command(alloc)?;
     let decode = new_decode_command(alloc)?;
@@ -53,6 +86,7 @@ fn matches_of<'a>(alloc: Global, words: &'a [&'a str]) -> Result<ArgMatches<'a>,
         .about(ABOUT)
         .after_help(AFTER_HELP)
         .subcommand_required(true)
+        .subcommand(verify)?
         .subcommand(judge)?
         .subcommand(cnf)?
         .subcommand(decode)?
@@ -66,7 +100,7 @@ fn matches_of<'a>(alloc: Global, words: &'a [&'a str]) -> Result<ArgMatches<'a>,
 /// of memory.
 pub fn read_line<'a>(alloc: Global, words: &'a [&'a str]) -> Result<Line<'a>, LineFault>
     ensures line { IfOk result (Asks (texts words.now)) }
-    ensures workers { IfOk result HasFewWorkers }
+    ensures ranges { IfOk result IsWithinRanges }
     ensures faultless { OnOk result (IsFaultless (texts words.now)) }
     ensures fault { IfErr result (IsFaultOf (texts words.now)) }
     ensures memory { IfErr result (λ kind. takes vsc_app (texts words.now) ≡ true
@@ -84,6 +118,9 @@ pub fn read_line<'a>(alloc: Global, words: &'a [&'a str]) -> Result<Line<'a>, Li
     }
     if let Some(lrat) = matches.subcommand_matches("lrat") {
         return Ok(lrat_line(lrat));
+    }
+    if let Some(verify) = matches.subcommand_matches("verify") {
+        return Ok(verify_line(verify));
     }
     unreachable!()
 }

@@ -1,22 +1,25 @@
 //! The program `vsc`: its files, its standard streams and its exit status.
 #![tactic(auto)]
 
-ghost use Rattle.std.specs.Prelude.{◌≡◌, ◌≤◌, ◌⊎◌, IfOk, Ok, map, string_bytes};
-ghost use Rattle.command_line.specs.CommandLine.{HasFewWorkers};
+ghost use Rattle.std.specs.Prelude.{◌≡◌, ◌≤◌, ◌⊎◌, IfOk, map, string_bytes};
+ghost use Rattle.command_line.specs.CommandLine.{AreSearchNumbers, IsWithinRanges};
 ghost use Rattle.command_line.specs.LineFault.{status_of};
-ghost use Rattle.verdict_report.specs.declared.status.Status.TheVariants.{Unknown};
 ghost use Rattle.verdict_report.specs.CnfEngine.{IsRunOfCnf};
 ghost use Rattle.verdict_report.specs.DecodeEngine.{IsRunOfDecode};
 ghost use Rattle.verdict_report.specs.JudgeEngine.{IsRunOfJudge};
 ghost use Rattle.verdict_report.specs.LratEngine.{IsRunOfLrat};
+ghost use Rattle.verdict_report.specs.VerifyEngine.{IsRunOfVerify};
 ghost use Rattle.vsc.specs.Commands.{RunsOnFile, RunsOnFiles, Runs, EndsWith};
 ghost use Rattle.vsc.specs.ExitStatus.{IsExitStatus};
 
 mod file_source;
+mod progress;
 mod stream_sink;
 
-use command_line::{Line, LineFault, read_line};
+use command_line::{Line, LineFault, SearchNumbers, read_line};
+use cube_queue::{Gate, OpenGate, Options};
 use file_source::FileSource;
+use progress::Progress;
 use std::alloc::{AllocError, Global};
 use std::env;
 use std::io::ErrorKind;
@@ -24,7 +27,7 @@ use std::process::ExitCode;
 use std::thread::Threads;
 use stream_sink::StreamSink;
 use verdict_report::{
-    Fault, Status, exit_status, run_cnf, run_decode, run_judge, run_lrat, write_fault,
+    Fault, Status, exit_status, run_cnf, run_decode, run_judge, run_lrat, run_verify, write_fault,
 };
 
 /// The exit status of a command line that is refused.
@@ -35,8 +38,7 @@ const DEVICE: u8 = 4;
 
 /// Judges the files at these paths, and writes the answer to the standard output.
 fn judge_files(rt: &HostRuntime, trace: &str, schedule: &str) -> Result<Status, Fault>
-    ensures runs { RunsOnFiles IsRunOfJudge trace.now schedule.now result }
-    ensures decided { result ≡ Ok Unknown → ⊥ }
+    ensures { RunsOnFiles IsRunOfJudge trace.now schedule.now result }
 {
     let mut trace = FileSource::new(rt, trace);
     let mut schedule = FileSource::new(rt, schedule);
@@ -53,8 +55,7 @@ fn translate_file(
 ) -> Result<Status, Fault>
     requires some { 1 ≤ workers }
     requires few { workers ≤ 8 }
-    ensures runs { RunsOnFile IsRunOfCnf trace.now result }
-    ensures decided { result ≡ Ok Unknown → ⊥ }
+    ensures { RunsOnFile IsRunOfCnf trace.now result }
 {
     let mut trace = FileSource::new(rt, trace);
     let mut output = StreamSink::new(rt.stdout());
@@ -68,8 +69,7 @@ fn decode_files(
     trace: &str,
     model: &str,
 ) -> Result<Status, Fault>
-    ensures runs { RunsOnFiles IsRunOfDecode trace.now model.now result }
-    ensures decided { result ≡ Ok Unknown → ⊥ }
+    ensures { RunsOnFiles IsRunOfDecode trace.now model.now result }
 {
     let mut trace = FileSource::new(rt, trace);
     let mut model = FileSource::new(rt, model);
@@ -79,13 +79,63 @@ fn decode_files(
 
 /// Checks the proof in one file for the formula in the other, and writes the answer to the standard output.
 fn check_files(rt: &HostRuntime, cnf: &str, proof: &str) -> Result<Status, Fault>
-    ensures runs { RunsOnFiles IsRunOfLrat cnf.now proof.now result }
-    ensures decided { result ≡ Ok Unknown → ⊥ }
+    ensures { RunsOnFiles IsRunOfLrat cnf.now proof.now result }
 {
     let mut cnf = FileSource::new(rt, cnf);
     let mut proof = FileSource::new(rt, proof);
     let mut output = StreamSink::new(rt.stdout());
     run_lrat(rt.alloc(), &mut cnf, &mut proof, &mut output)
+}
+
+/// The options of a search of these numbers.
+fn options_of(numbers: SearchNumbers) -> Options
+    requires { AreSearchNumbers numbers }
+    ensures workers { result.workers ≡ numbers.workers }
+    ensures split { result.split ≡ numbers.split }
+    ensures budget { result.budget ≡ numbers.budget }
+    ensures rounds { result.rounds ≡ numbers.rounds }
+{
+    Options::new(
+        numbers.workers,
+        numbers.split,
+        numbers.budget,
+        numbers.rounds,
+    )
+    .unwrap()
+}
+
+/// Decides whether the trace in the file at this path has a legal schedule, with the gate, and writes the report to the standard
+/// output.
+fn decide_file<G: Gate>(
+    rt: &HostRuntime,
+    threads: &(impl Threads + Sync),
+    trace: &str,
+    options: &Options,
+    gate: &G,
+) -> Result<Status, Fault>
+    ensures { RunsOnFile IsRunOfVerify trace.now result }
+{
+    let mut trace = FileSource::new(rt, trace);
+    let mut output = StreamSink::new(rt.stdout());
+    run_verify(rt.alloc(), threads, &mut trace, options, gate, &mut output)
+}
+
+/// Decides whether the trace in the file at this path has a legal schedule. The progress is told on standard error, where it is
+/// asked for.
+fn verify_file(
+    rt: &HostRuntime,
+    threads: &(impl Threads + Sync),
+    trace: &str,
+    options: &Options,
+    tells: bool,
+) -> Result<Status, Fault>
+    ensures { RunsOnFile IsRunOfVerify trace.now result }
+{
+    if tells {
+        decide_file(rt, threads, trace, options, &Progress::new(rt))
+    } else {
+        decide_file(rt, threads, trace, options, &OpenGate)
+    }
 }
 
 /// Runs the engine that the command line asks for.
@@ -94,21 +144,25 @@ fn run_engine(
     threads: &(impl Threads + Sync),
     line: Line<'_>,
 ) -> Result<Status, Fault>
-    requires { HasFewWorkers line }
-    ensures runs { Runs line.entry result }
-    ensures decided { result ≡ Ok Unknown → ⊥ }
+    requires { IsWithinRanges line }
+    ensures { Runs line.entry result }
 {
     match line {
         Line::Judge { trace, schedule } => judge_files(rt, trace, schedule),
         Line::Cnf { trace, workers } => translate_file(rt, threads, trace, workers),
         Line::Decode { trace, model } => decode_files(rt, threads, trace, model),
         Line::Lrat { cnf, proof } => check_files(rt, cnf, proof),
+        Line::Verify {
+            trace,
+            numbers,
+            progress,
+        } => verify_file(rt, threads, trace, &options_of(numbers), progress),
     }
 }
 
 /// Does what the command line asks for.
 fn run_line(rt: &HostRuntime, threads: &(impl Threads + Sync), line: Line<'_>) -> u8
-    requires { HasFewWorkers line }
+    requires { IsWithinRanges line }
     ensures ends { EndsWith line.entry result }
     ensures known { IsExitStatus result }
 {
@@ -123,7 +177,7 @@ fn run_line(rt: &HostRuntime, threads: &(impl Threads + Sync), line: Line<'_>) -
 
 /// Prints help, or what is wrong with the command line.
 fn tell_line_fault(rt: &HostRuntime, fault: &LineFault) -> u8
-    ensures { (result ≡ status_of fault.now) ⊎ (result ≡ DEVICE) }
+    ensures { (result ≡ status_of fault.now) ⊎ (result ≡ 4) }
 {
     let told = if fault.is_answer() {
         print!(rt; "{fault}")
@@ -135,7 +189,7 @@ fn tell_line_fault(rt: &HostRuntime, fault: &LineFault) -> u8
 
 /// Refuses a command line before it is read.
 fn refuse(rt: &HostRuntime, why: &str) -> u8
-    ensures { result ≡ REFUSED }
+    ensures { result ≡ 2 }
 {
     let _ = eprintln!(rt; "{why}");
     REFUSED

@@ -3,8 +3,8 @@ use Rattle.verdict_report.specs.Runs.{sink_run}
 use Rattle.vsc.specs.FileSource.{file_run}
 use Rattle.vsc.proofs.decode_files.Goals as goal
 
-pub returns-clause-runs : goal.returns-clause-runs
-returns-clause-runs g c = record {
+pub returns : goal.returns
+returns g c = record {
   first = file_run c.new-trace.result c.run_decode.new.trace;
   reads_first = record {
     before = c.new-trace.result;

@@ -3,8 +3,8 @@ use Rattle.verdict_report.specs.Runs.{sink_run}
 use Rattle.vsc.specs.FileSource.{file_run}
 use Rattle.vsc.proofs.judge_files.Goals as goal
 
-pub returns-clause-runs : goal.returns-clause-runs
-returns-clause-runs c = record {
+pub returns : goal.returns
+returns c = record {
   first = file_run c.new-trace.result c.run_judge.new.trace;
   reads_first = record {
     before = c.new-trace.result;

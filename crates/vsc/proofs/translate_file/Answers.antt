@@ -3,8 +3,8 @@ use Rattle.verdict_report.specs.Runs.{sink_run}
 use Rattle.vsc.specs.FileSource.{file_run}
 use Rattle.vsc.proofs.translate_file.Goals as goal
 
-pub returns-clause-runs : goal.returns-clause-runs
-returns-clause-runs g c = record {
+pub returns : goal.returns
+returns g c = record {
   file = file_run c.new-trace.result c.run_cnf.new.trace;
   reads = record {
     before = c.new-trace.result;

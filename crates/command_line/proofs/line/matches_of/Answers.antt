@@ -5,11 +5,11 @@ use Rattle.clap.specs.Words.{App, app_of, fault_of, is_simple, is_simple_and_fre
 use Rattle.clap.specs.Simple.{app_of_fields, on_top}
 use Rattle.clap.specs.Walk.{texts}
 use Rattle.clap.proofs.FaultLemmas.{fails_as}
-use Rattle.command_line.specs.CommandLine.{cnf_app, decode_app, judge_app, program_app, vsc_app}
+use Rattle.command_line.specs.CommandLine.{cnf_app, decode_app, judge_app, program_app, verify_app, vsc_app}
 use Rattle.command_line.proofs.line.matches_of.Goals as goal
 use Rattle.command_line.proofs.line.matches_of.Goals.{After-try_get_matches_from}
 
-vsc_is : (c : After-try_get_matches_from) → app_of c.in_ok-subcommand-4.field-0 ≡ vsc_app
+vsc_is : (c : After-try_get_matches_from) → app_of c.in_ok-subcommand-5.field-0 ≡ vsc_app
 vsc_is c =
     let named : app_of c.in_ok-bin_name.field-0 ≡ new_app (codes "vsc") =
     ap app_of_fields c.in_ok-bin_name.ensures.0 ∙ c.new.ensures.app in
@@ -19,16 +19,19 @@ vsc_is c =
     ap app_of_fields c.after_help.ensures ∙ ap app_of_fields c.about.ensures ∙ versioned in
     let wanting : app_of c.subcommand_required.result ≡ program_app =
     ap app_of_fields c.subcommand_required.ensures ∙ ap (on_top (λ s. record s { subcommand_required = true })) told in
-    let judging : app_of c.in_ok-subcommand.field-0 ≡ with_subcommand program_app judge_app.top =
-    c.in_ok-subcommand.ensures.shape c.in_ok-judge.ensures.local
-    ∙ ap₂ with_subcommand wanting (ap (λ (a : App). a.top) c.in_ok-judge.ensures.app) in
-    let writing : app_of c.in_ok-subcommand-2.field-0 ≡ with_subcommand (with_subcommand program_app judge_app.top) cnf_app.top =
-    c.in_ok-subcommand-2.ensures.shape c.in_ok-cnf.ensures.local
+    let verifying : app_of c.in_ok-subcommand.field-0 ≡ with_subcommand program_app verify_app.top =
+    c.in_ok-subcommand.ensures.shape c.in_ok-verify.ensures.local
+    ∙ ap₂ with_subcommand wanting (ap (λ (a : App). a.top) c.in_ok-verify.ensures.app) in
+    let judging : app_of c.in_ok-subcommand-2.field-0 ≡ with_subcommand (with_subcommand program_app verify_app.top) judge_app.top =
+    c.in_ok-subcommand-2.ensures.shape c.in_ok-judge.ensures.local
+    ∙ ap₂ with_subcommand verifying (ap (λ (a : App). a.top) c.in_ok-judge.ensures.app) in
+    let writing : app_of c.in_ok-subcommand-3.field-0 ≡ with_subcommand (with_subcommand (with_subcommand program_app verify_app.top) judge_app.top) cnf_app.top =
+    c.in_ok-subcommand-3.ensures.shape c.in_ok-cnf.ensures.local
     ∙ ap₂ with_subcommand judging (ap (λ (a : App). a.top) c.in_ok-cnf.ensures.app) in
-    let decoding : app_of c.in_ok-subcommand-3.field-0 ≡ with_subcommand (with_subcommand (with_subcommand program_app judge_app.top) cnf_app.top) decode_app.top =
-    c.in_ok-subcommand-3.ensures.shape c.in_ok-decode.ensures.local
+    let decoding : app_of c.in_ok-subcommand-4.field-0 ≡ with_subcommand (with_subcommand (with_subcommand (with_subcommand program_app verify_app.top) judge_app.top) cnf_app.top) decode_app.top =
+    c.in_ok-subcommand-4.ensures.shape c.in_ok-decode.ensures.local
     ∙ ap₂ with_subcommand writing (ap (λ (a : App). a.top) c.in_ok-decode.ensures.app) in
-    c.in_ok-subcommand-4.ensures.shape c.in_ok-lrat.ensures.local
+    c.in_ok-subcommand-5.ensures.shape c.in_ok-lrat.ensures.local
     ∙ ap₂ with_subcommand decoding (ap (λ (a : App). a.top) c.in_ok-lrat.ensures.app)
 
 pub returns-clause-ok : goal.returns-clause-ok

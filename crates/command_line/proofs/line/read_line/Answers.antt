@@ -4,14 +4,16 @@ use Rattle.clap.proofs.TakesLemmas.{passed_up}
 use Rattle.clap.specs.Matches.{subcommand_name_of}
 use Rattle.clap.specs.Walk.{texts}
 use Rattle.clap.specs.Words.{found_of, kind_of}
-use Rattle.command_line.proofs.CnfLemmas.{cnf_reads, has_workers}
+use Rattle.command_line.proofs.CnfLemmas.{cnf_reads}
 use Rattle.command_line.proofs.DecodeLemmas.{decode_reads}
-use Rattle.command_line.proofs.EnterLemmas.{cnf_built, decode_built, enters_command, judge_built, lrat_built}
+use Rattle.command_line.proofs.EnterLemmas.{cnf_built, decode_built, enters_command, judge_built, lrat_built, verify_built}
 use Rattle.command_line.proofs.FoundLemmas.{EntersAs, asks_as_read, enters_as, has_text, name-rows}
 use Rattle.command_line.proofs.JudgeLemmas.{judge_reads}
 use Rattle.command_line.proofs.LratLemmas.{lrat_reads}
+use Rattle.command_line.proofs.NumberLemmas.{has_flag, has_number, has_workers}
+use Rattle.command_line.proofs.VerifyLemmas.{verify_reads}
 use Rattle.command_line.proofs.line.read_line.Goals as goal
-use Rattle.command_line.proofs.line.read_line.Goals.{In-Some, In-Some-subcommand_matches, In-Some-subcommand_matches-2, In-Some-subcommand_matches-3}
+use Rattle.command_line.proofs.line.read_line.Goals.{In-Some, In-Some-subcommand_matches, In-Some-subcommand_matches-2, In-Some-subcommand_matches-3, In-Some-subcommand_matches-4}
 
 -- ---- judge
 
@@ -45,7 +47,7 @@ cnf_line-requires c =
     let read = cnf_reads (texts c.args.words.now) found (cnf_met c) in
     record {
       trace = has_text found cnf_built.rules (codes "trace") (read (codes "trace") refl);
-      workers = has_workers found (read (codes "workers") refl);
+      workers = has_workers cnf_built.rules found refl (read (codes "workers") refl);
     }
 
 pub returns-in-Some-subcommand_matches-clause-line : goal.returns-in-Some-subcommand_matches-clause-line
@@ -95,6 +97,31 @@ returns-in-Some-subcommand_matches-3-clause-line c =
     let met = lrat_met (goal.at.returns-in-Some-subcommand_matches-3-clause-line c).In-Some-subcommand_matches-3 in
     asks_as_read (texts c.args.words.now) (codes "lrat") (found_of c.in-Some-subcommand_matches-3.lrat.now) met c.lrat_line.result c.lrat_line.ensures
 
+-- ---- verify
+
+verify_met : (c : In-Some-subcommand_matches-4) → EntersAs (texts c.args.words.now) (codes "verify") (found_of c.in-Some-subcommand_matches-4.verify.now)
+verify_met c =
+    let entered = c.in-Some-subcommand_matches-4.ensures in
+    enters_as _ _ _ c.in_ok-matches.matches c.in_ok-matches.ensures.ok c.in_ok-matches.ensures.kinds (entered.found.0 refl) entered.rows
+
+pub verify_line-requires : goal.verify_line-requires
+verify_line-requires c =
+    let found = found_of c.in-Some-subcommand_matches-4.verify.now in
+    let read = verify_reads (texts c.args.words.now) found (verify_met c) in
+    record {
+      trace = has_text found verify_built.rules (codes "trace") (read (codes "trace") refl);
+      workers = has_workers verify_built.rules found refl (read (codes "workers") refl);
+      split = has_number verify_built.rules found (codes "split") 0 10 refl (read (codes "split") refl);
+      budget = has_number verify_built.rules found (codes "budget") 0 1000000000 refl (read (codes "budget") refl);
+      rounds = has_number verify_built.rules found (codes "rounds") 1 4 refl (read (codes "rounds") refl);
+      progress = has_flag verify_built.rules found (codes "progress") refl (read (codes "progress") refl);
+    }
+
+pub returns-in-Some-subcommand_matches-4-clause-line : goal.returns-in-Some-subcommand_matches-4-clause-line
+returns-in-Some-subcommand_matches-4-clause-line c =
+    let met = verify_met (goal.at.returns-in-Some-subcommand_matches-4-clause-line c).In-Some-subcommand_matches-4 in
+    asks_as_read (texts c.args.words.now) (codes "verify") (found_of c.in-Some-subcommand_matches-4.verify.now) met c.verify_line.result c.verify_line.ensures
+
 -- ---- no other command
 
 pub unreachable-requires : goal.unreachable-requires
@@ -103,11 +130,12 @@ unreachable-requires c =
     let name : subcommand_name_of c.in_ok-matches.matches ≡ Some met.shape.name =
     name-rows c.in_ok-matches.matches ∙ ap (option_map (λ p. p.0)) (c.in_ok-matches.ensures.ok ∙ met.is) in
     elim met.among [
-      | inl is ↦ true≢false (sym (c.in_default.ensures.found.1 (name ∙ ap (λ s. Some s.name) is)))
-      | inr (inl is) ↦ true≢false (sym (c.in_default-subcommand_matches.ensures.found.1 (name ∙ ap (λ s. Some s.name) is)))
-      | inr (inr (inl is)) ↦ true≢false (sym (c.in_default-subcommand_matches-2.ensures.found.1 (name ∙ ap (λ s. Some s.name) is)))
-      | inr (inr (inr (inl is))) ↦ true≢false (sym (c.in_default-subcommand_matches-3.ensures.found.1 (name ∙ ap (λ s. Some s.name) is)))
-      | inr (inr (inr (inr none))) ↦ none
+      | inl is ↦ true≢false (sym (c.in_default-subcommand_matches-4.ensures.found.1 (name ∙ ap (λ s. Some s.name) is)))
+      | inr (inl is) ↦ true≢false (sym (c.in_default.ensures.found.1 (name ∙ ap (λ s. Some s.name) is)))
+      | inr (inr (inl is)) ↦ true≢false (sym (c.in_default-subcommand_matches.ensures.found.1 (name ∙ ap (λ s. Some s.name) is)))
+      | inr (inr (inr (inl is))) ↦ true≢false (sym (c.in_default-subcommand_matches-2.ensures.found.1 (name ∙ ap (λ s. Some s.name) is)))
+      | inr (inr (inr (inr (inl is)))) ↦ true≢false (sym (c.in_default-subcommand_matches-3.ensures.found.1 (name ∙ ap (λ s. Some s.name) is)))
+      | inr (inr (inr (inr (inr none)))) ↦ none
     ]
 
 pub returns-in_err-matches-clause-memory : goal.returns-in_err-matches-clause-memory

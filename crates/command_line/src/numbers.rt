@@ -1,0 +1,101 @@
+//! Options that have a number, and the numbers that were given for them.
+
+ghost use Rattle.std.specs.Prelude.{◌≡◌, IsSomeAnd, codes, false};
+ghost use Rattle.clap.specs.Words.{first_value, found_of, rule_of};
+ghost use Rattle.command_line.specs.Arguments.{HasNumber, HasWorkers};
+ghost use Rattle.command_line.specs.CommandLine.{IsNumberWithin, budget_rule, rounds_rule, split_rule, workers_rule};
+
+use clap::{Arg, ArgMatches};
+use std::alloc::Global;
+
+/// `--workers N`.
+pub fn workers_argument<'a>(alloc: Global, help: &'a str) -> Arg<'a>
+    ensures rule { rule_of result ≡ workers_rule }
+    ensures local { result.global ≡ false }
+{
+    Arg::new(alloc, "workers")
+        .long("workers")
+        .value_name("N")
+        .default_value("4")
+        .value_parser(clap::value_parser!(u32).range(1..=8))
+        .help(help)
+}
+
+/// `--split N`.
+pub fn split_argument<'a>(alloc: Global) -> Arg<'a>
+    ensures rule { rule_of result ≡ split_rule }
+    ensures local { result.global ≡ false }
+{
+    Arg::new(alloc, "split")
+        .long("split")
+        .value_name("N")
+        .default_value("3")
+        .value_parser(clap::value_parser!(u64).range(0..=10))
+        .help(
+            "On how many variables the search is split at first, 0 to 10: N variables give 2^N cubes",
+        )
+}
+
+/// `--budget N`.
+pub fn budget_argument<'a>(alloc: Global) -> Arg<'a>
+    ensures rule { rule_of result ≡ budget_rule }
+    ensures local { result.global ≡ false }
+{
+    Arg::new(alloc, "budget")
+        .long("budget")
+        .value_name("N")
+        .default_value("100000")
+        .value_parser(clap::value_parser!(u64).range(0..=1_000_000_000))
+        .help("After how many conflicts the search of a cube is given up, 0 to 1000000000")
+}
+
+/// `--rounds N`.
+pub fn rounds_argument<'a>(alloc: Global) -> Arg<'a>
+    ensures rule { rule_of result ≡ rounds_rule }
+    ensures local { result.global ≡ false }
+{
+    Arg::new(alloc, "rounds")
+        .long("rounds")
+        .value_name("N")
+        .default_value("1")
+        .value_parser(clap::value_parser!(u64).range(1..=4))
+        .help(
+            "How many rounds there are at most, 1 to 4: between two of them the open cubes are split",
+        )
+}
+
+/// The number of workers that was given, or else the one that stands for it.
+pub fn workers_of(matches: &ArgMatches<'_>) -> u32
+    requires { HasWorkers (found_of matches.now) }
+    ensures { IsSomeAnd (first_value (found_of matches.now) (codes "workers"))
+        (λ text. IsNumberWithin 1 8 text result) }
+{
+    matches.get_one::<u32>("workers").unwrap()
+}
+
+/// The depth of the first split that was given, or else the one that stands for it.
+pub fn split_of(matches: &ArgMatches<'_>) -> u32
+    requires { HasNumber (codes "split") 0 10 (found_of matches.now) }
+    ensures { IsSomeAnd (first_value (found_of matches.now) (codes "split"))
+        (λ text. IsNumberWithin 0 10 text result) }
+{
+    matches.get_one::<u64>("split").unwrap() as u32
+}
+
+/// The budget that was given, or else the one that stands for it.
+pub fn budget_of(matches: &ArgMatches<'_>) -> u64
+    requires { HasNumber (codes "budget") 0 1000000000 (found_of matches.now) }
+    ensures { IsSomeAnd (first_value (found_of matches.now) (codes "budget"))
+        (λ text. IsNumberWithin 0 1000000000 text result) }
+{
+    matches.get_one::<u64>("budget").unwrap()
+}
+
+/// The number of rounds that was given, or else the one that stands for it.
+pub fn rounds_of(matches: &ArgMatches<'_>) -> u32
+    requires { HasNumber (codes "rounds") 1 4 (found_of matches.now) }
+    ensures { IsSomeAnd (first_value (found_of matches.now) (codes "rounds"))
+        (λ text. IsNumberWithin 1 4 text result) }
+{
+    matches.get_one::<u64>("rounds").unwrap() as u32
+}

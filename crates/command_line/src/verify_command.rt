@@ -1,0 +1,107 @@
+//! The command `verify TRACE [--workers N] [--split N] [--budget N] [--rounds N] [--progress]`.
+
+ghost use Rattle.std.specs.Prelude.{◌≡◌, IfOk, IsSome, Some, codes, false};
+ghost use Rattle.clap.specs.Values.{bool_text};
+ghost use Rattle.clap.specs.Words.{app_of, first_value, found_of, rule_of};
+ghost use Rattle.clap.specs.declared.builder.command.Command.TheViews.{out-Command};
+ghost use Rattle.command_line.specs.Arguments.{HasFlag, HasNumber, HasWorkers};
+ghost use Rattle.command_line.specs.CommandLine.{AsksFor, progress_rule, verify_app};
+
+use crate::arguments::{text_of, trace_argument};
+use crate::line::{Line, SearchNumbers};
+use crate::numbers::{
+    budget_argument, budget_of, rounds_argument, rounds_of, split_argument, split_of,
+    workers_argument, workers_of,
+};
+use clap::{Arg, ArgAction, ArgMatches, Command};
+use std::alloc::{AllocError, Global};
+
+const ABOUT: &str = "Decides whether a trace is sequentially consistent";
+
+const EXAMPLE: &str = "The answer is
+    CONSISTENT, and a schedule of all operations that is legal, one name a line;
+    INCONSISTENT cubes=N: there is no legal schedule, and each of N cases has a checked proof of that;
+    UNKNOWN open=N: the search was given up. A legal schedule can only be in one of the N cubes below,
+        which are literals of the clauses that 'vsc cnf' writes.
+
+Example, a trace:
+    vsc 1
+    proc P
+    W x 1
+    proc Q
+    R x 1
+The answer is:
+    CONSISTENT
+    P.1
+    Q.1
+
+Exit status:
+    0  the answer is CONSISTENT
+    1  the answer is INCONSISTENT
+    2  the command line or the trace is refused
+    3  the answer is UNKNOWN
+    4  a file or a standard stream failed";
+
+// `--progress`.
+fn progress_argument<'a>(alloc: Global) -> Arg<'a>
+    ensures rule { rule_of result ≡ progress_rule }
+    ensures local { result.global ≡ false }
+{
+    Arg::new(alloc, "progress")
+        .long("progress")
+        .action(ArgAction::SetTrue)
+        .help("Writes a line to standard error when a cube is taken, and when it is settled")
+}
+
+/// The command, as `clap` takes it.
+pub fn new_verify_command<'a>(alloc: Global) -> Result<Command<'a>, AllocError>
+    ensures app { IfOk result (λ c. app_of c ≡ verify_app) }
+    ensures local { IfOk result (λ c. (out-Command c).has_globals ≡ false) }
+{
+    let trace = trace_argument(alloc);
+    let workers = workers_argument(alloc, "How many threads may search, 1 to 8");
+    let split = split_argument(alloc);
+    let budget = budget_argument(alloc);
+    let rounds = rounds_argument(alloc);
+    let progress = progress_argument(alloc);
+    Command::new(alloc, "verify")
+        .about(ABOUT)
+        .after_long_help(EXAMPLE)
+        .arg(trace)?
+        .arg(workers)?
+        .arg(split)?
+        .arg(budget)?
+        .arg(rounds)?
+        .arg(progress)
+}
+
+// Whether the progress of the search is asked for.
+fn progress_of(matches: &ArgMatches<'_>) -> bool
+    requires { HasFlag (codes "progress") (found_of matches.now) }
+    ensures { first_value (found_of matches.now) (codes "progress") ≡ Some (bool_text result) }
+{
+    matches.get_flag("progress")
+}
+
+/// What the matches of the command ask for.
+pub fn verify_line<'a>(matches: &ArgMatches<'a>) -> Line<'a>
+    requires trace { IsSome (first_value (found_of matches.now) (codes "trace")) }
+    requires workers { HasWorkers (found_of matches.now) }
+    requires split { HasNumber (codes "split") 0 10 (found_of matches.now) }
+    requires budget { HasNumber (codes "budget") 0 1000000000 (found_of matches.now) }
+    requires rounds { HasNumber (codes "rounds") 1 4 (found_of matches.now) }
+    requires progress { HasFlag (codes "progress") (found_of matches.now) }
+    ensures { AsksFor (Some (codes "verify")) (first_value (found_of matches.now)) result }
+{
+    let numbers = SearchNumbers {
+        workers: workers_of(matches),
+        split: split_of(matches),
+        budget: budget_of(matches),
+        rounds: rounds_of(matches),
+    };
+    Line::Verify {
+        trace: text_of(matches, "trace"),
+        numbers,
+        progress: progress_of(matches),
+    }
+}
