@@ -31,7 +31,7 @@ pub says_none : (words : List (List ℕ)) → Says words [] → words ≡ []
 says_none [] h = refl
 says_none (word ∷ words) h = absurd (cc)
 
--- the words behind a list of numbers and 0
+-- the words after a list of numbers and 0
 pub record IsBehind (fault : Option ℤ → Option LratCause) (words : List (List ℕ)) (more : List ℤ) : Type 0 where
   pub rest : List (List ℕ)
   pub says : Says rest more

@@ -36,7 +36,7 @@ pub first_right : (least n : ℕ) → least ≤ n → n ≤ most_id → first_fa
 first_right least n h k = cond-true (not (is_negative (pos n)) && (nat_le least n && nat_le n most_id)) None (Some BadNumber)
     (and_from _ _ (ap not (not_negative n)) (and_from _ _ (le-leb least n h) (le-leb n most_id k)))
 
--- a list, and what is behind it
+-- a list, and what is after it
 pub says_list : (fault : Option ℤ → Option LratCause) (passes : ℤ → Bool) (words : List (List ℕ)) (numbers : List ℤ) (rest : List (List ℕ)) (more : List ℤ) →
     BeginsWithList fault passes words numbers rest → Says rest more → Says words (ended numbers ++ more)
 says_list fault passes words numbers rest more h k =

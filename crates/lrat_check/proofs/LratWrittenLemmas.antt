@@ -120,7 +120,7 @@ numbers_read (z ∷ zs) h =
     let later = numbers_read zs parts.1 in
     (λ i. first i ∷ later i)
 
--- words, each behind a space
+-- words, each after a space
 abbrev behind_spaces : List (List ℕ) → List ℕ
 behind_spaces words = flat_map (λ word. 32 ∷ word) words
 

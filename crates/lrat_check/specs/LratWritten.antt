@@ -5,7 +5,7 @@ use Rattle.std.specs.List.{flat_map}
 use Rattle.lrat_check.specs.declared.derivation.Step.{Step}
 use Rattle.lrat_check.specs.declared.derivation.Step.TheVariants.{Addition, Deletion}
 
--- numbers, each behind a space, and then 0
+-- numbers, each after a space, and then 0
 abbrev pub list_text : List ℤ → List ℕ
 list_text numbers = flat_map (λ z. 32 ∷ signed_decimal z) numbers ++ codes " 0"
 

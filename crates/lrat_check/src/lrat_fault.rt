@@ -5,7 +5,7 @@ use text_lines::fault::{Cause, Fault};
 /// What is wrong with a line of a derivation's text.
 #[derive(Clone, Copy, Debug, PartialEq, Eq)]
 pub enum LratCause {
-    /// A word behind the last `0`.
+    /// A word after the last `0`.
     BadLine,
     /// A word that is no number, or a number out of its range.
     BadNumber,
@@ -13,7 +13,7 @@ pub enum LratCause {
     Unended,
 }
 
-/// Why a text is not read as a derivation: its first fault and its line, counted from 1, or want of memory.
+/// Why a text is not read as a derivation: its first fault and its line, counted from 1, or that memory ran out.
 pub type LratFault = Fault<LratCause>;
 
 impl Cause for LratCause {

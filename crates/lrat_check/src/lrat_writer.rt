@@ -35,7 +35,7 @@ fn push_hint(text: &mut Vec<u8>, hint: i64) -> Result<(), AllocError>
     text.extend_from_slice(buffer.format(hint).as_bytes())
 }
 
-/// Appends the literals, each behind a space, and 0.
+/// Appends the literals, each after a space, and 0.
 fn push_literals(text: &mut Vec<u8>, literals: &[Lit]) -> Result<(), AllocError>
     ensures { OnOk result (text.new.items ≡ text.old.items ++ list_text literals.now) }
 {
@@ -45,7 +45,7 @@ fn push_literals(text: &mut Vec<u8>, literals: &[Lit]) -> Result<(), AllocError>
     text.extend_from_slice(b" 0")
 }
 
-/// Appends the ids, each behind a space, and 0.
+/// Appends the ids, each after a space, and 0.
 fn push_ids(text: &mut Vec<u8>, ids: &[u64]) -> Result<(), AllocError>
     ensures { OnOk result (text.new.items ≡ text.old.items ++ list_text (map pos ids.now)) }
 {
@@ -56,7 +56,7 @@ fn push_ids(text: &mut Vec<u8>, ids: &[u64]) -> Result<(), AllocError>
     text.extend_from_slice(b" 0")
 }
 
-/// Appends the hints, each behind a space, and 0.
+/// Appends the hints, each after a space, and 0.
 fn push_hints(text: &mut Vec<u8>, hints: &[i64]) -> Result<(), AllocError>
     ensures { OnOk result (text.new.items ≡ text.old.items ++ list_text hints.now) }
 {

@@ -23,7 +23,7 @@ pub enum StepFault {
     GroupMissing,
 }
 
-/// Why a derivation is refused: the first step that fails, counted from 1, or want of memory. Where the empty clause is
+/// Why a derivation is refused: the first step that fails, counted from 1, or that memory ran out. Where the empty clause is
 /// missing, the step is the one after the last.
 pub type Refusal = Fault<StepFault>;
 
