@@ -1,4 +1,4 @@
--- The front of a text that ends where a line ends.
+-- The prefix of a text that ends where a line ends.
 use Rattle.std.proofs.Common.{◌≡◌, ℕ, zero, suc, ◌+◌, ◌<◌, ◌≤◌, ◌⊎◌, List, [], ◌∷◌, ◌++◌, length, take, drop, get_or, Bool, true, false, not, cond, refl, ap, sym, ◌∙◌, subst, inl, inr, arith, length-append}
 use Rattle.std.specs.Prelude.{min}
 use Rattle.std.specs.List.{list_any, before_first, after_first, position_or_len, prefix_len}
@@ -21,7 +21,7 @@ none_before : (p : ℕ → Bool) (xs : List ℕ) → list_any p (before_first p 
 none_before p [] = refl
 none_before p (x ∷ xs) = none_of p x xs (position_or_len p xs) (p x) refl (none_before p xs)
 
--- a text that has a line: the line, a line feed and what is behind it, or the line alone
+-- a text that has a line: the line, a line feed and what is after it, or the line alone
 record IsEnded (text line : List ℕ) (lines : List (List ℕ)) : Type 0 where
   behind : List ℕ
   parts : text ≡ line ++ 10 ∷ behind

@@ -1,4 +1,4 @@
--- The lines behind a tree.
+-- The lines after a tree.
 use Rattle.std.proofs.Common.{◌≡◌, ◌⊎◌, ℕ, ◌+◌, List, [], ◌∷◌, ◌++◌, length, Bool, true, false, not, cond, refl, ap, sym, ◌∙◌, subst, inl, inr, arith, append_assoc, append-nil, length-append}
 use Rattle.std.specs.Prelude.{Option, Some, None, is_some, ◌==◌, codes, slice_index}
 use Rattle.std.specs.List.{list_any, list_all}
@@ -37,7 +37,7 @@ picked (d ∷ done) rest (y ∷ b) x a e =
       | inr (m, f, g) ↦ inr (m, (λ i. sym heads i ∷ f i), g)
     ]
 
--- a section that is open behind two lists of lines
+-- a section that is open after two lists of lines
 pub open_append : (open_before : Bool) (xs ys : List (List ℕ)) → is_open_behind open_before (xs ++ ys) ≡ is_open_behind (is_open_behind open_before xs) ys
 open_append b [] ys = refl
 open_append b (x ∷ xs) ys = open_append (cond b (not (is_end (words_of x))) (is_some (begun_by (words_of x)))) xs ys
@@ -52,7 +52,7 @@ faultless_join done rest closed h k b x a e = elim (picked done rest b x a e) [
   | inr (m, f, g) ↦ ap (λ (l : List (List ℕ)). section_line_fault l x) f ∙ fault_shift done m x closed ∙ k m x a g
 ]
 
--- a fault of the lines behind these is one of all
+-- a fault of the lines after these is one of all
 pub fault_behind : (done rest : List (List ℕ)) (cause : CertCause) (place : ℕ) → is_open_behind false done ≡ false → IsFaultless section_line_fault done →
     HasSectionFault rest cause place → HasSectionFault (done ++ rest) cause (length done + place)
 fault_behind done rest cause place closed h (inl f) = inl (record {
@@ -93,7 +93,7 @@ begins_clear : (line : List ℕ) (b : Bool) → is_some (begun_by (words_of line
 begins_clear line true h = refl
 begins_clear line false h = cond-true (is_some (begun_by (words_of line))) None (Some BadLine) h
 
--- lines that are read, where no section is open behind them
+-- lines that are read, where no section is open after them
 pub record AreClosed (lines : List (List ℕ)) : Type 0 where
   pub faultless : IsFaultless section_line_fault lines
   pub closed : is_open_behind false lines ≡ false
@@ -161,7 +161,7 @@ pub fault_between : (lines : List (List ℕ)) (line : List ℕ) → AreClosed li
 fault_between lines line h said none =
     fault_at lines line false h.closed ∙ cond-false (is_silent line) None _ said ∙ ap (λ (o : Option ℕ). cond (is_some o) None (Some BadLine)) none
 
--- sections behind a line that says nothing
+-- sections after a line that says nothing
 pub silent_first : (line : List ℕ) (lines : List (List ℕ)) (sections : List Section) → is_silent line ≡ true → AreSections lines sections → AreSections (line ∷ lines) sections
 silent_first line lines [] silent h = and_from (is_silent line) (list_all is_silent lines) silent h
 silent_first line lines (section ∷ sections) silent (behind, first, others) = (

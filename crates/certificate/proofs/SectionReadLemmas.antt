@@ -22,7 +22,7 @@ use Rattle.certificate.specs.declared.cert_fault.CertCause.TheVariants.{BadLine,
 use Rattle.certificate.specs.declared.certificate.Section.{Section}
 use Rattle.certificate.proofs.SectionLemmas.{AreClosed, AreOpen, no_lines, push_silent, push_begin, push_inside, push_end, spelled_clear, fault_in_section, fault_between, silent_first}
 
--- the lines that were read, and their sections: with the sections of the others behind them they are those of the text
+-- the lines that were read, and their sections: with the sections of the others after them they are those of the text
 pub record IsReadSoFar (text : List ℕ) (before number : ℕ) (rest : List ℕ) (sections : List Section) : Type 0 where
   pub done : List (List ℕ)
   pub parts : lines_of text ≡ done ++ lines_of rest

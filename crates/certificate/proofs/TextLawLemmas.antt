@@ -36,7 +36,7 @@ silent_at : (before : List (List ℕ)) (line : List ℕ) (after : List (List ℕ
 silent_at [] line after h = (and_parts (is_silent line) (list_all is_silent after) h).0
 silent_at (x ∷ before) line after h = silent_at before line after (and_parts (is_silent x) (list_all is_silent (before ++ line ∷ after)) h).1
 
--- two lines that say something, behind lines that say nothing, are one
+-- two lines that say something, after lines that say nothing, are one
 record SameFirst (x y : List ℕ) (b c a d : List (List ℕ)) : Type 0 where
   pub line : x ≡ y
   pub before : b ≡ c
@@ -114,7 +114,7 @@ fault_moved text other cause line same (inr f) = inr (record {
   behind = f.behind ∙ ap (λ ls. length ls + 1) same;
 })
 
--- what two texts with the same lines spell at their front, and what is behind it
+-- what two texts with the same lines spell at their front, and what is after it
 record SameTree (s t : CubeTree) (rest other : List ℕ) : Type 0 where
   pub tree : s ≡ t
   pub lines : lines_of rest ≡ lines_of other
@@ -172,7 +172,7 @@ none_ends (line ∷ lines) h = or_from (ends line) (list_any ends lines)
     ])
     (none_ends lines (λ b x a e. h (line ∷ b) x a (ap (λ l. line ∷ l) e)))
 
--- two lines that end a section, behind lines that do not, are one
+-- two lines that end a section, after lines that do not, are one
 none_at : (before : List (List ℕ)) (line : List ℕ) (after : List (List ℕ)) → list_any ends (before ++ line ∷ after) ≡ false → ends line ≡ false
 none_at [] line after h = (or_parts (ends line) (list_any ends after) h).0
 none_at (x ∷ before) line after h = none_at before line after (or_parts (ends x) (list_any ends (before ++ line ∷ after)) h).1

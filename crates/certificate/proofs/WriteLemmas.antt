@@ -14,7 +14,7 @@ use Rattle.certificate.specs.declared.certificate.Section.{Section}
 pub none_taken : (old bytes : List ℕ) → AppendsFront old old bytes
 none_taken old bytes = record { front = []; back = bytes; parts = refl; appended = sym (append-nil old) }
 
--- a first part was taken whole, and a front of the next
+-- a first part was taken whole, and a prefix of the next
 pub front_behind : (old between new first second third : List ℕ) → between ≡ old ++ first → AppendsFront between new second → AppendsFront old new (first ++ (second ++ third))
 front_behind old between new first second third e f = record {
   front = first ++ f.front;
@@ -23,7 +23,7 @@ front_behind old between new first second third e f = record {
   appended = f.appended ∙ ap (λ l. l ++ f.front) e ∙ append_assoc old first f.front;
 }
 
--- a front of the first part was taken
+-- a prefix of the first part was taken
 pub front_first : (old new first second : List ℕ) → AppendsFront old new first → AppendsFront old new (first ++ second)
 front_first old new first second f = record {
   front = f.front;
@@ -53,7 +53,7 @@ all_of front before d after leaf count =
     ∙ ap (λ t. front ++ t) (flat_map-append section_text (sections_from 0 before) (sections_from leaf (d ∷ after)))
     ∙ sym (append_assoc front (flat_map section_text (sections_from 0 before)) (flat_map section_text (sections_from leaf (d ∷ after))))
 
--- a front of the next section was taken
+-- a prefix of the next section was taken
 pub section_front : (old between new front : List ℕ) (all before : List (List Step)) (d : List Step) (after : List (List Step)) (leaf : ℕ) → all ≡ before ++ d ∷ after → length before ≡ leaf →
     between ≡ old ++ (front ++ flat_map section_text (sections_from 0 before)) → AppendsFront between new (section_text (record { leaf = leaf; derivation = d })) → AppendsFront old new (front ++ flat_map section_text (sections_from 0 all))
 section_front old between new front all before d after leaf parts count sent f =

@@ -73,7 +73,7 @@ first_feed (x ∷ text) = elim (cases_Bool (is_line_feed x)) [
 cut_at : (line others more text : List ℕ) → text ≡ line ++ 10 ∷ others → list_any is_line_feed line ≡ false → lines_of (text ++ 10 ∷ more) ≡ line ∷ lines_of (others ++ 10 ∷ more)
 cut_at line others more text parts none = ap (λ t. lines_of (t ++ 10 ∷ more)) parts ∙ ap lines_of (append_assoc line (10 ∷ others) (10 ∷ more)) ∙ line_ended line (others ++ 10 ∷ more) none
 
--- the lines behind a line feed are those of what is behind it
+-- the lines after a line feed are those of what is after it
 lines_on : (n : ℕ) (text rest : List ℕ) → length text ≤ n → lines_of (text ++ 10 ∷ rest) ≡ lines_of (text ++ 10 ∷ []) ++ lines_of rest
 lines_on zero text rest l = elim (first_feed text) [
   | inl none ↦ line_ended text rest none ∙ ap (λ ls. ls ++ lines_of rest) (sym (line_ended text [] none))

@@ -36,7 +36,7 @@ pub record IsSilent (lines : List (List ℕ)) (line : ℕ) : Type 0 where
 abbrev pub LacksHeader : List ℕ → CertCause → ℕ → Type 0
 LacksHeader text cause line = (cause ≡ Header) × (IsNoHeader (lines_of text) line ⊎ IsSilent (lines_of text) line)
 
--- the text behind the header has a fault in its tree
+-- the text after the header has a fault in its tree
 pub record HasFaultInTree (text : List ℕ) (cause : CertCause) (line : ℕ) : Type 0 where
   pub behind : List ℕ
   pub header : ℕ
@@ -47,7 +47,7 @@ pub record HasFaultInTree (text : List ℕ) (cause : CertCause) (line : ℕ) : T
   pub told : cause ≡ of_tree tree_cause
   pub counted : line ≡ header + place
 
--- Whether a section is open behind these lines, where one was open before them or not: a line `proof K` opens one where none is
+-- Whether a section is open after these lines, where one was open before them or not: a line `proof K` opens one where none is
 -- open, and a line `end` closes it.
 abbrev pub is_open_behind : Bool → List (List ℕ) → Bool
 is_open_behind begun [] = begun
@@ -61,7 +61,7 @@ fault_inside line = if is_end (words_of line) then None else option_map (λ caus
 abbrev pub fault_outside : List ℕ → Option CertCause
 fault_outside line = if is_silent line then None else if is_some (begun_by (words_of line)) then None else Some BadLine
 
--- what is wrong with a line after the lines before it, behind the tree
+-- what is wrong with a line after the lines before it, after the tree
 abbrev pub section_line_fault : List (List ℕ) → List ℕ → Option CertCause
 section_line_fault before line = if is_open_behind false before then fault_inside line else fault_outside line
 
@@ -72,12 +72,12 @@ pub record EndsOpen (lines : List (List ℕ)) (cause : CertCause) (line : ℕ) :
   pub bad : cause ≡ BadLine
   pub behind : line ≡ length lines + 1
 
--- The lines behind the tree have their first fault at this one, counted from 1. Where they end within a section, that is the line after
+-- The lines after the tree have their first fault at this one, counted from 1. Where they end within a section, that is the line after
 -- the last.
 abbrev pub HasSectionFault : List (List ℕ) → CertCause → ℕ → Type 0
 HasSectionFault lines cause line = IsFirstFault section_line_fault lines line cause ⊎ EndsOpen lines cause line
 
--- the text has its tree, and a fault behind it
+-- the text has its tree, and a fault after it
 pub record HasFaultInSections (text : List ℕ) (cause : CertCause) (line : ℕ) : Type 0 where
   pub behind : List ℕ
   pub header : ℕ

@@ -9,7 +9,7 @@ use Rattle.certificate.specs.CertLine.{is_silent, is_header, begun_by, is_end}
 use Rattle.certificate.specs.declared.certificate.Certificate.{Certificate}
 use Rattle.certificate.specs.declared.certificate.Section.{Section}
 
--- the line of this number, counted from 1, is the header, lines before it say nothing, and those of the other text are behind it
+-- the line of this number, counted from 1, is the header, lines before it say nothing, and those of the other text are after it
 pub record IsHeaded (text behind : List ℕ) (line : ℕ) : Type 0 where
   pub before : List (List ℕ)
   pub header : List ℕ
@@ -18,7 +18,7 @@ pub record IsHeaded (text behind : List ℕ) (line : ℕ) : Type 0 where
   pub silent : list_all is_silent before ≡ true
   pub says : is_header (words_of header) ≡ true
 
--- The lines begin with a section, and these are behind it: a line `proof` and the leaf's number, which lines that say nothing may
+-- The lines begin with a section, and these are after it: a line `proof` and the leaf's number, which lines that say nothing may
 -- stand before, the lines of the derivation, and a line `end`.
 pub record BeginWithSection (lines : List (List ℕ)) (section : Section) (behind : List (List ℕ)) : Type 0 where
   pub before : List (List ℕ)
@@ -36,7 +36,7 @@ abbrev pub AreSections : List (List ℕ) → List Section → Type 0
 AreSections lines [] = list_all is_silent lines ≡ true
 AreSections lines (section ∷ sections) = (behind : List (List ℕ)) × BeginWithSection lines section behind × AreSections behind sections
 
--- The header is first; at once behind it stands the text of the tree; all other lines are the sections.
+-- The header is first; at once after it stands the text of the tree; all other lines are the sections.
 pub record SpellsCertificate (text : List ℕ) (certificate : Certificate) : Type 0 where
   pub behind : List ℕ
   pub line : ℕ

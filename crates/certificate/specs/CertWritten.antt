@@ -23,7 +23,7 @@ front_text tree = codes "vsc-cert 1\n" ++ tree_text tree
 abbrev pub canonical_certificate : Certificate → List ℕ
 canonical_certificate certificate = front_text certificate.tree ++ flat_map section_text certificate.sections
 
--- these derivations as sections of this leaf and those behind it
+-- these derivations as sections of this leaf and those after it
 abbrev pub sections_from : ℕ → List (List Step) → List Section
 sections_from leaf [] = []
 sections_from leaf (steps ∷ derivations) = record { leaf = leaf; derivation = steps } ∷ sections_from (suc leaf) derivations

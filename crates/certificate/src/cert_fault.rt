@@ -28,7 +28,7 @@ pub enum CertCause {
 }
 
 /// Why a certificate is refused: what is wrong with its text, at a line counted from 1; or what is wrong with a leaf, which has the
-/// leaf's number as its place; or want of memory.
+/// leaf's number as its place; or that memory ran out.
 pub type CertFault = Fault<CertCause>;
 
 impl Cause for CertCause {

@@ -50,7 +50,7 @@ fn cause_of_tree(cause: TreeCause) -> CertCause
     }
 }
 
-/// The tree at the front of the text, which stands behind so many lines of the certificate, and how many bytes it takes.
+/// The tree at the beginning of the text, which stands after so many lines of the certificate, and how many bytes it takes.
 fn read_tree_behind(alloc: Global, text: &[u8], before: usize) -> Result<(Tree, usize), CertFault>
     requires { before + length text.now + 2 < 2 ^ 64 }
     ensures spelled { IfOk result (λ read. SpellsTree text.now read.0 read.1) }
@@ -74,7 +74,7 @@ fn count_lines(tree: &Tree) -> usize
 
 /// The certificate that the text spells.
 ///
-/// Its first line that is not skipped is `vsc-cert 1`. At once behind it stands a tree, and behind that one section after the other: a
+/// Its first line that is not skipped is `vsc-cert 1`. At once after it stands a tree, and after that one section after the other: a
 /// line `proof` with a leaf's number, a derivation (LRAT), and a line `end`. Lines without words and those whose first word begins with
 /// `c` are skipped outside the tree. The error is the first fault of the text, with its line, counted from 1, or `OutOfMemory`, which
 /// tells nothing of the text. Whether the certificate shows anything is for [`recheck`](crate::recheck).

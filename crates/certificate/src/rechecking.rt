@@ -26,7 +26,7 @@ fn has_section(sections: &[Section], leaf: u32) -> bool
     sections.iter().any(|section| section.leaf == leaf)
 }
 
-/// What is wrong with a section behind these, where there are so many leaves.
+/// What is wrong with a section after these, where there are so many leaves.
 fn fault_of(before: &[Section], section: &Section, count: u32) -> Option<CertCause>
     ensures { result ≡ section_fault count before.now section.now }
 {

@@ -17,7 +17,7 @@ use lrat_check::lrat_reader::read_lrat;
 use std::alloc::Global;
 use text_lines::lines::cut_line;
 
-/// The derivation that the lines spell, which stand behind so many lines of the certificate.
+/// The derivation that the lines spell, which stand after so many lines of the certificate.
 fn read_steps(alloc: Global, lines: &[u8], before: usize) -> Result<Derivation, CertFault>
     requires { before + length lines.now + 1 < 2 ^ 64 }
     ensures spelled { IfOk result (λ derivation. SpellsDerivation lines.now derivation) }
@@ -30,7 +30,7 @@ fn read_steps(alloc: Global, lines: &[u8], before: usize) -> Result<Derivation, 
     }
 }
 
-/// The sections that the text spells, which stands behind so many lines of the certificate.
+/// The sections that the text spells, which stands after so many lines of the certificate.
 pub(crate) fn read_sections(
     alloc: Global,
     text: &[u8],

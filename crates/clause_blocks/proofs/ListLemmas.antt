@@ -12,7 +12,7 @@ use Rattle.var_layout.specs.Numbers.{numbers}
 use Rattle.clause_blocks.specs.Blocks.{program_order, transitivity_from, transitivity, read_clauses, final_clauses, before_clauses}
 use Rattle.clause_blocks.specs.Clauses.{pieces, clauses_of}
 
--- the pieces behind those of transitivity
+-- the pieces after those of transitivity
 abbrev pub last_pieces : TraceValue → List (List (List ℤ))
 last_pieces t = read_clauses t ∷ final_clauses t ∷ before_clauses t ∷ []
 
@@ -73,7 +73,7 @@ triples_piece t k m e within =
     ap (piece_at t) e ∙ get_or_append_left (map (transitivity_from n) (numbers t)) (last_pieces t) [] m (omega (arith, long, within))
     ∙ get_or-map-range_with_len (transitivity_from n) 0 n m m [] within (omega arith)
 
--- those behind it
+-- those after it
 pub last_piece : (t : TraceValue) (k m : ℕ) → k ≡ suc (operation_count t + m) → piece_at t k ≡ get_or (last_pieces t) m []
 last_piece t k m e =
     let n = operation_count t in

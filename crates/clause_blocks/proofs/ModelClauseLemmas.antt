@@ -74,7 +74,7 @@ to_enumerate n (y ∷ ys) (suc k) x e =
     let number : n + 1 + k ≡ n + suc k = omega arith in
     subst (λ m. Contains ((n, y) ∷ enumerate_from (n + 1) ys) (m, x)) number (tail_in (n, y) (enumerate_from (n + 1) ys) (n + 1 + k, x) (to_enumerate (n + 1) ys k x e))
 
--- an initial value is read before each other writer, and a writer's value behind it and before each later one
+-- an initial value is read before each other writer, and a writer's value after it and before each later one
 abbrev pub Meets : (ℕ → ℕ → Bool) → TraceValue → ℕ → Candidate → Type 0
 Meets ahead t r InitialValue = (v : ℕ) → Contains (other_writers t r) v → ahead r v ≡ true
 Meets ahead t r (Writer w) = (ahead w r ≡ true) × ((v : ℕ) → Contains (others w (other_writers t r)) v → (ahead v w ≡ true) ⊎ (ahead r v ≡ true))

@@ -1,4 +1,4 @@
--- The lines of what the numbers from a on give, one behind the other: what the sink has taken of them, and what is still kept.
+-- The lines of what the numbers from a on give, one after the other: what the sink has taken of them, and what is still kept.
 use Rattle.std.proofs.Common.{◌≡◌, ℕ, ◌+◌, ◌-◌, ◌≤◌, ℤ, List, [], ◌∷◌, ◌++◌, neg_ℤ, sym, ap, ◌∙◌, subst, arith, append-nil}
 use Rattle.std.specs.List.{flat_map, range_with_len}
 use Rattle.dimacs.specs.CnfText.{clause_line}

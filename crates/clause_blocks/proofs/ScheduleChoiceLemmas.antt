@@ -77,7 +77,7 @@ no_elements : (xs : List ℕ) → ((x : ℕ) → Contains xs x → ⊥) → (len
 no_elements [] h = refl
 no_elements (x ∷ xs) h = absurd (h x (head_in x xs))
 
--- what stands behind an element of a part of a list is behind it in the part
+-- what stands after an element of a part of a list is after it in the part
 behind : (names : List OpName) → IsOnce names → (xs : List OpName) → ((a b : OpName) → StandsBefore xs a b → StandsBefore names a b) → (front : List OpName) (x : OpName) (back : List OpName) → xs ≡ front ++ x ∷ back →
     (z : OpName) → Contains xs z → StandsBefore names x z → Contains back z
 behind names once xs lift front x back e z c s =

@@ -14,7 +14,7 @@ use Rattle.dimacs.proofs.SinkLemmas.{front-append}
 both_lines : (head : List ℕ) (first second : List (List ℤ)) → (head ++ flat_map clause_line first) ++ flat_map clause_line second ≡ head ++ flat_map clause_line (first ++ second)
 both_lines head first second = append_assoc head (flat_map clause_line first) (flat_map clause_line second) ∙ ap (λ lines. head ++ lines) (sym (flat_map-append clause_line first second))
 
--- the clauses of the first list were sent, and those of the second one behind them
+-- the clauses of the first list were sent, and those of the second one after them
 pub sent_then : (old between new head kept kept' : List ℕ) (first second : List (List ℤ)) → IsSent old between kept (head ++ flat_map clause_line first) → IsSent between new kept' (kept ++ flat_map clause_line second)
     → IsSent old new kept' (head ++ flat_map clause_line (first ++ second))
 sent_then old between new head kept kept' first second s t =
@@ -30,7 +30,7 @@ sent_then_front old between new head kept first second s f =
     (sent_last old between (kept ++ flat_map clause_line second) ((head ++ flat_map clause_line first) ++ flat_map clause_line second) new
     (sent_more old between kept (head ++ flat_map clause_line first) (kept ++ flat_map clause_line second) (flat_map clause_line second) s refl) f)
 
--- a front of the first list's lines is one of the lines of both
+-- a prefix of the first list's lines is one of the lines of both
 pub front_of_both : (old new head : List ℕ) (first second : List (List ℤ)) → AppendsFront old new (head ++ flat_map clause_line first) → AppendsFront old new (head ++ flat_map clause_line (first ++ second))
 front_of_both old new head first second f = subst (λ made. AppendsFront old new made) (both_lines head first second) (front-append old new (head ++ flat_map clause_line first) (flat_map clause_line second) f)
 
@@ -38,7 +38,7 @@ front_of_both old new head first second f = subst (λ made. AppendsFront old new
 pub front_of_sent : (old new head kept : List ℕ) (first second : List (List ℤ)) → IsSent old new kept (head ++ flat_map clause_line first) → AppendsFront old new (head ++ flat_map clause_line (first ++ second))
 front_of_sent old new head kept first second s = subst (λ made. AppendsFront old new made) (both_lines head first second) (sent_front old new kept (head ++ flat_map clause_line first) (flat_map clause_line second) s)
 
--- the numbers from a on, and those behind them
+-- the numbers from a on, and those after them
 range_parted : (a k m : ℕ) → range_with_len a (k + m) ≡ range_with_len a k ++ range_with_len (a + k) m
 range_parted a zero m =
     let none : 0 + m ≡ m = omega arith in

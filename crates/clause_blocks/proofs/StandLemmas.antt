@@ -30,7 +30,7 @@ stands_trans (x ∷ xs) once a b c s u =
       ]
     ]
 
--- not both before and behind
+-- not both before and after
 pub stands_once : (names : List OpName) → IsOnce names → (a b : OpName) → StandsBefore names a b → StandsBefore names b a → ⊥
 stands_once names once a b s u = once a (stands_trans names once a b a s u)
 

@@ -16,7 +16,7 @@ use Rattle.clause_blocks.proofs.PieceLemmas.{counted_upto}
 use Rattle.clause_blocks.proofs.RangeSentLemmas.{of_pair}
 use Rattle.clause_blocks.proofs.SentLemmas.{flat_parted, flat_split}
 
--- what stands behind what the numbers below k give
+-- what stands after what the numbers below k give
 flat_at : {A : Type 0} (f : ℕ → List A) (a k n r : ℕ) (d : A) → a ≤ k → k < n → r < length (f k) →
     get_or (flat_map f (range_with_len a (n - a))) (length (flat_map f (range_with_len a (k - a))) + r) d ≡ get_or (f k) r d
 flat_at f a k n r d low high within =

@@ -13,7 +13,7 @@ use Rattle.clause_blocks.specs.Blocks.{program_order, transitivity_from, read_cl
 abbrev pub pieces : TraceValue → List (List (List ℤ))
 pieces t = program_order t ∷ (map (transitivity_from (operation_count t)) (numbers t) ++ read_clauses t ∷ final_clauses t ∷ before_clauses t ∷ [])
 
--- the clause list: all pieces, one behind the other
+-- the clause list: all pieces, one after the other
 abbrev pub clauses_of : TraceValue → List (List ℤ)
 clauses_of t = flat_map (λ (piece : List (List ℤ)). piece) (pieces t)
 

@@ -35,7 +35,7 @@ fn put_piece<W: Sink>(
     }
 }
 
-/// Writes all pieces, one behind the other.
+/// Writes all pieces, one after the other.
 fn put_pieces<W: Sink>(
     clauses: &TraceClauses,
     writer: &mut CnfWriter,

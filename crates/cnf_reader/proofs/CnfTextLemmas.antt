@@ -1,4 +1,4 @@
--- The words behind a header write one list of clauses or have one first fault.
+-- The words after a header write one list of clauses or have one first fault.
 use Rattle.std.proofs.Common.{◌≡◌, ◌⊎◌, ℕ, ◌+◌, ◌<◌, ◌≤◌, List, [], ◌∷◌, ◌++◌, length, map, Bool, true, false, cond, refl, ap, sym, ◌∙◌, subst, arith, inl, inr, append_assoc, append-nil, length-append}
 use Rattle.std.specs.Prelude.{Option, Some, None, ℤ, pos, nat_le, nat_lt}
 use Rattle.std.specs.List.{flat_map, list_all}

@@ -64,6 +64,6 @@ pub record AreBody (h : Header) (words : List (ℕ × List ℕ)) (clauses : List
   pub within : list_all (is_clause_up_to h.variables) clauses ≡ true
   pub count : length clauses ≡ h.clauses
 
--- a refusal of the words behind a header
+-- a refusal of the words after a header
 abbrev pub IsBodyRefusal : Header → List (ℕ × List ℕ) → ℕ → Fault CnfCause → Type 0
 IsBodyRefusal h words end fault = IsRefusal (HasBodyFault h words end) fault

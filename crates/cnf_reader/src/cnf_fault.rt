@@ -21,7 +21,7 @@ pub enum CnfCause {
     Trailing,
 }
 
-/// Why a text is not read as a formula: its first fault and its line, counted from 1, or want of memory.
+/// Why a text is not read as a formula: its first fault and its line, counted from 1, or that memory ran out.
 pub type CnfFault = Fault<CnfCause>;
 
 impl Cause for CnfCause {

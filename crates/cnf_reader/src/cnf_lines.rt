@@ -15,7 +15,7 @@ pub(crate) struct Said<'a> {
     pub line: &'a [u8],
     /// Its number.
     pub number: usize,
-    /// The text behind it.
+    /// The text after it.
     pub rest: &'a [u8],
 }
 

@@ -15,7 +15,7 @@ use dimacs::{Clause, Formula, MAX_VARIABLE};
 use std::alloc::Global;
 use text_lines::fault::Fault;
 
-/// The clauses behind the header, where the first line of the text has this number.
+/// The clauses after the header, where the first line of the text has this number.
 fn read_body(
     alloc: Global,
     counts: Counts,

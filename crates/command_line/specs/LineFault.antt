@@ -13,7 +13,7 @@ is_answer _ = false
 abbrev pub status_of : ErrorKind → ℕ
 status_of kind = if is_answer kind then 0 else 2
 
--- what is printed for want of memory; the other texts are not stated
+-- what is printed where memory runs out; the other texts are not stated
 abbrev pub text_on_memory : ErrorKind → Option (List ℕ)
 text_on_memory OutOfMemory = Some (codes "refused: memory" ++ 10 ∷ [])
 text_on_memory _ = None

@@ -10,7 +10,7 @@ use clap::error::ErrorKind;
 use std::fmt;
 use std::marker::Model;
 
-/// A mistake in a command line, a request for help or for the version, or want of memory. Its
+/// A mistake in a command line, a request for help or for the version, or that memory ran out. Its
 /// `Display` is the text to print, each line of it ended.
 #[derive(Debug, Drop)]
 pub struct LineFault {

@@ -48,7 +48,7 @@ splits_are_variables t l =
     list_all-map is_variable (λ (pair : ℕ × ℕ). order_var (operation_count t) pair.0 pair.1) (filter (is_split t) (pairs (operation_count t)))
     ∙ kept_good (is_split t) (is_good (operation_count t)) (pairs (operation_count t)) (good_rows (operation_count t) 0 (operation_count t) l)
 
--- a front of them
+-- a prefix of them
 pub front_of_variables : (n : ℕ) (vs : List ℕ) → list_all is_variable vs ≡ true → list_all is_variable (take n vs) ≡ true
 front_of_variables zero vs h = refl
 front_of_variables (suc n) [] h = refl

@@ -15,7 +15,7 @@ use Rattle.cube_tree.specs.SplitFault.{split_fault}
 use Rattle.cube_tree.specs.TreeFault.{leaf_count}
 use Rattle.cube_tree.proofs.TreeLemmas.{leaf_count-append}
 
--- an element, with what stands before it and behind it
+-- an element, with what stands before it and after it
 cut_at : (nodes : List Node) (place : ℕ) → place < length nodes → nodes ≡ take place nodes ++ get_or nodes place Leaf ∷ drop (place + 1) nodes
 cut_at nodes place l =
     sym (take-append-drop place nodes)

@@ -103,7 +103,7 @@ abbrev pub AreLow : List ℕ → Type 0
 AreLow [] = Unit {0}
 AreLow (d ∷ due) = (d ≤ 20) × AreLow due
 
--- nodes, and behind them those of trees, are the nodes of a tree
+-- nodes, and after them those of trees, are the nodes of a tree
 pub record Grown (nodes : List Node) (trees : List CubeTree) : Type 0 where
   pub tree : CubeTree
   pub whole : nodes_of tree ≡ nodes ++ flat_map nodes_of trees

@@ -19,7 +19,7 @@ split_left k v u left right l = ap (λ b. cond b (split u (with_split k v left) 
 pub split_right : (k v u : ℕ) (left right : CubeTree) → leaves left ≤ k → with_split k v (split u left right) ≡ split u left (with_split (k - leaves left) v right)
 split_right k v u left right l = ap (λ b. cond b (split u (with_split k v left) right) (split u left (with_split (k - leaves left) v right))) (le-ltb k (leaves left) l)
 
--- an element of two lists one behind the other is in the first, or in the second
+-- an element of two lists one after the other is in the first, or in the second
 pub record InFirst {A : Type 0} (xs ys before : List A) (x : A) (after : List A) : Type 0 where
   pub middle : List A
   pub first : xs ≡ before ++ x ∷ middle

@@ -55,7 +55,7 @@ one_spelled text s t m n h k =
     let same = same_tree s t _ _ h.within.variables k.within.variables (sym (words_split text s m h) ∙ words_split text t n k) in
     (same.0, h.taken ∙ ap (λ tree. front_bytes (length (tree_lines tree)) text) same.0 ∙ sym k.taken)
 
--- lines behind a whole tree have no fault
+-- lines after a whole tree have no fault
 record IsBehind (lines : List (List ℕ)) : Type 0 where
   faultless : IsFaultless tree_line_fault lines
   none : due_after lines ≡ []

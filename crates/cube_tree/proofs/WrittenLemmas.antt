@@ -1,4 +1,4 @@
--- The canonical text of a tree spells it, and the lines behind a tree are the text's others.
+-- The canonical text of a tree spells it, and the lines after a tree are the text's others.
 use Rattle.std.proofs.Common.{◌≡◌, ℕ, zero, suc, ◌+◌, ◌-◌, ◌^◌, ◌<◌, ◌≤◌, List, [], ◌∷◌, ◌++◌, length, map, take, drop, Bool, true, false, eqb, leb, refl, ap, sym, ◌∙◌, arith, inl, inr, append_assoc, length-append, length-drop}
 use Rattle.std.specs.Prelude.{min, ◌&&◌, codes, decimal}
 use Rattle.std.specs.Char.{is_ascii_digit}
@@ -107,7 +107,7 @@ written_spells tree behind h =
       taken = omega (arith, ap line_bytes front, written_bytes tree, length-append (tree_text tree) behind);
     }
 
--- what stands behind so many lines
+-- what stands after so many lines
 none_left : (n : ℕ) (text : List ℕ) → length text ≡ 0 → lines_of (drop (front_bytes n text) text) ≡ drop n (lines_of text)
 none_left zero [] e = refl
 none_left (suc n) [] e = refl

@@ -35,7 +35,7 @@ pub record AreNodes (nodes : List Node) : Type 0 where
   pub whole : nodes ≡ nodes_of (tree_of nodes)
   pub tree : IsCubeTree (tree_of nodes)
 
--- the nodes of a tree, and others behind them, make up the tree and what those make up
+-- the nodes of a tree, and others after them, make up the tree and what those make up
 pub trees_append : (tree : CubeTree) (nodes : List Node) → trees_of (nodes_of tree ++ nodes) ≡ tree ∷ trees_of nodes
 trees_append leaf nodes = refl
 trees_append (split v left right) nodes =

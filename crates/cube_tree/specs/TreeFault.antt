@@ -45,29 +45,29 @@ leaf_count [] = 0
 leaf_count (Leaf ∷ nodes) = leaf_count nodes + 1
 leaf_count (Split v ∷ nodes) = leaf_count nodes
 
--- the depths of the nodes that are due behind a node which was due at this depth before these others
+-- the depths of the nodes that are due after a node which was due at this depth before these others
 abbrev pub due_below : Node → ℕ → List ℕ → List ℕ
 due_below Leaf d others = others
 due_below (Split v) d others = (d + 1) ∷ ((d + 1) ∷ others)
 
--- The depths of the nodes that are due behind these nodes, where nodes of such depths were due before them, the next one first.
+-- The depths of the nodes that are due after these nodes, where nodes of such depths were due before them, the next one first.
 -- Where none is due, the tree is whole.
 abbrev pub due_behind : List ℕ → List Node → List ℕ
 due_behind due [] = due
 due_behind [] (node ∷ nodes) = []
 due_behind (d ∷ due) (node ∷ nodes) = due_behind (due_below node d due) nodes
 
--- those that are due behind these lines of a tree, whose root has depth 0
+-- those that are due after these lines of a tree, whose root has depth 0
 abbrev pub due_after : List (List ℕ) → List ℕ
 due_after lines = due_behind (0 ∷ []) (nodes_on lines)
 
--- what is wrong with a node at this depth behind so many leaves
+-- what is wrong with a node at this depth after so many leaves
 abbrev pub node_fault : ℕ → ℕ → Option Node → Option TreeCause
 node_fault d leaves None = Some BadLine
 node_fault d leaves (Some (Split v)) = if nat_le 20 d then Some TooDeep else None
 node_fault d leaves (Some Leaf) = if nat_le 1024 leaves then Some TooManyLeaves else None
 
--- the same, where the depth is that of the first node that is due: behind a whole tree nothing is wrong
+-- the same, where the depth is that of the first node that is due: after a whole tree nothing is wrong
 abbrev pub due_fault : List ℕ → ℕ → Option Node → Option TreeCause
 due_fault [] leaves said = None
 due_fault (d ∷ due) leaves said = node_fault d leaves said

@@ -14,7 +14,7 @@ abbrev pub line_bytes : List (List ℕ) → ℕ
 line_bytes [] = 0
 line_bytes (line ∷ lines) = (length line + 1) + line_bytes lines
 
--- how many bytes so many lines at the front of a text take, of which the last may lack its line feed
+-- how many bytes so many lines at the beginning of a text take, of which the last may lack its line feed
 abbrev pub front_bytes : ℕ → List ℕ → ℕ
 front_bytes count text = min (length text) (line_bytes (take count (lines_of text)))
 

@@ -39,7 +39,7 @@ impl Cube {
         }
     }
 
-    /// The cube with one more literal behind its own.
+    /// The cube with one more literal after its own.
     pub fn with(&self, literal: Lit) -> Cube
         requires { length self.now < 20 }
         ensures { result ≡ self.now ++ literal ∷ [] }

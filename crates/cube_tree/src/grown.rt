@@ -11,7 +11,7 @@ use crate::tree::Tree;
 use std::alloc::{AllocError, Global};
 use var_layout::layout::Layout;
 
-/// Puts the nodes of the full tree of these variables behind the others. It calls itself as deep as there are variables.
+/// Puts the nodes of the full tree of these variables after the others. It calls itself as deep as there are variables.
 fn push_full_tree(nodes: &mut Vec<Node>, variables: &[u32]) -> Result<(), AllocError>
     ensures { OnOk result (nodes.new.items ≡ nodes.old.items ++ nodes_of (full_tree variables.now)) }
 {

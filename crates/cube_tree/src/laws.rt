@@ -14,7 +14,7 @@ pub fn a_cube_for_each_leaf()
     ensures { (tree : CubeTree) → length (cubes_of tree) ≡ leaves tree }
 {}
 
-/// A leaf that is split becomes two, whose cubes are its own with the variable and with its negation behind it. All others keep
+/// A leaf that is split becomes two, whose cubes are its own with the variable and with its negation after it. All others keep
 /// their cubes and their order.
 pub fn split_changes_one_leaf()
     ensures { (tree : CubeTree) (v : ℕ) (before : List (List ℤ)) (cube : List ℤ) (after : List (List ℤ)) → cubes_of tree ≡ before ++ cube ∷ after →

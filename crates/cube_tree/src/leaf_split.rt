@@ -75,7 +75,7 @@ fn tree_with_split(alloc: Global, tree: &Tree, k: u32, variable: u32) -> Result<
 }
 
 /// The tree with the leaf of this number, counted from 0, split on the variable. The leaf becomes two, and the numbers of
-/// the leaves behind it rise by one. The error has the tree as it was, and why its leaf is not split.
+/// the leaves after it rise by one. The error has the tree as it was, and why its leaf is not split.
 pub fn split_leaf(
     alloc: Global,
     tree: Tree,

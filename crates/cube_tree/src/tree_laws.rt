@@ -29,12 +29,12 @@ pub fn spelled_or_faulty()
         ((tree : CubeTree) × ((bytes : ℕ) × SpellsTree text tree bytes)) ⊎ ((cause : TreeCause) × ((line : ℕ) × HasTreeFault text cause line)) }
 {}
 
-/// The canonical text of a tree, whatever stands behind it, spells the tree, and takes its own bytes.
+/// The canonical text of a tree, whatever stands after it, spells the tree, and takes its own bytes.
 pub fn canonical_spells()
     ensures { (tree : CubeTree) (behind : List ℕ) → IsCubeTree tree → SpellsTree (tree_text tree ++ behind) tree (length (tree_text tree)) }
 {}
 
-/// The bytes of a tree are no more than those of the text, and the lines behind them are the text's other lines.
+/// The bytes of a tree are no more than those of the text, and the lines after them are the text's other lines.
 pub fn other_lines_are_behind()
     ensures { (text : List ℕ) (tree : CubeTree) (bytes : ℕ) → SpellsTree text tree bytes →
         (bytes ≤ length text) × (lines_of (drop bytes text) ≡ drop (length (tree_lines tree)) (lines_of text)) }

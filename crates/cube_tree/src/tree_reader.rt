@@ -20,7 +20,7 @@ const MOST_DEPTH: u32 = 20;
 /// The most leaves of a tree.
 const MOST_LEAVES: usize = 1024;
 
-/// The node on the line, which is due at this depth behind so many leaves.
+/// The node on the line, which is due at this depth after so many leaves.
 fn take_line(line: &[u8], depth: u32, leaves: usize) -> Result<Node, TreeCause>
     ensures { MatchResult result
         (λ node. (node_of (words_of line.now) ≡ Some node) × (node_fault depth leaves (Some node) ≡ None))
@@ -43,7 +43,7 @@ fn take_line(line: &[u8], depth: u32, leaves: usize) -> Result<Node, TreeCause>
     }
 }
 
-/// Puts the depths of the nodes that are due below a node at this depth behind the others.
+/// Puts the depths of the nodes that are due below a node at this depth after the others.
 fn push_due(due: &mut Vec<u32>, node: Node, depth: u32) -> Result<(), AllocError>
     requires { node_fault depth 0 (Some node) ≡ None }
     ensures { OnOk result (reverse due.new.items ≡ due_below node depth (reverse due.old.items)) }
@@ -62,9 +62,9 @@ fn at_most(bytes: usize, most: usize) -> usize
     if bytes < most { bytes } else { most }
 }
 
-/// The tree that the text spells at its front, and how many bytes its lines take. What stands behind them is not looked at.
+/// The tree that the text spells at its beginning, and how many bytes its lines take. What stands after them is not looked at.
 ///
-/// A line is `leaf`, or `split` and the number of a variable; behind a split stand the lines of its left and then those of
+/// A line is `leaf`, or `split` and the number of a variable; after a split stand the lines of its left and then those of
 /// its right tree. No line is skipped. The error is the first fault of the text, with its line, counted from 1, or
 /// `OutOfMemory`, which tells nothing of the text.
 pub fn read_tree(alloc: Global, text: &[u8]) -> Result<(Tree, usize), Fault<TreeCause>>

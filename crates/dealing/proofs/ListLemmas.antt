@@ -7,7 +7,7 @@ use Rattle.dealing.specs.declared.given.Given.{Given}
 use Rattle.dealing.specs.Machine.{State, held_in, tickets_of, tickets_in, is_among, is_in_hand}
 
 module _ {X : Type 0} where
-  -- a front of a list that was written to
+  -- a prefix of a list that was written to
   pub take_set : (n : ℕ) (xs : List X) (i : ℕ) (x : X) → take n (set xs i x) ≡ set (take n xs) i x
   take_set zero xs i x = refl
   take_set (suc n) [] i x = refl

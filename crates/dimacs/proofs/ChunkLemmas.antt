@@ -34,7 +34,7 @@ sent_on old between kept bytes new kept' s t = record {
 pub sent_whole : (old between kept bytes new : List ℕ) → IsSent old between kept bytes → new ≡ between ++ kept → new ≡ old ++ bytes
 sent_whole old between kept bytes new s e = rw (e, s.appended, append_assoc, s.parts)
 
--- what the sink has taken is a front of the whole
+-- what the sink has taken is a prefix of the whole
 pub sent_front : (old new kept bytes rest : List ℕ) → IsSent old new kept bytes → AppendsFront old new (bytes ++ rest)
 sent_front old new kept bytes rest s = record {
   front = s.front;
@@ -43,7 +43,7 @@ sent_front old new kept bytes rest s = record {
   appended = s.appended;
 }
 
--- so it is where the sink takes a front of what was kept
+-- so it is where the sink takes a prefix of what was kept
 pub sent_part : (old between kept bytes new rest : List ℕ) → IsSent old between kept bytes → AppendsFront between new kept → AppendsFront old new (bytes ++ rest)
 sent_part old between kept bytes new rest s f =
     let h : AppendsFront old new (s.front ++ kept) = front-after old between new s.front kept s.appended f in
@@ -64,7 +64,7 @@ module _ {X : Type 0} (head : List ℕ) (line : X → List ℕ) (items : List X)
   pub lines_front : (old new kept : List ℕ) (k : ℕ) → IsSent old new kept (head ++ flat_map line (take k items)) → AppendsFront old new (head ++ flat_map line items)
   lines_front old new kept k s = rw (← lines_parted k) (sent_front old new kept _ (flat_map line (drop k items)) s)
 
-  -- so it is where the sink takes a front of what was kept
+  -- so it is where the sink takes a prefix of what was kept
   pub lines_part : (old between kept new : List ℕ) (k : ℕ) → IsSent old between kept (head ++ flat_map line (take k items)) → AppendsFront between new kept → AppendsFront old new (head ++ flat_map line items)
   lines_part old between kept new k s f = rw (← lines_parted k) (sent_part old between kept _ new (flat_map line (drop k items)) s f)
 
@@ -82,6 +82,6 @@ pub on_err_map : {A E : Type 0} {P Q : Type 0} (r : Result A E) → (P → Q) �
 on_err_map (Ok x) f p = tt
 on_err_map (Err e) f p = f p
 
--- a front of what was kept was taken, and no more follows
+-- a prefix of what was kept was taken, and no more follows
 pub sent_last : (old between kept bytes new : List ℕ) → IsSent old between kept bytes → AppendsFront between new kept → AppendsFront old new bytes
 sent_last old between kept bytes new s f = subst (λ whole. AppendsFront old new whole) (append-nil bytes) (sent_part old between kept bytes new [] s f)

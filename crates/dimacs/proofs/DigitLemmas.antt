@@ -14,7 +14,7 @@ decimal_one text n h = rw (decimal_digit n h)
 pub decimal_two : (text : List ℕ) (n : ℕ) → 10 ≤ n → n < 100 → text ++ pair n ≡ text ++ decimal n
 decimal_two text n lo hi = rw (decimal_step n lo (omega arith), decimal_digit (n / 10) (omega arith))
 
--- the last two digits behind the others
+-- the last two digits after the others
 pub decimal_behind : (text : List ℕ) (n : ℕ) → 100 ≤ n → n < 2 ^ 32 → (text ++ decimal (n / 100)) ++ pair (n % 100) ≡ text ++ decimal n
 decimal_behind text n lo hi =
     let a : n / 10 / 10 ≡ n / 100 = omega arith in
@@ -22,7 +22,7 @@ decimal_behind text n lo hi =
     let c : n % 10 ≡ n % 100 % 10 = omega arith in
     rw (decimal_step n (omega arith) (omega arith), decimal_step (n / 10) (omega arith) (omega arith), append_assoc text, append_assoc, a, b, ← c)
 
--- the last four digits behind the others
+-- the last four digits after the others
 pub decimal_behind_four : (text : List ℕ) (n : ℕ) → 10000 ≤ n → n < 2 ^ 32 → ((text ++ decimal (n / 10000)) ++ pair ((n - n / 10000 * 10000) / 100)) ++ pair ((n - n / 10000 * 10000) % 100) ≡ text ++ decimal n
 decimal_behind_four text n lo hi =
     let upper : n / 10000 ≡ n / 100 / 100 = omega arith in

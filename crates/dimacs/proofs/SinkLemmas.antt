@@ -8,7 +8,7 @@ use Rattle.dimacs.specs.Sink.{AppendsFront}
 pub range-rest : (n : ℕ) (bytes : List ℕ) → take (length bytes - n) (drop n bytes) ≡ drop n bytes
 range-rest n bytes = take_all _ _ (omega (arith, length-drop n bytes))
 
--- a front was taken, and then a front of what was left
+-- a front was taken, and then a prefix of what was left
 pub take-rest : (old between new bytes : List ℕ) (n count : ℕ) → between ≡ old ++ take n bytes
     → new ≡ between ++ take count (take (length bytes - n) (drop n bytes)) → new ≡ old ++ take (n + count) bytes
 take-rest old between new bytes n count e f =
@@ -30,7 +30,7 @@ front-none old bytes = record { front = []; back = bytes; parts = refl; appended
 pub front-all : (old new bytes : List ℕ) → new ≡ old ++ bytes → AppendsFront old new bytes
 front-all old new bytes e = record { front = bytes; back = []; parts = append-nil bytes; appended = e }
 
--- a front of the first part is a front of the whole
+-- a prefix of the first part is a prefix of the whole
 pub front-append : (old new first second : List ℕ) → AppendsFront old new first → AppendsFront old new (first ++ second)
 front-append old new first second h = record {
   front = h.front;
@@ -39,7 +39,7 @@ front-append old new first second h = record {
   appended = h.appended;
 }
 
--- the first part whole, and then a front of the second
+-- the first part whole, and then a prefix of the second
 pub front-after : (old middle new first second : List ℕ) → middle ≡ old ++ first → AppendsFront middle new second → AppendsFront old new (first ++ second)
 front-after old middle new first second e h = record {
   front = first ++ h.front;

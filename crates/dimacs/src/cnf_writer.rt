@@ -64,7 +64,7 @@ fn put_short_clause(literals: &[Lit], table: &VariableTable, buffer: &mut [u8], 
     put_bytes(b"0\n", buffer, end)
 }
 
-/// Writes the clause's line behind what the buffer has. Where the buffer is full, the sink takes it.
+/// Writes the clause's line after what the buffer has. Where the buffer is full, the sink takes it.
 fn put_long_clause<W: Sink>(
     literals: &[Lit],
     table: &VariableTable,
@@ -89,7 +89,7 @@ fn put_long_clause<W: Sink>(
     Ok(put_bytes(b"0\n", buffer, start))
 }
 
-/// Writes the line of the clause of these literals behind what the buffer has. Where the buffer is full, the sink takes it.
+/// Writes the line of the clause of these literals after what the buffer has. Where the buffer is full, the sink takes it.
 #[inline(always)]
 fn put_line<W: Sink>(
     literals: &[Lit],
@@ -112,7 +112,7 @@ fn put_line<W: Sink>(
     put_long_clause(literals, table, buffer, at, sink)
 }
 
-/// Writes the clauses' lines behind what the buffer has. Where the buffer is full, the sink takes it.
+/// Writes the clauses' lines after what the buffer has. Where the buffer is full, the sink takes it.
 fn put_clauses<W: Sink>(
     clauses: &[Clause],
     table: &VariableTable,
@@ -215,7 +215,7 @@ impl CnfWriter {
     }
 }
 
-/// Writes the formula's text. Where memory runs out or the sink fails, the sink has taken a front of it.
+/// Writes the formula's text. Where memory runs out or the sink fails, the sink has taken a prefix of it.
 pub fn write_cnf<W: Sink>(alloc: Global, formula: &Formula, sink: &mut W) -> Result<(), SinkFault>
     ensures whole { OnOk result (W.written sink.new ≡ W.written sink.old ++ cnf_text formula.now) }
     ensures well { OnOk result (W.failures sink.new ≡ W.failures sink.old) }

@@ -25,7 +25,7 @@ pub trait Sink {
         ensures failed { OnErr result (failures self.new ≡ failures self.old + 1) };
 }
 
-/// Writes the whole slice, through however many calls that takes. Where the sink fails, it has taken a front of
+/// Writes the whole slice, through however many calls that takes. Where the sink fails, it has taken a prefix of
 /// the slice and has failed once more.
 pub fn write_whole<S: Sink>(sink: &mut S, bytes: &[u8]) -> Result<(), Failed>
     ensures whole { OnOk result (S.written sink.new ≡ S.written sink.old ++ bytes.now) }

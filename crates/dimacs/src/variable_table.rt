@@ -47,7 +47,7 @@ impl VariableText {
         }
     }
 
-    /// Writes the text. Behind it are bytes of no meaning.
+    /// Writes the text. After it are bytes of no meaning.
     #[inline(always)]
     fn put(&self, buffer: &mut [u8], at: usize) -> usize
         requires { at + 8 ≤ length buffer.old }

@@ -18,7 +18,7 @@ pub removed : (b : Bool) (kept added : Option (List ℤ)) → option_or (cond (b
 removed true kept added = refl
 removed false kept added = refl
 
--- a clause behind the formula's
+-- a clause after the formula's
 behind : (xs ys : List (List ℤ)) (p : ℕ) → length xs ≤ p → slice_get (xs ++ ys) p ≡ slice_get ys (p - length xs)
 behind [] ys p h = ap (slice_get ys) (omega arith)
 behind (x ∷ xs) ys zero h = absurd (omega (arith, h))
@@ -37,7 +37,7 @@ no_unit_at [] k h = refl
 no_unit_at (y ∷ cube) zero h = absurd (omega (arith, h))
 no_unit_at (y ∷ cube) (suc k) h = no_unit_at cube k (omega (arith, h))
 
--- the cube's literals stand behind the formula's clauses
+-- the cube's literals stand after the formula's clauses
 pub cube_at : (clauses : List (List ℤ)) (cube : List ℤ) (id : ℕ) (z : ℤ) → 1 ≤ id → length clauses ≤ id - 1 → id - 1 - length clauses < length cube → z ≡ get_or cube (id - 1 - length clauses) z →
     at_start clauses cube id ≡ Some (z ∷ [])
 cube_at clauses cube zero z above past within e = absurd (omega (arith, above))
@@ -46,7 +46,7 @@ cube_at clauses cube (suc p) z above past within e =
     behind clauses (map unit_of cube) p (omega (arith, past))
     ∙ unit_at cube (p - length clauses) z (omega (arith, within)) (e ∙ ap (λ k. get_or cube (k - length clauses) z) place)
 
--- and nothing behind these
+-- and nothing after these
 pub nothing_at : (clauses : List (List ℤ)) (cube : List ℤ) (id : ℕ) → 1 ≤ id → length clauses ≤ id - 1 → length cube ≤ id - 1 - length clauses → at_start clauses cube id ≡ None
 nothing_at clauses cube zero above past none = absurd (omega (arith, above))
 nothing_at clauses cube (suc p) above past none = behind clauses (map unit_of cube) p (omega (arith, past)) ∙ no_unit_at cube (p - length clauses) (omega (arith, none))

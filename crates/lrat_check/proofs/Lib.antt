@@ -2,7 +2,12 @@ pub mod PropagationLemmas
 pub mod RefuteLemmas
 pub mod ActiveLemmas
 pub mod CheckLemmas
+pub mod CountLemmas
+pub mod KeptLemmas
+pub mod GroupLemmas
+pub mod OpposeLemmas
 pub mod SoundLemmas
+pub mod RatLemmas
 pub mod RefusalLemmas
 pub mod ListLemmas
 pub mod LratLineLemmas

@@ -10,12 +10,12 @@ use Rattle.std.proofs.lemmas.List.{map-append}
 use Rattle.std.proofs.lemmas.List.Folds.{list_all-map}
 use Rattle.dimacs.specs.Literal.{is_literal}
 use Rattle.text_lines.specs.Numbers.{solver_number}
-use Rattle.lrat_check.specs.LratFaults.{literal_fault, id_fault, first_fault}
-use Rattle.lrat_check.specs.LratRead.{BeginsWithList, IsWrittenStep, is_id_number}
-use Rattle.lrat_check.specs.LratText.{is_id, most_id, Says, ended}
+use Rattle.lrat_check.specs.LratFaults.{literal_fault, hint_fault, id_fault, first_fault}
+use Rattle.lrat_check.specs.LratRead.{BeginsWithList, IsWrittenStep}
+use Rattle.lrat_check.specs.LratText.{is_id, is_id_number, most_id, Says, ended}
 use Rattle.lrat_check.specs.declared.derivation.Step.TheVariants.{Addition, Deletion}
 use Rattle.lrat_check.specs.declared.lrat_fault.LratCause.{LratCause}
-use Rattle.lrat_check.specs.declared.lrat_fault.LratCause.TheVariants.{BadNumber, RatLine}
+use Rattle.lrat_check.specs.declared.lrat_fault.LratCause.TheVariants.{BadNumber}
 use Rattle.text_lines.specs.declared.fault.Fault.{Fault}
 use Rattle.text_lines.specs.declared.fault.Fault.TheVariants.{OutOfMemory, At}
 use Rattle.text_lines.specs.Fault.{IsRefusalAt}
@@ -36,7 +36,7 @@ pub first_right : (least n : ℕ) → least ≤ n → n ≤ most_id → first_fa
 first_right least n h k = cond-true (not (is_negative (pos n)) && (nat_le least n && nat_le n most_id)) None (Some BadNumber)
     (and_from _ _ (ap not (not_negative n)) (and_from _ _ (le-leb least n h) (le-leb n most_id k)))
 
--- a list, and what is behind it
+-- a list, and what is after it
 pub says_list : (fault : Option ℤ → Option LratCause) (passes : ℤ → Bool) (words : List (List ℕ)) (numbers : List ℤ) (rest : List (List ℕ)) (more : List ℤ) →
     BeginsWithList fault passes words numbers rest → Says rest more → Says words (ended numbers ++ more)
 says_list fault passes words numbers rest more h k =
@@ -53,19 +53,19 @@ pub all_ids : (ids : List ℕ) → list_all is_id_number (map pos ids) ≡ true 
 all_ids ids h = sym (list_all-map is_id_number pos ids) ∙ h
 
 -- an addition
-pub addition_read : (word : List ℕ) (words after behind : List (List ℕ)) (id : ℕ) (literals : List ℤ) (hints : List ℕ) → solver_number word ≡ Some (pos id) → 1 ≤ id → id ≤ most_id →
-    BeginsWithList literal_fault is_literal words literals after → BeginsWithList (id_fault RatLine) is_id_number after (map pos hints) behind → behind ≡ [] →
+pub addition_read : (word : List ℕ) (words after behind : List (List ℕ)) (id : ℕ) (literals hints : List ℤ) → solver_number word ≡ Some (pos id) → 1 ≤ id → id ≤ most_id →
+    BeginsWithList literal_fault is_literal words literals after → BeginsWithList hint_fault is_id_number after hints behind → behind ≡ [] →
     IsWrittenStep (word ∷ words) (Addition id literals hints)
 addition_read word words after behind id literals hints e least most first second none = record {
-  is = λ i. e i ∷ says_list literal_fault is_literal words literals after (ended (map pos hints)) first (says_last (id_fault RatLine) is_id_number after (map pos hints) behind second none) i;
-  written = and_from _ _ (and_from _ _ (lt-ltb 0 id (omega (arith, least))) (le-leb id most_id most)) (and_from _ _ first.good (all_ids hints second.good));
+  is = λ i. e i ∷ says_list literal_fault is_literal words literals after (ended hints) first (says_last hint_fault is_id_number after hints behind second none) i;
+  written = and_from _ _ (and_from _ _ (lt-ltb 0 id (omega (arith, least))) (le-leb id most_id most)) (and_from _ _ first.good second.good);
 }
 
 -- a deletion
 pub deletion_read : (word : List ℕ) (words behind : List (List ℕ)) (number : ℕ) (ids : List ℕ) → solver_number word ≡ Some (pos number) → number ≤ most_id →
-    BeginsWithList (id_fault BadNumber) is_id_number words (map pos ids) behind → behind ≡ [] → IsWrittenStep (word ∷ (codes "d" ∷ words)) (Deletion number ids)
+    BeginsWithList id_fault is_id_number words (map pos ids) behind → behind ≡ [] → IsWrittenStep (word ∷ (codes "d" ∷ words)) (Deletion number ids)
 deletion_read word words behind number ids e most list none = record {
-  is = (word, words, refl, e, says_last (id_fault BadNumber) is_id_number words (map pos ids) behind list none);
+  is = (word, words, refl, e, says_last id_fault is_id_number words (map pos ids) behind list none);
   written = and_from _ _ (le-leb number most_id most) (all_ids ids list.good);
 }
 

@@ -11,13 +11,13 @@ use Rattle.std.proofs.lemmas.Option.{none-some}
 use Rattle.std.proofs.lemmas.Slice.Eq.{bytes_eq-Decides}
 use Rattle.dimacs.specs.Literal.{is_literal, is_clause, most_variable}
 use Rattle.text_lines.specs.Numbers.{solver_number}
-use Rattle.lrat_check.specs.LratFaults.{list_fault, literal_fault, id_fault, first_fault, behind_fault, addition_fault, deletion_fault, is_deletion, is_zero, words_fault}
+use Rattle.lrat_check.specs.LratFaults.{list_fault, literal_fault, hint_fault, id_fault, first_fault, behind_fault, addition_fault, deletion_fault, is_deletion, is_zero, words_fault}
 use Rattle.lrat_check.specs.LratRead.{IsWrittenStep}
-use Rattle.lrat_check.specs.LratText.{is_id, most_id, is_skipped, Says, ended}
+use Rattle.lrat_check.specs.LratText.{is_id, is_id_number, most_id, is_skipped, Says, ended}
 use Rattle.lrat_check.specs.declared.derivation.Step.{Step}
 use Rattle.lrat_check.specs.declared.derivation.Step.TheVariants.{Addition, Deletion}
 use Rattle.lrat_check.specs.declared.lrat_fault.LratCause.{LratCause}
-use Rattle.lrat_check.specs.declared.lrat_fault.LratCause.TheVariants.{BadLine, BadNumber, Unended, RatLine}
+use Rattle.lrat_check.specs.declared.lrat_fault.LratCause.TheVariants.{BadLine, BadNumber, Unended}
 use Rattle.lrat_check.proofs.ClearLemmas.{is_plain_id, ids_plain, no_deletion_list, says_rest}
 
 -- the same words, the same numbers
@@ -61,21 +61,21 @@ same_last xs ys h k e =
     same_ids xs ys (same_lists is_plain_id refl (map pos xs) (map pos ys) [] [] (ids_plain xs h) (ids_plain ys k) (ap (λ l. l ++ []) e)).0
 
 -- the word `d` is no number
-never_both_kinds : (words : List (List ℕ)) (id : ℕ) (literals : List ℤ) (hints : List ℕ) (first : ℕ) (ids : List ℕ) → IsWrittenStep words (Addition id literals hints) → IsWrittenStep words (Deletion first ids) → ⊥
+never_both_kinds : (words : List (List ℕ)) (id : ℕ) (literals hints : List ℤ) (first : ℕ) (ids : List ℕ) → IsWrittenStep words (Addition id literals hints) → IsWrittenStep words (Deletion first ids) → ⊥
 never_both_kinds words id literals hints first ids h k =
-    let says : Says (k.is.0 ∷ (codes "d" ∷ k.is.1)) (pos id ∷ (ended literals ++ ended (map pos hints))) = ap (map solver_number) (sym k.is.2) ∙ h.is in
-    let rest : Says (codes "d" ∷ k.is.1) (ended literals ++ ended (map pos hints)) = says_rest k.is.0 (codes "d" ∷ k.is.1) (pos id) (ended literals ++ ended (map pos hints)) says in
-    true≢false (no_deletion_list (codes "d" ∷ k.is.1) literals (ended (map pos hints)) rest)
+    let says : Says (k.is.0 ∷ (codes "d" ∷ k.is.1)) (pos id ∷ (ended literals ++ ended hints)) = ap (map solver_number) (sym k.is.2) ∙ h.is in
+    let rest : Says (codes "d" ∷ k.is.1) (ended literals ++ ended hints) = says_rest k.is.0 (codes "d" ∷ k.is.1) (pos id) (ended literals ++ ended hints) says in
+    true≢false (no_deletion_list (codes "d" ∷ k.is.1) literals (ended hints) rest)
 
 pub one_step : (words : List (List ℕ)) (s t : Step) → IsWrittenStep words s → IsWrittenStep words t → s ≡ t
 one_step words (Addition id literals hints) (Addition jd others fore) h k =
-    let e = same_numbers (pos id ∷ (ended literals ++ ended (map pos hints))) (pos jd ∷ (ended others ++ ended (map pos fore))) (sym h.is ∙ k.is) in
+    let e = same_numbers (pos id ∷ (ended literals ++ ended hints)) (pos jd ∷ (ended others ++ ended fore)) (sym h.is ∙ k.is) in
     let ids : id ≡ jd = cc in
-    let rest : ended literals ++ ended (map pos hints) ≡ ended others ++ ended (map pos fore) = cc in
-    let good = and_parts (is_clause literals) (list_all is_id hints) (and_parts (is_id id) (is_clause literals && list_all is_id hints) h.written).1 in
-    let well = and_parts (is_clause others) (list_all is_id fore) (and_parts (is_id jd) (is_clause others && list_all is_id fore) k.written).1 in
-    let lists = same_lists is_literal refl literals others (ended (map pos hints)) (ended (map pos fore)) good.0 well.0 rest in
-    let last = same_last hints fore good.1 well.1 lists.1 in
+    let rest : ended literals ++ ended hints ≡ ended others ++ ended fore = cc in
+    let good = and_parts (is_clause literals) (list_all is_id_number hints) (and_parts (is_id id) (is_clause literals && list_all is_id_number hints) h.written).1 in
+    let well = and_parts (is_clause others) (list_all is_id_number fore) (and_parts (is_id jd) (is_clause others && list_all is_id_number fore) k.written).1 in
+    let lists = same_lists is_literal refl literals others (ended hints) (ended fore) good.0 well.0 rest in
+    let last = (same_lists is_id_number refl hints fore [] [] good.1 well.1 (ap (λ l. l ++ []) lists.1)).0 in
     (λ i. Addition (ids i) (lists.0 i) (last i))
 one_step words (Addition id literals hints) (Deletion first ids) h k = absurd (never_both_kinds words id literals hints first ids h k)
 one_step words (Deletion first ids) (Addition id literals hints) h k = absurd (never_both_kinds words id literals hints first ids k h)
@@ -161,11 +161,17 @@ literal_tells = record {
   tells = λ z none apart. and_from _ _ (above_zero (nat_abs z) apart) (chose_none (nat_le (nat_abs z) most_variable) BadNumber none);
 }
 
-id_tells : (negative : LratCause) → Tells (id_fault negative) is_plain_id
-id_tells negative = record {
+hint_tells : Tells hint_fault is_id_number
+hint_tells = record {
+  number = λ h. none-some BadNumber (sym h);
+  tells = λ z none apart. and_from _ _ (above_zero (nat_abs z) apart) (chose_none (nat_le (nat_abs z) most_id) BadNumber none);
+}
+
+id_tells : Tells id_fault is_plain_id
+id_tells = record {
   number = λ h. none-some BadNumber (sym h);
   tells = λ z none apart.
-      let parts = chose_second (is_negative z) negative (if nat_le (nat_abs z) most_id then None else Some BadNumber) none in
+      let parts = chose_second (is_negative z) BadNumber (if nat_le (nat_abs z) most_id then None else Some BadNumber) none in
       and_from _ _ (ap not parts.0) (and_from _ _ (above_zero (nat_abs z) apart) (chose_none (nat_le (nat_abs z) most_id) BadNumber parts.1));
 }
 
@@ -190,9 +196,15 @@ behind_none [] h = refl
 behind_none (word ∷ words) h = absurd (never_none (is_some (solver_number word)) h)
 
 -- ids at the end of a line
-ids_found : (negative : LratCause) (words : List (List ℕ)) → list_fault (id_fault negative) behind_fault words ≡ None → (ids : List ℕ) × (list_all is_id ids ≡ true) × Says words (ended (map pos ids))
-ids_found negative words h =
-    let f = list_found (id_fault negative) is_plain_id behind_fault (id_tells negative) words h in
+hints_found : (words : List (List ℕ)) → list_fault hint_fault behind_fault words ≡ None → (hints : List ℤ) × (list_all is_id_number hints ≡ true) × Says words (ended hints)
+hints_found words h =
+    let f = list_found hint_fault is_id_number behind_fault hint_tells words h in
+    let says = f.says [] (ap (map solver_number) (behind_none f.rest f.clear)) in
+    (f.numbers, f.good, says ∙ ap (map Some) (append-nil (ended f.numbers)))
+
+ids_found : (words : List (List ℕ)) → list_fault id_fault behind_fault words ≡ None → (ids : List ℕ) × (list_all is_id ids ≡ true) × Says words (ended (map pos ids))
+ids_found words h =
+    let f = list_found id_fault is_plain_id behind_fault id_tells words h in
     let plain = plain_ids f.numbers f.good in
     let says = f.says [] (ap (map solver_number) (behind_none f.rest f.clear)) in
     (plain.0, plain.2, says ∙ ap (map Some) (append-nil (ended f.numbers)) ∙ ap (λ ns. map Some (ended ns)) plain.1)
@@ -210,12 +222,12 @@ addition_found : (word : List ℕ) (words : List (List ℕ)) → option_or (firs
 addition_found word words h =
     let parts = or_none (first_fault 1 (solver_number word)) (addition_fault words) h in
     let first = first_found 1 word (solver_number word) refl parts.0 in
-    let f = list_found literal_fault is_literal (list_fault (id_fault RatLine) behind_fault) literal_tells words parts.1 in
-    let hints = ids_found RatLine f.rest f.clear in
+    let f = list_found literal_fault is_literal (list_fault hint_fault behind_fault) literal_tells words parts.1 in
+    let hints = hints_found f.rest f.clear in
     let least : 1 ≤ first.0 = leb-true 1 first.0 first.2 in (
       Addition first.0 f.numbers hints.0,
       record {
-        is = λ i. first.1 i ∷ f.says (ended (map pos hints.0)) hints.2 i;
+        is = λ i. first.1 i ∷ f.says (ended hints.0) hints.2 i;
         written = and_from _ _ (and_from _ _ (lt-ltb 0 first.0 (omega (arith, least))) first.3) (and_from _ _ f.good hints.1);
       },
     )
@@ -226,7 +238,7 @@ deletion_found word [] d h = absurd (false≢true d)
 deletion_found word (letter ∷ words) d h =
     let parts = or_none (first_fault 0 (solver_number word)) (deletion_fault words) h in
     let first = first_found 0 word (solver_number word) refl parts.0 in
-    let ids = ids_found BadNumber words parts.1 in
+    let ids = ids_found words parts.1 in
     let is : letter ≡ codes "d" = (bytes_eq-Decides letter (codes "d")).0 d in
     (Deletion first.0 ids.0, record { is = (word, words, (λ i. word ∷ (is i ∷ words)), first.1, ids.2); written = and_from _ _ first.3 ids.1 })
 

@@ -22,7 +22,7 @@ use Rattle.text_lines.specs.Words.{words_of, is_blank, is_empty}
 use Rattle.text_lines.proofs.LineLemmas.{line_ended, one_word, word_ended}
 use Rattle.text_lines.proofs.PlainLemmas.{decimal_is_plain}
 use Rattle.text_lines.proofs.SolverLemmas.{read_number}
-use Rattle.lrat_check.specs.LratText.{SpellsDerivation, IsStepLine, Says, ended, is_id, is_lrat_step, is_skipped, kept, most_id}
+use Rattle.lrat_check.specs.LratText.{SpellsDerivation, IsStepLine, Says, ended, is_id, is_id_number, is_lrat_step, is_skipped, kept, most_id}
 use Rattle.lrat_check.specs.LratWritten.{canonical_derivation, step_line, list_text}
 use Rattle.lrat_check.specs.declared.derivation.Step.{Step}
 use Rattle.lrat_check.specs.declared.derivation.Step.TheVariants.{Addition, Deletion}
@@ -120,7 +120,7 @@ numbers_read (z ∷ zs) h =
     let later = numbers_read zs parts.1 in
     (λ i. first i ∷ later i)
 
--- words, each behind a space
+-- words, each after a space
 abbrev behind_spaces : List (List ℕ) → List ℕ
 behind_spaces words = flat_map (λ word. 32 ∷ word) words
 
@@ -165,6 +165,12 @@ ids_small (id ∷ ids) h =
     let parts = and_parts (is_id id) (list_all is_id ids) h in
     and_from _ _ (and_parts (nat_lt 0 id) (nat_le id most_id) parts.0).1 (ids_small ids parts.1)
 
+hints_small : (hints : List ℤ) → list_all is_id_number hints ≡ true → list_all is_small hints ≡ true
+hints_small [] h = refl
+hints_small (z ∷ hints) h =
+    let parts = and_parts (is_id_number z) (list_all is_id_number hints) h in
+    and_from _ _ (and_parts (nat_lt 0 (nat_abs z)) (nat_le (nat_abs z) most_id) parts.0).1 (hints_small hints parts.1)
+
 ended_small : (zs : List ℤ) → list_all is_small zs ≡ true → list_all is_small (ended zs) ≡ true
 ended_small zs h = list_all-append is_small zs (pos 0 ∷ []) ∙ and_from _ _ h refl
 
@@ -181,21 +187,21 @@ record IsWritten (step : Step) : Type 0 where
 number_said : (n : ℕ) (words : List (List ℕ)) → n ≤ most_id → is_skipped (decimal n ∷ words) ≡ false
 number_said n words h = first_apart 99 refl refl (decimal n) (digits_of n h).all
 
-addition_written : (id : ℕ) (literals : List ℤ) (hints : List ℕ) → is_lrat_step (Addition id literals hints) ≡ true → IsWritten (Addition id literals hints)
+addition_written : (id : ℕ) (literals hints : List ℤ) → is_lrat_step (Addition id literals hints) ≡ true → IsWritten (Addition id literals hints)
 addition_written id literals hints h =
-    let good = and_parts (is_id id) (is_clause literals && list_all is_id hints) h in
-    let lists = and_parts (is_clause literals) (list_all is_id hints) good.1 in
+    let good = and_parts (is_id id) (is_clause literals && list_all is_id_number hints) h in
+    let lists = and_parts (is_clause literals) (list_all is_id_number hints) good.1 in
     let size : nat_le id most_id ≡ true = (and_parts (nat_lt 0 id) (nat_le id most_id) good.0).1 in
     let a = ended literals in
-    let b = ended (map pos hints) in
-    let small : list_all is_small (a ++ b) ≡ true = list_all-append is_small a b ∙ and_from _ _ (ended_small literals (literals_small literals lists.0)) (ended_small (map pos hints) (ids_small hints lists.1)) in
-    let both : list_text literals ++ list_text (map pos hints) ≡ behind_spaces (map signed_decimal (a ++ b)) =
-    (λ i. list_words literals i ++ list_words (map pos hints) i) ∙ sym (spaces_append (map signed_decimal a) (map signed_decimal b)) ∙ ap behind_spaces (sym (map-append signed_decimal a b)) in
+    let b = ended hints in
+    let small : list_all is_small (a ++ b) ≡ true = list_all-append is_small a b ∙ and_from _ _ (ended_small literals (literals_small literals lists.0)) (ended_small hints (hints_small hints lists.1)) in
+    let both : list_text literals ++ list_text hints ≡ behind_spaces (map signed_decimal (a ++ b)) =
+    (λ i. list_words literals i ++ list_words hints i) ∙ sym (spaces_append (map signed_decimal a) (map signed_decimal b)) ∙ ap behind_spaces (sym (map-append signed_decimal a b)) in
     record {
       number = decimal id;
       words = map signed_decimal (a ++ b);
-      line = ap (λ l. decimal id ++ l) (sym (append_assoc (list_text literals) (list_text (map pos hints)) (10 ∷ [])))
-          ∙ sym (append_assoc (decimal id) (list_text literals ++ list_text (map pos hints)) (10 ∷ []))
+      line = ap (λ l. decimal id ++ l) (sym (append_assoc (list_text literals) (list_text hints) (10 ∷ [])))
+          ∙ sym (append_assoc (decimal id) (list_text literals ++ list_text hints) (10 ∷ []))
           ∙ ap (λ l. (decimal id ++ l) ++ 10 ∷ []) both;
       number_is = decimal_word id (leb-true id most_id size);
       words_are = number_words (a ++ b) small;

@@ -1,16 +1,20 @@
 -- A derivation is accepted or refused, in one way.
-use Rattle.std.proofs.Common.{◌≡◌, ◌⊎◌, ℕ, ◌+◌, List, [], ◌∷◌, ◌++◌, refl, sym, ◌∙◌, subst, inl, inr, append_assoc, append-nil}
-use Rattle.std.specs.Prelude.{ℤ, Option, Some, None, IsSome}
-use Rattle.std.proofs.lemmas.Bool.{cases_Bool, false≢true, true≢false}
+use Rattle.std.proofs.Common.{◌≡◌, ◌≢◌, ◌⊎◌, ℕ, zero, suc, ◌+◌, ◌<◌, ◌≤◌, Bool, true, false, cond, eqb, length, map, ap, arith, List, [], ◌∷◌, ◌++◌, refl, sym, ◌∙◌, subst, inl, inr, append_assoc, append-nil}
+use Rattle.std.specs.Prelude.{ℤ, neg_ℤ, Option, Some, None, IsSome}
+use Rattle.std.specs.List.{list_any, slice_get}
+use Rattle.std.proofs.lemmas.Bool.{cases_Bool, cases_lt, cond-false, ne_eqb, false≢true, true≢false}
 use Rattle.std.proofs.lemmas.Option.{same_Some, none-some}
-use Rattle.lrat_check.specs.Active.{at_start, after}
+use Rattle.lrat_check.specs.Active.{numbered, at_start, after}
 use Rattle.lrat_check.specs.Checked.{IsRight, IsWrong, ends, Accepts, Refuses, IsAccepted, IsRefused}
-use Rattle.lrat_check.specs.Justified.{Refutes, FailsToRefute, negated}
-use Rattle.lrat_check.specs.Propagation.{is_tautology, is_falsified, Falsifies, IsUnit, HasTwoUnfalsified}
+use Rattle.lrat_check.specs.Hints.{Group, has_group, first_hints, groups_of}
+use Rattle.lrat_check.specs.Justified.{IsJustified, IsUnjustified}
+use Rattle.lrat_check.specs.Rat.{Reaches, others, IsSettled, IsUnsettled, AreSettled, AreUnsettled, HasAllGroups, LacksGroup, IsRat, IsNoRat, missing}
+use Rattle.lrat_check.specs.Refuted.{Refutes, FailsToRefute, negated}
+use Rattle.lrat_check.specs.Propagation.{has, is_tautology, is_falsified, Falsifies, IsUnit, HasTwoUnfalsified}
 use Rattle.lrat_check.specs.declared.derivation.Step.{Step}
 use Rattle.lrat_check.specs.declared.derivation.Step.TheVariants.{Addition, Deletion}
 use Rattle.lrat_check.specs.declared.refusal.StepFault.{StepFault}
-use Rattle.lrat_check.specs.declared.refusal.StepFault.TheVariants.{UnknownHint, NotUnit, NoConflict, IdInUse, NoEmptyClause}
+use Rattle.lrat_check.specs.declared.refusal.StepFault.TheVariants.{UnknownHint, NotUnit, NoConflict, IdInUse, NoEmptyClause, NotOpposed, NoPivot, GroupMissing}
 use Rattle.lrat_check.proofs.PropagationLemmas.{each_has, falsified_more, unit_more, two_more, first_unit, same_unit, second_unfalsified, cases_same}
 
 -- a clause stands in one way
@@ -116,6 +120,209 @@ refutes_or_fails : (active : ℕ → Option (List ℤ)) (hints : List ℕ) (true
 refutes_or_fails active [] trues = inr (NoConflict, refl)
 refutes_or_fails active (hint ∷ hints) trues = next_hint active trues hint hints (active hint) refl (λ unit. refutes_or_fails active hints (trues ++ unit ∷ []))
 
+-- hints that reach their end fail for want of a conflict, and the other way round
+pub reach_fails : (active : ℕ → Option (List ℤ)) (hints : List ℕ) (trues reached : List ℤ) → Reaches active trues hints reached → FailsToRefute active trues hints NoConflict
+reach_fails active [] trues reached e = refl
+reach_fails active (hint ∷ hints) trues reached (clause, known, (unit, is, later)) = inr (clause, known, inr (unit, is, reach_fails active hints (trues ++ unit ∷ []) reached later))
+
+fail_reaches : (active : ℕ → Option (List ℤ)) (hints : List ℕ) (trues : List ℤ) (fault : StepFault) → fault ≡ NoConflict → FailsToRefute active trues hints fault → (reached : List ℤ) × Reaches active trues hints reached
+fail_reaches active [] trues fault e h = (trues, refl)
+fail_reaches active (hint ∷ hints) trues fault e (inl (none, d)) = absurd (cc)
+fail_reaches active (hint ∷ hints) trues fault e (inr (clause, known, inl (two, d))) = absurd (cc)
+fail_reaches active (hint ∷ hints) trues fault e (inr (clause, known, inr (unit, is, later))) =
+    let end = fail_reaches active hints (trues ++ unit ∷ []) fault e later in
+    (end.0, (clause, known, (unit, is, end.1)))
+
+reach_once : (active : ℕ → Option (List ℤ)) (hints : List ℕ) (trues reached other : List ℤ) → Reaches active trues hints reached → Reaches active trues hints other → reached ≡ other
+reach_once active [] trues reached other h k = h ∙ sym k
+reach_once active (hint ∷ hints) trues reached other (c, known, (u, is, h)) (d, same, (v, too, k)) =
+    let clauses = one_clause (active hint) d c same known in
+    let units = one_unit trues c v u (subst (λ (x : List ℤ). IsUnit trues x v) clauses too) is in
+    reach_once active hints (trues ++ u ∷ []) reached other h (subst (λ (z : ℤ). Reaches active (trues ++ z ∷ []) hints other) units k)
+
+-- a group is settled or not, for one reason
+unsettled_once : (active : ℕ → Option (List ℤ)) (pivot : ℤ) (reached : List ℤ) (group : Group) (f g : StepFault) → IsUnsettled active pivot reached group f → IsUnsettled active pivot reached group g → f ≡ g
+unsettled_once active pivot reached group f g (inl (none, e)) (inl (same, d)) = e ∙ sym d
+unsettled_once active pivot reached group f g (inl (none, e)) (inr (d, known, k)) = absurd (no_clause (active group.id) d none known)
+unsettled_once active pivot reached group f g (inr (c, known, h)) (inl (none, d)) = absurd (no_clause (active group.id) c none known)
+unsettled_once active pivot reached group f g (inr (c, known, inl (free, e))) (inr (d, same, inl (too, b))) = e ∙ sym b
+unsettled_once active pivot reached group f g (inr (c, known, inl (free, e))) (inr (d, same, inr (opposed, none, k))) =
+    absurd (true≢false (sym opposed ∙ ap (λ l. has l (neg_ℤ pivot)) (one_clause (active group.id) d c same known) ∙ free))
+unsettled_once active pivot reached group f g (inr (c, known, inr (opposed, none, h))) (inr (d, same, inl (free, e))) =
+    absurd (true≢false (sym opposed ∙ ap (λ l. has l (neg_ℤ pivot)) (one_clause (active group.id) c d known same) ∙ free))
+unsettled_once active pivot reached group f g (inr (c, known, inr (opposed, none, h))) (inr (d, same, inr (too, off, k))) =
+    fails_once active group.hints (reached ++ negated (others pivot c)) f g h
+    (subst (λ (x : List ℤ). FailsToRefute active (reached ++ negated (others pivot x)) group.hints g) (one_clause (active group.id) d c same known) k)
+
+never_settled_and_not : (active : ℕ → Option (List ℤ)) (pivot : ℤ) (reached : List ℤ) (group : Group) (f : StepFault) → IsSettled active pivot reached group → IsUnsettled active pivot reached group f → ⊥
+never_settled_and_not active pivot reached group f (c, known, opposed, h) (inl (none, e)) = no_clause (active group.id) c none known
+never_settled_and_not active pivot reached group f (c, known, opposed, h) (inr (d, same, inl (free, e))) =
+    true≢false (sym opposed ∙ ap (λ l. has l (neg_ℤ pivot)) (one_clause (active group.id) c d known same) ∙ free)
+never_settled_and_not active pivot reached group f (c, known, opposed, inl holds) (inr (d, same, inr (too, none, k))) =
+    true≢false (sym holds ∙ ap (λ l. list_any (has reached) (others pivot l)) (one_clause (active group.id) c d known same) ∙ none)
+never_settled_and_not active pivot reached group f (c, known, opposed, inr refutes) (inr (d, same, inr (too, none, k))) =
+    never_refutes_and_fails active group.hints (reached ++ negated (others pivot c)) f refutes
+    (subst (λ (x : List ℤ). FailsToRefute active (reached ++ negated (others pivot x)) group.hints f) (one_clause (active group.id) d c same known) k)
+
+settled_from : (active : ℕ → Option (List ℤ)) (pivot : ℤ) (reached : List ℤ) (group : Group) (o : Option (List ℤ)) → active group.id ≡ o → IsSettled active pivot reached group ⊎ ((f : StepFault) × IsUnsettled active pivot reached group f)
+settled_from active pivot reached group None e = inr (UnknownHint, inl (e, refl))
+settled_from active pivot reached group (Some c) e = elim (cases_Bool (has c (neg_ℤ pivot))) [
+  | inr free ↦ inr (NotOpposed, inr (c, e, inl (free, refl)))
+  | inl opposed ↦ elim (cases_Bool (list_any (has reached) (others pivot c))) [
+    | inl holds ↦ inl (c, e, opposed, inl holds)
+    | inr none ↦ elim (refutes_or_fails active group.hints (reached ++ negated (others pivot c))) [
+      | inl refutes ↦ inl (c, e, opposed, inr refutes)
+      | inr (f, fails) ↦ inr (f, inr (c, e, inr (opposed, none, fails)))
+    ]
+  ]
+]
+
+settled_or_not : (active : ℕ → Option (List ℤ)) (pivot : ℤ) (reached : List ℤ) (group : Group) → IsSettled active pivot reached group ⊎ ((f : StepFault) × IsUnsettled active pivot reached group f)
+settled_or_not active pivot reached group = settled_from active pivot reached group (active group.id) refl
+
+-- all groups
+groups_once : (active : ℕ → Option (List ℤ)) (pivot : ℤ) (reached : List ℤ) (groups : List Group) (f g : StepFault) → AreUnsettled active pivot reached groups f → AreUnsettled active pivot reached groups g → f ≡ g
+groups_once active pivot reached [] f g h k = absurd h
+groups_once active pivot reached (group ∷ groups) f g (inl h) (inl k) = unsettled_once active pivot reached group f g h k
+groups_once active pivot reached (group ∷ groups) f g (inl h) (inr (settled, k)) = absurd (never_settled_and_not active pivot reached group f settled h)
+groups_once active pivot reached (group ∷ groups) f g (inr (settled, h)) (inl k) = absurd (never_settled_and_not active pivot reached group g settled k)
+groups_once active pivot reached (group ∷ groups) f g (inr (settled, h)) (inr (too, k)) = groups_once active pivot reached groups f g h k
+
+never_all_and_not : (active : ℕ → Option (List ℤ)) (pivot : ℤ) (reached : List ℤ) (groups : List Group) (f : StepFault) → AreSettled active pivot reached groups → AreUnsettled active pivot reached groups f → ⊥
+never_all_and_not active pivot reached [] f h k = k
+never_all_and_not active pivot reached (group ∷ groups) f (settled, h) (inl k) = never_settled_and_not active pivot reached group f settled k
+never_all_and_not active pivot reached (group ∷ groups) f (settled, h) (inr (too, k)) = never_all_and_not active pivot reached groups f h k
+
+all_or_not : (active : ℕ → Option (List ℤ)) (pivot : ℤ) (reached : List ℤ) (groups : List Group) → AreSettled active pivot reached groups ⊎ ((f : StepFault) × AreUnsettled active pivot reached groups f)
+all_or_not active pivot reached [] = inl tt
+all_or_not active pivot reached (group ∷ groups) = elim (settled_or_not active pivot reached group) [
+  | inr (f, unsettled) ↦ inr (f, inl unsettled)
+  | inl settled ↦ elim (all_or_not active pivot reached groups) [
+    | inl later ↦ inl (settled, later)
+    | inr (f, unsettled) ↦ inr (f, inr (settled, unsettled))
+  ]
+]
+
+-- no clause is active under an id from this on
+abbrev IsBelow : ℕ → (ℕ → Option (List ℤ)) → Type 0
+IsBelow end active = (id : ℕ) → end ≤ id → active id ≡ None
+
+-- each clause before an id has a group where it needs one, or one lacks it
+abbrev HasGroupsBefore : ℕ → (ℕ → Option (List ℤ)) → ℤ → List Group → Type 0
+HasGroupsBefore end active pivot groups = (id : ℕ) (clause : List ℤ) → id < end → active id ≡ Some clause → has clause (neg_ℤ pivot) ≡ true → has_group groups id ≡ true
+
+abbrev HasGroupAt : (ℕ → Option (List ℤ)) → ℤ → List Group → ℕ → Type 0
+HasGroupAt active pivot groups id = (clause : List ℤ) → active id ≡ Some clause → has clause (neg_ℤ pivot) ≡ true → has_group groups id ≡ true
+
+group_at : (active : ℕ → Option (List ℤ)) (pivot : ℤ) (groups : List Group) (id : ℕ) (o : Option (List ℤ)) → active id ≡ o → HasGroupAt active pivot groups id ⊎ LacksGroup active pivot groups
+group_at active pivot groups id None e = inl (λ clause known opposed. absurd (no_clause (active id) clause e known))
+group_at active pivot groups id (Some c) e = elim (cases_Bool (has_group groups id)) [
+  | inl there ↦ inl (λ clause known opposed. there)
+  | inr lacks ↦ elim (cases_Bool (has c (neg_ℤ pivot))) [
+    | inl opposed ↦ inr (id, c, e, opposed, lacks)
+    | inr free ↦ inl (λ clause known opposed. absurd (true≢false (sym opposed ∙ ap (λ l. has l (neg_ℤ pivot)) (one_clause (active id) clause c known e) ∙ free)))
+  ]
+]
+
+groups_before : (active : ℕ → Option (List ℤ)) (pivot : ℤ) (groups : List Group) (end : ℕ) → HasGroupsBefore end active pivot groups ⊎ LacksGroup active pivot groups
+groups_before active pivot groups zero = inl (λ id clause below. absurd (omega (arith, below)))
+groups_before active pivot groups (suc end) = elim (groups_before active pivot groups end) [
+  | inr lacks ↦ inr lacks
+  | inl before ↦ elim (group_at active pivot groups end (active end) refl) [
+    | inr lacks ↦ inr lacks
+    | inl here ↦ inl (λ id clause below known opposed. elim (cases_lt id end) [
+      | inl earlier ↦ before id clause earlier known opposed
+      | inr later ↦ (let same : end ≡ id = omega (arith, below, later) in subst (HasGroupAt active pivot groups) same here clause known opposed)
+    ])
+  ]
+]
+
+groups_or_not : (active : ℕ → Option (List ℤ)) (pivot : ℤ) (groups : List Group) (end : ℕ) → IsBelow end active → HasAllGroups active pivot groups ⊎ LacksGroup active pivot groups
+groups_or_not active pivot groups end none = elim (groups_before active pivot groups end) [
+  | inr lacks ↦ inr lacks
+  | inl before ↦ inl (λ id clause known opposed. elim (cases_lt id end) [
+    | inl earlier ↦ before id clause earlier known opposed
+    | inr later ↦ absurd (no_clause (active id) clause (none id later) known)
+  ])
+]
+
+never_lacks_and_has : (active : ℕ → Option (List ℤ)) (pivot : ℤ) (groups : List Group) → HasAllGroups active pivot groups → LacksGroup active pivot groups → ⊥
+never_lacks_and_has active pivot groups has_all (id, clause, known, opposed, lacks) = true≢false (sym (has_all id clause known opposed) ∙ lacks)
+
+-- a clause may be added by its groups or not, for one reason
+no_rat_once : (active : ℕ → Option (List ℤ)) (clause : List ℤ) (groups : List Group) (reached : List ℤ) (f g : StepFault) → IsNoRat active clause groups reached f → IsNoRat active clause groups reached g → f ≡ g
+no_rat_once active [] [] reached f g h k = h ∙ sym k
+no_rat_once active [] (group ∷ groups) reached f g h k = h ∙ sym k
+no_rat_once active (pivot ∷ rest) groups reached f g (inl h) (inl k) = groups_once active pivot reached groups f g h k
+no_rat_once active (pivot ∷ rest) groups reached f g (inl h) (inr (settled, lacks, e)) = absurd (never_all_and_not active pivot reached groups f settled h)
+no_rat_once active (pivot ∷ rest) groups reached f g (inr (settled, lacks, e)) (inl k) = absurd (never_all_and_not active pivot reached groups g settled k)
+no_rat_once active (pivot ∷ rest) groups reached f g (inr (settled, lacks, e)) (inr (too, lacking, d)) = e ∙ sym d
+
+never_rat_and_not : (active : ℕ → Option (List ℤ)) (clause : List ℤ) (groups : List Group) (reached : List ℤ) (f : StepFault) → IsRat active clause groups reached → IsNoRat active clause groups reached f → ⊥
+never_rat_and_not active [] groups reached f h k = h
+never_rat_and_not active (pivot ∷ rest) groups reached f (settled, has_all) (inl k) = never_all_and_not active pivot reached groups f settled k
+never_rat_and_not active (pivot ∷ rest) groups reached f (settled, has_all) (inr (too, lacks, e)) = never_lacks_and_has active pivot groups has_all lacks
+
+rat_or_not : (active : ℕ → Option (List ℤ)) (end : ℕ) → IsBelow end active → (clause : List ℤ) (groups : List Group) (reached : List ℤ) → IsRat active clause groups reached ⊎ ((f : StepFault) × IsNoRat active clause groups reached f)
+rat_or_not active end none [] [] reached = inr (NoConflict, refl)
+rat_or_not active end none [] (group ∷ groups) reached = inr (NoPivot, refl)
+rat_or_not active end none (pivot ∷ rest) groups reached = elim (all_or_not active pivot reached groups) [
+  | inr (f, unsettled) ↦ inr (f, inl unsettled)
+  | inl settled ↦ elim (groups_or_not active pivot groups end none) [
+    | inl has_all ↦ inl (settled, has_all)
+    | inr lacks ↦ inr (missing groups, inr (settled, lacks, refl))
+  ]
+]
+
+-- a clause is justified or not, for one reason
+unjustified_once : (active : ℕ → Option (List ℤ)) (clause hints : List ℤ) (f g : StepFault) → IsUnjustified active clause hints f → IsUnjustified active clause hints g → f ≡ g
+unjustified_once active clause hints f g (never, inl (h, apart)) (too, inl (k, off)) = fails_once active (first_hints hints) (negated clause) f g h k
+unjustified_once active clause hints f g (never, inl (h, apart)) (too, inr (reached, reaches, k)) =
+    absurd (apart (fails_once active (first_hints hints) (negated clause) f NoConflict h (reach_fails active (first_hints hints) (negated clause) reached reaches)))
+unjustified_once active clause hints f g (never, inr (reached, reaches, h)) (too, inl (k, apart)) =
+    absurd (apart (fails_once active (first_hints hints) (negated clause) g NoConflict k (reach_fails active (first_hints hints) (negated clause) reached reaches)))
+unjustified_once active clause hints f g (never, inr (reached, reaches, h)) (too, inr (other, reach, k)) =
+    no_rat_once active clause (groups_of hints) reached f g h
+    (subst (λ (r : List ℤ). IsNoRat active clause (groups_of hints) r g) (reach_once active (first_hints hints) (negated clause) other reached reach reaches) k)
+
+never_justified_and_not : (active : ℕ → Option (List ℤ)) (clause hints : List ℤ) (f : StepFault) → IsJustified active clause hints → IsUnjustified active clause hints f → ⊥
+never_justified_and_not active clause hints f (inl (inl taut)) (never, k) = true≢false (sym taut ∙ never)
+never_justified_and_not active clause hints f (inl (inr refutes)) (never, inl (k, apart)) = never_refutes_and_fails active (first_hints hints) (negated clause) f refutes k
+never_justified_and_not active clause hints f (inl (inr refutes)) (never, inr (reached, reaches, k)) =
+    never_refutes_and_fails active (first_hints hints) (negated clause) NoConflict refutes (reach_fails active (first_hints hints) (negated clause) reached reaches)
+never_justified_and_not active clause hints f (inr (reached, reaches, rat)) (never, inl (k, apart)) =
+    apart (fails_once active (first_hints hints) (negated clause) f NoConflict k (reach_fails active (first_hints hints) (negated clause) reached reaches))
+never_justified_and_not active clause hints f (inr (reached, reaches, rat)) (never, inr (other, reach, k)) =
+    never_rat_and_not active clause (groups_of hints) reached f rat
+    (subst (λ (r : List ℤ). IsNoRat active clause (groups_of hints) r f) (reach_once active (first_hints hints) (negated clause) other reached reach reaches) k)
+
+which_fault : (f : StepFault) → (f ≡ NoConflict) ⊎ (f ≢ NoConflict)
+which_fault NoConflict = inl refl
+which_fault UnknownHint = inr (λ e. absurd cc)
+which_fault NotUnit = inr (λ e. absurd cc)
+which_fault IdInUse = inr (λ e. absurd cc)
+which_fault NoEmptyClause = inr (λ e. absurd cc)
+which_fault NotOpposed = inr (λ e. absurd cc)
+which_fault NoPivot = inr (λ e. absurd cc)
+which_fault GroupMissing = inr (λ e. absurd cc)
+
+justified_or_not : (active : ℕ → Option (List ℤ)) (end : ℕ) → IsBelow end active → (clause hints : List ℤ) → IsJustified active clause hints ⊎ ((f : StepFault) × IsUnjustified active clause hints f)
+justified_or_not active end none clause hints = elim (cases_Bool (is_tautology clause)) [
+  | inl taut ↦ inl (inl (inl taut))
+  | inr never ↦ elim (refutes_or_fails active (first_hints hints) (negated clause)) [
+    | inl refutes ↦ inl (inl (inr refutes))
+    | inr (f, fails) ↦ elim (which_fault f) [
+      | inr apart ↦ inr (f, (never, inl (fails, apart)))
+      | inl same ↦ (
+          let end_of = fail_reaches active (first_hints hints) (negated clause) f same fails in
+          elim (rat_or_not active end none clause (groups_of hints) end_of.0) [
+            | inl rat ↦ inl (inr (end_of.0, end_of.1, rat))
+            | inr (g, no_rat) ↦ inr (g, (never, inr (end_of.0, end_of.1, no_rat)))
+          ])
+    ]
+  ]
+]
+
 -- a step is wrong in one way
 some_clause : (o : Option (List ℤ)) → IsSome o → o ≡ None → ⊥
 some_clause None h e = false≢true h
@@ -125,30 +332,48 @@ wrong_once : (active : ℕ → Option (List ℤ)) (step : Step) (f g : StepFault
 wrong_once active (Addition id literals hints) f g (inl (used, e)) (inl (same, d)) = e ∙ sym d
 wrong_once active (Addition id literals hints) f g (inl (used, e)) (inr (free, k)) = absurd (some_clause (active id) used free)
 wrong_once active (Addition id literals hints) f g (inr (free, h)) (inl (used, d)) = absurd (some_clause (active id) used free)
-wrong_once active (Addition id literals hints) f g (inr (free, h)) (inr (same, k)) = fails_once active hints (negated literals) f g h.1 k.1
+wrong_once active (Addition id literals hints) f g (inr (free, h)) (inr (same, k)) = unjustified_once active literals hints f g h k
 wrong_once active (Deletion first ids) f g h k = absurd h
 
 never_right_and_wrong : (active : ℕ → Option (List ℤ)) (step : Step) (f : StepFault) → IsRight active step → IsWrong active step f → ⊥
 never_right_and_wrong active (Addition id literals hints) f (free, h) (inl (used, e)) = some_clause (active id) used free
-never_right_and_wrong active (Addition id literals hints) f (free, inl taut) (inr (same, k)) = true≢false (sym taut ∙ k.0)
-never_right_and_wrong active (Addition id literals hints) f (free, inr refutes) (inr (same, k)) = never_refutes_and_fails active hints (negated literals) f refutes k.1
+never_right_and_wrong active (Addition id literals hints) f (free, h) (inr (same, k)) = never_justified_and_not active literals hints f h k
 never_right_and_wrong active (Deletion first ids) f h k = k
 
-addition_either : (active : ℕ → Option (List ℤ)) (id : ℕ) (literals : List ℤ) (hints : List ℕ) (o : Option (List ℤ)) → active id ≡ o →
+addition_either : (active : ℕ → Option (List ℤ)) (end : ℕ) → IsBelow end active → (id : ℕ) (literals hints : List ℤ) (o : Option (List ℤ)) → active id ≡ o →
     IsRight active (Addition id literals hints) ⊎ ((f : StepFault) × IsWrong active (Addition id literals hints) f)
-addition_either active id literals hints (Some c) e = inr (IdInUse, inl (subst (λ (o : Option (List ℤ)). IsSome o) (sym e) refl, refl))
-addition_either active id literals hints None e =
-    elim (cases_Bool (is_tautology literals)) [
-      | inl taut ↦ inl (e, inl taut)
-      | inr never ↦ elim (refutes_or_fails active hints (negated literals)) [
-        | inl refutes ↦ inl (e, inr refutes)
-        | inr (f, fails) ↦ inr (f, inr (e, (never, fails)))
-      ]
-    ]
+addition_either active end none id literals hints (Some c) e = inr (IdInUse, inl (subst (λ (o : Option (List ℤ)). IsSome o) (sym e) refl, refl))
+addition_either active end none id literals hints None e = elim (justified_or_not active end none literals hints) [
+  | inl justified ↦ inl (e, justified)
+  | inr (f, unjustified) ↦ inr (f, inr (e, unjustified))
+]
 
-right_or_wrong : (active : ℕ → Option (List ℤ)) (step : Step) → IsRight active step ⊎ ((f : StepFault) × IsWrong active step f)
-right_or_wrong active (Addition id literals hints) = addition_either active id literals hints (active id) refl
-right_or_wrong active (Deletion first ids) = inl tt
+right_or_wrong : (active : ℕ → Option (List ℤ)) (end : ℕ) → IsBelow end active → (step : Step) → IsRight active step ⊎ ((f : StepFault) × IsWrong active step f)
+right_or_wrong active end none (Addition id literals hints) = addition_either active end none id literals hints (active id) refl
+right_or_wrong active end none (Deletion first ids) = inl tt
+
+-- where the active clauses end
+abbrev end_after : ℕ → Step → ℕ
+end_after end (Addition id literals hints) = end + suc id
+end_after end (Deletion first ids) = end
+
+cond_none : (b : Bool) (o : Option (List ℤ)) → o ≡ None → cond b None o ≡ None
+cond_none true o e = refl
+cond_none false o e = e
+
+below_after : (active : ℕ → Option (List ℤ)) (end : ℕ) (step : Step) → IsBelow end active → IsBelow (end_after end step) (after active step)
+below_after active end (Addition id literals hints) none other past =
+    cond-false (eqb id other) (Some literals) (active other) (ne_eqb id other (λ e. omega (arith, e, past))) ∙ none other (omega (arith, past))
+below_after active end (Deletion first ids) none other past = cond_none (list_any (λ id. eqb id other) ids) (active other) (none other past)
+
+nothing_past : (clauses : List (List ℤ)) (k : ℕ) → length clauses ≤ k → slice_get clauses k ≡ None
+nothing_past [] k h = refl
+nothing_past (c ∷ clauses) zero h = absurd (omega (arith, h))
+nothing_past (c ∷ clauses) (suc k) h = nothing_past clauses k (omega (arith, h))
+
+below_start : (clauses : List (List ℤ)) → IsBelow (suc (length clauses)) (numbered clauses)
+below_start clauses zero past = refl
+below_start clauses (suc k) past = nothing_past clauses k (omega (arith, past))
 
 -- all steps
 refused_once : (steps : List Step) (active : ℕ → Option (List ℤ)) (first : ℕ) (f g : StepFault) (p q : ℕ) → Refuses active first steps f p → Refuses active first steps g q → (f ≡ g) × (p ≡ q)
@@ -164,14 +389,14 @@ never_both_from (step ∷ steps) active first f p (right, h) (inl (wrong, e)) = 
 never_both_from (step ∷ steps) active first f p (right, inl end) (inr (same, on, k)) = true≢false (sym end ∙ on)
 never_both_from (step ∷ steps) active first f p (right, inr later) (inr (same, on, k)) = never_both_from steps (after active step) (first + 1) f p later k
 
-always_from : (steps : List Step) (active : ℕ → Option (List ℤ)) (first : ℕ) → Accepts active steps ⊎ ((f : StepFault) × (p : ℕ) × Refuses active first steps f p)
-always_from [] active first = inr (NoEmptyClause, first, (refl, refl))
-always_from (step ∷ steps) active first =
-    elim (right_or_wrong active step) [
+always_from : (steps : List Step) (active : ℕ → Option (List ℤ)) (end first : ℕ) → IsBelow end active → Accepts active steps ⊎ ((f : StepFault) × (p : ℕ) × Refuses active first steps f p)
+always_from [] active end first none = inr (NoEmptyClause, first, (refl, refl))
+always_from (step ∷ steps) active end first none =
+    elim (right_or_wrong active end none step) [
       | inr (f, wrong) ↦ inr (f, first, inl (wrong, refl))
       | inl right ↦ elim (cases_Bool (ends step)) [
-        | inl end ↦ inl (right, inl end)
-        | inr on ↦ elim (always_from steps (after active step) (first + 1)) [
+        | inl last ↦ inl (right, inl last)
+        | inr on ↦ elim (always_from steps (after active step) (end_after end step) (first + 1) (below_after active end step none)) [
           | inl later ↦ inl (right, inr later)
           | inr (f, p, k) ↦ inr (f, p, inr (right, on, k))
         ]
@@ -185,4 +410,6 @@ pub never_both : (clauses : List (List ℤ)) (cube : List ℤ) (steps : List Ste
 never_both clauses cube steps fault place h k = never_both_from steps (at_start clauses cube) 1 fault place h k
 
 pub always_one : (clauses : List (List ℤ)) (cube : List ℤ) (steps : List Step) → IsAccepted clauses cube steps ⊎ ((fault : StepFault) × (place : ℕ) × IsRefused clauses cube steps fault place)
-always_one clauses cube steps = always_from steps (at_start clauses cube) 1
+always_one clauses cube steps =
+    let units = map (λ (literal : ℤ). literal ∷ []) cube in
+    always_from steps (at_start clauses cube) (suc (length (clauses ++ units))) 1 (below_start (clauses ++ units))

@@ -1,23 +1,26 @@
 -- Justified clauses follow from active ones.
 use Rattle.std.proofs.Common.{◌≡◌, ◌≢◌, ℕ, zero, suc, Bool, true, false, not, List, [], ◌∷◌, ◌++◌, map, length, refl, ap, sym, ◌∙◌, subst, inl, inr, arith}
-use Rattle.std.specs.Prelude.{ℤ, pos, negsuc, neg_ℤ, Option, Some, None, ◌==◌}
+use Rattle.std.specs.Prelude.{ℤ, pos, negsuc, nat_abs, neg_ℤ, cond, Option, Some, None, ◌==◌}
 use Rattle.std.specs.List.{list_any, list_all, slice_get}
 use Rattle.std.specs.Ordering.{int_eq}
-use Rattle.std.proofs.lemmas.Bool.{cases_Bool, or_left, or_parts, and_from, and_parts, false≢true, true≢false, false_from_ne_true, not-true, not_from_false, or_from, cond-true, cond-false, eq-eqb, eqb-true}
+use Rattle.std.proofs.lemmas.Bool.{cases_Bool, or_cases, or_left, or_right, or_parts, ne_eqb, and_from, and_parts, false≢true, true≢false, false_from_ne_true, not-true, not_from_false, or_from, cond-true, cond-false, eq-eqb, eqb-true}
 use Rattle.std.proofs.lemmas.Option.{same_Some, none-some}
-use Rattle.std.proofs.lemmas.List.Folds.{list_all-append}
+use Rattle.std.proofs.lemmas.List.Folds.{list_all-append, list_any-append}
 use Rattle.dimacs.specs.Assignment.{makes_true, makes_some}
 use Rattle.dimacs.specs.Models.{HasNoModelIn}
 use Rattle.dimacs.specs.Literal.{is_literal_up_to, is_clause_up_to, is_clause}
 use Rattle.lrat_check.specs.Active.{numbered, at_start, with_clause, without, after}
 use Rattle.lrat_check.specs.Checked.{IsRight, ends, Accepts, IsAccepted}
 use Rattle.lrat_check.specs.Derivation.{is_step, are_steps}
-use Rattle.lrat_check.specs.Justified.{Refutes, IsJustified, negated}
+use Rattle.lrat_check.specs.Hints.{Group, has_group, first_hints, groups_of}
+use Rattle.lrat_check.specs.Justified.{IsImplied, IsJustified}
+use Rattle.lrat_check.specs.Rat.{Reaches, others, IsSettled, AreSettled}
+use Rattle.lrat_check.specs.Refuted.{Refutes, negated}
 use Rattle.lrat_check.specs.Propagation.{has, is_tautology, is_falsified}
 use Rattle.lrat_check.specs.Sound.{has_no_zero, HaveNoZero, Satisfies, HasModel}
 use Rattle.lrat_check.specs.declared.derivation.Step.{Step}
 use Rattle.lrat_check.specs.declared.derivation.Step.TheVariants.{Addition, Deletion}
-use Rattle.lrat_check.proofs.PropagationLemmas.{each_has, has_any, any_has, has_cases, has_negated, taut_pair, neg_neg}
+use Rattle.lrat_check.proofs.PropagationLemmas.{each_has, has_any, any_has, has_cases, has_negated, taut_pair, neg_neg, cases_same, int_self, int_same}
 
 not_not : (b : Bool) → not (not b) ≡ b
 not_not true = refl
@@ -86,13 +89,13 @@ tautology_true value clause clean h =
       | inr untrue ↦ has_any (makes_true value) clause (neg_ℤ pair.0) pair.2 (opposite value pair.0 (not_zero clause pair.0 clean pair.1) ∙ ap not untrue)
     ]
 
-pub justified_true : (active : ℕ → Option (List ℤ)) (clause : List ℤ) (hints : List ℕ) → HaveNoZero active → has_no_zero clause ≡ true → IsJustified active clause hints →
+pub implied_true : (active : ℕ → Option (List ℤ)) (clause hints : List ℤ) → HaveNoZero active → has_no_zero clause ≡ true → IsImplied active clause hints →
     (value : ℕ → Bool) → Satisfies value active → makes_some value clause ≡ true
-justified_true active clause hints clean no_zero (inl taut) value sat = tautology_true value clause no_zero taut
-justified_true active clause hints clean no_zero (inr refutes) value sat =
+implied_true active clause hints clean no_zero (inl taut) value sat = tautology_true value clause no_zero taut
+implied_true active clause hints clean no_zero (inr refutes) value sat =
     elim (cases_Bool (makes_some value clause)) [
       | inl holds ↦ holds
-      | inr none ↦ absurd (refuted active value clean sat hints (negated clause) (negations_true value clause no_zero none) refutes)
+      | inr none ↦ absurd (refuted active value clean sat (first_hints hints) (negated clause) (negations_true value clause no_zero none) refutes)
     ]
 
 -- what holds of the active clauses and of a new one holds with it
@@ -122,9 +125,135 @@ pub step_no_zero : (active : ℕ → Option (List ℤ)) (step : Step) → HaveNo
 step_no_zero active (Addition id literals hints) clean ok = with_each (λ clause. has_no_zero clause ≡ true) id literals active (clause_no_zero 4194304 literals ok) clean
 step_no_zero active (Deletion first ids) clean ok = without_each (λ clause. has_no_zero clause ≡ true) ids active clean
 
+-- the truth values with this literal made true
+abbrev is_plus : ℤ → Bool
+is_plus (pos n) = true
+is_plus (negsuc n) = false
+
+abbrev turned : (ℕ → Bool) → ℤ → ℕ → Bool
+turned value pivot n = cond (nat_abs pivot == n) (is_plus pivot) (value n)
+
+turned_pivot : (value : ℕ → Bool) (pivot : ℤ) → makes_true (turned value pivot) pivot ≡ true
+turned_pivot value (pos n) = cond-true (n == n) true (value n) (eq-eqb n n refl)
+turned_pivot value (negsuc n) = ap not (cond-true (suc n == suc n) false (value (suc n)) (eq-eqb (suc n) (suc n) refl))
+
+-- other literals of the same variable
+abs_apart : (z pivot : ℤ) → z ≢ pivot → z ≢ neg_ℤ pivot → nat_abs pivot ≢ nat_abs z
+abs_apart (pos a) (pos b) h k e = h (ap pos (sym e))
+abs_apart (pos a) (negsuc b) h k e = k (ap pos (sym e))
+abs_apart (negsuc a) (pos zero) h k e = absurd (omega (arith, e))
+abs_apart (negsuc a) (pos (suc b)) h k e = (let same : a ≡ b = omega (arith, e) in k (ap negsuc same))
+abs_apart (negsuc a) (negsuc b) h k e = (let same : a ≡ b = omega (arith, e) in h (ap negsuc same))
+
+turned_other : (value : ℕ → Bool) (z pivot : ℤ) → z ≢ pivot → z ≢ neg_ℤ pivot → makes_true (turned value pivot) z ≡ makes_true value z
+turned_other value (pos n) pivot h k = cond-false (nat_abs pivot == n) (is_plus pivot) (value n) (ne_eqb (nat_abs pivot) n (abs_apart (pos n) pivot h k))
+turned_other value (negsuc n) pivot h k = ap not (cond-false (nat_abs pivot == suc n) (is_plus pivot) (value (suc n)) (ne_eqb (nat_abs pivot) (suc n) (abs_apart (negsuc n) pivot h k)))
+
+-- a true literal stays true, unless it is the pivot's negation
+stays : (value : ℕ → Bool) (z pivot : ℤ) → z ≢ neg_ℤ pivot → makes_true value z ≡ true → makes_true (turned value pivot) z ≡ true
+stays value z pivot apart holds = elim (cases_same z pivot) [
+  | inl same ↦ ap (makes_true (turned value pivot)) same ∙ turned_pivot value pivot
+  | inr other ↦ turned_other value z pivot other apart ∙ holds
+]
+
+-- the hints make no literal true that is not so by the truth values
+reached_true : (active : ℕ → Option (List ℤ)) (value : ℕ → Bool) → HaveNoZero active → Satisfies value active → (hints : List ℕ) (trues reached : List ℤ) → MakesAll value trues → Reaches active trues hints reached → MakesAll value reached
+reached_true active value clean sat [] trues reached all e = λ z h. all z (ap (λ l. has l z) (sym e) ∙ h)
+reached_true active value clean sat (hint ∷ hints) trues reached all (clause, known, (unit, is, later)) =
+    let found = true_literal value clause (sat hint clause known) in
+    let un = not_falsified value trues found.0 all (not_zero clause found.0 (clean hint clause known) found.1) found.2 in
+    let holds : makes_true value unit ≡ true = ap (makes_true value) (sym (is.alone found.0 found.1 un)) ∙ found.2 in
+    reached_true active value clean sat hints (trues ++ unit ∷ []) reached (makes_more value trues unit all holds) later
+
+-- the other literals are of the clause, and none is the pivot's negation
+has_others : (pivot : ℤ) (clause : List ℤ) (z : ℤ) → has (others pivot clause) z ≡ true → (has clause z ≡ true) × (z ≢ neg_ℤ pivot)
+has_others pivot [] z h = absurd (false≢true h)
+has_others pivot (y ∷ clause) z h = elim (cases_Bool (int_eq y (neg_ℤ pivot))) [
+  | inl same ↦ (
+      let shown = ap (λ b. has (cond b (others pivot clause) (y ∷ others pivot clause)) z) (sym same) ∙ h in
+      let later = has_others pivot clause z shown in
+      (or_right (int_eq y z) (has clause z) later.0, later.1))
+  | inr apart ↦ (
+      let shown = ap (λ b. has (cond b (others pivot clause) (y ∷ others pivot clause)) z) (sym apart) ∙ h in
+      elim (or_cases (int_eq y z) (has (others pivot clause) z) shown) [
+        | inl here ↦ (or_left (int_eq y z) (has clause z) here, λ e. true≢false (sym (int_self (neg_ℤ pivot)) ∙ ap (λ x. int_eq x (neg_ℤ pivot)) (sym (int_same y z here ∙ e)) ∙ apart))
+        | inr there ↦ (let later = has_others pivot clause z there in (or_right (int_eq y z) (has clause z) later.0, later.1))
+      ])
+]
+
+others_no_zero : (pivot : ℤ) (clause : List ℤ) → has_no_zero clause ≡ true → has_no_zero (others pivot clause) ≡ true
+others_no_zero pivot clause h = not_from_false (has (others pivot clause) (pos 0)) (false_from_ne_true (has (others pivot clause) (pos 0)) (λ zero_in.
+    true≢false (sym (has_others pivot clause (pos 0) zero_in).0 ∙ not-true (has clause (pos 0)) h)))
+
+makes_both : (value : ℕ → Bool) (xs ys : List ℤ) → MakesAll value xs → MakesAll value ys → MakesAll value (xs ++ ys)
+makes_both value xs ys h k z e = elim (or_cases (has xs z) (has ys z) (sym (list_any-append (λ y. int_eq y z) xs ys) ∙ e)) [ inl front ↦ h z front | inr back ↦ k z back ]
+
+-- a true literal of a clause that is not the pivot's negation
+abbrev HasOther : (ℕ → Bool) → ℤ → List ℤ → Type 0
+HasOther value pivot clause = (z : ℤ) × (has clause z ≡ true) × (z ≢ neg_ℤ pivot) × (makes_true value z ≡ true)
+
+some_other : (value : ℕ → Bool) (pivot : ℤ) (clause : List ℤ) → list_any (makes_true value) (others pivot clause) ≡ true → HasOther value pivot clause
+some_other value pivot clause h =
+    let found = any_has (makes_true value) (others pivot clause) h in
+    let among = has_others pivot clause found.0 found.1 in
+    (found.0, among.0, among.1, found.2)
+
+-- the clause of a settled group has one
+settled_other : (active : ℕ → Option (List ℤ)) (value : ℕ → Bool) → HaveNoZero active → Satisfies value active → (pivot : ℤ) (reached : List ℤ) (group : Group) → MakesAll value reached →
+    (settled : IsSettled active pivot reached group) → HasOther value pivot settled.0
+settled_other active value clean sat pivot reached group all (clause, known, opposed, inl holds) =
+    let found = any_has (has reached) (others pivot clause) holds in
+    let among = has_others pivot clause found.0 found.1 in
+    (found.0, among.0, among.1, all found.0 found.2)
+settled_other active value clean sat pivot reached group all (clause, known, opposed, inr refutes) = elim (cases_Bool (list_any (makes_true value) (others pivot clause))) [
+  | inl some ↦ some_other value pivot clause some
+  | inr none ↦ absurd (refuted active value clean sat group.hints (reached ++ negated (others pivot clause))
+      (makes_both value reached (negated (others pivot clause)) all (negations_true value (others pivot clause) (others_no_zero pivot clause (clean group.id clause known)) none)) refutes)
+]
+
+-- the settled group of an id
+group_of : (active : ℕ → Option (List ℤ)) (pivot : ℤ) (reached : List ℤ) (groups : List Group) (id : ℕ) → AreSettled active pivot reached groups → has_group groups id ≡ true →
+    (group : Group) × IsSettled active pivot reached group × (group.id ≡ id)
+group_of active pivot reached [] id settled h = absurd (false≢true h)
+group_of active pivot reached (group ∷ groups) id settled h = elim (or_cases (group.id == id) (has_group groups id) h) [
+  | inl here ↦ (group, settled.0, eqb-true group.id id here)
+  | inr later ↦ group_of active pivot reached groups id settled.1 later
+]
+
+-- what was satisfied stays so where the pivot is made true
+opposed_true : (active : ℕ → Option (List ℤ)) (value : ℕ → Bool) → HaveNoZero active → Satisfies value active → (pivot : ℤ) (reached : List ℤ) (groups : List Group) → MakesAll value reached →
+    AreSettled active pivot reached groups → ((id : ℕ) (clause : List ℤ) → active id ≡ Some clause → has clause (neg_ℤ pivot) ≡ true → has_group groups id ≡ true) → Satisfies (turned value pivot) active
+opposed_true active value clean sat pivot reached groups all settled complete id clause known = elim (cases_Bool (has clause (neg_ℤ pivot))) [
+  | inl opposed ↦ (
+      let group = group_of active pivot reached groups id settled (complete id clause known opposed) in
+      let other = settled_other active value clean sat pivot reached group.0 all group.1 in
+      let same : group.1.0 ≡ clause = same_Some group.1.0 clause (sym group.1.1 ∙ ap active group.2 ∙ known) in
+      has_any (makes_true (turned value pivot)) clause other.0 (ap (λ l. has l other.0) (sym same) ∙ other.1) (stays value other.0 pivot other.2 other.3))
+  | inr free ↦ (
+      let found = true_literal value clause (sat id clause known) in
+      let apart : found.0 ≢ neg_ℤ pivot = λ e. true≢false (sym found.1 ∙ ap (has clause) e ∙ free) in
+      has_any (makes_true (turned value pivot)) clause found.0 found.1 (stays value found.0 pivot apart found.2))
+]
+
+-- a clause that is added has a model with the others
+justified_keeps : (active : ℕ → Option (List ℤ)) (id : ℕ) (literals hints : List ℤ) → HaveNoZero active → has_no_zero literals ≡ true → IsJustified active literals hints →
+    (value : ℕ → Bool) → Satisfies value active → HasModel (with_clause id literals active)
+justified_keeps active id literals hints clean no_zero (inl implied) value sat =
+    (value, with_each (λ clause. makes_some value clause ≡ true) id literals active (implied_true active literals hints clean no_zero implied value sat) sat)
+justified_keeps active id [] hints clean no_zero (inr (reached, reaches, rat)) value sat = absurd rat
+justified_keeps active id (pivot ∷ rest) hints clean no_zero (inr (reached, reaches, rat)) value sat = elim (cases_Bool (makes_some value (pivot ∷ rest))) [
+  | inl holds ↦ (value, with_each (λ clause. makes_some value clause ≡ true) id (pivot ∷ rest) active holds sat)
+  | inr none ↦ (
+      let all = reached_true active value clean sat (first_hints hints) (negated (pivot ∷ rest)) reached (negations_true value (pivot ∷ rest) no_zero none) reaches in (
+        turned value pivot,
+        with_each (λ clause. makes_some (turned value pivot) clause ≡ true) id (pivot ∷ rest) active
+            (or_left (makes_true (turned value pivot) pivot) (makes_some (turned value pivot) rest) (turned_pivot value pivot))
+            (opposed_true active value clean sat pivot reached (groups_of hints) all rat.0 rat.1),
+      ))
+]
+
 pub step_keeps : (active : ℕ → Option (List ℤ)) (step : Step) → HaveNoZero active → is_step step ≡ true → IsRight active step → HasModel active → HasModel (after active step)
-step_keeps active (Addition id literals hints) clean ok right (value, sat) =
-    (value, with_each (λ clause. makes_some value clause ≡ true) id literals active (justified_true active literals hints clean (clause_no_zero 4194304 literals ok) right.1 value sat) sat)
+step_keeps active (Addition id literals hints) clean ok (free, why) (value, sat) = justified_keeps active id literals hints clean (clause_no_zero 4194304 literals ok) why value sat
 step_keeps active (Deletion first ids) clean ok right (value, sat) = (value, without_each (λ clause. makes_some value clause ≡ true) ids active sat)
 
 -- after the empty clause there is no model

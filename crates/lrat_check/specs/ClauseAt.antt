@@ -1,5 +1,5 @@
 -- The clauses that are active, as they are stored.
-use Rattle.std.specs.Prelude.{ℕ, ℤ, List, Option, None, ◌==◌, if◌then◌else◌}
+use Rattle.std.specs.Prelude.{ℕ, ℤ, List, Option, None, ◌==◌, nat_le, if◌then◌else◌}
 use Rattle.std.specs.HashMap.{get_by}
 use Rattle.std.specs.Option.{option_map, option_or}
 use Rattle.lrat_check.specs.Active.{at_start}
@@ -17,3 +17,7 @@ added_at active id = option_map (λ clause. clause.now) (get_by (λ other. id ==
 -- the clause that is active under an id beside this formula's clauses, if one is
 abbrev pub clause_at : List (List ℤ) → ActiveClauses → ℕ → Option (List ℤ)
 clause_at clauses active id = option_or (kept_at clauses active id) (added_at active id)
+
+-- of these clauses those whose id is at most this one
+abbrev pub up_to : ℕ → (ℕ → Option (List ℤ)) → ℕ → Option (List ℤ)
+up_to last active id = if nat_le id last then active id else None

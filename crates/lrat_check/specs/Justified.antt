@@ -1,32 +1,24 @@
 -- What justifies a clause, and what is wrong with hints that do not.
-use Rattle.std.specs.Prelude.{◌≡◌, ◌⊎◌, ℕ, ℤ, neg_ℤ, true, false, List, [], ◌∷◌, ◌++◌, map, Option, Some, None}
-use Rattle.lrat_check.specs.Propagation.{is_tautology, Falsifies, IsUnit, HasTwoUnfalsified}
+use Rattle.std.specs.Prelude.{◌≡◌, ◌≢◌, ◌⊎◌, ℕ, ℤ, true, false, List, Option}
+use Rattle.lrat_check.specs.Hints.{first_hints, groups_of}
+use Rattle.lrat_check.specs.Propagation.{is_tautology}
+use Rattle.lrat_check.specs.Rat.{Reaches, IsRat, IsNoRat}
+use Rattle.lrat_check.specs.Refuted.{Refutes, FailsToRefute, negated}
 use Rattle.lrat_check.specs.declared.refusal.StepFault.{StepFault}
-use Rattle.lrat_check.specs.declared.refusal.StepFault.TheVariants.{UnknownHint, NotUnit, NoConflict}
+use Rattle.lrat_check.specs.declared.refusal.StepFault.TheVariants.{NoConflict}
 
--- The hints refute that all of these literals are true: the first hint's clause is active, and it is false, or it is unit
--- and the other hints refute that its literal is true too.
-abbrev pub Refutes : (ℕ → Option (List ℤ)) → List ℤ → List ℕ → Type 0
-Refutes active trues [] = ⊥
-Refutes active trues (hint ∷ hints) =
-    (clause : List ℤ) × (active hint ≡ Some clause) × (Falsifies trues clause ⊎ ((unit : ℤ) × IsUnit trues clause unit × Refutes active (trues ++ unit ∷ []) hints))
+-- the clause follows: it is a tautology, or the first hints refute that all of its literals are false
+abbrev pub IsImplied : (ℕ → Option (List ℤ)) → List ℤ → List ℤ → Type 0
+IsImplied active clause hints = (is_tautology clause ≡ true) ⊎ Refutes active (negated clause) (first_hints hints)
 
--- the negation of each literal
-abbrev pub negated : List ℤ → List ℤ
-negated clause = map neg_ℤ clause
-
--- the clause is a tautology, or the hints refute that all of its literals are false
-abbrev pub IsJustified : (ℕ → Option (List ℤ)) → List ℤ → List ℕ → Type 0
-IsJustified active clause hints = (is_tautology clause ≡ true) ⊎ Refutes active (negated clause) hints
-
--- The hints do not refute that all of these literals are true, and this is why: a hint is unknown or its clause has two
--- literals that are not false, where all hints before it are unit, or all hints are.
-abbrev pub FailsToRefute : (ℕ → Option (List ℤ)) → List ℤ → List ℕ → StepFault → Type 0
-FailsToRefute active trues [] fault = fault ≡ NoConflict
-FailsToRefute active trues (hint ∷ hints) fault =
-    ((active hint ≡ None) × (fault ≡ UnknownHint))
-    ⊎ ((clause : List ℤ) × (active hint ≡ Some clause) × ((HasTwoUnfalsified trues clause × (fault ≡ NotUnit)) ⊎ ((unit : ℤ) × IsUnit trues clause unit × FailsToRefute active (trues ++ unit ∷ []) hints fault)))
+-- the clause follows, or the first hints lead to no conflict, and the groups after them show that it may be added
+abbrev pub IsJustified : (ℕ → Option (List ℤ)) → List ℤ → List ℤ → Type 0
+IsJustified active clause hints =
+    IsImplied active clause hints ⊎ ((reached : List ℤ) × Reaches active (negated clause) (first_hints hints) reached × IsRat active clause (groups_of hints) reached)
 
 -- the clause is not justified, and this is why
-abbrev pub IsUnjustified : (ℕ → Option (List ℤ)) → List ℤ → List ℕ → StepFault → Type 0
-IsUnjustified active clause hints fault = (is_tautology clause ≡ false) × FailsToRefute active (negated clause) hints fault
+abbrev pub IsUnjustified : (ℕ → Option (List ℤ)) → List ℤ → List ℤ → StepFault → Type 0
+IsUnjustified active clause hints fault =
+    (is_tautology clause ≡ false)
+    × ((FailsToRefute active (negated clause) (first_hints hints) fault × (fault ≢ NoConflict))
+    ⊎ ((reached : List ℤ) × Reaches active (negated clause) (first_hints hints) reached × IsNoRat active clause (groups_of hints) reached fault))

@@ -1,7 +1,10 @@
 pub mod Active
 pub mod Checked
 pub mod ClauseAt
+pub mod Counted
+pub mod Counts
 pub mod Derivation
+pub mod Hints
 pub mod Justified
 pub mod ListFault
 pub mod LratFault
@@ -11,6 +14,8 @@ pub mod LratText
 pub mod LratWritten
 pub mod Marks
 pub mod Propagation
+pub mod Rat
 pub mod Refusal
+pub mod Refuted
 pub mod Sound
 pub mod Standing

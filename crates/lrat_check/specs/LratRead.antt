@@ -1,12 +1,12 @@
 -- What the functions of the reader read off a line.
-use Rattle.std.specs.Prelude.{◌≡◌, ℕ, ℤ, pos, nat_abs, Bool, true, false, List, ◌∷◌, ◌++◌, Option, Some}
+use Rattle.std.specs.Prelude.{◌≡◌, ℕ, ℤ, pos, Bool, true, false, List, ◌∷◌, ◌++◌, Option, Some}
 use Rattle.std.specs.List.{list_all}
 use Rattle.text_lines.specs.Numbers.{solver_number}
 use Rattle.text_lines.specs.Words.{words_of}
 use Rattle.lrat_check.specs.declared.derivation.Step.{Step}
 use Rattle.lrat_check.specs.declared.lrat_fault.LratCause.{LratCause}
 use Rattle.lrat_check.specs.LratFaults.{list_fault}
-use Rattle.lrat_check.specs.LratText.{is_lrat_step, is_id, is_skipped, IsStepLine, Says}
+use Rattle.lrat_check.specs.LratText.{is_lrat_step, is_skipped, IsStepLine, Says}
 
 -- the words begin with these numbers, each of which passes, and nothing is wrong with them
 pub record BeginsWith (fault : Option ℤ → Option LratCause) (passes : ℤ → Bool) (words : List (List ℕ)) (numbers : List ℤ) (rest : List (List ℕ)) : Type 0 where
@@ -39,7 +39,3 @@ pub record IsWrittenStep (words : List (List ℕ)) (step : Step) : Type 0 where
 pub record IsLineOf (line : List ℕ) (step : Step) : Type 0 where
   pub said : is_skipped (words_of line) ≡ false
   pub step_is : IsWrittenStep (words_of line) step
-
--- whether the absolute value is an id
-abbrev pub is_id_number : ℤ → Bool
-is_id_number z = is_id (nat_abs z)

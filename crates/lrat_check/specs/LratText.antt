@@ -1,5 +1,5 @@
 -- The text of a derivation (LRAT).
-use Rattle.std.specs.Prelude.{◌≡◌, ℕ, ℤ, pos, Bool, true, not, List, [], ◌∷◌, ◌++◌, map, Some, ◌==◌, ◌&&◌, nat_lt, nat_le, codes, slice_index}
+use Rattle.std.specs.Prelude.{◌≡◌, ℕ, ℤ, pos, nat_abs, Bool, true, not, List, [], ◌∷◌, ◌++◌, map, Some, ◌==◌, ◌&&◌, nat_lt, nat_le, codes, slice_index}
 use Rattle.std.specs.List.{list_all, filter, AllZip}
 use Rattle.dimacs.specs.Literal.{is_clause}
 use Rattle.text_lines.specs.Lines.{lines_of}
@@ -16,9 +16,13 @@ most_id = 9223372036854775807
 abbrev pub is_id : ℕ → Bool
 is_id n = nat_lt 0 n && nat_le n most_id
 
+-- whether the absolute value is an id, as that of a hint is
+abbrev pub is_id_number : ℤ → Bool
+is_id_number z = is_id (nat_abs z)
+
 -- a step that can be written
 abbrev pub is_lrat_step : Step → Bool
-is_lrat_step (Addition id literals hints) = is_id id && (is_clause literals && list_all is_id hints)
+is_lrat_step (Addition id literals hints) = is_id id && (is_clause literals && list_all is_id_number hints)
 is_lrat_step (Deletion first ids) = nat_le first most_id && list_all is_id ids
 
 -- a line without words, or a comment, whose first word begins with `c`
@@ -40,7 +44,7 @@ ended numbers = numbers ++ pos 0 ∷ []
 
 -- The words are this step: an id, literals, 0, hints and 0; or a number, the word `d`, ids and 0.
 abbrev pub IsStepLine : List (List ℕ) → Step → Type 0
-IsStepLine words (Addition id literals hints) = Says words (pos id ∷ (ended literals ++ ended (map pos hints)))
+IsStepLine words (Addition id literals hints) = Says words (pos id ∷ (ended literals ++ ended hints))
 IsStepLine words (Deletion first ids) =
     (number : List ℕ) × (rest : List (List ℕ)) × (words ≡ number ∷ (codes "d" ∷ rest)) × (solver_number number ≡ Some (pos first)) × Says rest (ended (map pos ids))
 

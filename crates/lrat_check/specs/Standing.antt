@@ -1,6 +1,6 @@
 -- What the code's answers on the way say.
 use Rattle.std.specs.Prelude.{◌≡◌, ℤ, Bool, true, false, List}
-use Rattle.lrat_check.specs.Justified.{negated}
+use Rattle.lrat_check.specs.Refuted.{negated}
 use Rattle.lrat_check.specs.Propagation.{is_tautology, Falsifies, IsUnit, HasTwoUnfalsified}
 use Rattle.lrat_check.specs.declared.propagation.Standing.{Standing}
 use Rattle.lrat_check.specs.declared.propagation.Standing.TheVariants.{Falsified, Unit, Unfalsified}

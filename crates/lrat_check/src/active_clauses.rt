@@ -1,9 +1,11 @@
 //! The active clauses of a derivation.
 
-ghost use Rattle.std.specs.Prelude.{◌≡◌, ℕ, ℤ, List, Some, None, MatchOption, OnOk, is_some, [], ◌∷◌};
+ghost use Rattle.std.specs.Prelude.{◌≡◌, ◌+◌, ℕ, ℤ, List, Some, None, MatchOption, OnOk, is_some, [], ◌∷◌};
 ghost use Rattle.lrat_check.specs.Active.{at_start, with_clause, without};
-ghost use Rattle.lrat_check.specs.ClauseAt.{clause_at, kept_at};
+ghost use Rattle.lrat_check.specs.ClauseAt.{clause_at, kept_at, up_to};
+ghost use Rattle.lrat_check.specs.Counts.{AreCounts};
 
+use crate::literal_counts::LiteralCounts;
 use crate::marks::{make_room, marked_at};
 use dimacs::{Clause, ClauseList, ListedClause, Lit};
 use std::alloc::{AllocError, Global};
@@ -55,16 +57,26 @@ impl<'a> ActiveClauses<'a> {
         }
     }
 
+    /// The clause that was active under this id at the start, where it is not hidden.
+    fn kept<'b, F: ClauseList>(&'b self, formula: &'b F, id: u64) -> Option<ListedClause<'b>>
+        ensures { MatchOption result
+            (kept_at (F.formula formula.now).clauses self.now id ≡ None)
+            (λ clause. kept_at (F.formula formula.now).clauses self.now id ≡ Some clause) }
+    {
+        if marked_at(self.hidden.as_slice(), id as usize) {
+            return None;
+        }
+        clause_at_start(formula, self.cube, id)
+    }
+
     /// The clause that is active under this id, if one is.
     pub fn get<'b, F: ClauseList>(&'b self, formula: &'b F, id: u64) -> Option<ListedClause<'b>>
         ensures { MatchOption result
             (clause_at (F.formula formula.now).clauses self.now id ≡ None)
             (λ clause. clause_at (F.formula formula.now).clauses self.now id ≡ Some clause) }
     {
-        if !marked_at(self.hidden.as_slice(), id as usize) {
-            if let Some(clause) = clause_at_start(formula, self.cube, id) {
-                return Some(clause);
-            }
+        if let Some(clause) = self.kept(formula, id) {
+            return Some(clause);
         }
         match self.added.get(&id) {
             Some(clause) => Some(ListedClause::lent(clause)),
@@ -109,7 +121,7 @@ impl<'a> ActiveClauses<'a> {
     }
 
     /// Takes away the clause of this id, if it is active.
-    fn remove<F: ClauseList>(&mut self, formula: &F, id: u64) -> Result<(), AllocError>
+    pub fn remove<F: ClauseList>(&mut self, formula: &F, id: u64) -> Result<(), AllocError>
         ensures { OnOk result ((other : ℕ) →
             clause_at (F.formula formula.now).clauses self.new other ≡ without (id ∷ []) (clause_at (F.formula formula.now).clauses self.old) other) }
     {
@@ -118,13 +130,58 @@ impl<'a> ActiveClauses<'a> {
         Ok(())
     }
 
-    /// Takes away the clauses of these ids that are active.
-    pub fn remove_all<F: ClauseList>(&mut self, formula: &F, ids: &[u64]) -> Result<(), AllocError>
-        ensures { OnOk result ((other : ℕ) →
-            clause_at (F.formula formula.now).clauses self.new other ≡ without ids.now (clause_at (F.formula formula.now).clauses self.old) other) }
+    /// Whether a clause that was active under this id at the start is not hidden.
+    fn is_kept<F: ClauseList>(&self, formula: &F, id: u64) -> bool
+        ensures { result ≡ is_some (kept_at (F.formula formula.now).clauses self.now id) }
     {
-        for id in ids {
-            self.remove(formula, *id)?;
+        self.kept(formula, id).is_some()
+    }
+
+    /// Counts the clause that was active under this id at the start, if it is not hidden, where those before it are counted.
+    fn count_next<'b, F: ClauseList>(
+        &'b self,
+        formula: &'b F,
+        id: u64,
+        counts: &mut LiteralCounts,
+    ) -> Result<(), AllocError>
+        ensures { OnOk result ((last : ℕ) → id ≡ last + 1 →
+            AreCounts (up_to last (kept_at (F.formula formula.now).clauses self.now)) counts.old → AreCounts (up_to id (kept_at (F.formula formula.now).clauses self.now)) counts.new) }
+    {
+        match self.kept(formula, id) {
+            Some(clause) => counts.add(clause.as_slice()),
+            None => Ok(()),
+        }
+    }
+
+    /// Counts the clauses that were active at the start and are not hidden. Nothing is counted before.
+    pub fn count_kept<F: ClauseList>(
+        &self,
+        formula: &F,
+        counts: &mut LiteralCounts,
+    ) -> Result<(), AllocError>
+        ensures { OnOk result (AreCounts (λ _. None) counts.old → AreCounts (kept_at (F.formula formula.now).clauses self.now) counts.new) }
+    {
+        let Some(last) = formula.count().checked_add(self.cube.len()) else {
+            return Err(AllocError);
+        };
+        for place in 0..last {
+            (&*self).count_next(&*formula, place as u64 + 1, counts)?;
+        }
+        Ok(())
+    }
+
+    /// Counts the clauses that steps have added, where the others are counted.
+    pub fn count_added<F: ClauseList>(
+        &self,
+        formula: &F,
+        counts: &mut LiteralCounts,
+    ) -> Result<(), AllocError>
+        ensures { OnOk result (AreCounts (kept_at (F.formula formula.now).clauses self.now) counts.old → AreCounts (clause_at (F.formula formula.now).clauses self.now) counts.new) }
+    {
+        for (id, clause) in self.added.iter() {
+            if !self.is_kept(&*formula, *id) {
+                counts.add(clause.as_slice())?;
+            }
         }
         Ok(())
     }

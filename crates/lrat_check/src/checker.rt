@@ -4,12 +4,13 @@ ghost use Rattle.std.specs.Prelude.{◌≡◌, ℕ, IfOk, IfErr, MatchResult};
 ghost use Rattle.lrat_check.specs.Active.{after};
 ghost use Rattle.lrat_check.specs.Checked.{IsRight, IsWrong, ends, IsAccepted, IsRefused};
 ghost use Rattle.lrat_check.specs.ClauseAt.{clause_at};
+ghost use Rattle.lrat_check.specs.Counted.{IsCounted};
 ghost use Rattle.dimacs.specs.Models.{HasNoModelIn};
 ghost use Rattle.text_lines.specs.Fault.{IsRefusal, IsRefusalAt};
 
-use crate::active_clauses::ActiveClauses;
+use crate::counted_clauses::CountedClauses;
 use crate::derivation::{Derivation, Step};
-use crate::propagation::justify;
+use crate::justification::justify;
 use crate::refusal::{Refusal, StepFault};
 use crate::true_literals::TrueLiterals;
 use dimacs::{ClauseList, Lit, are_literals};
@@ -21,15 +22,16 @@ pub struct Accepted;
 
 /// Takes the step of this number. Whether it adds the empty clause.
 fn take_step<'a, F: ClauseList>(
+    alloc: Global,
     formula: &F,
-    active: &mut ActiveClauses<'a>,
+    active: &mut CountedClauses<'a>,
     trues: &mut TrueLiterals,
     step: &'a Step,
     number: usize,
 ) -> Result<bool, Refusal>
-    ensures { MatchResult result
-        (λ ended. IsRight (clause_at (F.formula formula.now).clauses active.old) step.now × (ended ≡ ends step.now) × ((id : ℕ) → clause_at (F.formula formula.now).clauses active.new id ≡ after (clause_at (F.formula formula.now).clauses active.old) step.now id))
-        (λ refusal. IsRefusalAt (λ fault. IsWrong (clause_at (F.formula formula.now).clauses active.old) step.now fault) number refusal) }
+    ensures { IsCounted (F.formula formula.now).clauses active.old → MatchResult result
+        (λ ended. IsRight (clause_at (F.formula formula.now).clauses active.old.clauses) step.now × (ended ≡ ends step.now) × ((id : ℕ) → clause_at (F.formula formula.now).clauses active.new.clauses id ≡ after (clause_at (F.formula formula.now).clauses active.old.clauses) step.now id) × IsCounted (F.formula formula.now).clauses active.new)
+        (λ refusal. IsRefusalAt (λ fault. IsWrong (clause_at (F.formula formula.now).clauses active.old.clauses) step.now fault) number refusal) }
 {
     match step {
         Step::Deletion { ids, .. } => {
@@ -41,10 +43,11 @@ fn take_step<'a, F: ClauseList>(
             literals,
             hints,
         } => {
-            if active.contains(formula, *id) {
+            if active.clauses.contains(formula, *id) {
                 return Err(Refusal::At(StepFault::IdInUse, number));
             }
             justify(
+                alloc,
                 formula,
                 active,
                 trues,
@@ -72,11 +75,11 @@ pub fn check<F: ClauseList>(
 {
     formula.is_formula();
     are_literals(cube);
-    let mut active = ActiveClauses::at_start(alloc, cube);
+    let mut active = CountedClauses::at_start(alloc, cube);
     let mut trues = TrueLiterals::new(alloc);
     let steps = derivation.steps();
     for i in 0..steps.len() {
-        if take_step(formula, &mut active, &mut trues, &steps[i], i + 1)? {
+        if take_step(alloc, formula, &mut active, &mut trues, &steps[i], i + 1)? {
             return Ok(Accepted);
         }
     }

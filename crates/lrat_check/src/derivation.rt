@@ -3,6 +3,7 @@
 ghost use Rattle.std.specs.Prelude.{◌≡◌, IsTrue};
 ghost use Rattle.lrat_check.specs.Derivation.{are_steps, is_step};
 
+use crate::hints::Hints;
 use crate::ids::Ids;
 use dimacs::Clause;
 use std::marker::Model;
@@ -10,11 +11,12 @@ use std::marker::Model;
 /// A step of a derivation.
 #[derive(Drop)]
 pub enum Step {
-    /// Adds a clause under an id. The hints say which clauses justify it, in the order of their use.
+    /// Adds a clause under an id. The hints say which clauses justify it, in the order of their use. After the negative of
+    /// an id stand those for the clause of that id.
     Addition {
         id: u64,
         literals: Clause,
-        hints: Ids,
+        hints: Hints,
     },
     /// Drops the clauses of these ids. The first number of the line is kept, and says nothing.
     Deletion {

@@ -7,15 +7,16 @@ ghost use Rattle.dimacs.specs.Models.{HasNoModelIn};
 ghost use Rattle.lrat_check.specs.Active.{after};
 ghost use Rattle.lrat_check.specs.Checked.{IsRight, IsAccepted, IsRefused};
 ghost use Rattle.lrat_check.specs.Derivation.{is_step, are_steps};
-ghost use Rattle.lrat_check.specs.Justified.{IsJustified};
+ghost use Rattle.lrat_check.specs.Justified.{IsImplied};
 ghost use Rattle.lrat_check.specs.Sound.{has_no_zero, HaveNoZero, Satisfies, HasModel};
 ghost use Rattle.lrat_check.specs.declared.derivation.Step.{Step};
 ghost use Rattle.lrat_check.specs.declared.refusal.StepFault.{StepFault};
 
-/// A justified clause follows from the active ones: truth values that satisfy them make one of its literals true.
-pub fn justified_follows()
-    ensures { (active : ℕ → Option (List ℤ)) (clause : List ℤ) (hints : List ℕ) → HaveNoZero active → has_no_zero clause ≡ true →
-        IsJustified active clause hints → (value : ℕ → Bool) → Satisfies value active → makes_some value clause ≡ true }
+/// A clause that its first hints imply follows from the active ones: truth values that satisfy them make one of its literals
+/// true.
+pub fn implied_follows()
+    ensures { (active : ℕ → Option (List ℤ)) (clause hints : List ℤ) → HaveNoZero active → has_no_zero clause ≡ true →
+        IsImplied active clause hints → (value : ℕ → Bool) → Satisfies value active → makes_some value clause ≡ true }
 {}
 
 /// After a step that may be taken, the active clauses have a model if they had one before.

@@ -3,9 +3,15 @@
 
 mod active_clauses;
 pub mod checker;
+mod counted_clauses;
 pub mod derivation;
+mod groups;
+mod hint_groups;
+pub mod hints;
 pub mod ids;
+mod justification;
 pub mod laws;
+mod literal_counts;
 pub mod lrat_fault;
 pub mod lrat_laws;
 mod lrat_number;
@@ -13,5 +19,6 @@ pub mod lrat_reader;
 pub mod lrat_writer;
 mod marks;
 mod propagation;
+mod rat;
 pub mod refusal;
 mod true_literals;

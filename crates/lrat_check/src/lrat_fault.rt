@@ -5,17 +5,15 @@ use text_lines::fault::{Cause, Fault};
 /// What is wrong with a line of a derivation's text.
 #[derive(Clone, Copy, Debug, PartialEq, Eq)]
 pub enum LratCause {
-    /// A word behind the last `0`.
+    /// A word after the last `0`.
     BadLine,
     /// A word that is no number, or a number out of its range.
     BadNumber,
     /// The line ends before its last `0`.
     Unended,
-    /// A negative hint, as clauses have them that are no consequences.
-    RatLine,
 }
 
-/// Why a text is not read as a derivation: its first fault and its line, counted from 1, or want of memory.
+/// Why a text is not read as a derivation: its first fault and its line, counted from 1, or that memory ran out.
 pub type LratFault = Fault<LratCause>;
 
 impl Cause for LratCause {
@@ -30,7 +28,6 @@ impl Cause for LratCause {
             LratCause::BadLine => 2,
             LratCause::BadNumber => 3,
             LratCause::Unended => 4,
-            LratCause::RatLine => 5,
         }
     }
 
@@ -39,7 +36,6 @@ impl Cause for LratCause {
             LratCause::BadLine => "BadLine",
             LratCause::BadNumber => "BadNumber",
             LratCause::Unended => "Unended",
-            LratCause::RatLine => "RatLine",
         }
     }
 }

@@ -2,8 +2,8 @@
 
 ghost use Rattle.std.specs.Prelude.{◌≡◌, ◌≤◌, ℤ, pos, nat_abs, Some, None, IsTrue, MatchOption, MatchResult};
 ghost use Rattle.dimacs.specs.Literal.{is_literal};
-ghost use Rattle.lrat_check.specs.LratFaults.{literal_fault, id_fault, first_fault};
-ghost use Rattle.lrat_check.specs.LratText.{most_id};
+ghost use Rattle.lrat_check.specs.LratFaults.{literal_fault, hint_fault, id_fault, first_fault};
+ghost use Rattle.lrat_check.specs.LratText.{is_id_number, most_id};
 ghost use Rattle.text_lines.specs.Numbers.{solver_number};
 
 use crate::lrat_fault::LratCause;
@@ -13,17 +13,17 @@ use text_lines::numbers::{SolverNumber, read_solver_number};
 /// The largest id.
 pub const MAX_ID: u64 = 9_223_372_036_854_775_807;
 
-/// The id that the word writes, or 0. This is wrong with a negative number.
-pub fn read_id(word: &[u8], negative: LratCause) -> Result<u64, LratCause>
+/// The id that the word writes, or 0.
+pub fn read_id(word: &[u8]) -> Result<u64, LratCause>
     ensures { MatchResult result
         (λ id. (solver_number word.now ≡ Some (pos id)) × (id ≤ most_id))
-        (λ cause. id_fault negative (solver_number word.now) ≡ Some cause) }
+        (λ cause. id_fault (solver_number word.now) ≡ Some cause) }
 {
     let Some(number) = read_solver_number(word) else {
         return Err(LratCause::BadNumber);
     };
     if number.is_negative {
-        return Err(negative);
+        return Err(LratCause::BadNumber);
     }
     match number.magnitude {
         Some(id) if id <= MAX_ID => Ok(id),
@@ -37,11 +37,34 @@ pub fn read_first(word: &[u8], least: u64) -> Result<u64, LratCause>
         (λ id. (solver_number word.now ≡ Some (pos id)) × (least ≤ id) × (id ≤ most_id))
         (λ cause. first_fault least (solver_number word.now) ≡ Some cause) }
 {
-    let id = read_id(word, LratCause::BadNumber)?;
+    let id = read_id(word)?;
     if id < least {
         return Err(LratCause::BadNumber);
     }
     Ok(id)
+}
+
+/// The hint that the word writes, or nothing where it writes 0.
+pub fn read_hint(word: &[u8]) -> Result<Option<i64>, LratCause>
+    ensures { MatchResult result
+        (λ found. MatchOption found (solver_number word.now ≡ Some (pos 0)) (λ hint. (solver_number word.now ≡ Some hint) × IsTrue (is_id_number hint)))
+        (λ cause. hint_fault (solver_number word.now) ≡ Some cause) }
+{
+    let Some(number) = read_solver_number(word) else {
+        return Err(LratCause::BadNumber);
+    };
+    match number.magnitude {
+        Some(0) => Ok(None),
+        Some(id) if id <= MAX_ID => {
+            let hint = id as i64;
+            if number.is_negative {
+                Ok(Some(-hint))
+            } else {
+                Ok(Some(hint))
+            }
+        }
+        _ => Err(LratCause::BadNumber),
+    }
 }
 
 /// The literal that the word writes, or nothing where it writes 0.

@@ -3,39 +3,35 @@
 ghost use Rattle.std.specs.Prelude.{◌≡◌, ◌==◌, [], ◌∷◌, map, pos, codes, true, false, Some, slice_index, MatchOption, MatchResult, IfOk, IfErr};
 ghost use Rattle.std.specs.Option.{option_or};
 ghost use Rattle.dimacs.specs.Literal.{is_literal};
-ghost use Rattle.lrat_check.specs.LratFaults.{literal_fault, id_fault, first_fault, behind_fault, addition_fault, deletion_fault, is_deletion, line_fault, HasLratFault};
-ghost use Rattle.lrat_check.specs.LratRead.{BeginsWithList, IsSkippedLine, IsLineOf, IsWrittenStep, is_id_number};
-ghost use Rattle.lrat_check.specs.LratText.{SpellsDerivation};
+ghost use Rattle.lrat_check.specs.LratFaults.{literal_fault, hint_fault, id_fault, first_fault, behind_fault, addition_fault, deletion_fault, is_deletion, line_fault, HasLratFault};
+ghost use Rattle.lrat_check.specs.LratRead.{BeginsWithList, IsSkippedLine, IsLineOf, IsWrittenStep};
+ghost use Rattle.lrat_check.specs.LratText.{SpellsDerivation, is_id_number};
 ghost use Rattle.lrat_check.specs.ListFault.{HasListFault};
 ghost use Rattle.text_lines.specs.Fault.{IsRefusal, IsRefusalAt};
 ghost use Rattle.text_lines.specs.Numbers.{solver_number};
 ghost use Rattle.text_lines.specs.Words.{words_of};
 
 use crate::derivation::{Derivation, Step};
+use crate::hints::Hints;
 use crate::ids::Ids;
 use crate::lrat_fault::{LratCause, LratFault};
-use crate::lrat_number::{read_first, read_id, read_literal};
+use crate::lrat_number::{read_first, read_hint, read_id, read_literal};
 use dimacs::Clause;
 use std::alloc::Global;
 use text_lines::lines::cut_line;
 use text_lines::numbers::read_solver_number;
 use text_lines::words::cut_word;
 
-/// The ids up to the first 0 of the line of this number, and what follows. This is wrong with a negative number.
-fn read_ids(
-    alloc: Global,
-    line: &[u8],
-    negative: LratCause,
-    number: usize,
-) -> Result<(Ids, &[u8]), LratFault>
+/// The ids up to the first 0 of the line of this number, and what follows.
+fn read_ids(alloc: Global, line: &[u8], number: usize) -> Result<(Ids, &[u8]), LratFault>
     ensures { MatchResult result
-        (λ read. BeginsWithList (id_fault negative) is_id_number (words_of line.now) (map pos read.0) (words_of read.1.now))
-        (λ fault. IsRefusalAt (λ cause. HasListFault (id_fault negative) (words_of line.now) cause) number fault) }
+        (λ read. BeginsWithList id_fault is_id_number (words_of line.now) (map pos read.0) (words_of read.1.now))
+        (λ fault. IsRefusalAt (λ cause. HasListFault id_fault (words_of line.now) cause) number fault) }
 {
     let mut ids = Vec::new(alloc);
     let mut rest = line;
     while let Some((word, after)) = cut_word(rest) {
-        let id = match read_id(word, negative) {
+        let id = match read_id(word) {
             Ok(id) => id,
             Err(cause) => return Err(LratFault::At(cause, number)),
         };
@@ -43,6 +39,25 @@ fn read_ids(
             return Ok((Ids::new(ids), after));
         }
         ids.push(id)?;
+        rest = after;
+    }
+    Err(LratFault::At(LratCause::Unended, number))
+}
+
+/// The hints up to the first 0 of the line of this number, and what follows.
+fn read_hints(alloc: Global, line: &[u8], number: usize) -> Result<(Hints, &[u8]), LratFault>
+    ensures { MatchResult result
+        (λ read. BeginsWithList hint_fault is_id_number (words_of line.now) read.0 (words_of read.1.now))
+        (λ fault. IsRefusalAt (λ cause. HasListFault hint_fault (words_of line.now) cause) number fault) }
+{
+    let mut hints = Vec::new(alloc);
+    let mut rest = line;
+    while let Some((word, after)) = cut_word(rest) {
+        match read_hint(word) {
+            Ok(Some(hint)) => hints.push(hint)?,
+            Ok(None) => return Ok((Hints::new(hints), after)),
+            Err(cause) => return Err(LratFault::At(cause, number)),
+        }
         rest = after;
     }
     Err(LratFault::At(LratCause::Unended, number))
@@ -96,7 +111,7 @@ fn read_addition(alloc: Global, word: &[u8], rest: &[u8], number: usize) -> Resu
         Err(cause) => return Err(LratFault::At(cause, number)),
     };
     let (literals, after) = read_literals(alloc, rest, number)?;
-    let (hints, behind) = read_ids(alloc, after, LratCause::RatLine, number)?;
+    let (hints, behind) = read_hints(alloc, after, number)?;
     end_line(behind, number)?;
     Ok(Step::Addition {
         id,
@@ -115,7 +130,7 @@ fn read_deletion(alloc: Global, word: &[u8], rest: &[u8], number: usize) -> Resu
         Ok(first) => first,
         Err(cause) => return Err(LratFault::At(cause, number)),
     };
-    let (ids, behind) = read_ids(alloc, rest, LratCause::BadNumber, number)?;
+    let (ids, behind) = read_ids(alloc, rest, number)?;
     end_line(behind, number)?;
     Ok(Step::Deletion { first, ids })
 }

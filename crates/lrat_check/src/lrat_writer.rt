@@ -26,7 +26,16 @@ fn push_literal(text: &mut Vec<u8>, literal: Lit) -> Result<(), AllocError>
     text.extend_from_slice(buffer.format(literal.number()).as_bytes())
 }
 
-/// Appends the literals, each behind a space, and 0.
+/// Appends a space and the hint.
+fn push_hint(text: &mut Vec<u8>, hint: i64) -> Result<(), AllocError>
+    ensures { OnOk result (text.new.items ≡ text.old.items ++ 32 ∷ signed_decimal hint) }
+{
+    let mut buffer = Buffer::new();
+    text.push(b' ')?;
+    text.extend_from_slice(buffer.format(hint).as_bytes())
+}
+
+/// Appends the literals, each after a space, and 0.
 fn push_literals(text: &mut Vec<u8>, literals: &[Lit]) -> Result<(), AllocError>
     ensures { OnOk result (text.new.items ≡ text.old.items ++ list_text literals.now) }
 {
@@ -36,13 +45,23 @@ fn push_literals(text: &mut Vec<u8>, literals: &[Lit]) -> Result<(), AllocError>
     text.extend_from_slice(b" 0")
 }
 
-/// Appends the ids, each behind a space, and 0.
+/// Appends the ids, each after a space, and 0.
 fn push_ids(text: &mut Vec<u8>, ids: &[u64]) -> Result<(), AllocError>
     ensures { OnOk result (text.new.items ≡ text.old.items ++ list_text (map pos ids.now)) }
 {
     for id in ids {
         text.push(b' ')?;
         push_number(text, *id)?;
+    }
+    text.extend_from_slice(b" 0")
+}
+
+/// Appends the hints, each after a space, and 0.
+fn push_hints(text: &mut Vec<u8>, hints: &[i64]) -> Result<(), AllocError>
+    ensures { OnOk result (text.new.items ≡ text.old.items ++ list_text hints.now) }
+{
+    for hint in hints {
+        push_hint(text, *hint)?;
     }
     text.extend_from_slice(b" 0")
 }
@@ -59,7 +78,7 @@ fn push_step(text: &mut Vec<u8>, step: &Step) -> Result<(), AllocError>
         } => {
             push_number(text, *id)?;
             push_literals(text, literals.as_slice())?;
-            push_ids(text, hints.as_slice())?;
+            push_hints(text, hints.as_slice())?;
         }
         Step::Deletion { first, ids } => {
             push_number(text, *first)?;

@@ -1,9 +1,13 @@
 //! Unit propagation along hints.
 
-ghost use Rattle.std.specs.Prelude.{◌≡◌, [], ◌∷◌, ◌++◌, ℕ, List, ℤ, false, Some, None, IfOk, MatchOption, MatchResult};
+ghost use Rattle.std.specs.Prelude.{◌≡◌, ◌≢◌, [], ◌∷◌, ◌++◌, ℕ, List, ℤ, false, Some, None, IfOk, MatchBool, MatchOption, MatchResult};
 ghost use Rattle.lrat_check.specs.ClauseAt.{clause_at};
-ghost use Rattle.lrat_check.specs.Justified.{Refutes, FailsToRefute, IsJustified, IsUnjustified};
-ghost use Rattle.lrat_check.specs.Propagation.{is_falsified};
+ghost use Rattle.lrat_check.specs.Hints.{first_hints};
+ghost use Rattle.lrat_check.specs.Justified.{IsImplied, IsUnjustified};
+ghost use Rattle.lrat_check.specs.Propagation.{is_falsified, is_tautology};
+ghost use Rattle.lrat_check.specs.Rat.{Reaches};
+ghost use Rattle.lrat_check.specs.Refuted.{Refutes, FailsToRefute, negated};
+ghost use Rattle.lrat_check.specs.declared.refusal.StepFault.TheVariants.{NoConflict};
 ghost use Rattle.lrat_check.specs.Standing.{IsStanding, IsAssumed};
 ghost use Rattle.text_lines.specs.Fault.{IsRefusalAt};
 
@@ -96,46 +100,55 @@ fn assume_negation(trues: &mut TrueLiterals, clause: &[Lit]) -> Result<bool, All
     Ok(false)
 }
 
-/// Looks whether the hints of the step of this number refute that the literals are true.
-fn refute<F: ClauseList>(
+/// Follows the hints before the first group, of the step of this number. Whether they refute that the literals are all true; if
+/// not, the literals that are true with those that were reached.
+pub fn propagate<F: ClauseList>(
     formula: &F,
     active: &ActiveClauses,
     trues: &mut TrueLiterals,
-    hints: &[u64],
+    hints: &[i64],
     number: usize,
-) -> Result<(), Refusal>
+) -> Result<bool, Refusal>
     ensures { MatchResult result
-        (λ _. Refutes (clause_at (F.formula formula.now).clauses active.now) trues.old hints.now)
-        (λ refusal. IsRefusalAt (λ fault. FailsToRefute (clause_at (F.formula formula.now).clauses active.now) trues.old hints.now fault) number refusal) }
+        (λ refuted. MatchBool refuted
+        (Refutes (clause_at (F.formula formula.now).clauses active.now) trues.old (first_hints hints.now))
+        (Reaches (clause_at (F.formula formula.now).clauses active.now) trues.old (first_hints hints.now) trues.new))
+        (λ refusal. IsRefusalAt (λ fault. FailsToRefute (clause_at (F.formula formula.now).clauses active.now) trues.old (first_hints hints.now) fault × (fault ≢ NoConflict)) number refusal) }
 {
     for hint in hints {
-        let Some(standing) = standing_at(&*formula, &*active, *hint, trues) else {
+        if *hint < 0 {
+            return Ok(false);
+        }
+        let Some(standing) = standing_at(&*formula, &*active, hint.unsigned_abs(), trues) else {
             return Err(Refusal::At(StepFault::UnknownHint, number));
         };
         match standing {
-            Standing::Falsified => return Ok(()),
+            Standing::Falsified => return Ok(true),
             Standing::Unit(unit) => trues.push(unit)?,
             Standing::Unfalsified => return Err(Refusal::At(StepFault::NotUnit, number)),
         }
     }
-    Err(Refusal::At(StepFault::NoConflict, number))
+    Ok(false)
 }
 
-/// Looks whether the clause of the step of this number is justified.
-pub fn justify<F: ClauseList>(
+/// Looks whether the clause of the step of this number follows: it is a tautology, or its hints before the first group refute that
+/// all of its literals are false. If not, the literals that are true then.
+pub fn is_implied<F: ClauseList>(
     formula: &F,
     active: &ActiveClauses,
     trues: &mut TrueLiterals,
     clause: &[Lit],
-    hints: &[u64],
+    hints: &[i64],
     number: usize,
-) -> Result<(), Refusal>
+) -> Result<bool, Refusal>
     ensures { MatchResult result
-        (λ _. IsJustified (clause_at (F.formula formula.now).clauses active.now) clause.now hints.now)
+        (λ implied. MatchBool implied
+        (IsImplied (clause_at (F.formula formula.now).clauses active.now) clause.now hints.now)
+        ((is_tautology clause.now ≡ false) × Reaches (clause_at (F.formula formula.now).clauses active.now) (negated clause.now) (first_hints hints.now) trues.new))
         (λ refusal. IsRefusalAt (λ fault. IsUnjustified (clause_at (F.formula formula.now).clauses active.now) clause.now hints.now fault) number refusal) }
 {
     if assume_negation(trues, clause)? {
-        return Ok(());
+        return Ok(true);
     }
-    refute(formula, active, trues, hints, number)
+    propagate(formula, active, trues, hints, number)
 }

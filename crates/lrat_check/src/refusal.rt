@@ -15,9 +15,15 @@ pub enum StepFault {
     IdInUse,
     /// The derivation ends without the empty clause.
     NoEmptyClause,
+    /// The clause of a group does not hold the negation of the pivot, the added clause's first literal.
+    NotOpposed,
+    /// The empty clause has a group: it has no pivot.
+    NoPivot,
+    /// An active clause that holds the negation of the pivot has no group.
+    GroupMissing,
 }
 
-/// Why a derivation is refused: the first step that fails, counted from 1, or want of memory. Where the empty clause is
+/// Why a derivation is refused: the first step that fails, counted from 1, or that memory ran out. Where the empty clause is
 /// missing, the step is the one after the last.
 pub type Refusal = Fault<StepFault>;
 
@@ -35,6 +41,9 @@ impl Cause for StepFault {
             StepFault::NoConflict => 4,
             StepFault::IdInUse => 5,
             StepFault::NoEmptyClause => 6,
+            StepFault::NotOpposed => 7,
+            StepFault::NoPivot => 8,
+            StepFault::GroupMissing => 9,
         }
     }
 
@@ -45,6 +54,9 @@ impl Cause for StepFault {
             StepFault::NoConflict => "NoConflict",
             StepFault::IdInUse => "IdInUse",
             StepFault::NoEmptyClause => "NoEmptyClause",
+            StepFault::NotOpposed => "NotOpposed",
+            StepFault::NoPivot => "NoPivot",
+            StepFault::GroupMissing => "GroupMissing",
         }
     }
 }

@@ -1,7 +1,7 @@
 //! The literals that are true while hints are looked at.
 
 ghost use Rattle.std.specs.Prelude.{◌≡◌, [], ◌∷◌, ◌++◌, OnOk};
-ghost use Rattle.lrat_check.specs.Propagation.{is_falsified};
+ghost use Rattle.lrat_check.specs.Propagation.{has, is_falsified};
 
 use crate::marks::{make_room, marked_at, place_of, unmark};
 use dimacs::Lit;
@@ -44,6 +44,20 @@ impl TrueLiterals {
         ensures { result ≡ is_falsified self.now literal }
     {
         marked_at(self.marks.as_slice(), place_of(literal.negated()))
+    }
+
+    /// Whether the literal is true.
+    pub fn holds(&self, literal: Lit) -> bool
+        ensures { result ≡ has self.now literal }
+    {
+        marked_at(self.marks.as_slice(), place_of(literal))
+    }
+
+    /// The literals that are true, in the order in which they became so.
+    pub fn as_slice(&self) -> &[Lit]
+        ensures { result.now ≡ self.now }
+    {
+        self.trail.as_slice()
     }
 
     /// Makes the literal true.

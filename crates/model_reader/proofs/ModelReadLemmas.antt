@@ -95,7 +95,7 @@ thing_refused before line thing cause reader refused h = record {
   first = subst (λ (items : List (ℕ × Said)). IsFaultless model_fault items) (sym (append-nil before)) h.clear;
 }
 
--- a word behind the zero, a word that is no number, and a literal whose negation has come
+-- a word after the zero, a word that is no number, and a literal whose negation has come
 pub late_word : (line : ℕ) (word : List ℕ) (reader : ModelReader) → reader.ended ≡ true → RefusesThings ((line, Word word) ∷ []) reader (At BadLine line)
 late_word line word reader closed before h =
     thing_refused before line (Word word) BadLine reader (ap (λ b. cond b (Some BadLine) (number_fault before (model_number word))) (sym (h.numbers (pos 0)) ∙ closed)) h
@@ -250,7 +250,7 @@ or_end : (b : Bool) → b ≡ (b || false)
 or_end true = refl
 or_end false = refl
 
--- the text ends behind the zero
+-- the text ends after the zero
 pub ended : (text : List ℕ) (number : ℕ) (rest : List ℕ) (reader : ModelReader) → IsModelSoFar text number rest reader → lines_of rest ≡ [] → reader.ended ≡ true → SpellsModel text reader.positive.items
 ended text number rest reader h none closed =
     let all = lines_read text number rest reader h none in

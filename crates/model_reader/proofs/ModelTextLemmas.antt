@@ -167,7 +167,7 @@ word_numbered before words zs line word h none =
     ap (λ b. cond b (Some BadLine) (number_fault before (model_number word))) (sym still) ∙ no_cause (said_fault before (Word word)) line none) in
     (found.0, found.1, sym (h.found (neg_ℤ found.0)) ∙ found.2)
 
--- behind the zero no word stands
+-- after the zero no word stands
 ended_words : (rest : List (ℕ × List ℕ)) (last : ℕ) (before : List (ℕ × Said)) (words : List (List ℕ)) (zs : List ℤ) (line : ℕ) (word : List ℕ) → AreOpen before words zs → model_number word ≡ Some (pos 0) →
     IsFaultless model_fault ((before ++ (line, Word word) ∷ []) ++ (worded rest ++ (last, End) ∷ [])) → AreEnded (words ++ word ∷ words_alone rest)
 ended_words [] last before words zs line word h m clear = record {

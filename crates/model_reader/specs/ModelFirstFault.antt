@@ -24,12 +24,12 @@ abbrev pub writes : ℤ → ℕ × Said → Bool
 writes z (line, Word word) = option_eq int_eq (Some z) (model_number word)
 writes z (line, thing) = false
 
--- what is wrong with a number behind what was said before
+-- what is wrong with a number after what was said before
 abbrev pub number_fault : List (ℕ × Said) → Option ℤ → Option ModelCause
 number_fault before None = Some BadNumber
 number_fault before (Some z) = if list_any (writes (neg_ℤ z)) before then Some Clash else None
 
--- what is wrong with a thing behind what was said before
+-- what is wrong with a thing after what was said before
 abbrev pub said_fault : List (ℕ × Said) → Said → Option ModelCause
 said_fault before (Word word) = if list_any (writes (pos 0)) before then Some BadLine else number_fault before (model_number word)
 said_fault before Unsatisfiable = Some SaysUnsatisfiable

@@ -49,7 +49,7 @@ pub record IsModelProgress (before : List (ℕ × Said)) (reader : ModelReader) 
   pub clear : IsFaultless model_fault before
   pub numbers : (z : ℤ) → has_number reader z ≡ list_any (writes z) before
 
--- behind what was said before, the first fault of these things
+-- after what was said before, the first fault of these things
 pub record IsNextFault (before things : List (ℕ × Said)) (cause : ModelCause) (line : ℕ) : Type 0 where
   pub front : List (ℕ × Said)
   pub thing : ℕ × Said
@@ -58,15 +58,15 @@ pub record IsNextFault (before things : List (ℕ × Said)) (cause : ModelCause)
   pub faulty : model_fault (before ++ front) thing ≡ Some (cause, line)
   pub first : IsFaultless model_fault (before ++ front)
 
--- a refusal of these things behind what was said before
+-- a refusal of these things after what was said before
 abbrev pub IsNextRefusal : List (ℕ × Said) → List (ℕ × Said) → Fault ModelCause → Type 0
 IsNextRefusal before things fault = IsRefusal (IsNextFault before things) fault
 
--- behind what it has read, the reader takes these things
+-- after what it has read, the reader takes these things
 abbrev pub TakesThings : List (ℕ × Said) → ModelReader → ModelReader → Type 0
 TakesThings things old new = (before : List (ℕ × Said)) → IsModelProgress before old → IsModelProgress (before ++ things) new
 
--- behind what it has read, the reader refuses these things
+-- after what it has read, the reader refuses these things
 abbrev pub RefusesThings : List (ℕ × Said) → ModelReader → Fault ModelCause → Type 0
 RefusesThings things reader fault = (before : List (ℕ × Said)) → IsModelProgress before reader → IsNextRefusal before things fault
 

@@ -9,9 +9,9 @@ use Rattle.text_lines.specs.Words.{words_of}
 use Rattle.dimacs.specs.Assignment.{value_of}
 use Rattle.dimacs.specs.Literal.{most_variable, is_clause}
 
--- what a word behind a `v`, a line of another kind, or the end of the text says
+-- what a word after a `v`, a line of another kind, or the end of the text says
 pub data Said : Type 0 where
-  -- a word behind a `v`
+  -- a word after a `v`
   Word : (word : List ℕ) → Said
   -- that there is no model
   Unsatisfiable : Said

@@ -17,7 +17,7 @@ pub enum ModelCause {
     Unended,
 }
 
-/// Why a text is not read as a model: its first fault and its line, counted from 1, or want of memory.
+/// Why a text is not read as a model: its first fault and its line, counted from 1, or that memory ran out.
 pub type ModelFault = Fault<ModelCause>;
 
 impl Cause for ModelCause {

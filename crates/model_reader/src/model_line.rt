@@ -15,7 +15,7 @@ use text_lines::words::cut_word;
 pub enum ModelLine<'a> {
     /// Nothing: it is blank, a comment, or says that there is a model.
     Skipped,
-    /// The words of this, behind a `v`.
+    /// The words of this, after a `v`.
     Words(&'a [u8]),
     /// That there is no model.
     Unsatisfiable,

@@ -164,8 +164,8 @@ impl ModelReader {
 /// `s UNSATISFIABLE` is refused as `SaysUnsatisfiable`, wherever it stands, and as `BadLine` any other line whose first
 /// word is not `v`.
 ///
-/// The words behind the `v`s, on as many lines as there are, are literals and then one `0`. From left to right, a word
-/// behind that `0` is a `BadLine`. A `BadNumber` is a word that is not an optional minus and digits, of a value up to
+/// The words after the `v`s, on as many lines as there are, are literals and then one `0`. From left to right, a word
+/// after that `0` is a `BadLine`. A `BadNumber` is a word that is not an optional minus and digits, of a value up to
 /// 4,194,304; leading zeros are allowed, a minus before zero and a plus are not. A literal whose negation came before is
 /// a `Clash`; a repeated one is not. Where no `0` comes, the text is `Unended`, at the line after the last.
 ///

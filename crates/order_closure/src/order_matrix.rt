@@ -13,7 +13,7 @@ pub struct Implied {
     pub over: u32,
 }
 
-/// Which elements stand before which. For each element there are two sets, of those behind it and of those before it, and
+/// Which elements stand before which. For each element there are two sets, of those after it and of those before it, and
 /// both are transitively closed at all times, so that transitivity never comes into conflict.
 ///
 /// The variable y(i,j) = i * (2n - i - 1) / 2 + (j - i) says that i stands before j, for i below j below n. Its negation says
@@ -101,7 +101,7 @@ impl OrderMatrix {
         }
     }
 
-    /// Which elements stand behind each.
+    /// Which elements stand after each.
     #[inline(always)]
     pub fn behind(&self) -> &ElementSets {
         &self.behind
@@ -126,7 +126,7 @@ impl OrderMatrix {
         self.count = self.count.wrapping_add(1);
     }
 
-    /// Puts a before all elements that stand behind b and not yet behind a, over b.
+    /// Puts a before all elements that stand after b and not yet after a, over b.
     #[inline(always)]
     fn inherit_behind(&mut self, a: u32, b: u32) {
         for w in 0..self.behind.words() {
@@ -143,8 +143,8 @@ impl OrderMatrix {
         }
     }
 
-    /// Puts a before b, and all that stand before a or are a before all that stand behind b or are b. What follows is in
-    /// `implied`, each literal behind those from which it follows. It asks nothing, and makes sense where b does not stand
+    /// Puts a before b, and all that stand before a or are a before all that stand after b or are b. What follows is in
+    /// `implied`, each literal after those from which it follows. It asks nothing, and makes sense where b does not stand
     /// before a.
     pub fn add(&mut self, a: u32, b: u32) {
         self.count = 0;

@@ -97,7 +97,7 @@ reads_with t ok names op known at right = record {
       (subst (λ l. ComesFrom (kept_trace t) (reduced t names) l (origin_of (new_op t op))) (same_location t op) right.source));
 }
 
--- directly behind an operation that reads right, its location holds what it leaves or reads
+-- directly after an operation that reads right, its location holds what it leaves or reads
 abbrev pub over : {X : Type 0} → Option X → Option X → Option X
 over None o = o
 over (Some x) o = Some x
@@ -127,7 +127,7 @@ held_behind t names n op e right =
     ∙ ap (λ b. over (cond b (value_left op) None) (value_after t (location_of op) names)) (bytes_same (location_of op) (location_of op) refl)
     ∙ held_by op (value_after t (location_of op) names) right.value
 
--- so a read that is dropped behind it reads right
+-- so a read that is dropped after it reads right
 pub repeat_reads : (t : TraceValue) (names : List OpName) (m n : OpName) (first second : Op) → previous n ≡ m → is_dropped t n ≡ true → operation_at t m ≡ Some first → operation_at t n ≡ Some second → ReadsRight t names first → ReadsRight t (names ++ m ∷ []) second
 repeat_reads t names m n first second behind dropped e f right =
     let at = dropped_repeats t n dropped in

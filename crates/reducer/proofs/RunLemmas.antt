@@ -79,7 +79,7 @@ in_names process low (suc n) m c =
       | inr d ↦ (let more = in_names process (low + 1) n m d in (more.0, omega (arith, more.1), omega (arith, more.2)))
     ]
 
--- behind a name: the run of dropped ones are those with the same new place
+-- after a name: the run of dropped ones are those with the same new place
 run_by : (t : TraceValue) (process : List ℕ) (k e : ℕ) (b : Bool) → is_dropped t (record { process = process; place = k + 1 }) ≡ b →
     (take_while (is_dropped t) (names_from process (k + 1 + 1) e) ≡ filter (has_place t (kept_among t process (k + 1))) (names_from process (k + 1 + 1) e)) →
     take_while (is_dropped t) (names_from process (k + 1) (suc e)) ≡ filter (has_place t (kept_among t process k)) (names_from process (k + 1) (suc e))

@@ -101,7 +101,7 @@ reduction_legal t names ok legal = record {
   finals = ends_left t ok names legal;
 }
 
--- a run: each name is dropped, and stands directly behind the one before it
+-- a run: each name is dropped, and stands directly after the one before it
 abbrev IsRun : TraceValue → OpName → List OpName → Type 0
 IsRun t m [] = ⊤
 IsRun t m (n ∷ names) = (previous n ≡ m) × (is_dropped t n ≡ true) × IsRun t n names

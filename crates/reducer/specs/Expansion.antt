@@ -6,7 +6,7 @@ use Rattle.traces.specs.declared.trace.Process.{Process}
 use Rattle.traces.specs.Trace.{TraceValue, at_place, process_named}
 use Rattle.reducer.specs.Reduction.{is_dropped, names_of, kept_names}
 
--- a name of the whole trace, and behind it the names of the run of dropped reads that stands directly behind it in its process
+-- a name of the whole trace, and after it the names of the run of dropped reads that stands directly after it in its process
 abbrev pub with_run : TraceValue → Process → Option OpName → List OpName
 with_run t p None = []
 with_run t p (Some n) = n ∷ take_while (is_dropped t) (drop n.place (names_of p))
@@ -16,7 +16,7 @@ abbrev pub run_at : TraceValue → OpName → Option Process → List OpName
 run_at t n None = []
 run_at t n (Some p) = with_run t p (at_place (kept_names t p) n.place)
 
--- a name of the kept trace becomes its first name and the run behind it
+-- a name of the kept trace becomes its first name and the run after it
 abbrev pub expanded : TraceValue → OpName → List OpName
 expanded t n = run_at t n (process_named t n.process)
 

@@ -32,7 +32,7 @@ fn push_names(
     Ok(())
 }
 
-/// Appends the first name of a kept name, and the run behind it.
+/// Appends the first name of a kept name, and the run after it.
 fn push_run(
     alloc: Global,
     names: &mut Vec<OpName>,
@@ -55,7 +55,7 @@ fn push_run(
 }
 
 /// The schedule with the dropped reads put back: each name becomes its name in the whole trace, followed by the names of the
-/// run of dropped reads that stands directly behind it.
+/// run of dropped reads that stands directly after it.
 pub fn expand(alloc: Global, reduced: &Reduced, schedule: &Schedule) -> Result<Schedule, AllocError>
     requires { IsInterleaving reduced.now.kept schedule.now }
     ensures { IfOk result (λ whole. whole ≡ expansion reduced.now.whole schedule.now) }

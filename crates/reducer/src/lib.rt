@@ -2,7 +2,7 @@
 //!
 //! A process that reads again what its last operation left or, as a plain read, found at the same location learns nothing
 //! from it. Without these reads the trace has a legal schedule exactly where it has one with them, since each can stand
-//! directly behind the operation that it repeats.
+//! directly after the operation that it repeats.
 #![tactic(auto)]
 
 mod bounds;

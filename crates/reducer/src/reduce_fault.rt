@@ -9,7 +9,7 @@ pub enum ReduceCause {
     StillTooLarge,
 }
 
-/// Why a trace is not reduced: a cause and how many operations are left, or want of memory.
+/// Why a trace is not reduced: a cause and how many operations are left, or that memory ran out.
 pub type ReduceFault = Fault<ReduceCause>;
 
 impl Cause for ReduceCause {

@@ -55,12 +55,12 @@ split_cubes (slot ∷ slots) (c ∷ before) cube after left right e =
     let there = split_cubes slots before cube after left right rest in
     λ i. first i ∷ there i
 
--- the element behind these
+-- the element after these
 pub next_is : (before : List (List ℤ)) (x : List ℤ) (after : List (List ℤ)) (d : List ℤ) → get_or (before ++ x ∷ after) (length before) d ≡ x
 next_is [] x after d = refl
 next_is (y ∷ before) x after d = next_is before x after d
 
--- and the one behind that
+-- and the one after that
 pub second_is : (before : List (List ℤ)) (x y : List ℤ) (after : List (List ℤ)) (d : List ℤ) → get_or (before ++ (x ∷ (y ∷ after))) (suc (length before)) d ≡ y
 second_is [] x y after d = refl
 second_is (z ∷ before) x y after d = second_is before x y after d
@@ -74,7 +74,7 @@ pub one_within : (before : List (List ℤ)) (x : List ℤ) (after : List (List �
 one_within [] x after = omega arith
 one_within (z ∷ before) x after = let h = one_within before x after in omega (arith, h)
 
--- a slot put behind another, and that one replaced
+-- a slot put after another, and that one replaced
 pub put_two : (slots : List Slot) (place : ℕ) (left right : Slot) → place < length slots → slice_set (insert slots (suc place) right) place left ≡ take place slots ++ (left ∷ (right ∷ drop (suc place) slots))
 put_two [] place left right h = absurd (omega arith)
 put_two (slot ∷ slots) zero left right h = refl
@@ -105,7 +105,7 @@ are_leaves_at slots end leaves is so = are_leaves slots leaves (subst (λ (n : �
 pub write_back : (new old : List Slot) (len : ℕ) → len ≡ length new → take len (new ++ drop (length new) old) ≡ new
 write_back new old len same = take-append-le len new (drop (length new) old) (omega (arith, same)) ∙ take_all len new (omega (arith, same))
 
--- a slot put behind another, and that one replaced
+-- a slot put after another, and that one replaced
 pub put_both : (slots : List Slot) (place : ℕ) (left right : Slot) → place < length slots → slice_set (insert slots (place + 1) right) place left ≡ take place slots ++ (left ∷ (right ∷ drop (place + 1) slots))
 put_both slots place left right within =
     let one : place + 1 ≡ suc place = omega arith in

@@ -9,7 +9,7 @@ pub enum DecodeCause {
     NotAModel,
 }
 
-/// Why an assignment is not decoded: a cause and the number of a clause, or want of memory.
+/// Why an assignment is not decoded: a cause and the number of a clause, or that memory ran out.
 pub type DecodeFault = Fault<DecodeCause>;
 
 impl Cause for DecodeCause {

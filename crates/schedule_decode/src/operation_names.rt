@@ -40,7 +40,7 @@ impl<'a> LentName<'a> {
     }
 }
 
-/// Puts the names of a process's operations behind the others.
+/// Puts the names of a process's operations after the others.
 fn push_names<'a>(names: &mut Vec<LentName<'a>>, process: &'a Process) -> Result<(), AllocError>
     requires { length process.now.operations ≤ 4096 }
     ensures { OnOk result (names.new.items ≡ names.old.items ++ names_of process.now) }

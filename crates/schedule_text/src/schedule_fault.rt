@@ -13,7 +13,7 @@ pub enum ScheduleCause {
     TooMany,
 }
 
-/// Why a text is not read as a schedule: its first fault and its line, counted from 1, or want of memory.
+/// Why a text is not read as a schedule: its first fault and its line, counted from 1, or that memory ran out.
 pub type ScheduleFault = Fault<ScheduleCause>;
 
 impl Cause for ScheduleCause {

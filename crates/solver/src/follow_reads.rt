@@ -94,7 +94,7 @@ impl<'a> OrderedTrail<'a> {
         Ok(())
     }
 
-    /// One writer of a location stands before another: whoever reads the first one stands before the second, and whoever stands behind
+    /// One writer of a location stands before another: whoever reads the first one stands before the second, and whoever stands after
     /// the second does not read the first.
     fn follow_writers(
         &mut self,

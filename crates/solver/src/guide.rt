@@ -8,7 +8,7 @@ use order_closure::tables::size;
 ///
 /// The order is of elements 0 to n - 1. Its variables are `y(i,j) = i * (2n - i - 1) / 2 + (j - i)` for i below j, which says
 /// that i stands before j. Its clauses are `-y(i,j) -y(j,k) y(i,k)` and then `y(i,j) y(j,k) -y(i,k)`, for all i below j below k in
-/// lexicographic order, and stand one behind the other. They are never read: the search keeps the order as sets of bits, and
+/// lexicographic order, and stand one after the other. They are never read: the search keeps the order as sets of bits, and
 /// names the clauses by arithmetic.
 ///
 /// Nobody believes a guide. A wrong one makes the search take other clauses for these, so that it may answer with a model that
@@ -105,7 +105,7 @@ impl<'a> Guide<'a> {
         self.first
     }
 
-    /// The number behind that of the last clause of the order.
+    /// The number after that of the last clause of the order.
     pub fn behind(self) -> u32 {
         self.first.wrapping_add(transitivity_of(self.elements))
     }

@@ -5,7 +5,7 @@ ghost use Rattle.std.specs.Prelude.{◌≤◌, ◌+◌, length, vec_len, IfOk, O
 use crate::codes::literal_of;
 use dimacs::Clause;
 use lrat_check::derivation::{Derivation, Step};
-use lrat_check::ids::Ids;
+use lrat_check::hints::Hints;
 use order_closure::tables::{at, piece, put, size};
 use std::alloc::{AllocError, Global};
 
@@ -113,12 +113,12 @@ impl Log {
         let hints = self.hints_of(addition);
         let mut ids = Vec::with_capacity(alloc, hints.len())?;
         for hint in hints {
-            ids.push(u64::from(*hint))?;
+            ids.push(i64::from(*hint))?;
         }
         Ok(Step::Addition {
             id: u64::from(self.first.wrapping_add(addition)),
             literals: Clause::from_slice(alloc, literals.as_slice())?,
-            hints: Ids::new(ids),
+            hints: Hints::new(ids),
         })
     }
 

@@ -25,7 +25,7 @@ pub struct Choice {
 ///
 /// A choice with the variable s and without a writer has the clauses `-s x(r,q)`, for all writers q of the reader r that it
 /// knows. One with the writer w has the clause `-s x(w,r)`, and then `-s x(q,w) x(r,q)` for all these q other than w. All go by
-/// rising q and stand one behind the other.
+/// rising q and stand one after the other.
 ///
 /// Nobody believes this either: what is wrong in it costs time, and never truth (see `Guide`).
 #[derive(Drop)]
@@ -35,9 +35,9 @@ pub struct Readings {
     base: u32,
     /// For each element those others that write its location.
     writers: ElementSets,
-    /// The choices by their variables, counted from the first one behind the order's.
+    /// The choices by their variables, counted from the first one after the order's.
     choices: Vec<Option<Choice>>,
-    /// For each reader and each writer the variable of the choice, or 0; behind the writers the one of the choice without a
+    /// For each reader and each writer the variable of the choice, or 0; after the writers the one of the choice without a
     /// writer.
     variables: Vec<u32>,
 }
@@ -128,7 +128,7 @@ impl Readings {
         self.variable(reader, self.elements)
     }
 
-    /// The number behind that of the choice's last clause: there are as many as writers.
+    /// The number after that of the choice's last clause: there are as many as writers.
     pub fn behind(&self, choice: Choice) -> u32 {
         choice.first.wrapping_add(self.writers.count(choice.reader))
     }

@@ -20,7 +20,7 @@ pub struct Others {
     pub second: u32,
 }
 
-/// The clauses of two and three literals. For each literal the other literals of its clauses stand one behind the other, and
+/// The clauses of two and three literals. For each literal the other literals of its clauses stand one after the other, and
 /// the clauses' numbers apart from them, since these are read only where something follows. Against watches this halves the
 /// time of a propagation.
 #[derive(Drop)]

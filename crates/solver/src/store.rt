@@ -14,7 +14,7 @@ pub const GIVEN: u32 = 0;
 /// The rank of a clause that is about to be dropped.
 pub const DROPPED: u32 = 0xffff_ffff;
 
-/// Clauses one behind the other. A clause is named by the place of its header. No clause is at place 0.
+/// Clauses one after the other. A clause is named by the place of its header. No clause is at place 0.
 #[derive(Drop)]
 pub struct Store {
     words: Vec<u32>,
@@ -99,7 +99,7 @@ impl Store {
         put(self.words.as_mut_slice(), clause.wrapping_add(3), conflict);
     }
 
-    /// The place behind the clause.
+    /// The place after the clause.
     pub fn behind(&self, clause: u32) -> u32 {
         clause.wrapping_add(HEADER).wrapping_add(self.count(clause))
     }

@@ -17,7 +17,7 @@ pub value_after_parts : (n : ℕ) (xs ys : List ℕ) → digits_value_after 10 n
 value_after_parts n [] ys = refl
 value_after_parts n (x ∷ xs) ys = value_after_parts (n * 10 + digit_value x) xs ys
 
--- a front of the digits has no larger value
+-- a prefix of the digits has no larger value
 pub value_front : (ds : List ℕ) (i : ℕ) → digits_value 10 (take i ds) ≤ digits_value 10 ds
 value_front ds i =
     let parts : digits_value 10 ds ≡ digits_value_after 10 (digits_value 10 (take i ds)) (drop i ds) =

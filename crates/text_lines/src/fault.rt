@@ -1,9 +1,9 @@
-//! Why a call of `vsc` refuses: a cause at a place, or want of memory. One type for all texts and checks.
+//! Why a call of `vsc` refuses: a cause at a place, or that memory ran out. One type for all texts and checks.
 
 use std::alloc::{AllocError, AllocFailed};
 use std::fmt;
 
-/// What may be wrong, as one of a table of causes. Number 1 is no cause's, since it is that of want of memory.
+/// What may be wrong, as one of a table of causes. Number 1 is no cause's, since it is that of a lack of memory.
 pub trait Cause: Copy {
     ghost use Rattle.std.specs.Prelude.{◌≡◌, ℕ, List};
 

@@ -1,4 +1,4 @@
--- Statements behind others: which of them come again, and how many of a kind there are.
+-- Statements after others: which of them come again, and how many of a kind there are.
 use Rattle.std.proofs.Common.{◌≡◌, ◌≢◌, ℕ, ◌+◌, ◌≤◌, List, [], ◌∷◌, ◌++◌, length, map, Bool, true, false, cond, refl, inl, inr, ap, sym, ◌∙◌, subst, arith, length-append}
 use Rattle.std.specs.Prelude.{Option, Some, None, nat_le}
 use Rattle.std.specs.List.{Contains, AllPairs, filter, filter_map, cons_option, list_any}

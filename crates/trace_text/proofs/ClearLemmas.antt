@@ -36,7 +36,7 @@ if_not : (b : Bool) (cause : TraceCause) (rest : Option TraceCause) → b ≡ fa
 if_not true cause rest h k = absurd (cc)
 if_not false cause rest h k = k
 
--- an operation stands behind the beginning of its process
+-- an operation stands after the beginning of its process
 begun_by : (ps : List Process) (front : List Statement) (s : Statement) (back : List Statement) → flat_map process_statements ps ≡ front ++ s ∷ back → is_operation s ≡ true → (y : Statement) × Contains front y × (is_proc y ≡ true)
 begun_by [] [] s back e h = absurd (cc)
 begun_by [] (f ∷ front) s back e h = absurd (cc)
@@ -80,7 +80,7 @@ procs_are : (ps : List Process) → filter is_proc (flat_map process_statements 
 procs_are [] = refl
 procs_are (p ∷ ps) = ap (λ l. Proc p.name ∷ l) (no_proc p.operations (flat_map process_statements ps) ∙ procs_are ps)
 
--- a statement of the text, between those before it and those behind it
+-- a statement of the text, between those before it and those after it
 module _ (t : TraceValue) (two : Bool) (body : List (List (List ℕ))) (ok : IsTrace t) (st : AreStated t two body) (front : List Statement) (s : Statement) (back : List Statement) (parts : st.ss ≡ front ++ s ∷ back) where
   listed : Contains st.ss s
   listed = subst (λ (l : List Statement). Contains l s) (sym parts) (in_middle front s back)

@@ -23,7 +23,7 @@ use Rattle.trace_text.proofs.EntryOfLemmas.{entry_of}
 use Rattle.trace_text.proofs.GatheredLemmas.{processes_push, initial_push, final_push, before_push, processes_apart, initial_apart, final_apart}
 use Rattle.trace_text.proofs.SeenLemmas.{distinct_push}
 
--- a statement that has no fault behind these
+-- a statement that has no fault after these
 record IsFine (ss : List Statement) (s : Statement) : Type 0 where
   inside : (is_operation s && not (list_any is_proc ss)) ≡ false
   named : list_all is_name (names_of s) ≡ true

@@ -59,7 +59,7 @@ pub version_is : (two : Bool) → is_version_2 (header_line two) ≡ two
 version_is true = refl
 version_is false = refl
 
--- the fault of words behind statements
+-- the fault of words after statements
 pub fault_said : (two : Bool) (before : List (List ℕ)) (ss : List Statement) (words : List (List ℕ)) → AreSaid two before ss → words_fault (kept before) words ≡ said_fault ss (statement_of two words)
 fault_said two before ss words a =
     ap (λ k. words_fault k words) a.kept_lines
@@ -122,7 +122,7 @@ one_more_line text two next rest old new line after so_far e l t = record {
   room = omega (arith, so_far.room, l);
 }
 
--- a fault at a line behind lines that have none
+-- a fault at a line after lines that have none
 pub fault_here : (text : List ℕ) (next : ℕ) (lines : List (List ℕ)) (rest line after : List ℕ) (refusal : LineRefusal) → next ≡ length lines + 1 → lines_of text ≡ lines ++ lines_of rest → IsFaultless trace_line_fault lines → lines_of rest ≡ line ∷ lines_of after →
     IsRefusedFor (trace_line_fault lines line) refusal → IsRefusal (HasTraceFault text) (refusal_at refusal next)
 fault_here text next lines rest line after OutOfMemory n p f e r = tt

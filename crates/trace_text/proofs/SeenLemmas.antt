@@ -147,7 +147,7 @@ none_after : (b : Bool) (cause : TraceCause) → (if b then Some cause else None
 none_after true cause = refl
 none_after false cause = refl
 
--- the fault of a statement behind the others, by what is kept
+-- the fault of a statement after the others, by what is kept
 pub fault_seen : (ss : List Statement) (seen : Seen) (s : Statement) → IsSeen ss seen → fault_behind seen s ≡ late_fault ss s
 fault_seen ss seen (Init a d) h = λ i. if (h.initial a ∙ any_same (repeats (Init a [])) (repeats (Init a d)) (init_repeats a d) ss) i then Some InitTwice else if not (h.locations a i) && nat_le 4096 (h.location_count i) then Some TooManyLocations else None
 fault_seen ss seen (Final a d) h = λ i. if (h.final_values a ∙ any_same (repeats (Final a [])) (repeats (Final a d)) (final_repeats a d) ss) i then Some FinalTwice else if not (h.locations a i) && nat_le 4096 (h.location_count i) then Some TooManyLocations else None

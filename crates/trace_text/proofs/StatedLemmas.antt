@@ -26,7 +26,7 @@ use Rattle.trace_text.proofs.ToldLemmas.{Has, are_told, line_tells, had_said, ha
 abbrev pub IsHad : TraceValue → Statement → Type 0
 IsHad t s = (e : Entry) × Has t e × (statement_for e ≡ s)
 
--- the statements of the lines behind the header, and which of them are of which kind
+-- the statements of the lines after the header, and which of them are of which kind
 pub record AreStated (t : TraceValue) (two : Bool) (body : List (List (List ℕ))) : Type 0 where
   pub ss : List Statement
   pub words : body ≡ map words_for ss

@@ -26,7 +26,7 @@ refused_early ss r s cause p h = fault_early ss s (is_some r.gathered.last) caus
 pub refused_number : (ss : List Statement) (r : TraceReader) (s : Statement) (refusal : LineRefusal) → IsProgress ss r → None ≡ early_fault (is_some r.gathered.last) s → IsRefusedFor (number_fault (has_numbers s)) refusal → IsRefusedFor (statement_fault ss s) refusal
 refused_number ss r s refusal p h n = fault_number ss s (is_some r.gathered.last) refusal p.begun (sym h) n
 
--- a fault behind the others
+-- a fault after the others
 pub refused_late : (ss : List Statement) (r : TraceReader) (s : Statement) (refusal : LineRefusal) → IsProgress ss r → None ≡ early_fault (is_some r.gathered.last) s → has_numbers s ≡ true → IsRefusedFor (fault_behind r.seen s) refusal → IsRefusedFor (statement_fault ss s) refusal
 refused_late ss r s refusal p h n f = subst (λ o. IsRefusedFor o refusal) (fault_seen ss r.seen s p.seen ∙ sym (fault_late ss s (is_some r.gathered.last) p.begun (sym h) n)) f
 

@@ -191,7 +191,7 @@ before_part t =
     (no_key (codes "before") (record { proc = λ ws. refl; read = λ ws. refl; write = λ ws. refl; update = λ ws. refl }) t.processes)
     (keep_all (begins (codes "before")) (map before_line t.before) (each_map (begins (codes "before")) before_line (λ x. refl) t.before))
 
--- where nothing early passes p and nothing in the rest passes q, nothing passes q behind what passes p
+-- where nothing early passes p and nothing in the rest passes q, nothing passes q after what passes p
 late : {A : Type 0} (p q : A → Bool) (early rest front behind : List A) → early ++ rest ≡ front ++ behind → list_any p early ≡ false → list_any q rest ≡ false → list_any p front ≡ true → list_any q behind ≡ false
 late p q early rest [] behind e none last some = absurd (false≢true some)
 late p q [] rest (x ∷ front) behind e none last some =

@@ -13,7 +13,7 @@ use Rattle.trace_text.specs.TraceText.{header_line}
 abbrev pub saying : Bool → Statement → Option Statement
 saying two s = statement_of two (words_for s)
 
--- these lines say these statements behind their header
+-- these lines say these statements after their header
 pub record AreSaid (two : Bool) (lines : List (List ℕ)) (ss : List Statement) : Type 0 where
   pub kept_lines : kept lines ≡ header_line two ∷ map words_for ss
   pub said : map (saying two) ss ≡ map Some ss

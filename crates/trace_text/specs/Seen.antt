@@ -61,7 +61,7 @@ pub record NotesLocation (old new : Seen) (location : Option (List ℕ)) : Type 
   pub location_count : new.location_count ≡ (if is_new old.locations location then old.location_count + 1 else old.location_count)
   pub few_locations : new.location_count ≤ 4096
 
--- a statement with no fault behind the others is noted
+-- a statement with no fault after the others is noted
 pub record Notes (old new : Seen) (s : Statement) : Type 0 where
   pub faultless : fault_behind old s ≡ None
   pub initial : (q : List ℕ) → has new.initial q ≡ (repeats (Init q []) s || has old.initial q)

@@ -99,7 +99,7 @@ twice_cause (Init location value) = InitTwice
 twice_cause (Final location value) = FinalTwice
 twice_cause s = ProcTwice
 
--- whether a statement passes a limit behind these: 64 processes, 4,096 operations, 4,096 `before` lines
+-- whether a statement passes a limit after these: 64 processes, 4,096 operations, 4,096 `before` lines
 abbrev pub limit_fault : List Statement → Statement → Option TraceCause
 limit_fault earlier s =
     if is_proc s && nat_le 64 (length (filter is_proc earlier)) then Some TooManyProcs
@@ -118,7 +118,7 @@ abbrev pub or_else : Option TraceCause → Option TraceCause → Option TraceCau
 or_else None other = other
 or_else (Some cause) other = Some cause
 
--- what is wrong with the place of a statement behind these, and with its words
+-- what is wrong with the place of a statement after these, and with its words
 abbrev pub shape_fault : List Statement → Statement → Option TraceCause
 shape_fault earlier s =
     if is_value_line s && list_any is_proc earlier then Some LateHeaderLine
@@ -127,7 +127,7 @@ shape_fault earlier s =
     else if not (list_all is_value (values_of s) && list_all (λ (r : List ℕ × List ℕ). is_place r.1) (references_of s)) then Some BadNumber
     else None
 
--- what is wrong with a statement behind these
+-- what is wrong with a statement after these
 abbrev pub statement_fault : List Statement → Statement → Option TraceCause
 statement_fault earlier s =
     or_else (shape_fault earlier s)
@@ -146,11 +146,11 @@ is_header words = pointwise bytes_eq words (header_line false) || pointwise byte
 abbrev pub is_version_2 : List (List ℕ) → Bool
 is_version_2 words = pointwise bytes_eq words (header_line true)
 
--- what the lines behind a header say
+-- what the lines after a header say
 abbrev pub statements_of : Bool → List (List (List ℕ)) → List Statement
 statements_of two body = filter_map (statement_of two) body
 
--- what is wrong with the words of a line behind those of the lines before it, of which the first is the header
+-- what is wrong with the words of a line after those of the lines before it, of which the first is the header
 abbrev pub words_fault : List (List (List ℕ)) → List (List ℕ) → Option TraceCause
 words_fault [] words = if is_header words then None else Some Header
 words_fault (header ∷ earlier) words = said_fault (statements_of (is_version_2 header) earlier) (statement_of (is_version_2 header) words)
@@ -159,7 +159,7 @@ words_fault (header ∷ earlier) words = said_fault (statements_of (is_version_2
 abbrev pub is_high : ℕ → Bool
 is_high byte = nat_lt 127 byte
 
--- what is wrong with a line behind the lines before it
+-- what is wrong with a line after the lines before it
 abbrev pub trace_line_fault : List (List ℕ) → List ℕ → Option TraceCause
 trace_line_fault before line =
     if is_skipped (words_of line) then None

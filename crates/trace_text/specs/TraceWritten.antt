@@ -8,11 +8,11 @@ use Rattle.trace_text.specs.TraceText.{header_line, init_line, final_line, proce
 abbrev pub line_text : List (List ℕ) → List ℕ
 line_text words = join_with_byte 32 words ++ 10 ∷ []
 
--- the lines behind the header: the initial values, the final values, the processes, the pairs, each in their order
+-- the lines after the header: the initial values, the final values, the processes, the pairs, each in their order
 abbrev pub canonical_body : TraceValue → List (List (List ℕ))
 canonical_body t = map init_line t.initial ++ (map final_line t.final_values ++ (flat_map process_lines t.processes ++ map before_line t.before))
 
--- the header, of version 2 only where the trace needs it, and the lines behind it
+-- the header, of version 2 only where the trace needs it, and the lines after it
 abbrev pub canonical_lines : TraceValue → List (List (List ℕ))
 canonical_lines t = header_line (needs_version_2 t) ∷ canonical_body t
 

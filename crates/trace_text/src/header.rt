@@ -30,9 +30,9 @@ const MOST_WORDS: usize = 3;
 pub struct Header<'a> {
     /// Whether the text is of version 2.
     pub two: bool,
-    /// The text behind the header.
+    /// The text after the header.
     pub rest: &'a [u8],
-    /// The number of the line behind the header.
+    /// The number of the line after the header.
     pub next: usize,
 }
 

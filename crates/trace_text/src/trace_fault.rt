@@ -39,7 +39,7 @@ pub enum TraceCause {
     TooManyBefore,
 }
 
-/// Why a text is not read as a trace: its first fault and its line, counted from 1, or want of memory.
+/// Why a text is not read as a trace: its first fault and its line, counted from 1, or that memory ran out.
 pub type TraceFault = Fault<TraceCause>;
 
 impl Cause for TraceCause {

@@ -30,7 +30,7 @@ use traces::trace::Trace;
 /// No line of any form has as many words.
 const MOST_WORDS: usize = 8;
 
-/// What has been read so far of the lines behind the header.
+/// What has been read so far of the lines after the header.
 #[derive(Drop)]
 pub struct TraceReader<'a> {
     seen: Seen<'a>,
@@ -98,7 +98,7 @@ impl<'a> TraceReader<'a> {
     }
 }
 
-/// Reads the lines behind the header.
+/// Reads the lines after the header.
 fn read_body<'a>(
     alloc: Global,
     text: &'a [u8],

@@ -112,7 +112,7 @@ regroup a s f more e = omega (arith, e)
 pub next_choice : (t : TraceValue) (r : ℕ) → first_choice t r + choice_count t r ≡ first_choice t (r + 1)
 next_choice t r = regroup (order_count (operation_count t)) (sum_by (choice_count t) (range_with_len 0 r)) (choice_count t r) (sum_by (choice_count t) (range_with_len 0 (r + 1))) (sum_more (choice_count t) r)
 
--- the first variable behind those of an operation
+-- the first variable after those of an operation
 pub next_is : (t : TraceValue) (i next count : ℕ) (table : OpTableValue) → next ≡ first_choice t i → table ≡ op_table t i → count ≡ (if table.reads then max 1 (length table.choices) else 0) → next + count ≡ first_choice t (i + 1)
 next_is t i next count table e same f = (λ k. e k + f k) ∙ ap (λ n. first_choice t i + n) (count_in_table t i table same) ∙ next_choice t i
 

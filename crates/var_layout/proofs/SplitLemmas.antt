@@ -56,7 +56,7 @@ one_more_row t i =
     ∙ ap (splits_among t) (flat_map-append row (range_with_len 0 i) (i ∷ []) ∙ ap (λ l. flat_map row (range_with_len 0 i) ++ l) (append-nil (row i)))
     ∙ joined t (flat_map row (range_with_len 0 i)) (row i)
 
--- the numbers from a on, and those behind them
+-- the numbers from a on, and those after them
 range_parted : (a k m : ℕ) → range_with_len a (k + m) ≡ range_with_len a k ++ range_with_len (a + k) m
 range_parted a zero m =
     let none : 0 + m ≡ m = omega arith in
@@ -67,7 +67,7 @@ range_parted a (suc k) m =
     let behind : a + 1 + k ≡ a + suc k = omega arith in
     ap (range_with_len a) more ∙ ap (λ l. a ∷ l) (range_parted (a + 1) k m ∙ ap (λ b. range_with_len (a + 1) k ++ range_with_len b m) behind)
 
--- the first of them do not depend on the rows behind, where those so far are enough
+-- the first of them do not depend on the rows after, where those so far are enough
 pub enough_splits : (t : TraceValue) (i most : ℕ) → i ≤ operation_count t → most ≤ length (splits_below t i) → take most (splits_below t i) ≡ take most (splits_below t (operation_count t))
 enough_splits t i most within enough =
     let n = operation_count t in

@@ -17,7 +17,7 @@ choice_count t r = if is_some (read_at t r) then max 1 (length (candidates t r))
 abbrev pub all_choices : TraceValue → ℕ
 all_choices t = sum_by (choice_count t) (numbers t)
 
--- the first choice variable of an operation, behind those of the operations before it
+-- the first choice variable of an operation, after those of the operations before it
 abbrev pub first_choice : TraceValue → ℕ → ℕ
 first_choice t r = order_count (operation_count t) + sum_by (choice_count t) (range_with_len 0 r) + 1
 

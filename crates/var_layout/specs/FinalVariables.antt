@@ -23,7 +23,7 @@ is_untouched t entry = (length (writers t entry.0) == 0) && is_held (value_of t.
 abbrev pub final_count : TraceValue → List ℕ × ℕ → ℕ
 final_count t entry = if is_untouched t entry then 0 else max 1 (length (final_candidates t entry))
 
--- the first variable of the k-th final value, behind those of the final values before it
+-- the first variable of the k-th final value, after those of the final values before it
 abbrev pub first_final : TraceValue → ℕ → ℕ
 first_final t k = order_count (operation_count t) + all_choices t + sum_by (final_count t) (take k t.final_values) + 1
 

@@ -165,7 +165,7 @@ fn count_of(table: &OpTable) -> u32
     }
 }
 
-/// What the layout keeps of each operation, and the first variable behind theirs.
+/// What the layout keeps of each operation, and the first variable after theirs.
 pub(crate) fn op_tables(
     alloc: Global,
     numbering: &Numbering<'_>,

@@ -128,7 +128,7 @@ fn count_of(table: &FinalTable) -> u32
     }
 }
 
-/// What the layout keeps of each final value, and the first variable behind theirs. They begin with this one.
+/// What the layout keeps of each final value, and the first variable after theirs. They begin with this one.
 pub(crate) fn final_tables(
     alloc: Global,
     numbering: &Numbering<'_>,

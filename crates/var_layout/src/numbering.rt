@@ -28,7 +28,7 @@ impl<'a> Model for NamedOp<'a> {
     ghost view = { λ named. record { name = record { process = named.process.now; place = named.place }; op = named.op.now } };
 }
 
-/// Puts the operations of the process behind the others.
+/// Puts the operations of the process after the others.
 fn push_process<'a>(
     operations: &mut Vec<NamedOp<'a>>,
     process: &'a Process,

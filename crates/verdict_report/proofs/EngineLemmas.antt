@@ -51,7 +51,7 @@ stopped_first source others untouched well NoReadMemory stop = (stop.0, well)
 stopped_first source others untouched well SourceFails stop = stop_first FailsWithinLimit source others untouched stop
 stopped_first source others untouched well TooLong stop = stop_first PassesLimit source others untouched stop
 
--- reading stopped behind the first source
+-- reading stopped after the first source
 pub stopped_later : (source : SourceRun) (text : List ℕ) (others : List SourceRun) → HandOut (source ∷ []) (text ∷ []) → (fault : ReadFault) → IsStopOfReading others fault → IsStopOfReading (source ∷ others) fault
 stopped_later source text others handed NoReadMemory stop = (handed.0.1, stop)
 stopped_later source text others handed SourceFails stop = inr ((text, handed.0.0, handed.0.1), stop)
@@ -106,7 +106,7 @@ module _ {A : Type 0} (said : List (List ℕ) → Result A Fault → Type 0) (te
   written (Err (Check cause step)) w = absurd w
   written (Err (Search fault)) w = absurd w
 
-  -- while it is made, and the sink fails or memory runs out behind a front
+  -- while it is made, and the sink fails or memory runs out after a front
   pub cut_off : (fault : SinkFault) → AppendsFront out.before out.now (text_of answer) → out.failures_now ≡ out.failures_before + failures_told fault →
       IsRunOfEngine InPieces said (λ a. text_of a ∷ []) status_of sources (out ∷ []) (Err (fault_of_sink fault))
   cut_off NoRoom front counts = inr (record { answer = answer; reads = reads; stopped = inl ((front, omega (arith, counts)), tt) })

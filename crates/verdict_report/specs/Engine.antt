@@ -39,7 +39,7 @@ FailsWithinLimit source = (source.failures_now ≡ source.failures_before + 1) �
 abbrev pub PassesLimit : SourceRun → Type 0
 PassesLimit source = AppendsMoreThan INPUT_LIMIT source.before source.now × IsUnfailing source
 
--- reading stopped at a source of which this is so: those before it handed out their texts, and those behind it were not touched
+-- reading stopped at a source of which this is so: those before it handed out their texts, and those after it were not touched
 abbrev pub StopsReading : (SourceRun → Type 0) → List SourceRun → Type 0
 StopsReading Stops [] = ⊥
 StopsReading Stops (source ∷ sources) =
@@ -70,15 +70,15 @@ TakeWhole [] [] = ⊤
 TakeWhole (sink ∷ sinks) (text ∷ texts) = TakesWhole sink text × TakeWhole sinks texts
 TakeWhole sinks texts = ⊥
 
--- the sink took a front of the text, and did not fail
+-- the sink took a prefix of the text, and did not fail
 abbrev pub TakesFront : SinkRun → List ℕ → Type 0
 TakesFront sink text = AppendsFront sink.before sink.now text × (sink.failures_now ≡ sink.failures_before)
 
--- the sink took a front of the text, and failed
+-- the sink took a prefix of the text, and failed
 abbrev pub FailsBehindFront : SinkRun → List ℕ → Type 0
 FailsBehindFront sink text = AppendsFront sink.before sink.now text × (sink.failures_now ≡ sink.failures_before + 1)
 
--- writing stopped at a sink of which this is so: those before it took their texts whole, and those behind it took nothing
+-- writing stopped at a sink of which this is so: those before it took their texts whole, and those after it took nothing
 abbrev pub StopsWriting : (SinkRun → List ℕ → Type 0) → List SinkRun → List (List ℕ) → Type 0
 StopsWriting Stops (sink ∷ sinks) (text ∷ texts) = (Stops sink text × TakeNothing sinks) ⊎ (TakesWhole sink text × StopsWriting Stops sinks texts)
 StopsWriting Stops sinks texts = ⊥
@@ -118,7 +118,7 @@ pub record StopsAnswering {A : Type 0} (said : List (List ℕ) → Result A Faul
   pub reads : Reads said sources (Ok answer)
   pub stopped : StopsWriting Stops sinks (texts_of answer)
 
--- there was no memory: nothing failed, and nothing was written; of texts that are written while they are made, a front may have been
+-- there was no memory: nothing failed, and nothing was written; of texts that are written while they are made, a prefix may have been
 abbrev pub LacksMemory : {A : Type 0} → Writing → (List (List ℕ) → Result A Fault → Type 0) → (A → List (List ℕ)) → List SourceRun → List SinkRun → Type 0
 LacksMemory AtOnce said texts_of sources sinks = AreUnfailing sources × TakeNothing sinks
 LacksMemory InPieces said texts_of sources sinks = (AreUnfailing sources × TakeNothing sinks) ⊎ StopsAnswering said texts_of TakesFront sources sinks

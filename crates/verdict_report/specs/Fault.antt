@@ -25,7 +25,7 @@ use Rattle.verdict_report.specs.declared.reading.ReadFault.TheVariants.{OutOfMem
 use Rattle.verdict_report.specs.declared.status.Status.{Status}
 use Rattle.verdict_report.specs.declared.status.Status.TheVariants.{Yes, No, Unknown}
 
--- what is told of a fault: what refused, the number where it is printed, the name, and what stands behind `at`
+-- what is told of a fault: what refused, the number where it is printed, the name, and what stands after `at`
 pub record Told : Type 0 where
   pub area : List ℕ
   pub number : Option ℕ
@@ -63,7 +63,7 @@ number_of fault = (told fault).number
 abbrev pub name_of : Fault → List ℕ
 name_of fault = (told fault).name
 
--- what it has behind `at`: a line, how many operations are left, the number of a clause, or a step
+-- what it has after `at`: a line, how many operations are left, the number of a clause, or a step
 abbrev pub place_of : Fault → Option ℕ
 place_of fault = (told fault).place
 
@@ -90,7 +90,7 @@ fault_of_reading NoReadMemory = OutOfMemory
 fault_of_reading SourceFailed = Device
 fault_of_reading TooLong = InputTooLong
 
--- want of memory is the engine's own
+-- lack of memory is the engine's own
 abbrev pub fault_of_search : SearchFault → Fault
 fault_of_search NoMemoryToSearch = OutOfMemory
 fault_of_search Cut = Search Cut

@@ -21,7 +21,7 @@ use std::thread::Threads;
 /// trace has a legal schedule.
 ///
 /// The first refusal stands: of a source that fails, an input past the limit, the trace's text, a trace of which more
-/// than 160 operations are kept, want of memory, or the sink. Before the last two a front of the text may have been
+/// than 160 operations are kept, lack of memory, or the sink. Before the last two a prefix of the text may have been
 /// written, and before the others nothing.
 pub fn run_cnf<R: Threads + Sync, T: Source, W: Sink>(
     alloc: Global,

@@ -26,7 +26,7 @@ use traces::schedule::Schedule;
 ///
 /// Both texts are read whole, in this order, before either is parsed; then the trace is reduced. The first refusal stands:
 /// of a source that fails, an input past the limit, the trace's text, the model's text, a trace of which more than 160
-/// operations are kept, truth values that are no model, want of memory, or the sink.
+/// operations are kept, truth values that are no model, lack of memory, or the sink.
 pub fn run_decode<R: Threads + Sync, T: Source, M: Source, W: Sink>(
     alloc: Global,
     rt: &R,

@@ -20,7 +20,7 @@ use traces::judgement::Judgement;
 /// number, the name and the place of the first fault, as one line.
 ///
 /// Both texts are read whole, in this order, before either is parsed. The first refusal stands: of a source that
-/// fails, an input past the limit, the trace's text, the schedule's text, want of memory, or the sink.
+/// fails, an input past the limit, the trace's text, the schedule's text, lack of memory, or the sink.
 pub fn run_judge<T: Source, S: Source, W: Sink>(
     alloc: Global,
     trace: &mut T,

@@ -18,7 +18,7 @@ use std::alloc::Global;
 /// model.
 ///
 /// Both texts are read whole, in this order, before either is parsed. The first refusal stands: of a source that fails, an
-/// input past the limit, the formula's text, the proof's text, a step of the proof, want of memory, or the sink.
+/// input past the limit, the formula's text, the proof's text, a step of the proof, lack of memory, or the sink.
 pub fn run_lrat<C: Source, P: Source, W: Sink>(
     alloc: Global,
     cnf: &mut C,

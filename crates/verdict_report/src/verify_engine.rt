@@ -22,7 +22,7 @@ use trace_verdict::{Decision, decide, report_of};
 /// there is no legal schedule; or UNKNOWN and cubes in which all models of the trace's clauses are.
 ///
 /// The first refusal stands: of a source that fails, an input past the limit, the trace's text, a trace of which more than
-/// 160 operations are kept, the search, want of memory, or the sink. Before the last a front of the report may have been
+/// 160 operations are kept, the search, lack of memory, or the sink. Before the last a prefix of the report may have been
 /// written, and before the others nothing.
 pub fn run_verify<R: Threads + Sync, T: Source, G: Gate, W: Sink>(
     alloc: Global,

@@ -1,9 +1,10 @@
-use Rattle.std.proofs.Common.{◌≡◌, ◌∷◌, ◌+◌, drop, ◌∙◌, sym, ap, arith}
+use Rattle.std.proofs.Common.{◌≡◌, ◌∷◌, ◌+◌, drop, ◌∙◌, sym, ap, subst, List, arith}
 use Rattle.lrat_check.specs.Active.{at_start}
 use Rattle.lrat_check.specs.ClauseAt.{clause_at}
-use Rattle.lrat_check.proofs.CheckLemmas.{next_step, handed_on, walk_fails, walk_on, walk_ends}
+use Rattle.lrat_check.proofs.CheckLemmas.{IsWalked, walk_start, next_step, handed_on, walk_fails, walk_on, walk_ends}
 use Rattle.lrat_check.proofs.SoundLemmas.{no_model, formula_no_zero, cube_no_zero}
 use Rattle.lrat_check.specs.Derivation.{are_steps}
+use Rattle.lrat_check.specs.declared.derivation.Step.{Step}
 use Rattle.lrat_check.proofs.checker.check.Goals as goal
 
 pub returns-in_err-take_step-clause-refused : goal.returns-in_err-take_step-clause-refused
@@ -13,7 +14,7 @@ returns-in_err-take_step-clause-refused g c =
     let step = c.index-steps-i.result in
     let next : drop c.loop-i.i steps ≡ step ∷ drop (c.loop-i.i + 1) steps = next_step steps c.loop-i.i step (omega arith) c.index-steps-i.is in
     handed_on formula.clauses c.args.cube.now c.args.derivation.now c.from_residual.result c.in_err-take_step.field-0.0 c.from_residual.ensures.1
-    (walk_fails formula.clauses c.args.cube.now c.args.derivation.now (clause_at formula.clauses c.loop-i.active) (c.loop-i.i + 1) (drop c.loop-i.i steps) step (drop (c.loop-i.i + 1) steps) c.in_err-take_step.field-0.0 c.loop-i.invariant next c.in_err-take_step.ensures)
+    (walk_fails formula.clauses c.args.cube.now c.args.derivation.now (clause_at formula.clauses c.loop-i.active.clauses) (c.loop-i.i + 1) (drop c.loop-i.i steps) step (drop (c.loop-i.i + 1) steps) c.in_err-take_step.field-0.0 c.loop-i.invariant.0 next (c.in_err-take_step.ensures c.loop-i.invariant.1))
 
 pub loop-i-preserved : goal.loop-i-preserved
 loop-i-preserved g c =
@@ -21,8 +22,11 @@ loop-i-preserved g c =
     let steps = c.steps-steps.result.now in
     let step = c.index-steps-i.result in
     let next : drop c.loop-i.i steps ≡ step ∷ drop (c.loop-i.i + 1) steps = next_step steps c.loop-i.i step (omega arith) c.index-steps-i.is in
-    walk_on (at_start formula.clauses c.args.cube.now) c.args.derivation.now (clause_at formula.clauses c.loop-i.active) (clause_at formula.clauses c.take_step.new.active) (c.loop-i.i + 1) (drop c.loop-i.i steps) step (drop (c.loop-i.i + 1) steps)
-    c.loop-i.invariant next c.in_ok-take_step.ensures.0 (sym c.in_ok-take_step.ensures.1 ∙ c.if-branch.false) c.in_ok-take_step.ensures.2
+    let right = c.in_ok-take_step.ensures c.loop-i.invariant.1 in (
+      walk_on (at_start formula.clauses c.args.cube.now) c.args.derivation.now (clause_at formula.clauses c.loop-i.active.clauses) (clause_at formula.clauses c.take_step.new.active.clauses) (c.loop-i.i + 1) (drop c.loop-i.i steps) step (drop (c.loop-i.i + 1) steps)
+          c.loop-i.invariant.0 next right.0 (sym right.1 ∙ c.if-branch.false) right.2,
+      right.3,
+    )
 
 pub returns-then-branch-clause-sound : goal.returns-then-branch-clause-sound
 returns-then-branch-clause-sound g c =
@@ -30,9 +34,19 @@ returns-then-branch-clause-sound g c =
     let steps = c.steps-steps.result.now in
     let step = c.index-steps-i.result in
     let next : drop c.loop-i.i steps ≡ step ∷ drop (c.loop-i.i + 1) steps = next_step steps c.loop-i.i step (omega arith) c.index-steps-i.is in
+    let right = c.in_ok-take_step.ensures c.loop-i.invariant.1 in
     no_model formula.clauses c.args.cube.now c.args.derivation.now
     (formula_no_zero formula.variables formula.clauses c.is_formula.ensures.formula)
     (cube_no_zero c.args.cube.now c.are_literals.ensures)
     (ap are_steps (sym c.steps-steps.ensures.steps) ∙ c.steps-steps.ensures.clauses)
-    (walk_ends (at_start formula.clauses c.args.cube.now) c.args.derivation.now (clause_at formula.clauses c.loop-i.active) (c.loop-i.i + 1) (drop c.loop-i.i steps) step (drop (c.loop-i.i + 1) steps)
-    c.loop-i.invariant next c.in_ok-take_step.ensures.0 (sym c.in_ok-take_step.ensures.1 ∙ c.if-branch.true))
+    (walk_ends (at_start formula.clauses c.args.cube.now) c.args.derivation.now (clause_at formula.clauses c.loop-i.active.clauses) (c.loop-i.i + 1) (drop c.loop-i.i steps) step (drop (c.loop-i.i + 1) steps)
+    c.loop-i.invariant.0 next right.0 (sym right.1 ∙ c.if-branch.true))
+
+pub loop-i-init : goal.loop-i-init
+loop-i-init g c =
+    let clauses = (g.F.ClauseList.formula c.args.formula.now).clauses in
+    let start = at_start clauses c.args.cube.now in
+    let active = clause_at clauses c.at_start-active.result.clauses in (
+      subst (λ (steps : List Step). IsWalked start c.args.derivation.now active 1 steps) (sym c.steps-steps.ensures.steps) (walk_start start active c.args.derivation.now (c.at_start-active.ensures.active clauses)),
+      c.at_start-active.ensures.counted clauses,
+    )

@@ -8,7 +8,6 @@ use Rattle.lrat_check.specs.LratFaults.{id_fault, first_fault, behind_fault, del
 use Rattle.lrat_check.specs.LratRead.{IsWrittenStep}
 use Rattle.lrat_check.specs.declared.derivation.Step.{Step}
 use Rattle.lrat_check.specs.declared.lrat_fault.LratCause.{LratCause}
-use Rattle.lrat_check.specs.declared.lrat_fault.LratCause.TheVariants.{BadNumber}
 use Rattle.text_lines.specs.declared.fault.Fault.{Fault}
 use Rattle.text_lines.specs.Fault.{IsRefusalAt}
 use Rattle.lrat_check.proofs.LratLineLemmas.{handed, refusal_weaker, first_passes, deletion_read}
@@ -20,7 +19,7 @@ returns-in_err-ids c =
     let words = words_of c.args.rest.now in
     let Q : LratCause → Type 0 = λ cause. option_or (first_fault 0 (solver_number word)) (deletion_fault words) ≡ Some cause in
     handed (λ (step : Step). IsWrittenStep (word ∷ (codes "d" ∷ words)) step) (λ (fault : Fault LratCause). IsRefusalAt Q c.args.number fault) c.from_residual.result c.in_err-ids.field-0.0 c.from_residual.ensures.1
-    (refusal_weaker (λ (cause : LratCause). HasListFault (id_fault BadNumber) words cause) Q c.args.number c.in_err-ids.field-0.0
+    (refusal_weaker (λ (cause : LratCause). HasListFault id_fault words cause) Q c.args.number c.in_err-ids.field-0.0
     (λ cause h. first_passes 0 c.in-Ok.first word (deletion_fault words) cause c.in-Ok.ensures.0 c.in-Ok.ensures.1 c.in-Ok.ensures.2 (h behind_fault))
     c.in_err-ids.ensures)
 

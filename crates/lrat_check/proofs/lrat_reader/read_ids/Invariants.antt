@@ -2,11 +2,12 @@ use Rattle.std.proofs.Common.{length, map}
 use Rattle.std.specs.Prelude.{pos}
 use Rattle.text_lines.specs.Words.{words_of}
 use Rattle.lrat_check.specs.LratFaults.{id_fault}
-use Rattle.lrat_check.specs.LratRead.{BeginsWith, is_id_number}
+use Rattle.lrat_check.specs.LratRead.{BeginsWith}
+use Rattle.lrat_check.specs.LratText.{is_id_number}
 use Rattle.lrat_check.proofs.lrat_reader.read_ids.Given as goal
 
 abbrev pub invariant-loop-word : goal.invariant-loop-word
-invariant-loop-word l = BeginsWith (id_fault l.negative) is_id_number (words_of l.line) (map pos l.ids.items) (words_of l.rest)
+invariant-loop-word l = BeginsWith id_fault is_id_number (words_of l.line) (map pos l.ids.items) (words_of l.rest)
 
 abbrev pub decreases-loop-word : goal.decreases-loop-word
 decreases-loop-word l = length l.rest

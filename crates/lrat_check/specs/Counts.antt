@@ -1,0 +1,36 @@
+-- How often literals stand in the active clauses.
+use Rattle.std.specs.Prelude.{◌≡◌, ℕ, ℤ, List, length, Option, ◌==◌, slice_index_or}
+use Rattle.std.specs.List.{filter}
+use Rattle.std.specs.Option.{option_map, unwrap_or}
+use Rattle.std.specs.Ordering.{int_eq}
+use Rattle.lrat_check.specs.Marks.{place_of}
+use Rattle.lrat_check.specs.declared.literal_counts.LiteralCounts.{LiteralCounts}
+
+-- how often the clause holds the literal
+abbrev pub times : List ℤ → ℤ → ℕ
+times clause literal = length (filter (λ z. int_eq z literal) clause)
+
+-- how often the clause of this id does, if one is active
+abbrev pub times_at : (ℕ → Option (List ℤ)) → ℤ → ℕ → ℕ
+times_at active literal id = unwrap_or (option_map (λ clause. times clause literal) (active id)) 0
+
+-- how often the id is among these
+abbrev pub repeats : List ℕ → ℕ → ℕ
+repeats ids id = length (filter (λ other. other == id) ids)
+
+-- The literal stands so often in the active clauses: there are so many ids, if each is listed as often as its clause holds the
+-- literal.
+abbrev pub IsCount : (ℕ → Option (List ℤ)) → ℤ → ℕ → Type 0
+IsCount active literal count = (ids : List ℕ) × ((id : ℕ) → repeats ids id ≡ times_at active literal id) × (length ids ≡ count)
+
+-- the count at a place of a table: past its end it is 0
+abbrev pub count_in : List ℕ → ℕ → ℕ
+count_in counts place = slice_index_or counts place 0
+
+-- the count of a literal
+abbrev pub count_of : LiteralCounts → ℤ → ℕ
+count_of counts literal = count_in counts.counts.items (place_of literal)
+
+-- each literal stands so often in the active clauses
+abbrev pub AreCounts : (ℕ → Option (List ℤ)) → LiteralCounts → Type 0
+AreCounts active counts = (literal : ℤ) → IsCount active literal (count_of counts literal)

@@ -1,0 +1,115 @@
+//! Groups of hints: each is for an active clause that holds the negation of the added clause's first literal, the pivot.
+
+ghost use Rattle.std.specs.Prelude.{◌≡◌, List, ℤ, neg_ℤ, IfOk, MatchBool, MatchResult};
+ghost use Rattle.lrat_check.specs.ClauseAt.{clause_at};
+ghost use Rattle.lrat_check.specs.Counts.{IsCount, times_at};
+ghost use Rattle.lrat_check.specs.Hints.{first_hints, groups_of};
+ghost use Rattle.lrat_check.specs.Rat.{IsSettled, IsUnsettled, AreSettled, AreUnsettled, HasAllGroups, LacksGroup};
+ghost use Rattle.text_lines.specs.Fault.{IsRefusalAt};
+
+use crate::active_clauses::ActiveClauses;
+use crate::hint_groups::cut_group;
+use crate::literal_counts::times;
+use crate::propagation::propagate;
+use crate::rat::{assume_others, holds, other_holds, restore};
+use crate::refusal::{Refusal, StepFault};
+use crate::true_literals::TrueLiterals;
+use dimacs::{ClauseList, Lit};
+use std::alloc::{AllocError, Global};
+use std::collections::HashSet;
+
+/// Looks whether the group of this id and these hints settles its clause, where these literals are true after the first hints.
+fn settle<F: ClauseList>(
+    formula: &F,
+    active: &ActiveClauses,
+    trues: &mut TrueLiterals,
+    pivot: Lit,
+    reached: &[Lit],
+    id: u64,
+    hints: &[i64],
+    number: usize,
+) -> Result<(), Refusal>
+    ensures { MatchResult result
+        (λ _. IsSettled (clause_at (F.formula formula.now).clauses active.now) pivot reached.now (record { id = id; hints = first_hints hints.now }))
+        (λ refusal. IsRefusalAt (λ fault. IsUnsettled (clause_at (F.formula formula.now).clauses active.now) pivot reached.now (record { id = id; hints = first_hints hints.now }) fault) number refusal) }
+{
+    let Some(clause) = active.get(formula, id) else {
+        return Err(Refusal::At(StepFault::UnknownHint, number));
+    };
+    if !holds(clause.as_slice(), pivot.negated()) {
+        return Err(Refusal::At(StepFault::NotOpposed, number));
+    }
+    restore(trues, reached)?;
+    if other_holds(trues, pivot, clause.as_slice()) {
+        return Ok(());
+    }
+    assume_others(trues, pivot, clause.as_slice())?;
+    if propagate(formula, active, trues, hints, number)? {
+        Ok(())
+    } else {
+        Err(Refusal::At(StepFault::NoConflict, number))
+    }
+}
+
+/// Looks whether all groups among the hints settle their clauses, in order.
+pub fn settle_all<F: ClauseList>(
+    formula: &F,
+    active: &ActiveClauses,
+    trues: &mut TrueLiterals,
+    pivot: Lit,
+    reached: &[Lit],
+    hints: &[i64],
+    number: usize,
+) -> Result<(), Refusal>
+    ensures { MatchResult result
+        (λ _. AreSettled (clause_at (F.formula formula.now).clauses active.now) pivot reached.now (groups_of hints.now))
+        (λ refusal. IsRefusalAt (λ fault. AreUnsettled (clause_at (F.formula formula.now).clauses active.now) pivot reached.now (groups_of hints.now) fault) number refusal) }
+{
+    let mut rest = hints;
+    while let Some((id, after)) = cut_group(rest) {
+        settle(formula, active, trues, pivot, reached, id, after, number)?;
+        rest = after;
+    }
+    Ok(())
+}
+
+/// How often the active clause of this id holds the literal: 0 if none is active.
+fn times_at<F: ClauseList>(formula: &F, active: &ActiveClauses, id: u64, literal: Lit) -> usize
+    ensures { result ≡ times_at (clause_at (F.formula formula.now).clauses active.now) literal id }
+{
+    match active.get(formula, id) {
+        Some(clause) => times(clause.as_slice(), literal),
+        None => 0,
+    }
+}
+
+/// Whether each active clause that holds the pivot's negation has a group among the hints, where the negation stands so often in
+/// the active clauses. What the clauses of the distinct groups hold of it is taken off the count, and no other clause is looked at.
+pub fn has_all<F: ClauseList>(
+    alloc: Global,
+    formula: &F,
+    active: &ActiveClauses,
+    pivot: Lit,
+    count: usize,
+    hints: &[i64],
+) -> Result<bool, AllocError>
+    ensures { IfOk result (λ all. IsCount (clause_at (F.formula formula.now).clauses active.now) (neg_ℤ pivot) count →
+        MatchBool all
+        (HasAllGroups (clause_at (F.formula formula.now).clauses active.now) pivot (groups_of hints.now))
+        (LacksGroup (clause_at (F.formula formula.now).clauses active.now) pivot (groups_of hints.now))) }
+{
+    if count == 0 {
+        return Ok(true);
+    }
+    let negation = pivot.negated();
+    let mut left = count;
+    let mut seen = HashSet::new(alloc);
+    let mut rest = hints;
+    while let Some((id, after)) = cut_group(rest) {
+        if seen.insert(id)? {
+            left = left.saturating_sub(times_at(formula, active, id, negation));
+        }
+        rest = after;
+    }
+    Ok(left == 0)
+}

@@ -1,0 +1,99 @@
+//! Whether a clause may be added.
+
+ghost use Rattle.std.specs.Prelude.{◌≡◌, [], ℕ, ℤ, List, Option, OnOk, MatchResult};
+ghost use Rattle.lrat_check.specs.ClauseAt.{clause_at};
+ghost use Rattle.lrat_check.specs.Counted.{IsCounted};
+ghost use Rattle.lrat_check.specs.Hints.{groups_of};
+ghost use Rattle.lrat_check.specs.Justified.{IsJustified, IsUnjustified};
+ghost use Rattle.lrat_check.specs.Rat.{IsRat, IsNoRat, missing};
+ghost use Rattle.text_lines.specs.Fault.{IsRefusalAt};
+
+use crate::counted_clauses::CountedClauses;
+use crate::groups::{has_all, settle_all};
+use crate::hint_groups::cut_group;
+use crate::propagation::is_implied;
+use crate::refusal::{Refusal, StepFault};
+use crate::true_literals::TrueLiterals;
+use dimacs::{ClauseList, Lit};
+use std::alloc::Global;
+
+/// What is wrong with an empty clause whose first hints lead to no conflict.
+fn without_pivot(hints: &[i64]) -> StepFault
+    ensures { (active : ℕ → Option (List ℤ)) (reached : List ℤ) → IsNoRat active [] (groups_of hints.now) reached result }
+{
+    match cut_group(hints) {
+        Some(_) => StepFault::NoPivot,
+        None => StepFault::NoConflict,
+    }
+}
+
+/// What is wrong where an active clause that holds the pivot's negation has no group.
+fn without_group(hints: &[i64]) -> StepFault
+    ensures { result ≡ missing (groups_of hints.now) }
+{
+    match cut_group(hints) {
+        Some(_) => StepFault::GroupMissing,
+        None => StepFault::NoConflict,
+    }
+}
+
+/// Looks whether the groups among the hints show that the clause may be added, where its first hints lead to no conflict.
+fn oppose<F: ClauseList>(
+    alloc: Global,
+    formula: &F,
+    active: &mut CountedClauses,
+    trues: &mut TrueLiterals,
+    clause: &[Lit],
+    hints: &[i64],
+    number: usize,
+) -> Result<(), Refusal>
+    ensures same { active.new.clauses ≡ active.old.clauses }
+    ensures counted { IsCounted (F.formula formula.now).clauses active.old → IsCounted (F.formula formula.now).clauses active.new }
+    ensures rat { IsCounted (F.formula formula.now).clauses active.old → MatchResult result
+        (λ _. IsRat (clause_at (F.formula formula.now).clauses active.old.clauses) clause.now (groups_of hints.now) trues.old)
+        (λ refusal. IsRefusalAt (λ fault. IsNoRat (clause_at (F.formula formula.now).clauses active.old.clauses) clause.now (groups_of hints.now) trues.old fault) number refusal) }
+{
+    if clause.is_empty() {
+        return Err(Refusal::At(without_pivot(hints), number));
+    }
+    let pivot = clause[0];
+    let mut reached = Vec::new(alloc);
+    reached.extend_from_slice(trues.as_slice())?;
+    settle_all(
+        formula,
+        &active.clauses,
+        trues,
+        pivot,
+        reached.as_slice(),
+        hints,
+        number,
+    )?;
+    let count = active.count_of(alloc, formula, pivot.negated())?;
+    if has_all(alloc, formula, &active.clauses, pivot, count, hints)? {
+        Ok(())
+    } else {
+        Err(Refusal::At(without_group(hints), number))
+    }
+}
+
+/// Looks whether the clause of the step of this number is justified.
+pub fn justify<F: ClauseList>(
+    alloc: Global,
+    formula: &F,
+    active: &mut CountedClauses,
+    trues: &mut TrueLiterals,
+    clause: &[Lit],
+    hints: &[i64],
+    number: usize,
+) -> Result<(), Refusal>
+    ensures same { active.new.clauses ≡ active.old.clauses }
+    ensures counted { IsCounted (F.formula formula.now).clauses active.old → IsCounted (F.formula formula.now).clauses active.new }
+    ensures justified { IsCounted (F.formula formula.now).clauses active.old → MatchResult result
+        (λ _. IsJustified (clause_at (F.formula formula.now).clauses active.old.clauses) clause.now hints.now)
+        (λ refusal. IsRefusalAt (λ fault. IsUnjustified (clause_at (F.formula formula.now).clauses active.old.clauses) clause.now hints.now fault) number refusal) }
+{
+    if is_implied(formula, &active.clauses, trues, clause, hints, number)? {
+        return Ok(());
+    }
+    oppose(alloc, formula, active, trues, clause, hints, number)
+}
