@@ -11,6 +11,8 @@ pub mod laws;
 mod rechecking;
 mod section_reader;
 mod section_text;
+#[cfg(test)]
+mod tests;
 pub mod text_laws;
 
 pub use cert_fault::{CertCause, CertFault};
