@@ -13,3 +13,5 @@ mod guides;
 mod plain_solver;
 #[cfg(test)]
 mod random_formulas;
+#[cfg(test)]
+mod reads;
