@@ -104,7 +104,7 @@ three_end : (a b c : List ℕ) → EndsLine (a ++ (b ++ (c ++ codes "\n")))
 three_end a b c = inr (a ++ (b ++ c), ap (λ t. a ++ t) (sym (append_assoc b c (10 ∷ []))) ∙ sym (append_assoc a (b ++ c) (10 ∷ [])))
 
 step_ends : (step : Step) → EndsLine (step_line step)
-step_ends (Addition id literals hints) = three_end (decimal id) (list_text literals) (list_text (map pos hints))
+step_ends (Addition id literals hints) = three_end (decimal id) (list_text literals) (list_text hints)
 step_ends (Deletion first ids) = three_end (decimal first) (codes " d") (list_text (map pos ids))
 
 derivation_ends : (steps : List Step) → EndsLine (canonical_derivation steps)
