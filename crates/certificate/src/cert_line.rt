@@ -1,26 +1,12 @@
 //! What the lines of a certificate say.
 
-ghost use Rattle.std.specs.Prelude.{◌≡◌, ◌==◌, slice_index};
-ghost use Rattle.std.specs.Str.{bytes_eq};
+ghost use Rattle.std.specs.Prelude.{◌≡◌};
 ghost use Rattle.text_lines.specs.Words.{words_of};
 ghost use Rattle.certificate.specs.CertLine.{is_silent, is_header, begun_by, is_end};
 
+use text_lines::comments::begins_dimacs_comment;
 use text_lines::numbers::read_plain;
-use text_lines::words::cut_word;
-
-/// Whether the word is this text.
-fn is_word(word: &[u8], text: &str) -> bool
-    ensures { result ≡ bytes_eq word.now text.now }
-{
-    word == text.as_bytes()
-}
-
-/// Whether the first word of a line begins a comment.
-fn begins_comment(word: &[u8]) -> bool
-    ensures { result ≡ (slice_index word.now 0 == 99) }
-{
-    !word.is_empty() && word[0] == b'c'
-}
+use text_lines::words::{cut_word, is_word};
 
 /// Whether the line says nothing: it has no words, or is a comment.
 pub(crate) fn is_silent_line(line: &[u8]) -> bool
@@ -28,7 +14,7 @@ pub(crate) fn is_silent_line(line: &[u8]) -> bool
 {
     match cut_word(line) {
         None => true,
-        Some((word, _)) => begins_comment(word),
+        Some((word, _)) => begins_dimacs_comment(word),
     }
 }
 

@@ -13,9 +13,8 @@ use Rattle.traces.proofs.NameLemmas.{same_bytes}
 use Rattle.traces.specs.declared.operation.Op.{Op}
 use Rattle.traces.specs.declared.operation.OpName.{OpName}
 use Rattle.traces.specs.Operation.{location_of, value_left}
-use Rattle.traces.specs.Trace.{TraceValue, IsTrace, operation_at}
+use Rattle.traces.specs.Trace.{TraceValue, IsTrace, operation_at, operation_count}
 use Rattle.traces.specs.ValueAfter.{value_left_at}
-use Rattle.reducer.specs.Reduced.{operation_count}
 use Rattle.var_layout.specs.declared.candidate.Candidate.{Candidate}
 use Rattle.var_layout.specs.declared.candidate.Candidate.TheVariants.{InitialValue, Writer}
 use Rattle.var_layout.specs.declared.candidate.Choice.{Choice}

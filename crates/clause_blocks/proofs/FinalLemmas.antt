@@ -9,8 +9,7 @@ use Rattle.std.proofs.lemmas.List.Elements.{Contains-get_or}
 use Rattle.std.proofs.lemmas.List.FromFn.{length-enumerate_from}
 use Rattle.std.proofs.lemmas.List.Filters.{length-filter_both}
 use Rattle.traces.specs.Judgement.{is_held}
-use Rattle.traces.specs.Trace.{TraceValue, IsTrace}
-use Rattle.reducer.specs.Reduced.{operation_count}
+use Rattle.traces.specs.Trace.{TraceValue, IsTrace, operation_count}
 use Rattle.var_layout.specs.declared.candidate.FinalChoice.{FinalChoice}
 use Rattle.var_layout.specs.FinalVariables.{final_candidates, is_untouched, final_choices, finals, first_final, void_final, void_of}
 use Rattle.var_layout.specs.Numbers.{left_at, others, writers}

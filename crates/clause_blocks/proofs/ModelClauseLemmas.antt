@@ -7,9 +7,8 @@ use Rattle.std.proofs.lemmas.List.Elements.{Contains-append_left, Contains-appen
 use Rattle.dimacs.specs.Assignment.{makes_true, makes_some}
 use Rattle.dimacs.specs.Models.{IsModel}
 use Rattle.traces.specs.declared.operation.OpName.{OpName}
-use Rattle.traces.specs.Trace.{TraceValue}
+use Rattle.traces.specs.Trace.{TraceValue, operation_count}
 use Rattle.traces.proofs.ElementLemmas.{all_pass, cases_in, none_in, head_in, tail_in, to_map, to_filter, to_flat_map, to_range}
-use Rattle.reducer.specs.Reduced.{operation_count}
 use Rattle.var_layout.specs.declared.candidate.Candidate.{Candidate}
 use Rattle.var_layout.specs.declared.candidate.Candidate.TheVariants.{InitialValue, Writer}
 use Rattle.var_layout.specs.Numbers.{numbers, number_of, others, other_writers, in_one_process}

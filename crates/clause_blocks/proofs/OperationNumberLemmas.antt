@@ -10,10 +10,9 @@ use Rattle.traces.specs.declared.operation.OpName.{OpName}
 use Rattle.traces.specs.declared.trace.Process.{Process}
 use Rattle.traces.specs.Interleaving.{StandsBefore}
 use Rattle.traces.specs.Operation.{same_op}
-use Rattle.traces.specs.Trace.{TraceValue, IsTrace, operation_at, first_names, operation_names}
+use Rattle.traces.specs.Trace.{TraceValue, IsTrace, operation_at, first_names, operation_names, operation_count}
 use Rattle.traces.proofs.ElementLemmas.{cases_in, none_in, tail_in, from_flat_map}
 use Rattle.traces.proofs.NameLemmas.{same_name, name_same, from_first, listed_known, known_listed}
-use Rattle.reducer.specs.Reduced.{operation_count}
 use Rattle.reducer.proofs.StandsLemmas.{none_stands, stands_here, stands_there, Left, Right, Across, stands_joined, rising_places}
 use Rattle.var_layout.specs.Numbers.{name_at, number_of}
 use Rattle.clause_blocks.proofs.StandLemmas.{IsOnce, once_rest}

@@ -4,8 +4,7 @@ use Rattle.std.proofs.Math.Seq.{take-append_seam}
 use Rattle.std.proofs.lemmas.List.{get_or-append_right}
 use Rattle.dimacs.specs.Assignment.{makes_some}
 use Rattle.dimacs.specs.Models.{IsModel}
-use Rattle.traces.specs.Trace.{TraceValue}
-use Rattle.reducer.specs.Reduced.{operation_count}
+use Rattle.traces.specs.Trace.{TraceValue, operation_count}
 use Rattle.clause_blocks.specs.Blocks.{program_order, transitivity, read_clauses, final_clauses, before_clauses}
 use Rattle.clause_blocks.specs.Clauses.{clauses_of}
 use Rattle.clause_blocks.proofs.FormulaLemmas.{all_append}

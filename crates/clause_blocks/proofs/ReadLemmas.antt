@@ -7,8 +7,7 @@ use Rattle.std.proofs.lemmas.Option.{slice_get_within}
 use Rattle.std.proofs.lemmas.List.Elements.{Contains-get_or}
 use Rattle.traces.specs.declared.operation.OpName.{OpName}
 use Rattle.traces.specs.Operation.{value_read}
-use Rattle.traces.specs.Trace.{TraceValue, IsTrace, operation_at, operation_names}
-use Rattle.reducer.specs.Reduced.{operation_count}
+use Rattle.traces.specs.Trace.{TraceValue, IsTrace, operation_at, operation_names, operation_count}
 use Rattle.var_layout.specs.declared.candidate.Choice.{Choice}
 use Rattle.var_layout.specs.ChoiceVariables.{choices}
 use Rattle.var_layout.specs.Numbers.{name_at, read_at, other_writers}

@@ -8,10 +8,9 @@ use Rattle.dimacs.specs.Assignment.{makes_true, makes_some}
 use Rattle.traces.specs.declared.operation.OpName.{OpName}
 use Rattle.traces.specs.Interleaving.{StandsBefore}
 use Rattle.traces.specs.Legal.{IsLegal}
-use Rattle.traces.specs.Trace.{TraceValue, IsTrace, operation_at, operation_names}
+use Rattle.traces.specs.Trace.{TraceValue, IsTrace, operation_at, operation_names, operation_count}
 use Rattle.traces.proofs.ElementLemmas.{all_pass, pass_all, passes_some, head_in, cases_in, none_in, from_map, to_map, from_filter, from_flat_map, from_range}
 use Rattle.traces.proofs.NameLemmas.{same_bytes}
-use Rattle.reducer.specs.Reduced.{operation_count}
 use Rattle.var_layout.specs.declared.candidate.Candidate.{Candidate}
 use Rattle.var_layout.specs.declared.candidate.Candidate.TheVariants.{InitialValue, Writer}
 use Rattle.var_layout.specs.Numbers.{numbers, name_at, number_of, others, other_writers, in_one_process, share_process}

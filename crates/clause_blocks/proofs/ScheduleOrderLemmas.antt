@@ -4,8 +4,7 @@ use Rattle.std.specs.Prelude.{◌≢◌, Option, Some, None}
 use Rattle.std.specs.List.{Contains}
 use Rattle.traces.specs.declared.operation.OpName.{OpName}
 use Rattle.traces.specs.Interleaving.{StandsBefore, IsInterleaving}
-use Rattle.traces.specs.Trace.{TraceValue, IsTrace}
-use Rattle.reducer.specs.Reduced.{operation_count}
+use Rattle.traces.specs.Trace.{TraceValue, IsTrace, operation_count}
 use Rattle.var_layout.specs.Numbers.{name_at}
 use Rattle.clause_blocks.proofs.OperationNumberLemmas.{known_at, name_within, names_apart}
 use Rattle.clause_blocks.proofs.StandLemmas.{is_ahead, ahead_stands, stands_ahead, stands_trans, stands_total, stands_once}

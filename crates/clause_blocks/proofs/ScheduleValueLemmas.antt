@@ -5,9 +5,8 @@ use Rattle.std.specs.List.{Contains, enumerate_from, list_all, list_any, slice_g
 use Rattle.std.proofs.lemmas.Bool.{and_parts, and_from, eqb-true, eq-eqb, cases_order, le-leb, lt-leb}
 use Rattle.traces.specs.declared.operation.OpName.{OpName}
 use Rattle.traces.specs.Interleaving.{IsInterleaving}
-use Rattle.traces.specs.Trace.{TraceValue, IsTrace}
+use Rattle.traces.specs.Trace.{TraceValue, IsTrace, operation_count}
 use Rattle.traces.proofs.ElementLemmas.{some_passes, passes_some, from_map, to_map, from_flat_map, to_flat_map, from_range, to_range}
-use Rattle.reducer.specs.Reduced.{operation_count}
 use Rattle.var_layout.specs.declared.candidate.Candidate.{Candidate}
 use Rattle.var_layout.specs.declared.candidate.Candidate.TheVariants.{InitialValue, Writer}
 use Rattle.var_layout.specs.declared.candidate.Choice.{Choice}

@@ -8,11 +8,10 @@ use Rattle.std.proofs.lemmas.Option.{option_and_then_some}
 use Rattle.traces.specs.declared.operation.Op.{Op}
 use Rattle.traces.specs.declared.operation.OpName.{OpName}
 use Rattle.traces.specs.Operation.{location_of, value_read}
-use Rattle.traces.specs.Trace.{TraceValue, IsTrace, operation_at}
+use Rattle.traces.specs.Trace.{TraceValue, IsTrace, operation_at, operation_count}
 use Rattle.traces.specs.ValueAfter.{value_left_at}
 use Rattle.traces.proofs.ElementLemmas.{from_filter, to_filter, to_range}
 use Rattle.traces.proofs.NameLemmas.{some_value}
-use Rattle.reducer.specs.Reduced.{operation_count}
 use Rattle.var_layout.specs.Candidates.{sources, is_candidate, candidates}
 use Rattle.var_layout.specs.Numbers.{numbers, name_at, number_of, op_at, read_at, left_at, readers, writers, others, other_writers}
 use Rattle.clause_blocks.proofs.OperationNumberLemmas.{numbered, number_within}

@@ -1,7 +1,6 @@
 -- What a trace's clause list keeps, and what is given of a piece.
 use Rattle.std.specs.Prelude.{◌≡◌, ℕ, ℤ, List}
-use Rattle.traces.specs.Trace.{TraceValue}
-use Rattle.reducer.specs.Reduced.{operation_count}
+use Rattle.traces.specs.Trace.{TraceValue, operation_count}
 use Rattle.clause_blocks.specs.declared.trace_clauses.Piece.{Piece}
 use Rattle.clause_blocks.specs.declared.trace_clauses.Piece.TheVariants.{Stored, TransitivityFrom}
 use Rattle.clause_blocks.specs.Blocks.{program_order, transitivity_from, read_clauses, final_clauses, before_clauses}

@@ -2,7 +2,7 @@
 
 ghost use Rattle.std.specs.Prelude.{◌≡◌, ◌<◌, ◌++◌, ◌∷◌, [], None, length, pos, map, IfOk, OnOk};
 ghost use Rattle.std.specs.List.{All};
-ghost use Rattle.reducer.specs.Reduced.{operation_count};
+ghost use Rattle.traces.specs.Trace.{operation_count};
 ghost use Rattle.var_layout.specs.FinalVariables.{void_final};
 ghost use Rattle.var_layout.specs.Numbers.{others};
 ghost use Rattle.clause_blocks.specs.Blocks as blocks;

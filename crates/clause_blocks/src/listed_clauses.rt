@@ -3,7 +3,7 @@
 ghost use Rattle.std.specs.Prelude.{◌≡◌, ◌<◌, ◌≤◌, ◌++◌, [], length, slice_index_or, take, OnOk, IfErr};
 ghost use Rattle.dimacs.specs.Assignment.{value_of};
 ghost use Rattle.dimacs.specs.Models.{IsModel, IsFirstFalse};
-ghost use Rattle.reducer.specs.Reduced.{operation_count};
+ghost use Rattle.traces.specs.Trace.{operation_count};
 ghost use Rattle.clause_blocks.specs.Blocks as blocks;
 ghost use Rattle.clause_blocks.specs.Clauses.{clauses_of};
 ghost use Rattle.clause_blocks.specs.Triples.{clause_of_triple};

@@ -2,7 +2,7 @@
 
 ghost use Rattle.std.specs.Prelude.{◌≡◌, ◌<◌, ◌++◌, ◌∷◌, pos, map, IsSome, IfOk, OnOk};
 ghost use Rattle.std.specs.List.{All, flat_map};
-ghost use Rattle.reducer.specs.Reduced.{operation_count};
+ghost use Rattle.traces.specs.Trace.{operation_count};
 ghost use Rattle.var_layout.specs.ChoiceVariables.{choices};
 ghost use Rattle.var_layout.specs.Numbers.{read_at};
 ghost use Rattle.clause_blocks.specs.Blocks as blocks;

@@ -5,7 +5,7 @@ ghost use Rattle.std.specs.List.{flat_map};
 ghost use Rattle.dimacs.specs.CnfText.{clause_line, cnf_text};
 ghost use Rattle.dimacs.specs.Sink.{AppendsFront, IsSent};
 ghost use Rattle.dimacs.specs.SinkFault.{failures_told};
-ghost use Rattle.reducer.specs.Reduced.{operation_count};
+ghost use Rattle.traces.specs.Trace.{operation_count};
 ghost use Rattle.clause_blocks.specs.Clauses.{clauses_of, formula_of};
 ghost use Rattle.clause_blocks.specs.Pieces.{clauses_in};
 

@@ -1,8 +1,7 @@
 //! The clause list of a reduced trace, in pieces.
 
 ghost use Rattle.std.specs.Prelude.{◌≡◌, ◌<◌, ◌≤◌, [], length, slice_index_or, IfOk};
-ghost use Rattle.traces.specs.Trace.{IsTrace};
-ghost use Rattle.reducer.specs.Reduced.{operation_count};
+ghost use Rattle.traces.specs.Trace.{IsTrace, operation_count};
 ghost use Rattle.clause_blocks.specs.Blocks as blocks;
 ghost use Rattle.clause_blocks.specs.Clauses as list;
 ghost use Rattle.clause_blocks.specs.Pieces.{clauses_in};

@@ -4,7 +4,7 @@ ghost use Rattle.std.specs.Prelude.{◌≡◌, ◌<◌, ◌≤◌, ◌+◌, ◌+
 ghost use Rattle.std.specs.List.{flat_map};
 ghost use Rattle.dimacs.specs.CnfText.{clause_line};
 ghost use Rattle.dimacs.specs.Sink.{AppendsFront, IsSent};
-ghost use Rattle.reducer.specs.Reduced.{operation_count};
+ghost use Rattle.traces.specs.Trace.{operation_count};
 ghost use Rattle.var_layout.specs.OrderVariables.{numbers_above};
 ghost use Rattle.clause_blocks.specs.Blocks.{no_circle};
 ghost use Rattle.clause_blocks.specs.Blocks as blocks;

@@ -1,6 +1,6 @@
 //! The reader of a derivation's text.
 
-ghost use Rattle.std.specs.Prelude.{◌≡◌, ◌==◌, [], ◌∷◌, map, pos, codes, true, false, Some, slice_index, MatchOption, MatchResult, IfOk, IfErr};
+ghost use Rattle.std.specs.Prelude.{◌≡◌, [], ◌∷◌, map, pos, codes, true, false, Some, MatchOption, MatchResult, IfOk, IfErr};
 ghost use Rattle.std.specs.Option.{option_or};
 ghost use Rattle.dimacs.specs.Literal.{is_literal};
 ghost use Rattle.lrat_check.specs.LratFaults.{literal_fault, hint_fault, id_fault, first_fault, behind_fault, addition_fault, deletion_fault, is_deletion, line_fault, HasLratFault};
@@ -18,6 +18,7 @@ use crate::lrat_fault::{LratCause, LratFault};
 use crate::lrat_number::{read_first, read_hint, read_id, read_literal};
 use dimacs::Clause;
 use std::alloc::Global;
+use text_lines::comments::begins_dimacs_comment;
 use text_lines::lines::cut_line;
 use text_lines::numbers::read_solver_number;
 use text_lines::words::cut_word;
@@ -135,13 +136,6 @@ fn read_deletion(alloc: Global, word: &[u8], rest: &[u8], number: usize) -> Resu
     Ok(Step::Deletion { first, ids })
 }
 
-/// Whether the first word of a line begins a comment.
-fn begins_comment(word: &[u8]) -> bool
-    ensures { result ≡ (slice_index word.now 0 == 99) }
-{
-    !word.is_empty() && word[0] == b'c'
-}
-
 /// What follows the `d`, where the next word is one.
 fn behind_letter(rest: &[u8]) -> Option<&[u8]>
     ensures { MatchOption result (is_deletion (words_of rest.now) ≡ false) (λ after. words_of rest.now ≡ codes "d" ∷ words_of after.now) }
@@ -163,7 +157,7 @@ fn read_line(alloc: Global, line: &[u8], number: usize) -> Result<Option<Step>, 
     let Some((word, rest)) = cut_word(line) else {
         return Ok(None);
     };
-    if begins_comment(word) {
+    if begins_dimacs_comment(word) {
         return Ok(None);
     }
     let step = match behind_letter(rest) {

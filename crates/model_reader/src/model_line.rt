@@ -1,14 +1,14 @@
 //! The lines of a solver's answer, and the numbers of a model.
-ghost use Rattle.std.specs.Prelude.{◌≡◌, ◌==◌, ℤ, None, Some, slice_index, MatchOption};
-ghost use Rattle.std.specs.Str.{bytes_eq};
+ghost use Rattle.std.specs.Prelude.{◌≡◌, ℤ, None, Some, MatchOption};
 ghost use Rattle.text_lines.specs.SolverNumber.{IsNumber};
 ghost use Rattle.text_lines.specs.Words.{words_of};
 ghost use Rattle.model_reader.specs.ModelText.{said, status, small, model_number};
 ghost use Rattle.model_reader.specs.ModelProgress.{said_by, number_of};
 
 use dimacs::{Lit, MAX_VARIABLE};
+use text_lines::comments::begins_dimacs_comment;
 use text_lines::numbers::{SolverNumber, read_solver_number};
-use text_lines::words::cut_word;
+use text_lines::words::{cut_word, is_word};
 
 /// What a line says.
 #[derive(Clone, Copy)]
@@ -30,20 +30,6 @@ pub enum ModelNumber {
     Zero,
     /// One of its literals.
     Literal(Lit),
-}
-
-/// Whether the word is this text.
-fn is_word(word: &[u8], text: &str) -> bool
-    ensures { result ≡ bytes_eq word.now text.now }
-{
-    word == text.as_bytes()
-}
-
-/// Whether the first word of a line begins a comment.
-fn begins_with_c(word: &[u8]) -> bool
-    ensures { result ≡ (slice_index word.now 0 == 99) }
-{
-    !word.is_empty() && word[0] == b'c'
 }
 
 /// What a line says whose first word is `s`, by what follows that.
@@ -72,7 +58,7 @@ pub(crate) fn read_model_line(line: &[u8]) -> ModelLine<'_>
     let Some((first, rest)) = cut_word(line) else {
         return ModelLine::Skipped;
     };
-    if begins_with_c(first) {
+    if begins_dimacs_comment(first) {
         ModelLine::Skipped
     } else if is_word(first, "v") {
         ModelLine::Words(rest)

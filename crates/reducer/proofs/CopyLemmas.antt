@@ -11,10 +11,9 @@ use Rattle.traces.specs.declared.operation.Op.{Op}
 use Rattle.traces.specs.declared.operation.OpName.{OpName}
 use Rattle.traces.specs.declared.trace.Process.{Process}
 use Rattle.traces.specs.Operation.{origin_of}
-use Rattle.traces.specs.Trace.{TraceValue, IsTrace, IsKnownOrigin, at_place, process_named, operation_at}
+use Rattle.traces.specs.Trace.{TraceValue, IsTrace, IsKnownOrigin, at_place, process_named, operation_at, operation_count}
 use Rattle.traces.proofs.ElementLemmas.{head_in, tail_in, from_filter}
 use Rattle.traces.proofs.NameLemmas.{from_first}
-use Rattle.reducer.specs.Reduced.{operation_count}
 use Rattle.reducer.specs.Reduction.{is_kept, names_of, kept_names, new_op, kept_process, kept_trace}
 use Rattle.reducer.specs.Runs.{bounds_of, AreBounds}
 use Rattle.reducer.proofs.KeptLemmas.{process_of, listed_name}

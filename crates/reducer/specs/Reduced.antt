@@ -1,8 +1,6 @@
 -- What a reduced trace is, and when a trace is not reduced.
-use Rattle.std.specs.Prelude.{◌≡◌, ◌<◌, ◌≤◌, ℕ, length}
-use Rattle.std.specs.List.{sum_by}
-use Rattle.traces.specs.declared.trace.Process.{Process}
-use Rattle.traces.specs.Trace.{TraceValue, IsTrace}
+use Rattle.std.specs.Prelude.{◌≡◌, ◌<◌, ◌≤◌, ℕ}
+use Rattle.traces.specs.Trace.{TraceValue, IsTrace, operation_count}
 use Rattle.reducer.specs.declared.reduce_fault.ReduceCause.{ReduceCause}
 use Rattle.reducer.specs.declared.reduce_fault.ReduceCause.TheVariants.{StillTooLarge}
 use Rattle.reducer.specs.Reduction.{kept_trace}
@@ -11,10 +9,6 @@ use Rattle.reducer.specs.Reduction.{kept_trace}
 pub record ReducedValue : Type 0 where
   pub whole : TraceValue
   pub kept : TraceValue
-
--- how many operations a trace has
-abbrev pub operation_count : TraceValue → ℕ
-operation_count t = sum_by (λ (p : Process). length p.operations) t.processes
 
 -- what each reduced trace keeps: it is the reduction of the whole one, and has 160 operations at most
 pub record IsReduced (r : ReducedValue) : Type 0 where

@@ -2,7 +2,7 @@
 
 ghost use Rattle.std.specs.Prelude.{◌≡◌, ◌≤◌, List, ℕ, map, IfOk};
 ghost use Rattle.std.specs.List.{Contains};
-ghost use Rattle.reducer.specs.Reduced.{operation_count};
+ghost use Rattle.traces.specs.Trace.{operation_count};
 ghost use Rattle.reducer.specs.Reduction as reduction;
 ghost use Rattle.reducer.specs.Runs.{bounds_of, AreBounds};
 

@@ -1,7 +1,8 @@
 //! Reduced traces.
 
 ghost use Rattle.std.specs.Prelude.{◌≡◌, ◌≤◌, IfOk, IfErr};
-ghost use Rattle.reducer.specs.Reduced.{IsReduced, HasReduceFault, operation_count};
+ghost use Rattle.reducer.specs.Reduced.{IsReduced, HasReduceFault};
+ghost use Rattle.traces.specs.Trace.{operation_count};
 ghost use Rattle.reducer.specs.Reduction as reduction;
 ghost use Rattle.reducer.specs.Runs.{AreBounds};
 ghost use Rattle.text_lines.specs.Fault.{IsRefusal};

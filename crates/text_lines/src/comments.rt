@@ -16,3 +16,10 @@ pub fn begins_comment(word: &[u8]) -> bool
 {
     !word.is_empty() && word[0] == b'#'
 }
+
+/// Whether the first word of a line begins a comment of DIMACS or LRAT.
+pub fn begins_dimacs_comment(word: &[u8]) -> bool
+    ensures { result ≡ (slice_index word.now 0 == 99) }
+{
+    !word.is_empty() && word[0] == b'c'
+}

@@ -5,6 +5,8 @@ ghost use Rattle.std.specs.Str.{bytes_eq};
 ghost use Rattle.trace_text.specs.Said.{said};
 ghost use Rattle.trace_text.specs.Statement.{statement_of};
 
+use text_lines::words::is_word;
+
 /// Where a value is said to come from.
 #[derive(Clone, Copy)]
 pub enum Source<'a> {
@@ -33,13 +35,6 @@ pub enum Statement<'a> {
     Update(&'a [u8], &'a [u8], &'a [u8], Source<'a>),
     /// The first operation stands before the second. Each is named by its process and its place there.
     Before(&'a [u8], &'a [u8], &'a [u8], &'a [u8]),
-}
-
-/// Whether the word is this text.
-fn is_word(word: &[u8], text: &str) -> bool
-    ensures { result ≡ bytes_eq word.now text.now }
-{
-    word == text.as_bytes()
 }
 
 /// What three words say.

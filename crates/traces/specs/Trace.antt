@@ -45,6 +45,10 @@ first_names process n = map (λ k. record { process = process; place = k }) (ran
 abbrev pub operation_names : TraceValue → List OpName
 operation_names t = flat_map (λ p. first_names p.name (length p.operations)) t.processes
 
+-- how many operations a trace has
+abbrev pub operation_count : TraceValue → ℕ
+operation_count t = sum_by (λ (p : Process). length p.operations) t.processes
+
 -- what a list of locations and values gives a location
 abbrev pub value_of : List (List ℕ × ℕ) → List ℕ → Option ℕ
 value_of values location = option_map (λ entry. entry.1) (find (λ entry. bytes_eq entry.0 location) values)
@@ -106,7 +110,7 @@ location_count t = length (distinct (locations_of t))
 pub record IsTrace (t : TraceValue) : Type 0 where
   pub distinct : AllPairs (λ (p q : Process). p.name ≢ q.name) t.processes
   pub few_processes : length t.processes ≤ 64
-  pub few_operations : sum_by (λ (p : Process). length p.operations) t.processes ≤ 4096
+  pub few_operations : operation_count t ≤ 4096
   pub initial : IsOneEach t.initial
   pub final_values : IsOneEach t.final_values
   pub few_pairs : length t.before ≤ 4096

@@ -16,9 +16,8 @@ use Rattle.traces.specs.Operation.{location_of}
 use Rattle.traces.specs.declared.trace.Process.{Process}
 use Rattle.traces.specs.Judgement.{is_held}
 use Rattle.traces.specs.Locations.{distinct, holds_name}
-use Rattle.traces.specs.Trace.{TraceValue, IsTrace, IsOneEach, value_of, locations_of, location_count}
+use Rattle.traces.specs.Trace.{TraceValue, IsTrace, IsOneEach, value_of, locations_of, location_count, operation_count}
 use Rattle.reducer.proofs.DistinctLemmas.{few_named}
-use Rattle.reducer.specs.Reduced.{operation_count}
 use Rattle.var_layout.specs.declared.candidate.Candidate.{Candidate}
 use Rattle.var_layout.specs.declared.candidate.Choice.{Choice}
 use Rattle.var_layout.specs.declared.candidate.Candidate.TheVariants.{Writer}

@@ -11,9 +11,8 @@ use Rattle.std.proofs.lemmas.Map.Views.{any-filter_same}
 use Rattle.traces.specs.declared.operation.Op.{Op}
 use Rattle.traces.specs.declared.operation.OpName.{OpName}
 use Rattle.traces.specs.Operation.{location_of, value_left}
-use Rattle.traces.specs.Trace.{TraceValue, operation_at}
+use Rattle.traces.specs.Trace.{TraceValue, operation_at, operation_count}
 use Rattle.traces.specs.ValueAfter.{value_left_at}
-use Rattle.reducer.specs.Reduced.{operation_count}
 use Rattle.var_layout.specs.Numbers.{in_one_process, name_at, left_at, numbers, op_at, others, other_writers, writers}
 use Rattle.var_layout.specs.Split.{are_in_conflict, is_split}
 

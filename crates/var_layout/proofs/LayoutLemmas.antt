@@ -11,9 +11,8 @@ use Rattle.std.proofs.lemmas.Option.{slice_get-get_or, slice_get-map, slice_get_
 use Rattle.traces.specs.declared.operation.Op.{Op}
 use Rattle.traces.specs.declared.operation.OpName.{OpName}
 use Rattle.traces.specs.Operation.{location_of, value_read}
-use Rattle.traces.specs.Trace.{TraceValue, operation_at, operation_names}
+use Rattle.traces.specs.Trace.{TraceValue, operation_at, operation_names, operation_count}
 use Rattle.traces.proofs.NameLemmas.{same_bytes, bytes_same}
-use Rattle.reducer.specs.Reduced.{operation_count}
 use Rattle.var_layout.specs.declared.candidate.Candidate.{Candidate}
 use Rattle.var_layout.specs.declared.candidate.Choice.{Choice}
 use Rattle.var_layout.specs.Candidates.{candidates, sources, is_candidate}

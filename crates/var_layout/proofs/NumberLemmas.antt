@@ -10,10 +10,9 @@ use Rattle.std.proofs.lemmas.Option.{slice_get-get_or, slice_get_within}
 use Rattle.traces.specs.declared.operation.OpName.{OpName}
 use Rattle.traces.specs.Judgement.{is_the_op}
 use Rattle.traces.specs.Operation.{same_op}
-use Rattle.traces.specs.Trace.{TraceValue, IsTrace, operation_at, operation_names}
+use Rattle.traces.specs.Trace.{TraceValue, IsTrace, operation_at, operation_names, operation_count}
 use Rattle.traces.proofs.NameLemmas.{same_name, name_same, known_listed}
 use Rattle.traces.proofs.ElementLemmas.{finds}
-use Rattle.reducer.specs.Reduced.{operation_count}
 use Rattle.var_layout.specs.Numbered.{NumberedOp, numbered}
 use Rattle.var_layout.specs.Numbers.{name_at, number_of}
 use Rattle.var_layout.proofs.NumberingLemmas.{counted, names_of}

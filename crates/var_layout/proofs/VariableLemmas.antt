@@ -10,9 +10,8 @@ use Rattle.dimacs.specs.Literal.{is_literal_up_to}
 use Rattle.traces.specs.declared.operation.Op.{Op}
 use Rattle.traces.specs.Judgement.{is_held}
 use Rattle.traces.specs.Operation.{location_of, value_read, origin_of}
-use Rattle.traces.specs.Trace.{TraceValue, value_of}
+use Rattle.traces.specs.Trace.{TraceValue, value_of, operation_count}
 use Rattle.traces.proofs.ElementLemmas.{none_in, cases_in, from_map, from_filter}
-use Rattle.reducer.specs.Reduced.{operation_count}
 use Rattle.reducer.proofs.PlaceLemmas.{in_list}
 use Rattle.var_layout.specs.declared.candidate.Candidate.{Candidate}
 use Rattle.var_layout.specs.declared.candidate.Candidate.TheVariants.{InitialValue, Writer}

@@ -1,8 +1,7 @@
 -- Choice variables: they follow the order variables, and say which candidate a reading operation reads.
 use Rattle.std.specs.Prelude.{ℕ, ◌+◌, max, List, length, map, Option, Some, None, is_some, ◌==◌, ◌&&◌, if◌then◌else◌}
 use Rattle.std.specs.List.{enumerate_from, range_with_len, sum_by}
-use Rattle.traces.specs.Trace.{TraceValue}
-use Rattle.reducer.specs.Reduced.{operation_count}
+use Rattle.traces.specs.Trace.{TraceValue, operation_count}
 use Rattle.var_layout.specs.declared.candidate.Candidate.{Candidate}
 use Rattle.var_layout.specs.declared.candidate.Choice.{Choice}
 use Rattle.var_layout.specs.Candidates.{candidates}

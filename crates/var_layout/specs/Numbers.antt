@@ -6,9 +6,8 @@ use Rattle.std.specs.Str.{bytes_eq}
 use Rattle.traces.specs.declared.operation.Op.{Op}
 use Rattle.traces.specs.declared.operation.OpName.{OpName}
 use Rattle.traces.specs.Operation.{location_of, value_read, same_op}
-use Rattle.traces.specs.Trace.{TraceValue, operation_at, operation_names}
+use Rattle.traces.specs.Trace.{TraceValue, operation_at, operation_names, operation_count}
 use Rattle.traces.specs.ValueAfter.{value_left_at}
-use Rattle.reducer.specs.Reduced.{operation_count}
 
 -- the numbers of all operations
 abbrev pub numbers : TraceValue → List ℕ

@@ -4,8 +4,7 @@ use Rattle.std.specs.List.{filter}
 use Rattle.std.specs.Str.{bytes_eq}
 use Rattle.traces.specs.declared.operation.Op.{Op}
 use Rattle.traces.specs.Operation.{location_of, value_left}
-use Rattle.traces.specs.Trace.{TraceValue}
-use Rattle.reducer.specs.Reduced.{operation_count}
+use Rattle.traces.specs.Trace.{TraceValue, operation_count}
 use Rattle.var_layout.specs.Numbers.{op_at, in_one_process}
 use Rattle.var_layout.specs.OrderVariables.{pairs, order_var}
 

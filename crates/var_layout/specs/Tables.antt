@@ -3,8 +3,7 @@ use Rattle.std.specs.Prelude.{◌≡◌, ◌≤◌, ℕ, List, [], length, map, 
 use Rattle.std.specs.List.{position_or_len, range_with_len}
 use Rattle.std.specs.Option.{option_map, option_map_or}
 use Rattle.traces.specs.declared.operation.OpName.{OpName}
-use Rattle.traces.specs.Trace.{TraceValue, IsTrace}
-use Rattle.reducer.specs.Reduced.{operation_count}
+use Rattle.traces.specs.Trace.{TraceValue, IsTrace, operation_count}
 use Rattle.var_layout.specs.declared.candidate.Choice.{Choice}
 use Rattle.var_layout.specs.declared.candidate.FinalChoice.{FinalChoice}
 use Rattle.var_layout.specs.ChoiceVariables.{choices, void_choice}

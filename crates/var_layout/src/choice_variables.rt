@@ -2,7 +2,7 @@
 
 ghost use Rattle.std.specs.Prelude.{◌≡◌, ◌+◌, ◌<◌, ◌≤◌, ◌^◌, ℕ, map, length, Some, None, is_some, max, IfOk, if◌then◌else◌};
 ghost use Rattle.std.specs.List.{enumerate_from};
-ghost use Rattle.reducer.specs.Reduced.{operation_count};
+ghost use Rattle.traces.specs.Trace.{operation_count};
 ghost use Rattle.var_layout.specs.Candidates as candidates;
 ghost use Rattle.var_layout.specs.ChoiceVariables.{choice_count, first_choice, choices};
 ghost use Rattle.var_layout.specs.declared.candidate.Candidate.{Candidate as Source};

@@ -2,10 +2,9 @@
 
 ghost use Rattle.std.specs.Prelude.{◌≡◌, ◌==◌, ◌&&◌, ◌+◌, ◌<◌, ◌≤◌, ◌^◌, ℕ, List, map, length, Some, None, is_some, max, IfOk, if◌then◌else◌};
 ghost use Rattle.std.specs.List.{enumerate_from, filter, range_with_len};
-ghost use Rattle.reducer.specs.Reduced.{operation_count};
 ghost use Rattle.traces.specs.Judgement as judgement;
 ghost use Rattle.traces.specs.NameNumbers.{number_of};
-ghost use Rattle.traces.specs.Trace.{IsTrace, value_of};
+ghost use Rattle.traces.specs.Trace.{IsTrace, value_of, operation_count};
 ghost use Rattle.var_layout.specs.ChoiceVariables.{first_choice};
 ghost use Rattle.var_layout.specs.FinalVariables as finals;
 ghost use Rattle.var_layout.specs.Numbers as numbers;

@@ -3,8 +3,7 @@
 ghost use Rattle.std.specs.Prelude.{◌≡◌, ◌≢◌, ◌<◌, ◌≤◌, ℕ, List, [], length, map, take, is_some, IsSome, IfOk, slice_get, false};
 ghost use Rattle.std.specs.Option.{option_and_then, option_copied, option_map, option_map_or};
 ghost use Rattle.traces.specs.declared.operation.OpName.{OpName};
-ghost use Rattle.traces.specs.Trace.{IsTrace};
-ghost use Rattle.reducer.specs.Reduced.{operation_count};
+ghost use Rattle.traces.specs.Trace.{IsTrace, operation_count};
 ghost use Rattle.var_layout.specs.ChoiceVariables as choice_variables;
 ghost use Rattle.var_layout.specs.FinalVariables as final_variables;
 ghost use Rattle.var_layout.specs.Numbers as numbers;

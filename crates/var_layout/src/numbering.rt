@@ -88,8 +88,7 @@ impl<'a> Numbering<'a> {
     ghost use Rattle.std.specs.Prelude.{◌≡◌, IfOk, ℕ, List};
     ghost use Rattle.std.specs.Option.{option_copied, option_map};
     ghost use Rattle.traces.specs.Judgement.{is_the_op};
-    ghost use Rattle.traces.specs.Trace.{IsTrace};
-    ghost use Rattle.reducer.specs.Reduced.{operation_count};
+    ghost use Rattle.traces.specs.Trace.{IsTrace, operation_count};
     ghost use Rattle.var_layout.specs.Numbered.{NumberedOp};
     ghost use Rattle.var_layout.specs.Numbers as number;
 

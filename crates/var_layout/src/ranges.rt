@@ -3,8 +3,7 @@
 ghost use Rattle.std.specs.Prelude.{◌≡◌, ◌≢◌, ◌<◌, ◌≤◌, ℕ, List, Some, false, IsTrue, slice_get};
 ghost use Rattle.std.specs.List.{Contains};
 ghost use Rattle.dimacs.specs.Literal.{is_literal_up_to, most_variable};
-ghost use Rattle.traces.specs.Trace.{TraceValue, IsTrace};
-ghost use Rattle.reducer.specs.Reduced.{operation_count};
+ghost use Rattle.traces.specs.Trace.{TraceValue, IsTrace, operation_count};
 ghost use Rattle.var_layout.specs.declared.candidate.Candidate.TheVariants.{Writer};
 ghost use Rattle.var_layout.specs.declared.candidate.Choice.{Choice};
 ghost use Rattle.var_layout.specs.declared.candidate.FinalChoice.{FinalChoice};

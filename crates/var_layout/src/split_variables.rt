@@ -2,7 +2,7 @@
 
 ghost use Rattle.std.specs.Prelude.{◌≡◌, ◌<◌, ◌++◌, ◌==◌, ◌&&◌, ◌||◌, [], map, take, not, OnOk};
 ghost use Rattle.std.specs.List.{list_any};
-ghost use Rattle.reducer.specs.Reduced.{operation_count};
+ghost use Rattle.traces.specs.Trace.{operation_count};
 ghost use Rattle.var_layout.specs.Numbers.{in_one_process, other_writers};
 ghost use Rattle.var_layout.specs.OrderVariables.{numbers_above};
 ghost use Rattle.var_layout.specs.Split as split;

@@ -6,14 +6,14 @@ use Rattle.model_reader.specs.ModelText.{SpellsModel}
 use Rattle.dimacs.specs.Models.{IsModel, IsFirstFalse}
 use Rattle.traces.specs.declared.operation.OpName.{OpName}
 use Rattle.traces.specs.Legal.{IsLegal}
-use Rattle.traces.specs.Trace.{TraceValue, IsTrace}
+use Rattle.traces.specs.Trace.{TraceValue, IsTrace, operation_count}
 use Rattle.trace_text.specs.TraceText.{SpellsTrace}
 use Rattle.reducer.specs.Expansion.{expansion}
 use Rattle.text_lines.specs.declared.fault.Fault.{Fault as PartFault}
 use Rattle.text_lines.specs.declared.fault.Fault.TheVariants.{OutOfMemory as NoPartMemory, At}
 use Rattle.text_lines.specs.Fault.{IsRefusal}
 use Rattle.reducer.specs.declared.reduce_fault.ReduceCause.{ReduceCause}
-use Rattle.reducer.specs.Reduced.{ReducedValue, IsReduced, HasReduceFault, operation_count}
+use Rattle.reducer.specs.Reduced.{ReducedValue, IsReduced, HasReduceFault}
 use Rattle.reducer.proofs.ScheduleLemmas.{expansion_legal}
 use Rattle.clause_blocks.specs.Clauses.{clauses_of}
 use Rattle.clause_blocks.specs.ModelOrder.{IsInOrderOf}

@@ -1,10 +1,10 @@
 -- The traces that are translated.
 use Rattle.std.specs.Prelude.{◌≡◌, ◌<◌, ◌≤◌, ⊤, ℕ, List, Result, Ok, Err}
 use Rattle.dimacs.specs.CnfText.{cnf_text}
-use Rattle.traces.specs.Trace.{TraceValue, IsTrace}
+use Rattle.traces.specs.Trace.{TraceValue, IsTrace, operation_count}
 use Rattle.trace_text.specs.TraceFault.{HasTraceFault}
 use Rattle.trace_text.specs.TraceText.{SpellsTrace}
-use Rattle.reducer.specs.Reduced.{ReducedValue, IsReduced, operation_count}
+use Rattle.reducer.specs.Reduced.{ReducedValue, IsReduced}
 use Rattle.reducer.specs.Reduction.{kept_trace}
 use Rattle.clause_blocks.specs.Clauses.{formula_of}
 use Rattle.reducer.specs.declared.reduce_fault.ReduceCause.TheVariants.{StillTooLarge}

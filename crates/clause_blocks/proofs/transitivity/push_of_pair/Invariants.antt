@@ -1,6 +1,6 @@
 use Rattle.std.proofs.Common.{◌≡◌, ◌++◌, ◌+◌, ◌-◌}
 use Rattle.std.specs.List.{flat_map, range_with_len}
-use Rattle.reducer.specs.Reduced.{operation_count}
+use Rattle.traces.specs.Trace.{operation_count}
 use Rattle.clause_blocks.specs.Blocks.{no_circle}
 use Rattle.clause_blocks.proofs.transitivity.push_of_pair.Given as goal
 

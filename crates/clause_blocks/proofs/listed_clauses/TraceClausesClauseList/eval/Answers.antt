@@ -1,7 +1,7 @@
 use Rattle.std.proofs.Common.{rules, ◌≡◌, ◌∙◌, length, ap, arith}
 use Rattle.dimacs.specs.Assignment.{value_of}
 use Rattle.dimacs.specs.Models.{IsModel}
-use Rattle.reducer.specs.Reduced.{operation_count}
+use Rattle.traces.specs.Trace.{operation_count}
 use Rattle.clause_blocks.specs.Blocks.{program_order, transitivity}
 use Rattle.clause_blocks.proofs.PlaceLemmas.{transitivity_too, both_within}
 use Rattle.clause_blocks.proofs.listed_clauses.TraceClausesClauseList.eval.Goals as goal

@@ -1,5 +1,5 @@
 use Rattle.std.proofs.Common.{◌+◌, ◌∙◌, ap, sym}
-use Rattle.reducer.specs.Reduced.{operation_count}
+use Rattle.traces.specs.Trace.{operation_count}
 use Rattle.clause_blocks.proofs.ListLemmas.{piece_count}
 use Rattle.clause_blocks.proofs.trace_clauses.TraceClauses.pieces.Goals as goal
 
