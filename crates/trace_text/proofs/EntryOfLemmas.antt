@@ -12,7 +12,7 @@ use Rattle.traces.specs.declared.operation.Op.TheVariants.{Read as ReadOp, Write
 use Rattle.traces.specs.declared.operation.Origin.{Origin}
 use Rattle.traces.specs.declared.operation.Origin.TheVariants.{Any, Initial, Operation}
 use Rattle.trace_text.specs.Entry.{source_of, statement_for, has_numbers, fits_value, fits_place, origin_fits, entry_fits}
-use Rattle.trace_text.specs.Statement.{Source, Unsaid, FromInit, FromOp, Statement, Init, Final, Proc, Read, Write, Update, Before}
+use Rattle.trace_text.specs.Statement.{ReadsFrom, Unsaid, FromInit, FromOp, Statement, Init, Final, Proc, Read, Write, Update, Before}
 use Rattle.traces.specs.Place.{place_of}
 use Rattle.trace_text.specs.TraceFault.{is_value, is_place, references_of_source}
 use Rattle.trace_text.proofs.WrittenLemmas.{number_written}
@@ -45,12 +45,12 @@ abbrev are_places : List (List ℕ × List ℕ) → Bool
 are_places rs = list_all (λ (r : List ℕ × List ℕ). is_place r.1) rs
 
 -- the origin that a source says
-record SaysOrigin (source : Source) : Type 0 where
+record SaysOrigin (source : ReadsFrom) : Type 0 where
   origin : Origin
   says : source_of origin ≡ source
   in_range : origin_fits origin ≡ true
 
-origin_said : (source : Source) → are_places (references_of_source source) ≡ true → SaysOrigin source
+origin_said : (source : ReadsFrom) → are_places (references_of_source source) ≡ true → SaysOrigin source
 origin_said Unsaid h = record { origin = Any; says = refl; in_range = refl }
 origin_said FromInit h = record { origin = Initial; says = refl; in_range = refl }
 origin_said (FromOp process place) h =

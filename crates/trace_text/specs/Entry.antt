@@ -11,10 +11,10 @@ use Rattle.traces.specs.declared.operation.Origin.{Origin}
 use Rattle.traces.specs.declared.operation.Origin.TheVariants.{Any, Initial, Operation}
 use Rattle.trace_text.specs.declared.trace_fault.TraceCause.{TraceCause}
 use Rattle.trace_text.specs.declared.trace_fault.TraceCause.TheVariants.{BadNumber}
-use Rattle.trace_text.specs.Statement.{Source, Unsaid, FromInit, FromOp, Statement, Init, Final, Proc, Read, Write, Update, Before}
+use Rattle.trace_text.specs.Statement.{ReadsFrom, Unsaid, FromInit, FromOp, Statement, Init, Final, Proc, Read, Write, Update, Before}
 use Rattle.trace_text.specs.TraceFault.{is_value, is_place, values_of, references_of, references_of_source}
 
-abbrev pub source_of : Origin → Source
+abbrev pub source_of : Origin → ReadsFrom
 source_of Any = Unsaid
 source_of Initial = FromInit
 source_of (Operation n) = FromOp n.process (decimal n.place)
@@ -41,7 +41,7 @@ statement_for (OperationEntry op) = op_statement op
 statement_for (BeforeEntry first second) = before_statement (first, second)
 
 -- the place that a source names is one
-abbrev pub has_place : Source → Bool
+abbrev pub has_place : ReadsFrom → Bool
 has_place source = list_all (λ (r : List ℕ × List ℕ). is_place r.1) (references_of_source source)
 
 -- the words that should be numbers are numbers

@@ -1,11 +1,11 @@
 -- A statement of the code, as the statement that it is.
-use Rattle.trace_text.specs.declared.statement.Source.{Source as WrittenSource}
-use Rattle.trace_text.specs.declared.statement.Source.TheVariants.{Unsaid as WrittenUnsaid, FromInit as WrittenFromInit, FromOp as WrittenFromOp}
+use Rattle.trace_text.specs.declared.statement.ReadsFrom.{ReadsFrom as WrittenReadsFrom}
+use Rattle.trace_text.specs.declared.statement.ReadsFrom.TheVariants.{Unsaid as WrittenUnsaid, FromInit as WrittenFromInit, FromOp as WrittenFromOp}
 use Rattle.trace_text.specs.declared.statement.Statement.{Statement as Written}
 use Rattle.trace_text.specs.declared.statement.Statement.TheVariants.{Init as WrittenInit, Final as WrittenFinal, Proc as WrittenProc, Read as WrittenRead, Write as WrittenWrite, Update as WrittenUpdate, Before as WrittenBefore}
-use Rattle.trace_text.specs.Statement.{Source, Unsaid, FromInit, FromOp, Statement, Init, Final, Proc, Read, Write, Update, Before}
+use Rattle.trace_text.specs.Statement.{ReadsFrom, Unsaid, FromInit, FromOp, Statement, Init, Final, Proc, Read, Write, Update, Before}
 
-abbrev pub said_source : WrittenSource → Source
+abbrev pub said_source : WrittenReadsFrom → ReadsFrom
 said_source WrittenUnsaid = Unsaid
 said_source WrittenFromInit = FromInit
 said_source (WrittenFromOp process place) = FromOp process.now place.now

@@ -9,7 +9,7 @@ use Rattle.trace_text.specs.declared.trace_fault.TraceCause.TheVariants.{BadName
 use Rattle.traces.specs.Locations.{distinct, holds_name}
 use Rattle.traces.specs.NameNumbers.{number_of}
 use Rattle.traces.specs.Names.{is_name}
-use Rattle.trace_text.specs.Statement.{Source, Statement, Init, Final, Proc, Read, Write, Update, Before}
+use Rattle.trace_text.specs.Statement.{ReadsFrom, Statement, Init, Final, Proc, Read, Write, Update, Before}
 use Rattle.trace_text.specs.TraceFault.{is_proc, is_operation, is_before, is_value_line, names_of, references_of_source, location_named, repeats}
 
 -- the table has the name
@@ -17,7 +17,7 @@ abbrev pub has : NameTable → List ℕ → Bool
 has table name = is_some (number_of table name)
 
 -- the process that a source names
-abbrev pub names_of_source : Source → List (List ℕ)
+abbrev pub names_of_source : ReadsFrom → List (List ℕ)
 names_of_source source = map (λ (r : List ℕ × List ℕ). r.0) (references_of_source source)
 
 -- what is wrong with the place of a statement and with its names, where a process has begun or not

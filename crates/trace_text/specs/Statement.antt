@@ -3,10 +3,10 @@ use Rattle.std.specs.Prelude.{ℕ, Bool, List, [], ◌∷◌, ◌&&◌, Option, 
 use Rattle.std.specs.Str.{bytes_eq}
 
 -- where a value is said to come from
-pub data Source : Type 0 where
-  Unsaid : Source
-  FromInit : Source
-  FromOp : (process place : List ℕ) → Source
+pub data ReadsFrom : Type 0 where
+  Unsaid : ReadsFrom
+  FromInit : ReadsFrom
+  FromOp : (process place : List ℕ) → ReadsFrom
 
 pub data Statement : Type 0 where
   -- an initial value, and a final value
@@ -15,14 +15,14 @@ pub data Statement : Type 0 where
   -- begins a process
   Proc : (name : List ℕ) → Statement
   -- a plain read, a write, and a read-and-write
-  Read : (location value : List ℕ) (source : Source) → Statement
+  Read : (location value : List ℕ) (source : ReadsFrom) → Statement
   Write : (location value : List ℕ) → Statement
-  Update : (location read left : List ℕ) (source : Source) → Statement
+  Update : (location read left : List ℕ) (source : ReadsFrom) → Statement
   -- the first operation stands before the second
   Before : (process place other other_place : List ℕ) → Statement
 
 -- the words that say where a value comes from
-abbrev pub source_words : Source → List (List ℕ)
+abbrev pub source_words : ReadsFrom → List (List ℕ)
 source_words Unsaid = []
 source_words FromInit = codes "from" ∷ codes "init" ∷ []
 source_words (FromOp process place) = codes "from" ∷ process ∷ place ∷ []

@@ -13,7 +13,7 @@ use Rattle.trace_text.specs.declared.trace_fault.TraceCause.TheVariants.{NotAsci
 use Rattle.text_lines.specs.Kept.{kept, is_skipped}
 use Rattle.traces.specs.Locations.{distinct, holds_name}
 use Rattle.traces.specs.Names.{is_name}
-use Rattle.trace_text.specs.Statement.{Source, Unsaid, FromInit, FromOp, Statement, Init, Final, Proc, Read, Write, Update, Before, statement_of}
+use Rattle.trace_text.specs.Statement.{ReadsFrom, Unsaid, FromInit, FromOp, Statement, Init, Final, Proc, Read, Write, Update, Before, statement_of}
 use Rattle.trace_text.specs.TraceText.{header_line}
 
 -- kinds of statements
@@ -37,7 +37,7 @@ is_before (Before process place other other_place) = true
 is_before s = false
 
 -- an operation that is named, by its process and its place as they are written
-abbrev pub references_of_source : Source → List (List ℕ × List ℕ)
+abbrev pub references_of_source : ReadsFrom → List (List ℕ × List ℕ)
 references_of_source Unsaid = []
 references_of_source FromInit = []
 references_of_source (FromOp process place) = (process, place) ∷ []

@@ -9,7 +9,7 @@ ghost use Rattle.traces.specs.Place.{place_of};
 ghost use Rattle.trace_text.specs.TraceFault.{is_value, is_place};
 
 use crate::line_refusal::LineRefusal;
-use crate::statement::{Source, Statement};
+use crate::statement::{ReadsFrom, Statement};
 use crate::trace_fault::TraceCause;
 use std::alloc::Global;
 use text_lines::numbers::read_plain;
@@ -85,16 +85,16 @@ fn read_op_name(alloc: Global, process: &[u8], place: &[u8]) -> Result<OpName, L
 }
 
 /// Where a value comes from.
-fn read_origin(alloc: Global, source: Source<'_>) -> Result<Origin, LineRefusal>
+fn read_origin(alloc: Global, source: ReadsFrom<'_>) -> Result<Origin, LineRefusal>
     ensures refused { IfErr result (IsRefusedFor (number_fault (has_place (said_source source.entry)))) }
     ensures fine { IfOk result (λ _. has_place (said_source source.entry) ≡ true) }
     ensures source { IfOk result (λ origin. source_of origin ≡ said_source source.entry) }
     ensures fits { IfOk result (λ origin. origin_fits origin ≡ true) }
 {
     match source {
-        Source::Unsaid => Ok(Origin::Any),
-        Source::FromInit => Ok(Origin::Initial),
-        Source::FromOp(process, place) => Ok(Origin::Operation(read_op_name(
+        ReadsFrom::Unsaid => Ok(Origin::Any),
+        ReadsFrom::FromInit => Ok(Origin::Initial),
+        ReadsFrom::FromOp(process, place) => Ok(Origin::Operation(read_op_name(
             alloc, process, place,
         )?)),
     }
@@ -105,7 +105,7 @@ fn read_read(
     alloc: Global,
     location: &[u8],
     value: &[u8],
-    source: Source<'_>,
+    source: ReadsFrom<'_>,
 ) -> Result<Op, LineRefusal>
     ensures refused { IfErr result (IsRefusedFor (number_fault (has_numbers (Read location.now value.now (said_source source.entry))))) }
     ensures fine { IfOk result (λ _. has_numbers (Read location.now value.now (said_source source.entry)) ≡ true) }
@@ -126,7 +126,7 @@ fn read_update(
     location: &[u8],
     read: &[u8],
     left: &[u8],
-    source: Source<'_>,
+    source: ReadsFrom<'_>,
 ) -> Result<Op, LineRefusal>
     ensures refused { IfErr result (IsRefusedFor (number_fault (has_numbers (Update location.now read.now left.now (said_source source.entry))))) }
     ensures fine { IfOk result (λ _. has_numbers (Update location.now read.now left.now (said_source source.entry)) ≡ true) }

@@ -7,7 +7,7 @@ ghost use Rattle.trace_text.specs.Said.{said, said_source};
 ghost use Rattle.trace_text.specs.Seen.{early_fault, names_of_source};
 ghost use Rattle.trace_text.specs.TraceFault.{is_operation, is_value_line, names_of};
 
-use crate::statement::{Source, Statement};
+use crate::statement::{ReadsFrom, Statement};
 use crate::trace_fault::TraceCause;
 use traces::name::is_name_word;
 
@@ -26,13 +26,13 @@ fn is_of_operation(statement: Statement<'_>) -> bool
     )
 }
 
-fn source_is_named(source: Source<'_>) -> bool
+fn source_is_named(source: ReadsFrom<'_>) -> bool
     ensures { result ≡ list_all is_name (names_of_source (said_source source.entry)) }
 {
     match source {
-        Source::FromOp(process, _) => is_name_word(process),
-        Source::Unsaid => true,
-        Source::FromInit => true,
+        ReadsFrom::FromOp(process, _) => is_name_word(process),
+        ReadsFrom::Unsaid => true,
+        ReadsFrom::FromInit => true,
     }
 }
 

@@ -13,7 +13,7 @@ ghost use Rattle.trace_text.specs.TraceFault.{references_of, references_of_sourc
 
 use crate::entry::read_place;
 use crate::line_refusal::LineRefusal;
-use crate::statement::{Source, Statement, read_statement};
+use crate::statement::{ReadsFrom, Statement, read_statement};
 use crate::trace_fault::{TraceCause, TraceFault};
 use std::alloc::Global;
 use text_lines::comments::is_skipped_line;
@@ -49,13 +49,13 @@ fn has_named(processes: &[Process], name: &[u8], place: &[u8]) -> bool
     }
 }
 
-fn source_is_known(processes: &[Process], source: Source<'_>) -> bool
+fn source_is_known(processes: &[Process], source: ReadsFrom<'_>) -> bool
     ensures { result ≡ list_all (is_among processes.now) (references_of_source (said_source source.entry)) }
 {
     match source {
-        Source::FromOp(process, place) => has_named(processes, process, place),
-        Source::Unsaid => true,
-        Source::FromInit => true,
+        ReadsFrom::FromOp(process, place) => has_named(processes, process, place),
+        ReadsFrom::Unsaid => true,
+        ReadsFrom::FromInit => true,
     }
 }
 

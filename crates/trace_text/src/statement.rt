@@ -9,7 +9,7 @@ use text_lines::words::is_word;
 
 /// Where a value is said to come from.
 #[derive(Clone, Copy)]
-pub enum Source<'a> {
+pub enum ReadsFrom<'a> {
     /// Nothing is said.
     Unsaid,
     /// It is the initial value.
@@ -28,11 +28,11 @@ pub enum Statement<'a> {
     /// Begins the process of this name.
     Proc(&'a [u8]),
     /// A plain read at a location of a value.
-    Read(&'a [u8], &'a [u8], Source<'a>),
+    Read(&'a [u8], &'a [u8], ReadsFrom<'a>),
     /// A write to a location of a value.
     Write(&'a [u8], &'a [u8]),
     /// A read-and-write at a location: the value that it reads, and the one that it leaves.
-    Update(&'a [u8], &'a [u8], &'a [u8], Source<'a>),
+    Update(&'a [u8], &'a [u8], &'a [u8], ReadsFrom<'a>),
     /// The first operation stands before the second. Each is named by its process and its place there.
     Before(&'a [u8], &'a [u8], &'a [u8], &'a [u8]),
 }
@@ -47,7 +47,7 @@ fn of_three_words<'a>(two: bool, words: &[&'a [u8]]) -> Option<Statement<'a>>
     } else if is_word(words[0], "final") {
         Some(Statement::Final(words[1], words[2]))
     } else if is_word(words[0], "R") {
-        Some(Statement::Read(words[1], words[2], Source::Unsaid))
+        Some(Statement::Read(words[1], words[2], ReadsFrom::Unsaid))
     } else if is_word(words[0], "W") {
         Some(Statement::Write(words[1], words[2]))
     } else {
@@ -75,7 +75,7 @@ fn of_five_words<'a>(words: &[&'a [u8]]) -> Option<Statement<'a>>
     ensures { option_map said result ≡ statement_of true (map (λ word. word.now) words.now) }
 {
     if is_key_from_init(words[0], "R", words[3], words[4]) {
-        Some(Statement::Read(words[1], words[2], Source::FromInit))
+        Some(Statement::Read(words[1], words[2], ReadsFrom::FromInit))
     } else if is_word(words[0], "before") {
         Some(Statement::Before(words[1], words[2], words[3], words[4]))
     } else {
@@ -89,9 +89,9 @@ fn of_six_words<'a>(words: &[&'a [u8]]) -> Option<Statement<'a>>
     ensures { option_map said result ≡ statement_of true (map (λ word. word.now) words.now) }
 {
     if is_key_from(words[0], "R", words[3]) {
-        Some(Statement::Read(words[1], words[2], Source::FromOp(words[4], words[5])))
+        Some(Statement::Read(words[1], words[2], ReadsFrom::FromOp(words[4], words[5])))
     } else if is_key_from_init(words[0], "U", words[4], words[5]) {
-        Some(Statement::Update(words[1], words[2], words[3], Source::FromInit))
+        Some(Statement::Update(words[1], words[2], words[3], ReadsFrom::FromInit))
     } else {
         None
     }
@@ -111,7 +111,7 @@ fn read_long_statement<'a>(words: &[&'a [u8]]) -> Option<Statement<'a>>
             words[1],
             words[2],
             words[3],
-            Source::FromOp(words[5], words[6]),
+            ReadsFrom::FromOp(words[5], words[6]),
         ))
     } else {
         None
@@ -127,7 +127,7 @@ fn read_plain_statement<'a>(words: &[&'a [u8]]) -> Option<Statement<'a>>
     } else if words.len() == 3 {
         of_three_words(false, words)
     } else if words.len() == 4 && is_word(words[0], "U") {
-        Some(Statement::Update(words[1], words[2], words[3], Source::Unsaid))
+        Some(Statement::Update(words[1], words[2], words[3], ReadsFrom::Unsaid))
     } else {
         None
     }
