@@ -2,6 +2,8 @@
 
 import ctypes
 import os
+import re
+import resource
 import signal
 import statistics
 import tempfile
@@ -47,6 +49,24 @@ def peak_of(command, out):
         ptrace(cont, child, None, passed_on)
         _, status = os.waitpid(child, 0)
     return peak
+
+
+def processor_time(command, seconds, out):
+    """The processor time of one run that may take so many seconds, in seconds, and its exit status."""
+    child = os.fork()
+    if child == 0:
+        resource.setrlimit(resource.RLIMIT_CPU, (seconds, seconds + 1))
+        os.dup2(os.open(out, os.O_WRONLY | os.O_CREAT | os.O_TRUNC), 1)
+        os.dup2(os.open(os.devnull, os.O_WRONLY), 2)
+        os.execvp(command[0], command)
+    _, status, usage = os.wait4(child, 0)
+    return usage.ru_utime + usage.ru_stime, os.waitstatus_to_exitcode(status)
+
+
+def family_of(name):
+    """What stands before the first hyphen of a trace's name; those of 160 operations are families of their own."""
+    large = re.search(r"-160-|-80-80", name)
+    return name.split("-")[0] + (", 160" if large else "")
 
 
 def output_of(command):

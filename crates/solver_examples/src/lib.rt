@@ -6,6 +6,8 @@ mod answers;
 #[cfg(test)]
 mod budgets;
 #[cfg(test)]
+mod cuts;
+#[cfg(test)]
 mod formulas;
 #[cfg(test)]
 mod guides;

@@ -60,7 +60,7 @@ fn add_random(
 }
 
 /// A random formula over eight variables.
-fn random_formula(alloc: Global, random: &mut Random) -> Result<Formula, AllocError> {
+pub fn random_formula(alloc: Global, random: &mut Random) -> Result<Formula, AllocError> {
     let mut clauses = Vec::new(alloc);
     for _ in 0..20 + random.next() % 16 {
         let kind = random.next();

@@ -11,6 +11,7 @@ ghost use Rattle.trace_verdict.specs.Rounds.{IsConfirmed};
 use crate::cubes::Cubes;
 use crate::decided::Decided;
 use crate::decision::Decision;
+use crate::guide::{guide_to_order, readings_of};
 use crate::rounds::search_in_rounds;
 use clause_blocks::trace_clauses::TraceClauses;
 use cube_queue::{Gate, JobCube, Options, SearchFault};
@@ -22,25 +23,10 @@ use reducer::reduced::Reduced;
 use result_ledger::{Ledger, Verdict, inconsistent_has_no_model, unknown_holds_all_models};
 use schedule_decode::decode_fault::DecodeCause;
 use schedule_decode::decode_model::decode_model;
-use solver::Guide;
 use std::alloc::{AllocError, Global};
 use std::thread::Threads;
 use text_lines::fault::Fault;
 use traces::schedule::Schedule;
-use var_layout::layout::Layout;
-
-/// What is known of the trace's clauses: where those of transitivity stand. They come after those of program order.
-fn guide_of(layout: &Layout) -> Guide {
-    layout.is_layout();
-    let operations = layout.operations();
-    let mut first: u32 = 1;
-    for i in 1..operations {
-        if layout.in_one_process(i - 1, i) {
-            first = first.saturating_add(1);
-        }
-    }
-    Guide::with_order(operations as u32, first)
-}
 
 /// The schedule of the whole trace in which a model puts the kept operations. It is legal.
 fn schedule_of<R: Threads + Sync>(
@@ -116,7 +102,8 @@ pub fn decide<R: Threads + Sync, G: Gate>(
     ensures { IfOk result (λ decision. IsDecided reduced.now.whole decision) }
 {
     let clauses = TraceClauses::of(alloc, reduced)?;
-    let guide = guide_of(clauses.layout());
+    let readings = readings_of(alloc, clauses.layout())?;
+    let guide = guide_to_order(clauses.layout()).with_readings(&readings);
     let decided = search_in_rounds(alloc, rt, &clauses, guide, options, gate)?;
     Ok(decision_of(alloc, rt, reduced, &clauses, &decided)?)
 }

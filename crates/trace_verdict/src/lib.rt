@@ -5,6 +5,7 @@ mod cubes;
 mod decided;
 mod deciding;
 mod decision;
+mod guide;
 mod reporting;
 mod rounds;
 mod splitting;

@@ -4,7 +4,7 @@ ghost use Rattle.clause_blocks.specs.Clauses.{clauses_of};
 ghost use Rattle.cube_queue.specs.Results.{AreLeaves};
 ghost use Rattle.cube_tree.specs.CubeTree.{cubes_of};
 ghost use Rattle.result_ledger.specs.Ledger.{cubes_in};
-ghost use Rattle.trace_verdict.specs.Rounds.{IsConfirmed};
+ghost use Rattle.trace_verdict.specs.Rounds.{KeepAnswers, IsAfterRound, IsConfirmed};
 
 use crate::decided::Decided;
 use crate::splitting::split_all;
@@ -16,12 +16,24 @@ use solver::Guide;
 use std::alloc::{AllocError, Global};
 use std::thread::Threads;
 
-/// Enters the results. One that the ledger refuses is dropped, and its leaf stays open.
+/// Enters the result. One that the ledger refuses is dropped, and its leaf stays as it was.
+fn enter_one(ledger: &mut Ledger, settled: Settled)
+    ensures cubes { cubes_in ledger.new ≡ cubes_in ledger.old }
+    ensures answers { KeepAnswers ledger.old ledger.new }
+{
+    match ledger.enter(settled) {
+        Ok(()) => {}
+        Err(_) => {}
+    }
+}
+
+/// Enters the results. What was answered before stays.
 fn enter_all(ledger: &mut Ledger, results: Vec<Settled>)
-    ensures { cubes_in ledger.new ≡ cubes_in ledger.old }
+    ensures cubes { cubes_in ledger.new ≡ cubes_in ledger.old }
+    ensures answers { KeepAnswers ledger.old ledger.new }
 {
     for settled in results {
-        let _entered = ledger.enter(settled);
+        enter_one(ledger, settled);
     }
 }
 
@@ -33,7 +45,7 @@ fn open_leaves(alloc: Global, _tree: &Tree, ledger: &Ledger) -> Result<Vec<u32>,
     ledger.unanswered(alloc)
 }
 
-/// Searches the leaves that have no answer, and confirms what was answered for all of them.
+/// Searches the leaves that have no answer, and confirms what was answered for all of them. What was answered before stays.
 fn search_open<R: Threads + Sync, G: Gate>(
     alloc: Global,
     rt: &R,
@@ -45,7 +57,8 @@ fn search_open<R: Threads + Sync, G: Gate>(
     gate: &G,
 ) -> Result<Decided, SearchFault>
     requires { cubes_in ledger ≡ cubes_of tree }
-    ensures { IfOk result (λ decided. IsConfirmed (clauses_of clauses.now) decided) }
+    ensures confirmed { IfOk result (λ decided. IsConfirmed (clauses_of clauses.now) decided) }
+    ensures answers { IfOk result (λ decided. KeepAnswers ledger decided.ledger) }
 {
     let which = open_leaves(alloc, &tree, &ledger)?;
     let results = search(
@@ -80,7 +93,8 @@ fn search_again<R: Threads + Sync, G: Gate>(
     gate: &G,
 ) -> Result<Decided, SearchFault>
     requires { IsConfirmed (clauses_of clauses.now) decided }
-    ensures { IfOk result (λ decided. IsConfirmed (clauses_of clauses.now) decided) }
+    ensures confirmed { IfOk result (λ after. IsConfirmed (clauses_of clauses.now) after) }
+    ensures round { IfOk result (λ after. IsAfterRound variables.now decided.ledger after.ledger) }
 {
     let Decided {
         tree,

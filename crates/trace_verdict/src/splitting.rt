@@ -1,7 +1,8 @@
 //! Open leaves are split.
-ghost use Rattle.std.specs.Prelude.{◌≡◌, ◌≤◌, IfOk, IfSome};
-ghost use Rattle.cube_tree.specs.CubeTree.{cubes_of};
+ghost use Rattle.std.specs.Prelude.{◌≡◌, ◌≤◌, ◌&&◌, not, IfOk, IfSome};
+ghost use Rattle.cube_tree.specs.CubeTree.{cubes_of, is_variable};
 ghost use Rattle.result_ledger.specs.Ledger.{cubes_in};
+ghost use Rattle.trace_verdict.specs.Rounds as rounds;
 ghost use Rattle.trace_verdict.specs.Rounds.{IsGrown};
 
 use cube_tree::laws::split_changes_one_leaf;
@@ -12,23 +13,28 @@ use std::alloc::{AllocError, Global};
 use text_lines::fault::Fault;
 
 /// Whether one of the literals is of the variable.
-fn has_variable(literals: &[Lit], variable: u32) -> bool {
-    literals
-        .iter()
-        .any(|literal| literal.variable() == variable)
+fn has_variable(cube: &[Lit], variable: u32) -> bool
+    ensures { result ≡ rounds.has_variable cube.now variable }
+{
+    cube.iter().any(|literal| literal.variable() == variable)
+}
+
+/// Whether the cube can be split on the variable.
+fn is_free(cube: &[Lit], variable: u32) -> bool
+    ensures { result ≡ (is_variable variable && not (rounds.has_variable cube.now variable)) }
+{
+    1 <= variable && variable <= MAX_VARIABLE && !has_variable(cube, variable)
 }
 
 /// The first of these variables that the cube does not have.
 fn next_variable(variables: &[u32], cube: &[Lit]) -> Option<u32>
-    ensures { IfSome result (λ variable. (1 ≤ variable) × (variable ≤ MAX_VARIABLE)) }
+    ensures first { result ≡ rounds.first_free variables.now cube.now }
+    ensures fits { IfSome result (λ variable. (1 ≤ variable) × (variable ≤ MAX_VARIABLE)) }
 {
-    for variable in variables {
-        let variable = *variable;
-        if 1 <= variable && variable <= MAX_VARIABLE && !has_variable(cube, variable) {
-            return Some(variable);
-        }
-    }
-    None
+    variables
+        .iter()
+        .copied()
+        .find(|variable| is_free(cube, *variable))
 }
 
 /// The tree and its ledger with this leaf split on the first of the variables that its cube does not have. They stay as they
@@ -41,7 +47,7 @@ fn split_one(
     leaf: u32,
 ) -> Result<(Tree, Ledger), AllocError>
     requires { cubes_in ledger ≡ cubes_of tree }
-    ensures { IfOk result (λ after. IsGrown ledger after.0 after.1) }
+    ensures { IfOk result (λ after. IsGrown variables.now ledger after.0 after.1) }
 {
     if leaf >= ledger.leaves() {
         return Ok((tree, ledger));
@@ -70,7 +76,7 @@ pub(crate) fn split_all(
     leaves: &[u32],
 ) -> Result<(Tree, Ledger), AllocError>
     requires { cubes_in ledger ≡ cubes_of tree }
-    ensures { IfOk result (λ after. IsGrown ledger after.0 after.1) }
+    ensures { IfOk result (λ after. IsGrown variables.now ledger after.0 after.1) }
 {
     let before = ledger.leaves();
     let mut tree = tree;

@@ -1,0 +1,59 @@
+//! A derivation has no step on which its last one does not rest.
+
+use crate::formulas::{PIGEONHOLE, listed};
+use crate::random_formulas::{Random, random_formula};
+use dimacs::Formula;
+use lrat_check::derivation::{Derivation, Step};
+use solver::{Answer, Guide, solve};
+use std::alloc::{AllocError, Global};
+use std::test::Fail;
+
+/// Whether one of these steps has the clause of this number among its hints.
+fn is_hint_of(steps: &[Step], number: u64) -> bool {
+    for step in steps {
+        if let Step::Addition { hints, .. } = step {
+            for hint in hints.as_slice() {
+                if u64::try_from(*hint).unwrap_or(0) == number {
+                    return true;
+                }
+            }
+        }
+    }
+    false
+}
+
+/// Whether each step adds a clause, and each but the last one a clause that is a hint of a later step.
+fn is_cut(derivation: &Derivation) -> bool {
+    let steps = derivation.steps();
+    for place in 1..steps.len() {
+        let Step::Addition { id, .. } = &steps[place - 1] else {
+            return false;
+        };
+        if !is_hint_of(&steps[place..], *id) {
+            return false;
+        }
+    }
+    true
+}
+
+/// Whether the derivation of the answer is cut, if it has one.
+fn is_cut_answer(alloc: Global, formula: &Formula) -> Result<bool, AllocError> {
+    match solve(alloc, formula, &[], Guide::none(), 100_000)? {
+        Answer::Refuted(derivation) => Ok(is_cut(&derivation)),
+        Answer::Model(_) => Ok(true),
+        Answer::Open => Ok(false),
+    }
+}
+
+#[test]
+fn derivations_have_no_step_too_many(rt: HostRuntime) -> Result<(), Fail> {
+    let alloc = rt.alloc();
+    let pigeons = listed(alloc, 12, &PIGEONHOLE)?;
+    assert!(rt; is_cut_answer(alloc, &pigeons)?);
+    let mut random = Random::new(4);
+    for _ in 0..200 {
+        let formula = random_formula(alloc, &mut random)?;
+        assert!(rt; is_cut_answer(alloc, &formula)?);
+    }
+    Ok(())
+}

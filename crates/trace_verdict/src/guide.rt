@@ -1,0 +1,87 @@
+//! What the solver is told of a trace's clauses. Nobody believes it, and no verdict rests on it: a mistake in it costs time.
+use solver::{Choice, Guide, Readings};
+use std::alloc::{AllocError, Global};
+use var_layout::candidate::{Candidate, Choice as ChoiceOfRead};
+use var_layout::layout::Layout;
+
+/// The number of an operation as the solver takes it.
+fn element_of(operation: usize) -> u32 {
+    u32::try_from(operation).unwrap_or(u32::MAX)
+}
+
+/// How many of the list there are.
+fn count_of(operations: &[usize]) -> u32 {
+    u32::try_from(operations.len()).unwrap_or(u32::MAX)
+}
+
+/// Where the clauses of transitivity stand: after those of program order.
+pub(crate) fn guide_to_order<'a>(layout: &Layout) -> Guide<'a> {
+    let operations = layout.operations();
+    let mut first: u32 = 1;
+    for i in 1..operations {
+        if layout.in_one_process(i - 1, i) {
+            first = first.saturating_add(1);
+        }
+    }
+    Guide::with_order(element_of(operations), first)
+}
+
+/// Adds the other writers of the operation's location.
+fn add_writers(readings: &mut Readings, layout: &Layout, operation: usize) {
+    for writer in layout.other_writers(operation) {
+        readings.add_writer(element_of(operation), element_of(*writer));
+    }
+}
+
+/// The choice of this reader, whose clauses begin with this number.
+fn choice_of(reader: usize, choice: ChoiceOfRead, first: u32) -> Choice {
+    let writer = match choice.candidate {
+        Candidate::InitialValue => None,
+        Candidate::Writer(writer) => Some(element_of(writer)),
+    };
+    Choice {
+        variable: choice.variable,
+        reader: element_of(reader),
+        writer,
+        first,
+    }
+}
+
+/// Adds the choices of the operation, if it reads, where the first of its clauses has this number. The number after that of the last
+/// one.
+///
+/// A reader without a choice has two clauses. Any other has one that says that a choice is made, and then for each choice as many as
+/// there are other writers of the location.
+fn add_choices(
+    readings: &mut Readings,
+    layout: &Layout,
+    operation: usize,
+    first: u32,
+) -> Result<u32, AllocError> {
+    if !layout.is_reader(operation) {
+        return Ok(first);
+    }
+    let choices = layout.choices(operation);
+    if choices.is_empty() {
+        return Ok(first.saturating_add(2));
+    }
+    let for_each = count_of(layout.other_writers(operation));
+    let mut next = first.saturating_add(1);
+    for choice in choices {
+        readings.add_choice(choice_of(operation, *choice, next))?;
+        next = next.saturating_add(for_each);
+    }
+    Ok(next)
+}
+
+/// Who writes what others read, and where the clauses stand that say what is read: after those of transitivity, reader by reader.
+pub(crate) fn readings_of(alloc: Global, layout: &Layout) -> Result<Readings, AllocError> {
+    let operations = layout.operations();
+    let mut readings = Readings::new(alloc, element_of(operations))?;
+    let mut next = guide_to_order(layout).behind();
+    for operation in 0..operations {
+        add_writers(&mut readings, layout, operation);
+        next = add_choices(&mut readings, layout, operation, next)?;
+    }
+    Ok(readings)
+}
