@@ -2,7 +2,7 @@
 use Rattle.std.specs.Prelude.{◌≡◌, ℕ, false, List, [], Result}
 use Rattle.std.specs.declared.rt.LibcRuntime.{LibcRuntime}
 use Rattle.command_line.specs.declared.line.Line.{Line}
-use Rattle.command_line.specs.declared.line.Line.TheVariants.{Cnf, Decode, Judge, Lrat, Verify}
+use Rattle.command_line.specs.declared.line.Line.TheVariants.{Cnf, Decode, Judge, Lrat, Recheck, Verify}
 use Rattle.verdict_report.specs.declared.fault.Fault.{Fault}
 use Rattle.verdict_report.specs.declared.status.Status.{Status}
 use Rattle.verdict_report.specs.CnfEngine.{IsRunOfCnf}
@@ -10,6 +10,7 @@ use Rattle.verdict_report.specs.DecodeEngine.{IsRunOfDecode}
 use Rattle.verdict_report.specs.Fault.{exit_status_of}
 use Rattle.verdict_report.specs.JudgeEngine.{IsRunOfJudge}
 use Rattle.verdict_report.specs.LratEngine.{IsRunOfLrat}
+use Rattle.verdict_report.specs.RecheckEngine.{IsRunOfRecheck}
 use Rattle.verdict_report.specs.Runs.{SourceRun, SinkRun}
 use Rattle.verdict_report.specs.VerifyEngine.{IsRunOfVerify}
 use Rattle.vsc.specs.declared.file_source.FileSource.{FileSource}
@@ -53,7 +54,8 @@ Runs (Judge trace schedule) outcome = RunsOnFiles IsRunOfJudge trace.now schedul
 Runs (Cnf trace workers) outcome = RunsOnFile IsRunOfCnf trace.now outcome
 Runs (Decode trace model) outcome = RunsOnFiles IsRunOfDecode trace.now model.now outcome
 Runs (Lrat cnf proof) outcome = RunsOnFiles IsRunOfLrat cnf.now proof.now outcome
-Runs (Verify trace numbers progress) outcome = RunsOnFile IsRunOfVerify trace.now outcome
+Runs (Recheck trace cert) outcome = RunsOnFiles IsRunOfRecheck trace.now cert.now outcome
+Runs (Verify trace cert numbers progress) outcome = RunsOnFile IsRunOfVerify trace.now outcome
 
 -- the engine that the command line asks for was run on its files, and this is the exit status of the outcome
 pub record EndsWith (line : Line) (status : ℕ) : Type 0 where
