@@ -149,11 +149,14 @@ decode_built = built_at 3
 abbrev pub lrat_built : Shape
 lrat_built = built_at 4
 
+abbrev pub recheck_built : Shape
+recheck_built = built_at 5
+
 abbrev pub commands : List Shape
-commands = verify_built ∷ judge_built ∷ cnf_built ∷ decode_built ∷ lrat_built ∷ []
+commands = verify_built ∷ judge_built ∷ cnf_built ∷ decode_built ∷ lrat_built ∷ recheck_built ∷ []
 
 abbrev help_built : Shape
-help_built = built_at 5
+help_built = built_at 6
 
 -- a parse enters one of the commands, with words at which it finds no fault
 pub record Enters (met : Option (Text × List Row)) : Type 0 where

@@ -8,4 +8,5 @@ mod GivenLemmas
 mod JudgeLemmas
 mod LratLemmas
 mod NumberLemmas
+mod RecheckLemmas
 mod VerifyLemmas

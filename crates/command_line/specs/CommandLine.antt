@@ -9,7 +9,7 @@ use Rattle.clap.specs.declared.builder.value_parser.ValueParser.TheVariants.{Sig
 use Rattle.clap.specs.declared.error.kind.ErrorKind.{ErrorKind}
 use Rattle.clap.specs.declared.error.kind.ErrorKind.TheVariants.{OutOfMemory}
 use Rattle.command_line.specs.declared.line.Line.{Line}
-use Rattle.command_line.specs.declared.line.Line.TheVariants.{Cnf, Decode, Judge, Lrat, Verify}
+use Rattle.command_line.specs.declared.line.Line.TheVariants.{Cnf, Decode, Judge, Lrat, Recheck, Verify}
 use Rattle.command_line.specs.declared.line.SearchNumbers.{SearchNumbers}
 
 -- ---- the commands
@@ -17,6 +17,10 @@ use Rattle.command_line.specs.declared.line.SearchNumbers.{SearchNumbers}
 -- an argument that stands at its place and has to be given
 abbrev pub required_path : Text → Rule
 required_path id = record (new_rule id) { value_names = 1; required = true }
+
+-- --cert FILE, a path that may be left out
+abbrev pub cert_rule : Rule
+cert_rule = record (new_rule (codes "cert")) { long = Some (codes "cert"); value_names = 1 }
 
 -- --workers N, a number from 1 to 8, and 4 where it is not given
 abbrev pub workers_rule : Rule
@@ -27,41 +31,35 @@ workers_rule = record (new_rule (codes "workers")) {
   parser = Some (Signed (pos 1) (pos 8));
 }
 
+-- an option with a number in this range, and the text that stands for it where it is not given
+abbrev pub number_rule : Text → Text → ℕ → ℕ → Rule
+number_rule id default least most = record (new_rule id) {
+  long = Some id;
+  value_names = 1;
+  defaults = default ∷ [];
+  parser = Some (Unsigned least most);
+}
+
 -- --split N, a number from 0 to 10, and 3 where it is not given
 abbrev pub split_rule : Rule
-split_rule = record (new_rule (codes "split")) {
-  long = Some (codes "split");
-  value_names = 1;
-  defaults = codes "3" ∷ [];
-  parser = Some (Unsigned 0 10);
-}
+split_rule = number_rule (codes "split") (codes "3") 0 10
 
 -- --budget N, a number from 0 to 1,000,000,000, and 100,000 where it is not given
 abbrev pub budget_rule : Rule
-budget_rule = record (new_rule (codes "budget")) {
-  long = Some (codes "budget");
-  value_names = 1;
-  defaults = codes "100000" ∷ [];
-  parser = Some (Unsigned 0 1000000000);
-}
+budget_rule = number_rule (codes "budget") (codes "100000") 0 1000000000
 
 -- --rounds N, a number from 1 to 4, and 1 where it is not given
 abbrev pub rounds_rule : Rule
-rounds_rule = record (new_rule (codes "rounds")) {
-  long = Some (codes "rounds");
-  value_names = 1;
-  defaults = codes "1" ∷ [];
-  parser = Some (Unsigned 1 4);
-}
+rounds_rule = number_rule (codes "rounds") (codes "1") 1 4
 
 -- --progress, a flag
 abbrev pub progress_rule : Rule
 progress_rule = record (new_rule (codes "progress")) { long = Some (codes "progress"); action = Some SetTrue }
 
--- verify TRACE [--workers N] [--split N] [--budget N] [--rounds N] [--progress]
+-- verify TRACE [--cert FILE] [--workers N] [--split N] [--budget N] [--rounds N] [--progress]
 abbrev pub verify_app : App
 verify_app =
-    with_rule (with_rule (with_rule (with_rule (with_rule (with_rule (new_app (codes "verify")) (required_path (codes "trace"))) workers_rule) split_rule) budget_rule) rounds_rule) progress_rule
+    with_rule (with_rule (with_rule (with_rule (with_rule (with_rule (with_rule (new_app (codes "verify")) (required_path (codes "trace"))) cert_rule) workers_rule) split_rule) budget_rule) rounds_rule) progress_rule
 
 -- judge TRACE SCHEDULE
 abbrev pub judge_app : App
@@ -81,13 +79,18 @@ decode_app =
 abbrev pub lrat_app : App
 lrat_app = with_rule (with_rule (new_app (codes "lrat")) (required_path (codes "cnf"))) (required_path (codes "proof"))
 
+-- recheck TRACE CERT
+abbrev pub recheck_app : App
+recheck_app =
+    with_rule (with_rule (new_app (codes "recheck")) (required_path (codes "trace"))) (required_path (codes "cert"))
+
 -- the program, which has a version and wants a command
 abbrev pub program_app : App
 program_app = on_top (λ s. record s { has_version = true; subcommand_required = true }) (new_app (codes "vsc"))
 
 abbrev pub vsc_app : App
 vsc_app =
-    with_subcommand (with_subcommand (with_subcommand (with_subcommand (with_subcommand program_app verify_app.top) judge_app.top) cnf_app.top) decode_app.top) lrat_app.top
+    with_subcommand (with_subcommand (with_subcommand (with_subcommand (with_subcommand (with_subcommand program_app verify_app.top) judge_app.top) cnf_app.top) decode_app.top) lrat_app.top) recheck_app.top
 
 -- ---- what the words ask for
 
@@ -130,10 +133,18 @@ pub record AsksToCheckProof (command : Option Text) (given : Text → Option Tex
   pub cnf_path : given (codes "cnf") ≡ Some cnf
   pub proof_path : given (codes "proof") ≡ Some proof
 
--- the command is to decide whether the trace in a file has a legal schedule, by a search of these numbers, with or without its progress
-pub record AsksToVerify (command : Option Text) (given : Text → Option Text) (trace : Text) (numbers : SearchNumbers) (progress : Bool) : Type 0 where
+-- the command is to check that the certificate in one file shows that the trace in another has no legal schedule
+pub record AsksToRecheck (command : Option Text) (given : Text → Option Text) (trace cert : Text) : Type 0 where
+  pub command_name : command ≡ Some (codes "recheck")
+  pub trace_path : given (codes "trace") ≡ Some trace
+  pub cert_path : given (codes "cert") ≡ Some cert
+
+-- the command is to decide whether the trace in a file has a legal schedule, by a search of these numbers, with or without its progress,
+-- and with a file for the certificate or with none
+pub record AsksToVerify (command : Option Text) (given : Text → Option Text) (trace : Text) (cert : Option Text) (numbers : SearchNumbers) (progress : Bool) : Type 0 where
   pub command_name : command ≡ Some (codes "verify")
   pub trace_path : given (codes "trace") ≡ Some trace
+  pub cert_path : given (codes "cert") ≡ cert
   pub workers_text : IsSomeAnd (given (codes "workers")) (λ text. IsNumberWithin 1 8 text numbers.workers)
   pub split_text : IsSomeAnd (given (codes "split")) (λ text. IsNumberWithin 0 10 text numbers.split)
   pub budget_text : IsSomeAnd (given (codes "budget")) (λ text. IsNumberWithin 0 1000000000 text numbers.budget)
@@ -146,7 +157,8 @@ AsksFor command given (Judge trace schedule) = AsksToJudge command given trace.n
 AsksFor command given (Cnf trace workers) = AsksForCnf command given trace.now workers
 AsksFor command given (Decode trace model) = AsksToDecode command given trace.now model.now
 AsksFor command given (Lrat cnf proof) = AsksToCheckProof command given cnf.now proof.now
-AsksFor command given (Verify trace numbers progress) = AsksToVerify command given trace.now numbers progress
+AsksFor command given (Recheck trace cert) = AsksToRecheck command given trace.now cert.now
+AsksFor command given (Verify trace cert numbers progress) = AsksToVerify command given trace.now (option_map (λ path. path.now) cert) numbers progress
 
 -- the words ask for the line
 abbrev pub Asks : List Text → Line → Type 0
@@ -167,7 +179,8 @@ IsWithinRanges (Judge trace schedule) = ⊤
 IsWithinRanges (Cnf trace workers) = (1 ≤ workers) × (workers ≤ 8)
 IsWithinRanges (Decode trace model) = ⊤
 IsWithinRanges (Lrat cnf proof) = ⊤
-IsWithinRanges (Verify trace numbers progress) = AreSearchNumbers numbers
+IsWithinRanges (Recheck trace cert) = ⊤
+IsWithinRanges (Verify trace cert numbers progress) = AreSearchNumbers numbers
 
 -- ---- what is wrong with the words
 

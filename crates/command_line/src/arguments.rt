@@ -1,6 +1,6 @@
 //! What the commands share: arguments that are paths of files, and the text that was given for one.
 
-ghost use Rattle.std.specs.Prelude.{◌≡◌, IsSome, Some, codes, false};
+ghost use Rattle.std.specs.Prelude.{◌≡◌, IsSome, Some, codes, false, option_map};
 ghost use Rattle.clap.specs.Words.{first_value, found_of, rule_of};
 ghost use Rattle.command_line.specs.CommandLine.{required_path};
 
@@ -29,6 +29,13 @@ pub fn trace_argument<'a>(alloc: Global) -> Arg<'a>
         "TRACE",
         "A file with a trace: what each process wrote and read, in its order",
     )
+}
+
+/// The text of an argument, where one was given.
+pub fn optional_text_of<'a>(matches: &ArgMatches<'a>, id: &str) -> Option<&'a str>
+    ensures { first_value (found_of matches.now) id.now ≡ option_map (λ text. text.now) result }
+{
+    matches.get_str(id)
 }
 
 /// The text of an argument that was given.

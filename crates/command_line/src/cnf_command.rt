@@ -7,6 +7,7 @@ ghost use Rattle.command_line.specs.CommandLine.{AsksFor, cnf_app};
 ghost use Rattle.command_line.specs.Arguments.{HasWorkers};
 
 use crate::arguments::{text_of, trace_argument};
+use crate::building::command_of_two;
 use crate::line::Line;
 use crate::numbers::{workers_argument, workers_of};
 use clap::{ArgMatches, Command};
@@ -41,11 +42,7 @@ pub fn new_cnf_command<'a>(alloc: Global) -> Result<Command<'a>, AllocError>
 {
     let trace = trace_argument(alloc);
     let workers = workers_argument(alloc, "How many threads may make the text, 1 to 8");
-    Command::new(alloc, "cnf")
-        .about(ABOUT)
-        .after_long_help(EXAMPLE)
-        .arg(trace)?
-        .arg(workers)
+    command_of_two(alloc, "cnf", ABOUT, EXAMPLE, trace, workers)
 }
 
 /// What the matches of the command ask for.

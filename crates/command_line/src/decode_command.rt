@@ -6,6 +6,7 @@ ghost use Rattle.clap.specs.declared.builder.command.Command.TheViews.{out-Comma
 ghost use Rattle.command_line.specs.CommandLine.{AsksFor, decode_app};
 
 use crate::arguments::{path_argument, text_of, trace_argument};
+use crate::building::command_of_two;
 use crate::line::Line;
 use clap::{ArgMatches, Command};
 use std::alloc::{AllocError, Global};
@@ -44,11 +45,7 @@ pub fn new_decode_command<'a>(alloc: Global) -> Result<Command<'a>, AllocError>
         "MODEL",
         "A file with a solver's answer: 's' lines and 'v' lines",
     );
-    Command::new(alloc, "decode")
-        .about(ABOUT)
-        .after_long_help(EXAMPLE)
-        .arg(trace)?
-        .arg(model)
+    command_of_two(alloc, "decode", ABOUT, EXAMPLE, trace, model)
 }
 
 /// What the matches of the command ask for.

@@ -6,6 +6,7 @@ ghost use Rattle.clap.specs.declared.builder.command.Command.TheViews.{out-Comma
 ghost use Rattle.command_line.specs.CommandLine.{AsksFor, judge_app};
 
 use crate::arguments::{path_argument, text_of, trace_argument};
+use crate::building::command_of_two;
 use crate::line::Line;
 use clap::{ArgMatches, Command};
 use std::alloc::{AllocError, Global};
@@ -41,11 +42,7 @@ pub fn new_judge_command<'a>(alloc: Global) -> Result<Command<'a>, AllocError>
         "SCHEDULE",
         "A file with a schedule: the name of one operation a line",
     );
-    Command::new(alloc, "judge")
-        .about(ABOUT)
-        .after_long_help(EXAMPLE)
-        .arg(trace)?
-        .arg(schedule)
+    command_of_two(alloc, "judge", ABOUT, EXAMPLE, trace, schedule)
 }
 
 /// What the matches of the command ask for.

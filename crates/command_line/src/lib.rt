@@ -2,6 +2,7 @@
 #![tactic(auto)]
 
 mod arguments;
+mod building;
 mod cnf_command;
 mod decode_command;
 mod judge_command;
@@ -9,6 +10,8 @@ mod line;
 mod line_fault;
 mod lrat_command;
 mod numbers;
+mod program;
+mod recheck_command;
 mod verify_command;
 
 pub use line::{Line, SearchNumbers, read_line};

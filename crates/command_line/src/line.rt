@@ -5,23 +5,17 @@ ghost use Rattle.clap.specs.Words.{FailsBy, fault_of, kind_of, subcommand_of, su
 ghost use Rattle.clap.specs.Walk.{texts};
 ghost use Rattle.command_line.specs.CommandLine.{Asks, IsFaultOf, IsFaultless, IsWithinRanges, vsc_app};
 
-use crate::cnf_command::{cnf_line, new_cnf_command};
-use crate::decode_command::{decode_line, new_decode_command};
-use crate::judge_command::{judge_line, new_judge_command};
+use crate::cnf_command::cnf_line;
+use crate::decode_command::decode_line;
+use crate::judge_command::judge_line;
 use crate::line_fault::LineFault;
-use crate::lrat_command::{lrat_line, new_lrat_command};
-use crate::verify_command::{new_verify_command, verify_line};
+use crate::lrat_command::lrat_line;
+use crate::program::new_program;
+use crate::recheck_command::recheck_line;
+use crate::verify_command::verify_line;
 use clap::error::ErrorKind;
-use clap::{ArgMatches, Command, Error};
+use clap::{ArgMatches, Error};
 use std::alloc::Global;
-
-const VERSION: &str = "0.1.0";
-
-const ABOUT: &str =
-    "Checks memory traces against sequential consistency: whether one order of all operations explains what each process read.";
-
-const AFTER_HELP: &str =
-    "'vsc <COMMAND> --help' says what the files of a command are, with an example.";
 
 /// How a search goes about its work.
 #[derive(Clone, Copy)]
@@ -59,9 +53,16 @@ pub enum Line<'a> {
         cnf: &'a str,
         proof: &'a str,
     },
-    /// To decide whether a trace has a legal schedule, and to tell of the progress or not.
+    /// To check a certificate that a trace has no legal schedule.
+    Recheck {
+        trace: &'a str,
+        cert: &'a str,
+    },
+    /// To decide whether a trace has a legal schedule, to write a certificate to a file or to none, and to tell of the
+    /// progress or not.
     Verify {
         trace: &'a str,
+        cert: Option<&'a str>,
         numbers: SearchNumbers,
         progress: bool,
     },
@@ -75,23 +76,7 @@ fn matches_of<'a>(alloc: Global, words: &'a [&'a str]) -> Result<ArgMatches<'a>,
     ensures memory { IfErr result (λ e. takes vsc_app (texts words.now) ≡ true
         → kind_of e ≡ ErrorKind.OutOfMemory) }
 {
-    let verify = new_verify_command(alloc)?;
-    let judge = new_judge_command(alloc)?;
-    let cnf = new_cnf_command(alloc)?;
-    let decode = new_decode_command(alloc)?;
-    let lrat = new_lrat_command(alloc)?;
-    Command::new(alloc, "vsc")
-        .bin_name("vsc")?
-        .version(VERSION)
-        .about(ABOUT)
-        .after_help(AFTER_HELP)
-        .subcommand_required(true)
-        .subcommand(verify)?
-        .subcommand(judge)?
-        .subcommand(cnf)?
-        .subcommand(decode)?
-        .subcommand(lrat)?
-        .try_get_matches_from(words)
+    new_program(alloc)?.try_get_matches_from(words)
 }
 
 /// Reads the words of a command line, of which the first is the program's name.
@@ -121,6 +106,9 @@ pub fn read_line<'a>(alloc: Global, words: &'a [&'a str]) -> Result<Line<'a>, Li
     }
     if let Some(verify) = matches.subcommand_matches("verify") {
         return Ok(verify_line(verify));
+    }
+    if let Some(recheck) = matches.subcommand_matches("recheck") {
+        return Ok(recheck_line(recheck));
     }
     unreachable!()
 }

@@ -6,6 +6,7 @@ ghost use Rattle.clap.specs.declared.builder.command.Command.TheViews.{out-Comma
 ghost use Rattle.command_line.specs.CommandLine.{AsksFor, lrat_app};
 
 use crate::arguments::{path_argument, text_of};
+use crate::building::command_of_two;
 use crate::line::Line;
 use clap::{ArgMatches, Command};
 use std::alloc::{AllocError, Global};
@@ -32,11 +33,7 @@ pub fn new_lrat_command<'a>(alloc: Global) -> Result<Command<'a>, AllocError>
 {
     let cnf = path_argument(alloc, "cnf", "CNF", "A file with a formula, as DIMACS text");
     let proof = path_argument(alloc, "proof", "PROOF", "A file with an LRAT proof");
-    Command::new(alloc, "lrat")
-        .about(ABOUT)
-        .after_long_help(EXAMPLE)
-        .arg(cnf)?
-        .arg(proof)
+    command_of_two(alloc, "lrat", ABOUT, EXAMPLE, cnf, proof)
 }
 
 /// What the matches of the command ask for.

@@ -3,8 +3,9 @@
 ghost use Rattle.std.specs.Prelude.{◌≡◌, IsSomeAnd, codes, false};
 ghost use Rattle.clap.specs.Words.{first_value, found_of, rule_of};
 ghost use Rattle.command_line.specs.Arguments.{HasNumber, HasWorkers};
-ghost use Rattle.command_line.specs.CommandLine.{IsNumberWithin, budget_rule, rounds_rule, split_rule, workers_rule};
+ghost use Rattle.command_line.specs.CommandLine.{IsNumberWithin, budget_rule, number_rule, rounds_rule, split_rule, workers_rule};
 
+use clap::builder::ValueParser;
 use clap::{Arg, ArgMatches};
 use std::alloc::Global;
 
@@ -21,19 +22,39 @@ pub fn workers_argument<'a>(alloc: Global, help: &'a str) -> Arg<'a>
         .help(help)
 }
 
+/// An option with a number in this range, and the text that stands for it where it is not given.
+fn number_argument<'a>(
+    alloc: Global,
+    id: &'a str,
+    default: &'a str,
+    least: u64,
+    most: u64,
+    help: &'a str,
+) -> Arg<'a>
+    ensures rule { rule_of result ≡ number_rule id.entry.now default.entry.now least most }
+    ensures local { result.global ≡ false }
+{
+    Arg::new(alloc, id)
+        .long(id)
+        .value_name("N")
+        .default_value(default)
+        .value_parser(ValueParser::unsigned(least, most))
+        .help(help)
+}
+
 /// `--split N`.
 pub fn split_argument<'a>(alloc: Global) -> Arg<'a>
     ensures rule { rule_of result ≡ split_rule }
     ensures local { result.global ≡ false }
 {
-    Arg::new(alloc, "split")
-        .long("split")
-        .value_name("N")
-        .default_value("3")
-        .value_parser(clap::value_parser!(u64).range(0..=10))
-        .help(
-            "On how many variables the search is split at first, 0 to 10: N variables give 2^N cubes",
-        )
+    number_argument(
+        alloc,
+        "split",
+        "3",
+        0,
+        10,
+        "On how many variables the search is split at first, 0 to 10: N variables give 2^N cubes",
+    )
 }
 
 /// `--budget N`.
@@ -41,12 +62,14 @@ pub fn budget_argument<'a>(alloc: Global) -> Arg<'a>
     ensures rule { rule_of result ≡ budget_rule }
     ensures local { result.global ≡ false }
 {
-    Arg::new(alloc, "budget")
-        .long("budget")
-        .value_name("N")
-        .default_value("100000")
-        .value_parser(clap::value_parser!(u64).range(0..=1_000_000_000))
-        .help("After how many conflicts the search of a cube is given up, 0 to 1000000000")
+    number_argument(
+        alloc,
+        "budget",
+        "100000",
+        0,
+        1_000_000_000,
+        "After how many conflicts the search of a cube is given up, 0 to 1000000000",
+    )
 }
 
 /// `--rounds N`.
@@ -54,14 +77,14 @@ pub fn rounds_argument<'a>(alloc: Global) -> Arg<'a>
     ensures rule { rule_of result ≡ rounds_rule }
     ensures local { result.global ≡ false }
 {
-    Arg::new(alloc, "rounds")
-        .long("rounds")
-        .value_name("N")
-        .default_value("1")
-        .value_parser(clap::value_parser!(u64).range(1..=4))
-        .help(
-            "How many rounds there are at most, 1 to 4: between two of them the open cubes are split",
-        )
+    number_argument(
+        alloc,
+        "rounds",
+        "1",
+        1,
+        4,
+        "How many rounds there are at most, 1 to 4: between two of them the open cubes are split",
+    )
 }
 
 /// The number of workers that was given, or else the one that stands for it.

@@ -1,13 +1,14 @@
-//! The command `verify TRACE [--workers N] [--split N] [--budget N] [--rounds N] [--progress]`.
+//! The command `verify TRACE [--cert FILE] [--workers N] [--split N] [--budget N] [--rounds N] [--progress]`.
 
 ghost use Rattle.std.specs.Prelude.{◌≡◌, IfOk, IsSome, Some, codes, false};
 ghost use Rattle.clap.specs.Values.{bool_text};
 ghost use Rattle.clap.specs.Words.{app_of, first_value, found_of, rule_of};
 ghost use Rattle.clap.specs.declared.builder.command.Command.TheViews.{out-Command};
 ghost use Rattle.command_line.specs.Arguments.{HasFlag, HasNumber, HasWorkers};
-ghost use Rattle.command_line.specs.CommandLine.{AsksFor, progress_rule, verify_app};
+ghost use Rattle.command_line.specs.CommandLine.{AsksFor, cert_rule, progress_rule, verify_app};
 
-use crate::arguments::{text_of, trace_argument};
+use crate::arguments::{optional_text_of, text_of, trace_argument};
+use crate::building::{command_of_two, with_two};
 use crate::line::{Line, SearchNumbers};
 use crate::numbers::{
     budget_argument, budget_of, rounds_argument, rounds_of, split_argument, split_of,
@@ -23,6 +24,8 @@ const EXAMPLE: &str = "The answer is
     INCONSISTENT cubes=N: there is no legal schedule, and each of N cases has a checked proof of that;
     UNKNOWN open=N: the search was given up. A legal schedule can only be in one of the N cubes below,
         which are literals of the clauses that 'vsc cnf' writes.
+With --cert the proofs of INCONSISTENT go to FILE, for 'vsc recheck'. FILE is made or emptied first, and
+stays empty after any other answer.
 
 Example, a trace:
     vsc 1
@@ -42,6 +45,16 @@ Exit status:
     3  the answer is UNKNOWN
     4  a file or a standard stream failed";
 
+// `--cert FILE`.
+fn cert_argument<'a>(alloc: Global) -> Arg<'a>
+    ensures rule { rule_of result ≡ cert_rule }
+    ensures local { result.global ≡ false }
+{
+    Arg::new(alloc, "cert").long("cert").value_name("FILE").help(
+        "Writes the proofs to FILE where the answer is INCONSISTENT",
+    )
+}
+
 // `--progress`.
 fn progress_argument<'a>(alloc: Global) -> Arg<'a>
     ensures rule { rule_of result ≡ progress_rule }
@@ -59,20 +72,15 @@ pub fn new_verify_command<'a>(alloc: Global) -> Result<Command<'a>, AllocError>
     ensures local { IfOk result (λ c. (out-Command c).has_globals ≡ false) }
 {
     let trace = trace_argument(alloc);
+    let cert = cert_argument(alloc);
+    let command = command_of_two(alloc, "verify", ABOUT, EXAMPLE, trace, cert)?;
     let workers = workers_argument(alloc, "How many threads may search, 1 to 8");
     let split = split_argument(alloc);
+    let command = with_two(command, workers, split)?;
     let budget = budget_argument(alloc);
     let rounds = rounds_argument(alloc);
-    let progress = progress_argument(alloc);
-    Command::new(alloc, "verify")
-        .about(ABOUT)
-        .after_long_help(EXAMPLE)
-        .arg(trace)?
-        .arg(workers)?
-        .arg(split)?
-        .arg(budget)?
-        .arg(rounds)?
-        .arg(progress)
+    let command = with_two(command, budget, rounds)?;
+    command.arg(progress_argument(alloc))
 }
 
 // Whether the progress of the search is asked for.
@@ -101,6 +109,7 @@ pub fn verify_line<'a>(matches: &ArgMatches<'a>) -> Line<'a>
     };
     Line::Verify {
         trace: text_of(matches, "trace"),
+        cert: optional_text_of(matches, "cert"),
         numbers,
         progress: progress_of(matches),
     }

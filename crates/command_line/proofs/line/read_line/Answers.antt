@@ -6,14 +6,15 @@ use Rattle.clap.specs.Walk.{texts}
 use Rattle.clap.specs.Words.{found_of, kind_of}
 use Rattle.command_line.proofs.CnfLemmas.{cnf_reads}
 use Rattle.command_line.proofs.DecodeLemmas.{decode_reads}
-use Rattle.command_line.proofs.EnterLemmas.{cnf_built, decode_built, enters_command, judge_built, lrat_built, verify_built}
+use Rattle.command_line.proofs.EnterLemmas.{cnf_built, decode_built, enters_command, judge_built, lrat_built, recheck_built, verify_built}
 use Rattle.command_line.proofs.FoundLemmas.{EntersAs, asks_as_read, enters_as, has_text, name-rows}
 use Rattle.command_line.proofs.JudgeLemmas.{judge_reads}
 use Rattle.command_line.proofs.LratLemmas.{lrat_reads}
 use Rattle.command_line.proofs.NumberLemmas.{has_flag, has_number, has_workers}
+use Rattle.command_line.proofs.RecheckLemmas.{recheck_reads}
 use Rattle.command_line.proofs.VerifyLemmas.{verify_reads}
 use Rattle.command_line.proofs.line.read_line.Goals as goal
-use Rattle.command_line.proofs.line.read_line.Goals.{In-Some, In-Some-subcommand_matches, In-Some-subcommand_matches-2, In-Some-subcommand_matches-3, In-Some-subcommand_matches-4}
+use Rattle.command_line.proofs.line.read_line.Goals.{In-Some, In-Some-subcommand_matches, In-Some-subcommand_matches-2, In-Some-subcommand_matches-3, In-Some-subcommand_matches-4, In-Some-subcommand_matches-5}
 
 -- ---- judge
 
@@ -122,6 +123,27 @@ returns-in-Some-subcommand_matches-4-clause-line c =
     let met = verify_met (goal.at.returns-in-Some-subcommand_matches-4-clause-line c).In-Some-subcommand_matches-4 in
     asks_as_read (texts c.args.words.now) (codes "verify") (found_of c.in-Some-subcommand_matches-4.verify.now) met c.verify_line.result c.verify_line.ensures
 
+-- ---- recheck
+
+recheck_met : (c : In-Some-subcommand_matches-5) → EntersAs (texts c.args.words.now) (codes "recheck") (found_of c.in-Some-subcommand_matches-5.recheck.now)
+recheck_met c =
+    let entered = c.in-Some-subcommand_matches-5.ensures in
+    enters_as _ _ _ c.in_ok-matches.matches c.in_ok-matches.ensures.ok c.in_ok-matches.ensures.kinds (entered.found.0 refl) entered.rows
+
+pub recheck_line-requires : goal.recheck_line-requires
+recheck_line-requires c =
+    let found = found_of c.in-Some-subcommand_matches-5.recheck.now in
+    let read = recheck_reads (texts c.args.words.now) found (recheck_met c) in
+    record {
+      trace = has_text found recheck_built.rules (codes "trace") (read (codes "trace") refl);
+      cert = has_text found recheck_built.rules (codes "cert") (read (codes "cert") refl);
+    }
+
+pub returns-in-Some-subcommand_matches-5-clause-line : goal.returns-in-Some-subcommand_matches-5-clause-line
+returns-in-Some-subcommand_matches-5-clause-line c =
+    let met = recheck_met (goal.at.returns-in-Some-subcommand_matches-5-clause-line c).In-Some-subcommand_matches-5 in
+    asks_as_read (texts c.args.words.now) (codes "recheck") (found_of c.in-Some-subcommand_matches-5.recheck.now) met c.recheck_line.result c.recheck_line.ensures
+
 -- ---- no other command
 
 pub unreachable-requires : goal.unreachable-requires
@@ -135,7 +157,8 @@ unreachable-requires c =
       | inr (inr (inl is)) ↦ true≢false (sym (c.in_default-subcommand_matches.ensures.found.1 (name ∙ ap (λ s. Some s.name) is)))
       | inr (inr (inr (inl is))) ↦ true≢false (sym (c.in_default-subcommand_matches-2.ensures.found.1 (name ∙ ap (λ s. Some s.name) is)))
       | inr (inr (inr (inr (inl is)))) ↦ true≢false (sym (c.in_default-subcommand_matches-3.ensures.found.1 (name ∙ ap (λ s. Some s.name) is)))
-      | inr (inr (inr (inr (inr none)))) ↦ none
+      | inr (inr (inr (inr (inr (inl is))))) ↦ true≢false (sym (c.in_default-subcommand_matches-5.ensures.found.1 (name ∙ ap (λ s. Some s.name) is)))
+      | inr (inr (inr (inr (inr (inr none))))) ↦ none
     ]
 
 pub returns-in_err-matches-clause-memory : goal.returns-in_err-matches-clause-memory

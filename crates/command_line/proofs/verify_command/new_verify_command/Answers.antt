@@ -1,31 +1,25 @@
--- Each step of the chain keeps or extends what a parse reads of the command.
-use Rattle.std.proofs.Common.{ap, ap₂, codes, false, ◌≡◌, ◌∙◌, ◌||◌}
+-- Each step extends what a parse reads of the command.
+use Rattle.std.proofs.Common.{◌≡◌, ◌∙◌, ◌||◌, ap, ap₂, codes, false}
 use Rattle.std.proofs.lemmas.Result.{IfOk-weaker}
 use Rattle.clap.specs.Words.{app_of, new_app, with_rule}
-use Rattle.clap.specs.Simple.{app_of_fields}
-use Rattle.clap.specs.declared.builder.command.Command.{Command}
-use Rattle.clap.specs.declared.builder.command.Command.TheOpen.{Command-F}
 use Rattle.clap.specs.declared.builder.command.Command.TheViews.{out-Command}
+use Rattle.command_line.specs.CommandLine.{budget_rule, cert_rule, required_path, rounds_rule, split_rule, workers_rule}
 use Rattle.command_line.proofs.verify_command.new_verify_command.Goals as goal
 
 pub returns-clause-app : goal.returns-clause-app
 returns-clause-app c =
-    let named : app_of c.after_long_help.result ≡ new_app (codes "verify") =
-    ap app_of_fields c.after_long_help.ensures ∙ ap app_of_fields c.about.ensures ∙ c.new.ensures.app in
-    IfOk-weaker c.arg-6.result _ _
-    (λ r h. h.shape c.progress_argument-progress.ensures.local
-    ∙ ap₂ with_rule (c.in_ok-arg-5.ensures.shape c.rounds_argument-rounds.ensures.local
-    ∙ ap₂ with_rule (c.in_ok-arg-4.ensures.shape c.budget_argument-budget.ensures.local
-    ∙ ap₂ with_rule (c.in_ok-arg-3.ensures.shape c.split_argument-split.ensures.local
-    ∙ ap₂ with_rule (c.in_ok-arg-2.ensures.shape c.workers_argument-workers.ensures.local
-    ∙ ap₂ with_rule (c.in_ok-arg.ensures.shape c.trace_argument-trace.ensures.local ∙ ap₂ with_rule named c.trace_argument-trace.ensures.rule) c.workers_argument-workers.ensures.rule) c.split_argument-split.ensures.rule) c.budget_argument-budget.ensures.rule) c.rounds_argument-rounds.ensures.rule) c.progress_argument-progress.ensures.rule)
-    c.arg-6.ensures
+    let first : app_of c.in_ok-command.command ≡ with_rule (with_rule (new_app (codes "verify")) (required_path (codes "trace"))) cert_rule =
+    c.in_ok-command.ensures.app ∙ ap₂ with_rule (ap (with_rule (new_app (codes "verify"))) c.trace_argument-trace.ensures.rule) c.cert_argument-cert.ensures.rule in
+    let second : app_of c.in_ok-command-2.command ≡ with_rule (with_rule (with_rule (with_rule (new_app (codes "verify")) (required_path (codes "trace"))) cert_rule) workers_rule) split_rule =
+    c.in_ok-command-2.ensures.app ∙ ap₂ with_rule (ap₂ with_rule first c.workers_argument-workers.ensures.rule) c.split_argument-split.ensures.rule in
+    let third : app_of c.in_ok-command-3.command ≡ with_rule (with_rule (with_rule (with_rule (with_rule (with_rule (new_app (codes "verify")) (required_path (codes "trace"))) cert_rule) workers_rule) split_rule) budget_rule) rounds_rule =
+    c.in_ok-command-3.ensures.app ∙ ap₂ with_rule (ap₂ with_rule second c.budget_argument-budget.ensures.rule) c.rounds_argument-rounds.ensures.rule in
+    IfOk-weaker c.arg.result _ _
+    (λ r h. h.shape c.progress_argument.ensures.local ∙ ap₂ with_rule third c.progress_argument.ensures.rule)
+    c.arg.ensures
 
 pub returns-clause-local : goal.returns-clause-local
 returns-clause-local c =
-    let named : (out-Command c.after_long_help.result).has_globals ≡ false =
-    ap (λ (f : Command-F Command). f.has_globals) c.after_long_help.ensures ∙ ap (λ (f : Command-F Command). f.has_globals) c.about.ensures
-    ∙ c.new.ensures.local in
-    IfOk-weaker c.arg-6.result _ _
-    (λ r h. h.globals ∙ ap₂ ◌||◌ (c.in_ok-arg-5.ensures.globals ∙ ap₂ ◌||◌ (c.in_ok-arg-4.ensures.globals ∙ ap₂ ◌||◌ (c.in_ok-arg-3.ensures.globals ∙ ap₂ ◌||◌ (c.in_ok-arg-2.ensures.globals ∙ ap₂ ◌||◌ (c.in_ok-arg.ensures.globals ∙ ap₂ ◌||◌ named c.trace_argument-trace.ensures.local) c.workers_argument-workers.ensures.local) c.split_argument-split.ensures.local) c.budget_argument-budget.ensures.local) c.rounds_argument-rounds.ensures.local) c.progress_argument-progress.ensures.local)
-    c.arg-6.ensures
+    let kept : (out-Command c.in_ok-command-3.command).has_globals ≡ false =
+    c.in_ok-command-3.ensures.globals ∙ c.in_ok-command-2.ensures.globals ∙ c.in_ok-command.ensures.local in
+    IfOk-weaker c.arg.result _ _ (λ r h. h.globals ∙ ap₂ ◌||◌ kept c.progress_argument.ensures.local) c.arg.ensures

@@ -1,0 +1,49 @@
+//! The command line of the program, as `clap` takes it.
+
+ghost use Rattle.std.specs.Prelude.{◌≡◌, IfOk};
+ghost use Rattle.clap.specs.Words.{app_of};
+ghost use Rattle.command_line.specs.CommandLine.{program_app, vsc_app};
+
+use crate::cnf_command::new_cnf_command;
+use crate::decode_command::new_decode_command;
+use crate::judge_command::new_judge_command;
+use crate::lrat_command::new_lrat_command;
+use crate::recheck_command::new_recheck_command;
+use crate::verify_command::new_verify_command;
+use clap::Command;
+use std::alloc::{AllocError, Global};
+
+const VERSION: &str = "0.1.0";
+
+const ABOUT: &str =
+    "Checks memory traces against sequential consistency: whether one order of all operations explains what each process read.";
+
+const AFTER_HELP: &str =
+    "'vsc <COMMAND> --help' says what the files of a command are, with an example.";
+
+// The program without its commands.
+fn bare_program<'a>(alloc: Global) -> Result<Command<'a>, AllocError>
+    ensures { IfOk result (λ c. app_of c ≡ program_app) }
+{
+    let program = Command::new(alloc, "vsc").bin_name("vsc")?;
+    Ok(
+        program
+            .version(VERSION)
+            .about(ABOUT)
+            .after_help(AFTER_HELP)
+            .subcommand_required(true),
+    )
+}
+
+/// The program with its commands.
+pub fn new_program<'a>(alloc: Global) -> Result<Command<'a>, AllocError>
+    ensures { IfOk result (λ c. app_of c ≡ vsc_app) }
+{
+    let program = bare_program(alloc)?;
+    let program = program.subcommand(new_verify_command(alloc)?)?;
+    let program = program.subcommand(new_judge_command(alloc)?)?;
+    let program = program.subcommand(new_cnf_command(alloc)?)?;
+    let program = program.subcommand(new_decode_command(alloc)?)?;
+    let program = program.subcommand(new_lrat_command(alloc)?)?;
+    program.subcommand(new_recheck_command(alloc)?)
+}

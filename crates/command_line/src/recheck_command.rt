@@ -1,0 +1,61 @@
+//! The command `recheck TRACE CERT`.
+
+ghost use Rattle.std.specs.Prelude.{◌≡◌, IfOk, IsSome, Some, codes, false};
+ghost use Rattle.clap.specs.Words.{app_of, first_value, found_of};
+ghost use Rattle.clap.specs.declared.builder.command.Command.TheViews.{out-Command};
+ghost use Rattle.command_line.specs.CommandLine.{AsksFor, recheck_app};
+
+use crate::arguments::{path_argument, text_of, trace_argument};
+use crate::building::command_of_two;
+use crate::line::Line;
+use clap::{ArgMatches, Command};
+use std::alloc::{AllocError, Global};
+
+const ABOUT: &str = "Checks a certificate that a trace has no legal schedule";
+
+const EXAMPLE: &str = "The certificate is checked without a search: whoever wrote it is not trusted.
+
+Example, a trace:
+    vsc 1
+    proc P
+    R x 1
+and a certificate:
+    vsc-cert 1
+    leaf
+    proof 0
+    3 0 1 2 0
+    end
+The answer is ACCEPTED cubes=1. The clauses that 'vsc cnf' writes of the trace are 1 and -1: nothing writes
+what P reads. There is one case, and its proof takes both.
+
+Exit status:
+    0  the answer is ACCEPTED
+    2  the command line or a file is refused, also where a case has no proof or one that is wrong
+    4  a file or a standard stream failed";
+
+/// The command, as `clap` takes it.
+pub fn new_recheck_command<'a>(alloc: Global) -> Result<Command<'a>, AllocError>
+    ensures app { IfOk result (λ c. app_of c ≡ recheck_app) }
+    ensures local { IfOk result (λ c. (out-Command c).has_globals ≡ false) }
+{
+    let trace = trace_argument(alloc);
+    let cert = path_argument(
+        alloc,
+        "cert",
+        "CERT",
+        "A file with a certificate, as 'vsc verify --cert' writes it",
+    );
+    command_of_two(alloc, "recheck", ABOUT, EXAMPLE, trace, cert)
+}
+
+/// What the matches of the command ask for.
+pub fn recheck_line<'a>(matches: &ArgMatches<'a>) -> Line<'a>
+    requires trace { IsSome (first_value (found_of matches.now) (codes "trace")) }
+    requires cert { IsSome (first_value (found_of matches.now) (codes "cert")) }
+    ensures { AsksFor (Some (codes "recheck")) (first_value (found_of matches.now)) result }
+{
+    Line::Recheck {
+        trace: text_of(matches, "trace"),
+        cert: text_of(matches, "cert"),
+    }
+}
