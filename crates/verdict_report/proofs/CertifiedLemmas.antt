@@ -59,8 +59,8 @@ module _ (trace : SourceRun) (cert : SinkRun) (text : List ℕ) (handed : HandOu
     (spells : (value : TraceValue) (refutation : Refutation) → IsDecided value (Inconsistent refutation) → SpellsCertificate (certificate_text (Inconsistent refutation)) (certificate_in refutation))
     (accepted : (value : TraceValue) (refutation : Refutation) → IsDecided value (Inconsistent refutation) → IsRechecked (clauses_of (kept_trace value)) (certificate_in refutation) (leaves refutation.tree)) where
   pub certifies : (decision : Decision) → IsDecidedFrom text decision → cert.now ≡ cert.before ++ certificate_text decision → (status : Status) → status ≡ status_of_decision decision → status ≡ No → Certifies trace cert
-  certifies (Consistent names) decided whole status is no = absurd (let wrong : Yes ≡ No = sym is ∙ no in cc)
-  certifies (Inconsistent refutation) decided whole status is no = record {
+  certifies (Consistent names) decided whole status is so = absurd (let wrong : Yes ≡ No = sym is ∙ so in cc)
+  certifies (Inconsistent refutation) decided whole status is so = record {
     text = text;
     handed = handed.0.0;
     value = decided.value;
@@ -73,11 +73,11 @@ module _ (trace : SourceRun) (cert : SinkRun) (text : List ℕ) (handed : HandOu
     accepted = accepted decided.value refutation decided.decided;
     none_legal = decided.decided.1;
   }
-  certifies (NotDecided cubes) decided whole status is no = absurd (let wrong : Unknown ≡ No = sym is ∙ no in cc)
+  certifies (NotDecided cubes) decided whole status is so = absurd (let wrong : Unknown ≡ No = sym is ∙ so in cc)
 
   -- the answer is the one for what is decided
   pub certified : (decision : Decision) → IsDecidedFrom text decision → cert.now ≡ cert.before ++ certificate_text decision → (out : SinkRun) (result : Result Status Fault) →
       IsRunOfWriting (report decision) (status_of_decision decision) out result → result ≡ Ok No → Certifies trace cert
-  certified decision decided whole out result w no =
-      let at : IsRunOfWriting (report decision) (status_of_decision decision) out (Ok No) = subst (λ (r : Result Status Fault). IsRunOfWriting (report decision) (status_of_decision decision) out r) no w in
+  certified decision decided whole out result w so =
+      let at : IsRunOfWriting (report decision) (status_of_decision decision) out (Ok No) = subst (λ (r : Result Status Fault). IsRunOfWriting (report decision) (status_of_decision decision) out r) so w in
       certifies decision decided whole No at.0 refl

@@ -1,6 +1,6 @@
 //! A file as a sink.
 ghost use Rattle.std.specs.Prelude.{◌≡◌, [], IfOk};
-ghost use Rattle.vsc.specs.FileSink.{path_of};
+ghost use Rattle.vsc.specs.FileSink.{path_to};
 
 use crate::stream_sink::StreamSink;
 use dimacs::{Failed, Sink};
@@ -17,7 +17,7 @@ pub struct FileSink<'a> {
 impl<'a> FileSink<'a> {
     /// Makes the file at this path, or empties it.
     pub fn create<R: Files<File = File>>(rt: &R, path: &'a str) -> Result<FileSink<'a>, Failed>
-        ensures path { IfOk result (λ sink. path_of sink ≡ path.now) }
+        ensures path { IfOk result (λ sink. path_to sink ≡ path.now) }
         ensures written { IfOk result (λ sink. ⟦<FileSink<'a> as Sink>⟧.written sink ≡ []) }
         ensures failures { IfOk result (λ sink. ⟦<FileSink<'a> as Sink>⟧.failures sink ≡ 0) }
     {
