@@ -16,7 +16,7 @@ use Rattle.trace_verdict.specs.declared.decision.Decision.TheVariants.{Consisten
 use Rattle.trace_verdict.specs.declared.refutation.Refutation.{Refutation}
 use Rattle.trace_verdict.specs.Decision.{IsDecided, certificate_in, certificate_text, report}
 use Rattle.verdict_report.specs.declared.fault.Fault.{Fault}
-use Rattle.verdict_report.specs.declared.fault.Fault.TheVariants.{OutOfMemory, Device, InputTooLong, Trace, Schedule, Model, Cnf, Lrat, Reduce, Decode, Check, Search}
+use Rattle.verdict_report.specs.declared.fault.Fault.TheVariants.{OutOfMemory, Device, InputTooLong, Trace, Schedule, Model, Cnf, Lrat, Reduce, Decode, Check, Cert, Search}
 use Rattle.verdict_report.specs.declared.status.Status.{Status}
 use Rattle.verdict_report.specs.declared.status.Status.TheVariants.{Yes, No, Unknown}
 use Rattle.verdict_report.specs.Engine.{HandOut, InPieces, IsRunOfEngine, IsRunOfWriting, Reads, TakesNothing, TakesWhole, of_one}
@@ -52,6 +52,7 @@ module _ (trace : SourceRun) (cert out : SinkRun) (text : List ℕ) (handed : Ha
   report_written whole (Err (Reduce cause left)) w = absurd w
   report_written whole (Err (Decode cause clause)) w = absurd w
   report_written whole (Err (Check cause step)) w = absurd w
+  report_written whole (Err (Cert cause place)) w = absurd w
   report_written whole (Err (Search fault)) w = absurd w
 
 -- what the laws say of a certificate that is written

@@ -3,6 +3,7 @@ mod CertifiedLemmas
 mod DecodeLemmas
 mod EngineLemmas
 mod MeaningLemmas
+mod RecheckLemmas
 mod SourceLemmas
 mod VerifyLemmas
 mod WrittenTextLemmas

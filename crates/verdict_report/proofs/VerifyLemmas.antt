@@ -1,12 +1,12 @@
 -- Why nothing is decided of a trace.
-use Rattle.std.proofs.Common.{◌≡◌, ℕ, List}
+use Rattle.std.proofs.Common.{ℕ, List}
 use Rattle.std.specs.Prelude.{Err}
 use Rattle.cube_queue.specs.declared.search_fault.SearchFault.{SearchFault}
 use Rattle.cube_queue.specs.declared.search_fault.SearchFault.TheVariants.{OutOfMemory as NoMemoryToSearch, Cut, NoThread}
 use Rattle.reducer.specs.declared.reduce_fault.ReduceCause.TheVariants.{StillTooLarge}
 use Rattle.traces.specs.Trace.{TraceValue}
 use Rattle.verdict_report.specs.declared.fault.Fault.{Fault}
-use Rattle.verdict_report.specs.declared.fault.Fault.TheVariants.{OutOfMemory, Device, InputTooLong, Trace, Schedule, Model, Cnf, Lrat, Reduce, Decode, Check, Search}
+use Rattle.verdict_report.specs.declared.fault.Fault.TheVariants.{OutOfMemory, Device, InputTooLong, Trace, Schedule, Model, Cnf, Lrat, Reduce, Decode, Check, Cert, Search}
 use Rattle.verdict_report.specs.Admitted.{Admits, IsReducedFrom}
 use Rattle.verdict_report.specs.Fault.{fault_of_search}
 use Rattle.verdict_report.specs.VerifyEngine.{IsSaidOfTrace}
@@ -24,6 +24,7 @@ unreduced text (Lrat cause line) r = absurd r
 unreduced text (Reduce StillTooLarge left) r = r
 unreduced text (Decode cause clause) r = absurd r
 unreduced text (Check cause step) r = absurd r
+unreduced text (Cert cause place) r = absurd r
 unreduced text (Search fault) r = absurd r
 
 -- the search has no results

@@ -8,6 +8,7 @@ use Rattle.text_lines.specs.Printed.{printed_at}
 use Rattle.text_lines.specs.declared.fault.Fault.{Fault as PartFault}
 use Rattle.text_lines.specs.declared.fault.Fault.TheVariants.{OutOfMemory as NoPartMemory, At}
 use Rattle.cnf_reader.specs.CnfCauses as cnf
+use Rattle.certificate.specs.CertCause as cert
 use Rattle.lrat_check.specs.LratFault as lrat
 use Rattle.lrat_check.specs.Refusal as check
 use Rattle.model_reader.specs.ModelCauses as model
@@ -19,7 +20,7 @@ use Rattle.cube_queue.specs.SearchFault as search
 use Rattle.cube_queue.specs.declared.search_fault.SearchFault.{SearchFault}
 use Rattle.cube_queue.specs.declared.search_fault.SearchFault.TheVariants.{OutOfMemory as NoMemoryToSearch, Cut, NoThread}
 use Rattle.verdict_report.specs.declared.fault.Fault.{Fault}
-use Rattle.verdict_report.specs.declared.fault.Fault.TheVariants.{OutOfMemory, Device, InputTooLong, Trace, Schedule, Model, Cnf, Lrat, Reduce, Decode, Check, Search}
+use Rattle.verdict_report.specs.declared.fault.Fault.TheVariants.{OutOfMemory, Device, InputTooLong, Trace, Schedule, Model, Cnf, Lrat, Reduce, Decode, Check, Cert, Search}
 use Rattle.verdict_report.specs.declared.reading.ReadFault.{ReadFault}
 use Rattle.verdict_report.specs.declared.reading.ReadFault.TheVariants.{OutOfMemory as NoReadMemory, Device as SourceFailed, TooLong}
 use Rattle.verdict_report.specs.declared.status.Status.{Status}
@@ -49,6 +50,7 @@ told (Reduce cause left) = located (codes "reduce") (reduce.cause_number cause) 
 told (Decode cause clause) = located (codes "decode") (decode.cause_number cause) (decode.cause_name cause) clause
 told (Search fault) = record { area = codes "search"; number = Some (search.number_of fault); name = search.name_of fault; place = None }
 told (Check cause step) = located (codes "check") (check.fault_number cause) (check.fault_name cause) step
+told (Cert cause place) = located (codes "cert") (cert.cause_number cause) (cert.cause_name cause) place
 
 -- what refused
 abbrev pub area_of : Fault → List ℕ
@@ -63,7 +65,7 @@ number_of fault = (told fault).number
 abbrev pub name_of : Fault → List ℕ
 name_of fault = (told fault).name
 
--- what it has after `at`: a line, how many operations are left, the number of a clause, or a step
+-- what it has after `at`: a line, how many operations are left, the number of a clause, a step, or a leaf
 abbrev pub place_of : Fault → Option ℕ
 place_of fault = (told fault).place
 

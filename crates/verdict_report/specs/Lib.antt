@@ -6,5 +6,6 @@ pub mod Fault
 pub mod JudgeEngine
 pub mod LratEngine
 pub mod Reading
+pub mod RecheckEngine
 pub mod Runs
 pub mod VerifyEngine

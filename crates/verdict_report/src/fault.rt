@@ -2,6 +2,7 @@
 
 ghost use Rattle.std.specs.Prelude.{◌≡◌, Some};
 
+use certificate::CertCause;
 use cnf_reader::CnfCause;
 use cube_queue::SearchFault;
 use lrat_check::lrat_fault::LratCause;
@@ -52,6 +53,10 @@ pub enum Fault {
     /// What is wrong with the first step of the proof that fails, and its number, counted from 1.
     #[error("check {number} {name} at {1}", number = .0.number(), name = .0.name())]
     Check(StepFault, usize),
+    /// What is wrong with the certificate: with its text, and the line, counted from 1; or with what it has for a leaf, and the leaf's
+    /// number, counted from 0.
+    #[error("cert {number} {name} at {1}", number = .0.number(), name = .0.name())]
+    Cert(CertCause, usize),
     /// Why the search has no results. Want of memory is `OutOfMemory`, as everywhere.
     #[error("search {number} {name}", number = .0.number(), name = .0.name())]
     Search(SearchFault),
@@ -142,6 +147,7 @@ impl Fault {
             Fault::Reduce(cause, left) => located("reduce", cause, *left),
             Fault::Decode(cause, clause) => located("decode", cause, *clause),
             Fault::Check(cause, step) => located("check", cause, *step),
+            Fault::Cert(cause, place) => located("cert", cause, *place),
             Fault::Search(fault) => Told {
                 area: "search",
                 number: Some(fault.number()),
@@ -151,8 +157,8 @@ impl Fault {
         }
     }
 
-    /// What refused: `memory`, `device`, `input`, `trace`, `schedule`, `model`, `cnf`, `lrat`, `reduce`, `decode`, `check`
-    /// or `search`.
+    /// What refused: `memory`, `device`, `input`, `trace`, `schedule`, `model`, `cnf`, `lrat`, `reduce`, `decode`, `check`,
+    /// `cert` or `search`.
     pub fn area(&self) -> &'static str
         ensures { result.now ≡ area_of self.now }
     {
@@ -176,7 +182,8 @@ impl Fault {
         self.told().name
     }
 
-    /// The line at which it stands, counted from 1, how many operations are left, the number of a clause, or a step.
+    /// The line at which it stands, counted from 1, how many operations are left, the number of a clause, a step, or a
+    /// leaf.
     pub fn place(&self) -> Option<usize>
         ensures { result ≡ place_of self.now }
     {

@@ -4,6 +4,7 @@ ghost use Rattle.std.specs.Prelude.{◌≡◌};
 
 use crate::fault::Fault;
 use crate::reading::ReadFault;
+use certificate::CertCause;
 use cnf_reader::CnfCause;
 use cube_queue::SearchFault;
 use dimacs::{Failed, SinkFault};
@@ -120,6 +121,16 @@ impl Part for StepFault {
 
     fn refused(self, step: usize) -> Fault {
         Fault::Check(self, step)
+    }
+}
+
+impl Part for CertCause {
+    ghost use Rattle.verdict_report.specs.declared.fault.Fault.TheVariants.{Cert};
+
+    ghost refusal = { Cert };
+
+    fn refused(self, place: usize) -> Fault {
+        Fault::Cert(self, place)
     }
 }
 

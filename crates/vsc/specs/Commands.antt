@@ -1,6 +1,6 @@
 -- What the program does for a command line: the engine that it runs, over which files, and the exit status.
 use Rattle.std.specs.Borrow.{Bor}
-use Rattle.std.specs.Prelude.{◌≡◌, ◌⊎◌, ⊤, ℕ, false, List, [], Option, None, Some, Result, Err}
+use Rattle.std.specs.Prelude.{◌≡◌, ◌⊎◌, ℕ, false, List, [], Option, None, Some, Result, Err}
 use Rattle.std.specs.declared.rt.LibcRuntime.{LibcRuntime}
 use Rattle.command_line.specs.declared.line.Line.{Line}
 use Rattle.command_line.specs.declared.line.Line.TheVariants.{Cnf, Decode, Judge, Lrat, Recheck, Verify}
@@ -12,6 +12,7 @@ use Rattle.verdict_report.specs.DecodeEngine.{IsRunOfDecode}
 use Rattle.verdict_report.specs.Fault.{exit_status_of}
 use Rattle.verdict_report.specs.JudgeEngine.{IsRunOfJudge}
 use Rattle.verdict_report.specs.LratEngine.{IsRunOfLrat}
+use Rattle.verdict_report.specs.RecheckEngine.{IsRunOfRecheck}
 use Rattle.verdict_report.specs.Runs.{SourceRun, SinkRun}
 use Rattle.verdict_report.specs.VerifyEngine.{IsRunOfCertifiedVerify, IsRunOfVerify}
 use Rattle.vsc.specs.declared.file_sink.FileSink.{FileSink}
@@ -85,7 +86,7 @@ Runs (Judge trace schedule) outcome = RunsOnFiles IsRunOfJudge trace.now schedul
 Runs (Cnf trace workers) outcome = RunsOnFile IsRunOfCnf trace.now outcome
 Runs (Decode trace model) outcome = RunsOnFiles IsRunOfDecode trace.now model.now outcome
 Runs (Lrat cnf proof) outcome = RunsOnFiles IsRunOfLrat cnf.now proof.now outcome
-Runs (Recheck trace cert) outcome = ⊤
+Runs (Recheck trace cert) outcome = RunsOnFiles IsRunOfRecheck trace.now cert.now outcome
 Runs (Verify trace cert numbers progress) outcome = RunsVerify trace.now cert outcome
 
 -- the engine that the command line asks for was run on its files, and this is the exit status of the outcome

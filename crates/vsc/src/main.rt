@@ -8,6 +8,7 @@ ghost use Rattle.verdict_report.specs.CnfEngine.{IsRunOfCnf};
 ghost use Rattle.verdict_report.specs.DecodeEngine.{IsRunOfDecode};
 ghost use Rattle.verdict_report.specs.JudgeEngine.{IsRunOfJudge};
 ghost use Rattle.verdict_report.specs.LratEngine.{IsRunOfLrat};
+ghost use Rattle.verdict_report.specs.RecheckEngine.{IsRunOfRecheck};
 ghost use Rattle.verdict_report.specs.VerifyEngine.{IsRunOfVerify};
 ghost use Rattle.vsc.specs.Commands.{RunsCertified, RunsOnFile, RunsOnFiles, RunsVerify, Runs, EndsWith};
 ghost use Rattle.vsc.specs.ExitStatus.{IsExitStatus};
@@ -30,7 +31,7 @@ use std::thread::Threads;
 use stream_sink::StreamSink;
 use verdict_report::{
     Fault, Status, exit_status, run_certified_verify, run_cnf, run_decode, run_judge, run_lrat,
-    run_verify, write_fault,
+    run_recheck, run_verify, write_fault,
 };
 
 /// The exit status of a command line that is refused.
@@ -88,6 +89,21 @@ fn check_files(rt: &HostRuntime, cnf: &str, proof: &str) -> Result<Status, Fault
     let mut proof = FileSource::new(rt, proof);
     let mut output = StreamSink::new(rt.stdout());
     run_lrat(rt.alloc(), &mut cnf, &mut proof, &mut output)
+}
+
+/// Checks the certificate in one file for the trace in the other, and writes the answer to the standard output.
+fn recheck_files(
+    rt: &HostRuntime,
+    threads: &(impl Threads + Sync),
+    trace: &str,
+    cert: &str,
+) -> Result<Status, Fault>
+    ensures { RunsOnFiles IsRunOfRecheck trace.now cert.now result }
+{
+    let mut trace = FileSource::new(rt, trace);
+    let mut cert = FileSource::new(rt, cert);
+    let mut output = StreamSink::new(rt.stdout());
+    run_recheck(rt.alloc(), threads, &mut trace, &mut cert, &mut output)
 }
 
 /// The options of a search of these numbers.
@@ -202,7 +218,7 @@ fn run_engine(
         Line::Cnf { trace, workers } => translate_file(rt, threads, trace, workers),
         Line::Decode { trace, model } => decode_files(rt, threads, trace, model),
         Line::Lrat { cnf, proof } => check_files(rt, cnf, proof),
-        Line::Recheck { .. } => Err(Fault::OutOfMemory),
+        Line::Recheck { trace, cert } => recheck_files(rt, threads, trace, cert),
         Line::Verify {
             trace,
             cert,

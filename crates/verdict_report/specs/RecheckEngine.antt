@@ -1,0 +1,100 @@
+-- What the engine that checks certificates answers and writes.
+use Rattle.std.specs.Prelude.{◌⊎◌, ⊤, ℕ, List, [], ◌∷◌, ◌++◌, codes, decimal, Result, Ok, Err}
+use Rattle.certificate.specs.CertFaults.{HasCertFault}
+use Rattle.certificate.specs.CertText.{SpellsCertificate}
+use Rattle.certificate.specs.Rechecked.{IsRechecked, HasRecheckFault}
+use Rattle.certificate.specs.declared.cert_fault.CertCause.{CertCause}
+use Rattle.certificate.specs.declared.certificate.Certificate.{Certificate}
+use Rattle.clause_blocks.specs.Clauses.{clauses_of}
+use Rattle.reducer.specs.Reduced.{ReducedValue}
+use Rattle.reducer.specs.Reduction.{kept_trace}
+use Rattle.reducer.specs.declared.reduce_fault.ReduceCause.TheVariants.{StillTooLarge}
+use Rattle.traces.specs.declared.operation.OpName.{OpName}
+use Rattle.traces.specs.Legal.{IsLegal}
+use Rattle.traces.specs.Trace.{TraceValue, IsTrace}
+use Rattle.trace_text.specs.TraceFault.{HasTraceFault}
+use Rattle.trace_text.specs.TraceText.{SpellsTrace}
+use Rattle.verdict_report.specs.declared.fault.Fault.{Fault}
+use Rattle.verdict_report.specs.declared.fault.Fault.TheVariants.{OutOfMemory, Trace, Cert, Reduce}
+use Rattle.verdict_report.specs.declared.status.Status.{Status}
+use Rattle.verdict_report.specs.declared.status.Status.TheVariants.{Yes}
+use Rattle.verdict_report.specs.Admitted.{Admits, IsTooLarge}
+use Rattle.verdict_report.specs.Engine.{AtOnce, IsRunOfEngine, of_two}
+use Rattle.verdict_report.specs.Runs.{SourceRun, SinkRun, HandsOut}
+
+-- no list of names is a legal schedule of the trace
+abbrev pub HasNoSchedule : TraceValue → Type 0
+HasNoSchedule value = (names : List OpName) → IsLegal value names → ⊥
+
+-- The certificate, of so many cubes, is accepted for the clause list of what is kept of the trace. So the whole trace has no legal
+-- schedule.
+pub record Refutes (certificate : Certificate) (value : TraceValue) (count : ℕ) : Type 0 where
+  pub rechecked : IsRechecked (clauses_of (kept_trace value)) certificate count
+  pub no_schedule : HasNoSchedule value
+
+-- of how many cubes a certificate refutes a reduced trace, or why it does not
+abbrev pub IsRecheckedFor : ReducedValue → Certificate → Result ℕ Fault → Type 0
+IsRecheckedFor reduced certificate (Ok count) = Refutes certificate reduced.whole count
+IsRecheckedFor reduced certificate (Err OutOfMemory) = ⊤
+IsRecheckedFor reduced certificate (Err (Cert cause leaf)) = HasRecheckFault (clauses_of (kept_trace reduced.whole)) certificate cause leaf
+IsRecheckedFor reduced certificate (Err fault) = ⊥
+
+-- the texts spell an admitted trace and a certificate that refutes it
+pub record AreRechecked (trace_text cert_text : List ℕ) (count : ℕ) : Type 0 where
+  pub value : TraceValue
+  pub admitted : Admits trace_text value
+  pub certificate : Certificate
+  pub spelled : SpellsCertificate cert_text certificate
+  pub refuted : Refutes certificate value count
+
+-- the first text spells a trace, and the second one has this first fault
+pub record HasFaultyCertificate (trace_text cert_text : List ℕ) (cause : CertCause) (line : ℕ) : Type 0 where
+  pub value : TraceValue
+  pub is_trace : IsTrace value
+  pub spelled : SpellsTrace trace_text value
+  pub faulty : HasCertFault cert_text cause line
+
+-- the first text spells a trace of which too many operations are left, and the second one spells a certificate
+pub record HasTooLargeBehind (trace_text cert_text : List ℕ) (left : ℕ) : Type 0 where
+  pub large : IsTooLarge trace_text left
+  pub certificate : Certificate
+  pub spelled : SpellsCertificate cert_text certificate
+
+-- the texts spell an admitted trace and a certificate that is refused for this cause and this leaf
+pub record AreNotRechecked (trace_text cert_text : List ℕ) (cause : CertCause) (leaf : ℕ) : Type 0 where
+  pub value : TraceValue
+  pub admitted : Admits trace_text value
+  pub certificate : Certificate
+  pub spelled : SpellsCertificate cert_text certificate
+  pub refused : HasRecheckFault (clauses_of (kept_trace value)) certificate cause leaf
+
+-- what is said of two texts: of how many cubes the certificate is, or why the trace or the certificate is refused
+abbrev pub IsSaidOfCertificate : List ℕ → List ℕ → Result ℕ Fault → Type 0
+IsSaidOfCertificate trace_text cert_text (Ok count) = AreRechecked trace_text cert_text count
+IsSaidOfCertificate trace_text cert_text (Err OutOfMemory) = ⊤
+IsSaidOfCertificate trace_text cert_text (Err (Trace cause line)) = HasTraceFault trace_text cause line
+IsSaidOfCertificate trace_text cert_text (Err (Cert cause place)) =
+    HasFaultyCertificate trace_text cert_text cause place ⊎ AreNotRechecked trace_text cert_text cause place
+IsSaidOfCertificate trace_text cert_text (Err (Reduce StillTooLarge left)) = HasTooLargeBehind trace_text cert_text left
+IsSaidOfCertificate trace_text cert_text (Err fault) = ⊥
+
+-- the line that is written
+abbrev pub rechecked_line : ℕ → List ℕ
+rechecked_line count = codes "ACCEPTED cubes=" ++ (decimal count ++ codes "\n")
+
+abbrev pub rechecked_status : ℕ → Status
+rechecked_status count = Yes
+
+-- what the engine answers, by what the sources hand out and the sink takes
+abbrev pub IsRunOfRecheck : SourceRun → SourceRun → SinkRun → Result Status Fault → Type 0
+IsRunOfRecheck trace cert out =
+    IsRunOfEngine AtOnce (of_two IsSaidOfCertificate) (λ count. rechecked_line count ∷ []) rechecked_status (trace ∷ cert ∷ []) (out ∷ [])
+
+-- the source handed out the text of a trace that has no legal schedule
+pub record HandsOutUnschedulable (trace : SourceRun) : Type 0 where
+  pub text : List ℕ
+  pub handed : HandsOut trace text
+  pub value : TraceValue
+  pub is_trace : IsTrace value
+  pub spelled : SpellsTrace text value
+  pub no_schedule : HasNoSchedule value

@@ -1,0 +1,80 @@
+//! The engine that checks certificates, from bytes to bytes.
+
+ghost use Rattle.std.specs.Prelude.{OnOk};
+ghost use Rattle.reducer.specs.Reduced.{IsReduced};
+ghost use Rattle.verdict_report.specs.Engine.{IsRunOfWriting};
+ghost use Rattle.verdict_report.specs.RecheckEngine.{HandsOutUnschedulable, IsRecheckedFor, IsRunOfRecheck, IsSaidOfCertificate, rechecked_line, rechecked_status};
+ghost use Rattle.verdict_report.specs.Runs.{source_run, sink_run};
+
+use crate::fault::Fault;
+use crate::inputs::read_two;
+use crate::source::Source;
+use crate::status::Status;
+use certificate::{Certificate, read_cert, recheck};
+use clause_blocks::trace_clauses::TraceClauses;
+use dimacs::{Sink, write_whole};
+use reducer::reduced::{Reduced, reduce};
+use std::alloc::Global;
+use std::thread::Threads;
+use trace_text::trace_reader::read_trace;
+
+/// Checks that the certificate of the second source shows that the trace of the first has no legal schedule, and writes
+/// `ACCEPTED` and how many cubes its tree has, as one line. Nothing is searched, and no derivation of the certificate is taken on
+/// trust. The answer is Ok only where the whole trace has no legal schedule.
+///
+/// Both texts are read whole, in this order, before either is parsed; then the trace is reduced. The first refusal stands: of a source
+/// that fails, an input past the limit, the trace's text, the certificate's text, a trace of which more than 160 operations are kept,
+/// a section that is a stranger or a double, the lowest leaf that has none, the lowest leaf whose derivation is refused, lack of
+/// memory, or the sink.
+pub fn run_recheck<R: Threads + Sync, T: Source, C: Source, W: Sink>(
+    alloc: Global,
+    rt: &R,
+    trace: &mut T,
+    cert: &mut C,
+    out: &mut W,
+) -> Result<Status, Fault>
+    ensures run { IsRunOfRecheck
+        (source_run T.handed_out T.is_at_end T.failures trace.old trace.new)
+        (source_run C.handed_out C.is_at_end C.failures cert.old cert.new)
+        (sink_run W.written W.failures out.old out.new)
+        result }
+    ensures sound { OnOk result (HandsOutUnschedulable (source_run T.handed_out T.is_at_end T.failures trace.old trace.new)) }
+{
+    let texts = read_two(alloc, trace, cert)?;
+    let count = recheck_texts(alloc, texts.0.as_slice(), texts.1.as_slice())?;
+    write_count(alloc, count, out)
+}
+
+/// Of how many cubes the certificate is that the second text spells, and that refutes the trace of the first.
+fn recheck_texts(alloc: Global, trace_text: &[u8], cert_text: &[u8]) -> Result<u32, Fault>
+    ensures { IsSaidOfCertificate trace_text.now cert_text.now result }
+{
+    let trace = read_trace(alloc, trace_text)?;
+    let certificate = read_cert(alloc, cert_text)?;
+    let reduced = reduce(alloc, &trace)?;
+    recheck_reduced(alloc, &reduced, &certificate)
+}
+
+/// Of how many cubes the certificate is, where it refutes the trace.
+fn recheck_reduced(
+    alloc: Global,
+    reduced: &Reduced,
+    certificate: &Certificate,
+) -> Result<u32, Fault>
+    requires { IsReduced reduced.now }
+    ensures { IsRecheckedFor reduced.now certificate.now result }
+{
+    let clauses = TraceClauses::of(alloc, reduced)?;
+    Ok(recheck(alloc, &clauses, certificate)?)
+}
+
+/// Writes that the certificate is accepted, and of how many cubes it is.
+fn write_count<W: Sink>(alloc: Global, count: u32, out: &mut W) -> Result<Status, Fault>
+    ensures { IsRunOfWriting (rechecked_line count) (rechecked_status count)
+        (sink_run W.written W.failures out.old out.new)
+        result }
+{
+    let line = format!(in alloc; "ACCEPTED cubes={count}\n")?;
+    write_whole(out, line.as_bytes())?;
+    Ok(Status::Yes)
+}
