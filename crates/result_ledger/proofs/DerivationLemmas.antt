@@ -31,8 +31,8 @@ proofs_of_leaves clauses (slot ∷ slots) all =
     let said : derivation_of slot ≡ Some first.holds.steps = ap derivation_of same ∙ ap said_derivation first.holds.answer in
     let here : IsProofIn clauses slot.cube first.holds.steps = subst (λ (s : Slot). IsProofIn clauses s.cube first.holds.steps) (sym same) first.holds.confirmed in
     let rest : AllZip (IsProofIn clauses) (cubes_in slots) (derivations_in slots) = proofs_of_leaves clauses slots (λ leaf below.
-        let next = all (suc leaf) (omega (arith, below)) in
-        record { slot = next.slot; there = next.there; holds = next.holds }) in
+    let next = all (suc leaf) (omega (arith, below)) in
+    record { slot = next.slot; there = next.there; holds = next.holds }) in
     subst (λ o. AllZip (IsProofIn clauses) (slot.cube ∷ cubes_in slots) (cons_option o (derivations_in slots))) (sym said) (here, rest)
 
 pub proofs_by_leaf : (clauses : List (List ℤ)) (slots : List Slot) (count : ℕ) → IsVerdict clauses slots (Inconsistent count) → AllZip (IsProofIn clauses) (cubes_in slots) (derivations_in slots)
