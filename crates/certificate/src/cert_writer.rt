@@ -1,6 +1,6 @@
 //! The writer of a certificate's text.
 
-ghost use Rattle.std.specs.Prelude.{◌≡◌, ◌+◌, ◌<◌, ◌++◌, codes, map, length, IfOk, IfErr, OnOk, OnErr};
+ghost use Rattle.std.specs.Prelude.{◌≡◌, ◌+◌, ◌<◌, ◌++◌, codes, length, IfOk, IfErr, OnOk, OnErr};
 ghost use Rattle.std.specs.Fmt.{decimal};
 ghost use Rattle.dimacs.specs.Sink.{AppendsFront};
 ghost use Rattle.dimacs.specs.SinkFault.{failures_told};
@@ -61,18 +61,18 @@ fn write_section<W: Sink>(
 pub fn write_cert<W: Sink>(
     alloc: Global,
     tree: &Tree,
-    derivations: &[&Derivation],
+    derivations: &[Derivation],
     sink: &mut W,
 ) -> Result<(), SinkFault>
-    ensures whole { OnOk result (W.written sink.new ≡ W.written sink.old ++ canonical_certificate (certificate_of tree.now (map (λ derivation. derivation.now) derivations.now))) }
+    ensures whole { OnOk result (W.written sink.new ≡ W.written sink.old ++ canonical_certificate (certificate_of tree.now derivations.now)) }
     ensures well { OnOk result (W.failures sink.new ≡ W.failures sink.old) }
-    ensures front { OnErr result (AppendsFront (W.written sink.old) (W.written sink.new) (canonical_certificate (certificate_of tree.now (map (λ derivation. derivation.now) derivations.now)))) }
+    ensures front { OnErr result (AppendsFront (W.written sink.old) (W.written sink.new) (canonical_certificate (certificate_of tree.now derivations.now))) }
     ensures failed { IfErr result (λ fault. W.failures sink.new ≡ W.failures sink.old + failures_told fault) }
 {
     let front = write_front(alloc, tree)?;
     write_whole(sink, front.as_slice())?;
     for leaf in 0..derivations.len() {
-        write_section(alloc, leaf, derivations[leaf], sink)?;
+        write_section(alloc, leaf, &derivations[leaf], sink)?;
     }
     Ok(())
 }

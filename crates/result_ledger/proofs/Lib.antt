@@ -1,5 +1,6 @@
 pub mod AnswerLemmas
 pub mod CoverLemmas
+pub mod DerivationLemmas
 pub mod RisingLemmas
 pub mod SlotLemmas
 pub mod SplitLemmas

@@ -1,7 +1,10 @@
 -- What a ledger holds, and what is entered into it.
-use Rattle.std.specs.Prelude.{◌≡◌, ◌≢◌, ℕ, ◌+◌, ◌<◌, ℤ, List, ◌∷◌, ◌++◌, map, length, take, drop, slice_set, Some, None, IsSome, codes}
+use Rattle.std.specs.Prelude.{◌≡◌, ◌≢◌, ℕ, ◌+◌, ◌<◌, ℤ, List, ◌∷◌, ◌++◌, map, length, take, drop, slice_set, filter_map, Option, Some, None, IsSome, codes}
 use Rattle.std.specs.List.{slice_get}
+use Rattle.lrat_check.specs.declared.derivation.Step.{Step}
 use Rattle.cube_queue.specs.declared.job.Settled.{Settled}
+use Rattle.cube_queue.specs.declared.outcome.Outcome.{Outcome}
+use Rattle.cube_queue.specs.declared.outcome.Outcome.TheVariants.{Refuted}
 use Rattle.result_ledger.specs.declared.entry_fault.EntryFault.{EntryFault}
 use Rattle.result_ledger.specs.declared.entry_fault.EntryFault.TheVariants.{Stranger, Double, WrongCube}
 use Rattle.result_ledger.specs.declared.slot.Slot.{Slot}
@@ -13,6 +16,18 @@ empty_slot cube = record { cube = cube; outcome = None }
 -- the cubes of the leaves
 abbrev pub cubes_in : List Slot → List (List ℤ)
 cubes_in slots = map (λ (slot : Slot). slot.cube) slots
+
+-- the derivation that is the slot's answer, if it is one
+abbrev pub said_derivation : Option Outcome → Option (List Step)
+said_derivation (Some (Refuted steps)) = Some steps
+said_derivation answer = None
+
+abbrev pub derivation_of : Slot → Option (List Step)
+derivation_of slot = said_derivation slot.outcome
+
+-- the derivations among the answers, in the order of the leaves
+abbrev pub derivations_in : List Slot → List (List Step)
+derivations_in slots = filter_map derivation_of slots
 
 -- the result fills the one slot that it names, which was empty and has its cube
 pub record Fills (old new : List Slot) (settled : Settled) : Type 0 where

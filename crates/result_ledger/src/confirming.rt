@@ -4,6 +4,7 @@ ghost use Rattle.cube_queue.specs.declared.outcome.Outcome.TheVariants.{Model, R
 ghost use Rattle.lrat_check.specs.declared.derivation.Step.{Step};
 ghost use Rattle.result_ledger.specs.Verdict.{IsProofIn, IsModelAnswer, IsProofAnswer, HasModelAt, HasProofAt, HaveNoModelBefore, AreWithout};
 
+use crate::lrat_steps::are_lrat_steps;
 use crate::slot::Slot;
 use cube_queue::{Outcome, is_model_in};
 use dimacs::{Assignment, ClauseList, Lit};
@@ -43,7 +44,7 @@ fn said_derivation(outcome: &Option<Outcome>) -> Option<&Derivation>
     }
 }
 
-/// Whether the derivation is accepted for the cube.
+/// Whether the derivation can be written and is accepted for the cube.
 fn is_proof_in<L: ClauseList>(
     alloc: Global,
     formula: &L,
@@ -53,9 +54,9 @@ fn is_proof_in<L: ClauseList>(
     ensures { IfOk result (λ proved. IsTrue proved ↔ IsProofIn (L.formula formula.now).clauses cube.now derivation.now) }
 {
     never_accepted_and_refused();
-    let _steps = derivation.steps();
+    let steps = derivation.steps();
     match check(alloc, formula, cube, derivation) {
-        Ok(_) => Ok(true),
+        Ok(_) => Ok(are_lrat_steps(steps)),
         Err(Refusal::At(_, _)) => Ok(false),
         Err(Refusal::OutOfMemory) => Err(AllocError),
     }
@@ -75,7 +76,7 @@ fn model_of<'a, L: ClauseList>(formula: &L, slot: &'a Slot) -> Option<&'a Assign
     }
 }
 
-/// Whether the slot's answer is a derivation that is accepted for its cube.
+/// Whether the slot's answer is such a derivation for its cube.
 fn is_proved<L: ClauseList>(alloc: Global, formula: &L, slot: &Slot) -> Result<bool, AllocError>
     ensures { IfOk result (λ proved. IsTrue proved ↔ IsProofAnswer (L.formula formula.now).clauses slot.now) }
 {

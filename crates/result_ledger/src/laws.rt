@@ -1,14 +1,14 @@
 //! Laws of verdicts.
 ghost use Rattle.std.specs.Prelude.{◌≡◌, ◌<◌, ℕ, ℤ, Bool, List, IsTrue, Some};
-ghost use Rattle.std.specs.List.{list_all, Contains, slice_get};
+ghost use Rattle.std.specs.List.{AllZip, list_all, Contains, slice_get};
 ghost use Rattle.cube_queue.specs.Models.{IsModelIn};
 ghost use Rattle.cube_tree.specs.Covers.{Covers};
 ghost use Rattle.cube_tree.specs.CubeTree.{CubeTree, leaves, cubes_of, with_split};
 ghost use Rattle.dimacs.specs.Formula.{FormulaValue, is_formula};
 ghost use Rattle.dimacs.specs.Literal.{is_clause};
 ghost use Rattle.dimacs.specs.Models.{IsModel};
-ghost use Rattle.result_ledger.specs.Ledger.{cubes_in, SplitsCube};
-ghost use Rattle.result_ledger.specs.Verdict.{IsVerdict, AgreeUpToModel};
+ghost use Rattle.result_ledger.specs.Ledger.{cubes_in, derivations_in, SplitsCube};
+ghost use Rattle.result_ledger.specs.Verdict.{IsProofIn, IsVerdict, AgreeUpToModel};
 ghost use Rattle.result_ledger.specs.declared.slot.Slot.{Slot};
 ghost use Rattle.result_ledger.specs.declared.verdict.Verdict.{Verdict};
 ghost use Rattle.result_ledger.specs.declared.verdict.Verdict.TheVariants.{Inconsistent, Unknown};
@@ -25,6 +25,13 @@ pub fn inconsistent_has_no_model()
     ensures { (formula : FormulaValue) (slots : List Slot) (count : ℕ) →
         IsTrue (is_formula formula) → IsTrue (list_all is_clause (cubes_in slots)) → Covers (cubes_in slots) →
         IsVerdict formula.clauses slots (Inconsistent count) → (value : ℕ → Bool) → IsModel value formula.clauses → ⊥ }
+{}
+
+/// Where the verdict is that the formula is inconsistent, the derivations among the answers are one for the cube of each leaf, in the
+/// order of the leaves, and each is accepted for its cube.
+pub fn proofs_by_leaf()
+    ensures { (clauses : List (List ℤ)) (slots : List Slot) (count : ℕ) →
+        IsVerdict clauses slots (Inconsistent count) → AllZip (IsProofIn clauses) (cubes_in slots) (derivations_in slots) }
 {}
 
 /// Where the cubes cover and the verdict is open, each model of the formula makes all literals of some listed leaf's cube

@@ -3,11 +3,12 @@ ghost use Rattle.std.specs.Prelude.{◌≡◌, ◌+◌, ◌<◌, ◌≤◌, ◌�
 ghost use Rattle.std.specs.List.{list_all, slice_get};
 ghost use Rattle.cube_tree.specs.CubeTree.{cubes_of};
 ghost use Rattle.dimacs.specs.Literal.{is_clause};
-ghost use Rattle.result_ledger.specs.Ledger.{empty_slot, cubes_in, Fills, IsEntryFault, HasAnswerAt, SplitsCube, IsSplitAt};
+ghost use Rattle.result_ledger.specs.Ledger.{empty_slot, cubes_in, derivations_in, Fills, IsEntryFault, HasAnswerAt, SplitsCube, IsSplitAt};
 ghost use Rattle.cube_queue.specs.Results.{AreLeaves};
 ghost use Rattle.result_ledger.specs.Verdict.{IsVerdict, AreWithout};
 
 use crate::confirming::{first_model, without_proof};
+use crate::derivations::{Derivations, take_derivations};
 use crate::entry_fault::EntryFault;
 use crate::leaves::Leaves;
 use crate::slot::Slot;
@@ -248,6 +249,14 @@ impl Ledger {
                 Ok(Verdict::Unknown(Leaves::new(leaves)))
             }
         }
+    }
+
+    /// The derivations among the answers, in the order of the leaves: all of them, where the verdict is that each cube is refuted.
+    pub fn into_derivations(self, alloc: Global) -> Result<Derivations, AllocError>
+        ensures { IfOk result (λ derivations. derivations ≡ derivations_in self) }
+    {
+        let Ledger { slots } = self;
+        take_derivations(alloc, slots)
     }
 
     /// The ledger of the tree in which this leaf was split. Whatever was answered for it, two leaves without an answer stand

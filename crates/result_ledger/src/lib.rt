@@ -2,16 +2,19 @@
 #![tactic(auto)]
 
 mod confirming;
+mod derivations;
 mod entry_fault;
 mod laws;
 mod leaves;
 mod ledger;
+mod lrat_steps;
 mod slot;
 mod verdict;
 
+pub use derivations::Derivations;
 pub use entry_fault::EntryFault;
 pub use laws::{
-    agreeing_ledgers_agree, inconsistent_has_no_model, split_tree_splits_a_cube,
+    agreeing_ledgers_agree, inconsistent_has_no_model, proofs_by_leaf, split_tree_splits_a_cube,
     unknown_holds_all_models,
 };
 pub use leaves::Leaves;

@@ -2,8 +2,8 @@
 use Rattle.std.proofs.Common.{◌≡◌, ℕ, zero, suc, ◌+◌, ◌<◌, ◌≤◌, ℤ, Bool, true, List, [], ◌∷◌, ◌++◌, length, map, take, get_or, Some, refl, sym, ◌∙◌, ap, subst, arith}
 use Rattle.std.proofs.Math.Seq.{take-suc}
 use Rattle.std.proofs.lemmas.List.{map-append, take_all}
-use Rattle.std.specs.List.{list_all, Contains, slice_get}
-use Rattle.std.proofs.lemmas.Option.{slice_get_within, slice_get_read, get_or_from_slice_get}
+use Rattle.std.specs.List.{AllZip, list_all, Contains, slice_get}
+use Rattle.std.proofs.lemmas.Option.{slice_get_within, slice_get_read}
 use Rattle.traces.proofs.ElementLemmas.{to_map, from_map}
 use Rattle.traces.specs.declared.operation.OpName.{OpName}
 use Rattle.traces.specs.Legal.{IsLegal}
@@ -17,7 +17,7 @@ use Rattle.traces.specs.Trace.{TraceValue, IsTrace}
 use Rattle.clause_blocks.proofs.ScheduleLawLemmas.{schedule_values}
 use Rattle.clause_blocks.specs.Clauses.{clauses_of, formula_of}
 use Rattle.cube_tree.specs.Covers.{Covers}
-use Rattle.cube_tree.specs.CubeTree.{CubeTree, cubes_of, leaves, IsCubeTree}
+use Rattle.cube_tree.specs.CubeTree.{CubeTree, cubes_of, IsCubeTree}
 use Rattle.dimacs.specs.Assignment.{makes_all, value_of}
 use Rattle.dimacs.specs.Formula.{FormulaValue, is_formula}
 use Rattle.dimacs.specs.Literal.{is_clause}
@@ -26,12 +26,13 @@ use Rattle.lrat_check.specs.declared.derivation.Step.{Step}
 use Rattle.result_ledger.specs.declared.slot.Slot.{Slot}
 use Rattle.result_ledger.specs.declared.verdict.Verdict.{Verdict}
 use Rattle.result_ledger.specs.declared.verdict.Verdict.TheVariants.{Consistent as HasModel, Inconsistent, Unknown}
-use Rattle.result_ledger.specs.Ledger.{cubes_in}
-use Rattle.result_ledger.specs.Verdict.{IsProofIn, HasProofAt, IsVerdict}
+use Rattle.result_ledger.specs.Ledger.{cubes_in, derivations_in}
+use Rattle.result_ledger.specs.Verdict.{IsProofIn, IsVerdict}
 use Rattle.result_ledger.proofs.CoverLemmas.{no_model_anywhere, model_in_listed}
-use Rattle.result_ledger.proofs.SlotLemmas.{as_many, cube_at}
+use Rattle.result_ledger.proofs.DerivationLemmas.{proofs_by_leaf}
+use Rattle.result_ledger.proofs.SlotLemmas.{cube_at}
 use Rattle.trace_verdict.specs.declared.decision.Decision.TheVariants.{Inconsistent as IsInconsistent, Unknown as IsUnknown}
-use Rattle.trace_verdict.specs.Decision.{IsDecided, IsRefuted, AreCubesOf}
+use Rattle.trace_verdict.specs.Decision.{IsDecided, AreCubesOf}
 
 -- a legal schedule of what is kept becomes one of the whole trace
 pub expanded_legal : (r : ReducedValue) → IsReduced r → (kept schedule : List OpName) → IsLegal r.kept kept → schedule ≡ expansion r.whole kept → IsLegal r.whole schedule
@@ -93,28 +94,15 @@ module _ (r : ReducedValue) (ok : IsReduced r) (f : FormulaValue) (f_is : f ≡ 
   slots_cover : Covers (cubes_in slots)
   slots_cover = subst Covers (sym same) covers
 
-  -- the derivation for a cube of the tree
-  proof_of : ((leaf : ℕ) → leaf < length slots → HasProofAt f.clauses slots leaf) → (cube : List ℤ) → Contains (cubes_of tree) cube → (steps : List Step) × IsProofIn (clauses_of (kept_trace r.whole)) cube steps
-  proof_of all cube (k, l, e) =
-      let long : length (cubes_of tree) ≡ length slots = ap length (sym same) ∙ as_many slots in
-      let p = all k (omega (arith, l, long)) in
-      let mine : slice_get (cubes_of tree) k ≡ Some p.slot.cube = subst (λ (cs : List (List ℤ)). slice_get cs k ≡ Some p.slot.cube) same (cube_at slots k p.slot p.there) in
-      let is : p.slot.cube ≡ cube = sym (get_or_from_slice_get (cubes_of tree) k p.slot.cube cube mine) ∙ e in
-      let here : IsProofIn f.clauses cube p.holds.steps = subst (λ (c : List ℤ). IsProofIn f.clauses c p.holds.steps) is p.holds.confirmed in
-      (p.holds.steps, subst (λ (cs : List (List ℤ)). IsProofIn cs cube p.holds.steps) clauses_are here)
-
-  pub inconsistent : (count : ℕ) → IsCubeTree tree → length (cubes_of tree) ≡ leaves tree → IsVerdict f.clauses slots (Inconsistent count) → IsDecided r.whole (IsInconsistent count)
-  inconsistent count is_tree many h = (
-    record {
-      tree = tree;
-      is_tree = is_tree;
-      counted = h.2 ∙ sym (as_many slots) ∙ ap length same ∙ many;
-      proofs = proof_of h.1;
-    },
-    λ names legal.
-        let model = model_of_schedule r.whole ok.is_trace names legal in
-        no_model_anywhere f slots count fine clean slots_cover h model.0 (subst (λ (cs : List (List ℤ)). IsModel model.0 cs) (sym clauses_are) model.1),
-  )
+  pub inconsistent : (count : ℕ) (derivations : List (List Step)) → IsCubeTree tree → derivations ≡ derivations_in slots → IsVerdict f.clauses slots (Inconsistent count) → IsDecided r.whole (IsInconsistent (record { tree = tree; derivations = derivations }))
+  inconsistent count derivations is_tree are h =
+      let by_leaf : AllZip (IsProofIn f.clauses) (cubes_in slots) (derivations_in slots) = proofs_by_leaf f.clauses slots count h in
+      let here : AllZip (IsProofIn f.clauses) (cubes_of tree) derivations = subst (λ (ds : List (List Step)). AllZip (IsProofIn f.clauses) (cubes_of tree) ds) (sym are) (subst (λ (cs : List (List ℤ)). AllZip (IsProofIn f.clauses) cs (derivations_in slots)) same by_leaf) in (
+        record { is_tree = is_tree; proofs = subst (λ (cs : List (List ℤ)). AllZip (IsProofIn cs) (cubes_of tree) derivations) clauses_are here },
+        λ names legal.
+            let model = model_of_schedule r.whole ok.is_trace names legal in
+            no_model_anywhere f slots count fine clean slots_cover h model.0 (subst (λ (cs : List (List ℤ)). IsModel model.0 cs) (sym clauses_are) model.1),
+      )
 
   pub unknown : (listed : List ℕ) (cubes : List (List ℤ)) → IsVerdict f.clauses slots (Unknown listed) → AreCubesOf slots listed cubes → IsDecided r.whole (IsUnknown cubes)
   unknown listed cubes h are value model =

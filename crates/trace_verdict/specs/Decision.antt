@@ -1,29 +1,29 @@
 -- What is decided of a trace.
-use Rattle.std.specs.Prelude.{◌≡◌, ℕ, ℤ, Bool, IsTrue, List, ◌++◌, length, map, Some, codes, decimal}
-use Rattle.std.specs.List.{Contains, flat_map, slice_get}
+use Rattle.std.specs.Prelude.{◌≡◌, ℕ, ℤ, Bool, IsTrue, List, [], ◌++◌, length, map, Some, codes, decimal}
+use Rattle.std.specs.List.{AllZip, Contains, flat_map, slice_get}
 use Rattle.dimacs.specs.Assignment.{makes_all}
 use Rattle.dimacs.specs.CnfText.{clause_line}
 use Rattle.dimacs.specs.Models.{IsModel}
-use Rattle.lrat_check.specs.declared.derivation.Step.{Step}
 use Rattle.traces.specs.declared.operation.OpName.{OpName}
 use Rattle.traces.specs.Legal.{IsLegal}
 use Rattle.traces.specs.Trace.{TraceValue}
 use Rattle.schedule_text.specs.ScheduleWritten.{canonical_schedule}
 use Rattle.reducer.specs.Reduction.{kept_trace}
 use Rattle.clause_blocks.specs.Clauses.{clauses_of}
-use Rattle.cube_tree.specs.CubeTree.{CubeTree, cubes_of, leaves, IsCubeTree}
+use Rattle.certificate.specs.CertWritten.{canonical_certificate, certificate_of}
+use Rattle.certificate.specs.declared.certificate.Certificate.{Certificate}
+use Rattle.cube_tree.specs.CubeTree.{cubes_of, leaves, IsCubeTree}
 use Rattle.result_ledger.specs.declared.slot.Slot.{Slot}
 use Rattle.result_ledger.specs.Ledger.{cubes_in}
 use Rattle.result_ledger.specs.Verdict.{IsProofIn}
 use Rattle.trace_verdict.specs.declared.decision.Decision.{Decision}
 use Rattle.trace_verdict.specs.declared.decision.Decision.TheVariants.{Consistent, Inconsistent, Unknown}
+use Rattle.trace_verdict.specs.declared.refutation.Refutation.{Refutation}
 
--- a tree of so many leaves, and for the cube of each of them a derivation that is accepted
-pub record IsRefuted (clauses : List (List ℤ)) (count : ℕ) : Type 0 where
-  pub tree : CubeTree
-  pub is_tree : IsCubeTree tree
-  pub counted : count ≡ leaves tree
-  pub proofs : (cube : List ℤ) → Contains (cubes_of tree) cube → (steps : List Step) × IsProofIn clauses cube steps
+-- it is a tree and, for the cube of each of its leaves, in their order, a derivation that can be written and is accepted
+pub record IsRefutation (clauses : List (List ℤ)) (refutation : Refutation) : Type 0 where
+  pub is_tree : IsCubeTree refutation.tree
+  pub proofs : AllZip (IsProofIn clauses) (cubes_of refutation.tree) refutation.derivations
 
 -- each model of the clauses makes all literals of one of the cubes true
 abbrev pub HoldModels : List (List ℤ) → List (List ℤ) → Type 0
@@ -33,11 +33,11 @@ HoldModels clauses cubes = (value : ℕ → Bool) → IsModel value clauses → 
 abbrev pub AreCubesOf : List Slot → List ℕ → List (List ℤ) → Type 0
 AreCubesOf slots leaves cubes = map Some cubes ≡ map (slice_get (cubes_in slots)) leaves
 
--- What is decided is so: the schedule is a legal one of the whole trace; or each cube of some tree is refuted, and the trace has
+-- What is decided is so: the schedule is a legal one of the whole trace; or each cube of the tree is refuted, and the trace has
 -- no legal schedule; or all models of the clauses are in the cubes.
 abbrev pub IsDecided : TraceValue → Decision → Type 0
 IsDecided value (Consistent names) = IsLegal value names
-IsDecided value (Inconsistent count) = IsRefuted (clauses_of (kept_trace value)) count × ((names : List OpName) → IsLegal value names → ⊥)
+IsDecided value (Inconsistent refutation) = IsRefutation (clauses_of (kept_trace value)) refutation × ((names : List OpName) → IsLegal value names → ⊥)
 IsDecided value (Unknown cubes) = HoldModels (clauses_of (kept_trace value)) cubes
 
 -- the line of an open cube
@@ -51,5 +51,15 @@ unknown_line count = codes "UNKNOWN open=" ++ (decimal count ++ codes "\n")
 -- the report: what is decided, and then the schedule, or the cubes that are open
 abbrev pub report : Decision → List ℕ
 report (Consistent names) = codes "CONSISTENT\n" ++ canonical_schedule names
-report (Inconsistent count) = codes "INCONSISTENT cubes=" ++ (decimal count ++ codes "\n")
+report (Inconsistent refutation) = codes "INCONSISTENT cubes=" ++ (decimal (leaves refutation.tree) ++ codes "\n")
 report (Unknown cubes) = unknown_line (length cubes) ++ flat_map open_line cubes
+
+-- the certificate of a trace without a legal schedule: the tree, and a section for each of its leaves
+abbrev pub certificate_in : Refutation → Certificate
+certificate_in refutation = certificate_of refutation.tree refutation.derivations
+
+-- its text, where the trace has no legal schedule, and else nothing
+abbrev pub certificate_text : Decision → List ℕ
+certificate_text (Consistent names) = []
+certificate_text (Inconsistent refutation) = canonical_certificate (certificate_in refutation)
+certificate_text (Unknown cubes) = []

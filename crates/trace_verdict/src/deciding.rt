@@ -12,10 +12,10 @@ use crate::cubes::Cubes;
 use crate::decided::Decided;
 use crate::decision::Decision;
 use crate::guide::{guide_to_order, readings_of};
+use crate::refutation::Refutation;
 use crate::rounds::search_in_rounds;
 use clause_blocks::trace_clauses::TraceClauses;
 use cube_queue::{Gate, JobCube, Options, SearchFault};
-use cube_tree::laws::a_cube_for_each_leaf;
 use dimacs::model_laws::never_model_and_first_false;
 use dimacs::{Assignment, ClauseList};
 use reducer::expand::expand;
@@ -65,27 +65,34 @@ fn decision_of<R: Threads + Sync>(
     rt: &R,
     reduced: &Reduced,
     clauses: &TraceClauses,
-    decided: &Decided,
+    decided: Decided,
 ) -> Result<Decision, AllocError>
     requires clauses { clauses.now ≡ reduced.now.kept }
-    requires confirmed { IsConfirmed (clauses_of clauses.now) decided.now }
+    requires confirmed { IsConfirmed (clauses_of clauses.now) decided }
     ensures { IfOk result (λ decision. IsDecided reduced.now.whole decision) }
 {
     let _kept = reduced.kept();
     clauses.is_formula();
-    decided.tree.covers();
-    decided.ledger.has_clauses();
-    a_cube_for_each_leaf();
+    let Decided {
+        tree,
+        ledger,
+        verdict,
+    } = decided;
+    tree.covers();
+    ledger.has_clauses();
     inconsistent_has_no_model();
     unknown_holds_all_models();
-    match &decided.verdict {
+    match &verdict {
         Verdict::Consistent(_, truth) => {
             let schedule = schedule_of(alloc, rt, reduced, truth)?;
             Ok(Decision::Consistent(schedule))
         }
-        Verdict::Inconsistent(count) => Ok(Decision::Inconsistent(*count)),
+        Verdict::Inconsistent(_) => {
+            let derivations = ledger.into_derivations(alloc)?;
+            Ok(Decision::Inconsistent(Refutation { tree, derivations }))
+        }
         Verdict::Unknown(leaves) => {
-            let cubes = cubes_of_leaves(alloc, &decided.ledger, leaves.as_slice())?;
+            let cubes = cubes_of_leaves(alloc, &ledger, leaves.as_slice())?;
             Ok(Decision::Unknown(cubes))
         }
     }
@@ -105,5 +112,5 @@ pub fn decide<R: Threads + Sync, G: Gate>(
     let readings = readings_of(alloc, clauses.layout())?;
     let guide = guide_to_order(clauses.layout()).with_readings(&readings);
     let decided = search_in_rounds(alloc, rt, &clauses, guide, options, gate)?;
-    Ok(decision_of(alloc, rt, reduced, &clauses, &decided)?)
+    Ok(decision_of(alloc, rt, reduced, &clauses, decided)?)
 }

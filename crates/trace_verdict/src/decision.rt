@@ -1,5 +1,6 @@
 //! What is decided of a trace.
 use crate::cubes::Cubes;
+use crate::refutation::Refutation;
 use traces::schedule::Schedule;
 
 /// What is decided of a trace.
@@ -7,8 +8,8 @@ use traces::schedule::Schedule;
 pub enum Decision {
     /// This is a legal schedule of the whole trace.
     Consistent(Schedule),
-    /// There is none: each of so many cubes, which cover, is refuted.
-    Inconsistent(u32),
+    /// There is none, as this shows: each of the tree's cubes, which cover, is refuted.
+    Inconsistent(Refutation),
     /// A legal schedule may be in these cubes, and nowhere else.
     Unknown(Cubes),
 }

@@ -1,16 +1,21 @@
-//! What is decided of a trace: whether it has a legal schedule, as far as a search goes, and the report of it.
+//! What is decided of a trace: whether it has a legal schedule, as far as a search goes, and the report and the certificate of it.
 #![tactic(auto)]
 
+mod certifying;
 mod cubes;
 mod decided;
 mod deciding;
 mod decision;
 mod guide;
+pub mod laws;
+mod refutation;
 mod reporting;
 mod rounds;
 mod splitting;
 
+pub use certifying::write_certificate;
 pub use cubes::Cubes;
 pub use deciding::decide;
 pub use decision::Decision;
+pub use refutation::Refutation;
 pub use reporting::report_of;

@@ -6,6 +6,7 @@ ghost use Rattle.trace_verdict.specs.Decision.{open_line, unknown_line, report};
 ghost use Rattle.trace_verdict.specs.declared.decision.Decision.TheVariants.{Consistent, Inconsistent, Unknown};
 
 use crate::decision::Decision;
+use crate::refutation::Refutation;
 use cube_queue::JobCube;
 use dimacs::Lit;
 use schedule_text::schedule_writer::write_schedule;
@@ -53,11 +54,12 @@ fn consistent_report(alloc: Global, schedule: &Schedule) -> Result<Vec<u8>, Allo
     Ok(text)
 }
 
-/// The report of so many refuted cubes.
-fn inconsistent_report(alloc: Global, count: u32) -> Result<Vec<u8>, AllocError>
-    ensures { IfOk result (λ text. text.items ≡ report (Inconsistent count)) }
+/// The report of a tree whose cubes are refuted.
+fn inconsistent_report(alloc: Global, refutation: &Refutation) -> Result<Vec<u8>, AllocError>
+    ensures { IfOk result (λ text. text.items ≡ report (Inconsistent refutation.now)) }
 {
     let mut text = Vec::new(alloc);
+    let count = refutation.tree.leaves();
     let line = format!(in alloc; "INCONSISTENT cubes={count}\n")?;
     text.extend_from_slice(line.as_bytes())?;
     Ok(text)
@@ -88,7 +90,7 @@ pub fn report_of(alloc: Global, decision: &Decision) -> Result<Vec<u8>, AllocErr
 {
     match decision {
         Decision::Consistent(schedule) => consistent_report(alloc, schedule),
-        Decision::Inconsistent(count) => inconsistent_report(alloc, *count),
+        Decision::Inconsistent(refutation) => inconsistent_report(alloc, refutation),
         Decision::Unknown(cubes) => unknown_report(alloc, cubes.as_slice()),
     }
 }

@@ -1,4 +1,5 @@
 mod AdmittedLemmas
+mod CertifiedLemmas
 mod DecodeLemmas
 mod EngineLemmas
 mod MeaningLemmas

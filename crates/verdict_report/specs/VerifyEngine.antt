@@ -1,19 +1,26 @@
 -- What the engine that decides traces answers and writes.
-use Rattle.std.specs.Prelude.{⊤, ℕ, List, [], ◌∷◌, Result, Ok, Err}
+use Rattle.std.specs.Prelude.{◌≡◌, ⊤, ℕ, List, [], ◌∷◌, ◌++◌, Result, Ok, Err}
+use Rattle.certificate.specs.CertText.{SpellsCertificate}
+use Rattle.certificate.specs.Rechecked.{IsRechecked}
+use Rattle.certificate.specs.declared.certificate.Certificate.{Certificate}
+use Rattle.clause_blocks.specs.Clauses.{clauses_of}
 use Rattle.cube_queue.specs.declared.search_fault.SearchFault.TheVariants.{Cut, NoThread}
 use Rattle.reducer.specs.declared.reduce_fault.ReduceCause.TheVariants.{StillTooLarge}
+use Rattle.reducer.specs.Reduction.{kept_trace}
+use Rattle.traces.specs.declared.operation.OpName.{OpName}
+use Rattle.traces.specs.Legal.{IsLegal}
 use Rattle.traces.specs.Trace.{TraceValue}
 use Rattle.trace_text.specs.TraceFault.{HasTraceFault}
 use Rattle.trace_verdict.specs.declared.decision.Decision.{Decision}
 use Rattle.trace_verdict.specs.declared.decision.Decision.TheVariants.{Consistent, Inconsistent, Unknown as NotDecided}
-use Rattle.trace_verdict.specs.Decision.{IsDecided, report}
+use Rattle.trace_verdict.specs.Decision.{IsDecided, certificate_text, report}
 use Rattle.verdict_report.specs.declared.fault.Fault.{Fault}
 use Rattle.verdict_report.specs.declared.fault.Fault.TheVariants.{OutOfMemory, Trace, Reduce, Search}
 use Rattle.verdict_report.specs.declared.status.Status.{Status}
 use Rattle.verdict_report.specs.declared.status.Status.TheVariants.{Yes, No, Unknown}
 use Rattle.verdict_report.specs.Admitted.{Admits, IsTooLarge}
-use Rattle.verdict_report.specs.Engine.{AtOnce, IsRunOfEngine, of_one}
-use Rattle.verdict_report.specs.Runs.{SourceRun, SinkRun}
+use Rattle.verdict_report.specs.Engine.{AtOnce, InPieces, IsRunOfEngine, of_one}
+use Rattle.verdict_report.specs.Runs.{SourceRun, SinkRun, HandsOut}
 
 -- the text spells an admitted trace, of which this is decided
 pub record IsDecidedFrom (text : List ℕ) (decision : Decision) : Type 0 where
@@ -34,13 +41,36 @@ IsSaidOfTrace text (Err fault) = ⊥
 -- the status that goes with a decision
 abbrev pub status_of_decision : Decision → Status
 status_of_decision (Consistent names) = Yes
-status_of_decision (Inconsistent count) = No
+status_of_decision (Inconsistent refutation) = No
 status_of_decision (NotDecided cubes) = Unknown
 
 -- the texts that are written: the report alone
 abbrev pub texts_of_decision : Decision → List (List ℕ)
 texts_of_decision decision = report decision ∷ []
 
+-- the texts that are written where a certificate is asked for: first that, and then the report
+abbrev pub texts_with_certificate : Decision → List (List ℕ)
+texts_with_certificate decision = certificate_text decision ∷ report decision ∷ []
+
 -- what the engine answers, by what the source hands out and the sink takes
 abbrev pub IsRunOfVerify : SourceRun → SinkRun → Result Status Fault → Type 0
 IsRunOfVerify trace out = IsRunOfEngine AtOnce (of_one IsSaidOfTrace) texts_of_decision status_of_decision (trace ∷ []) (out ∷ [])
+
+-- the same where a certificate is asked for, by what the source hands out and the sinks take: the certificate's, and then the report's
+abbrev pub IsRunOfCertifiedVerify : SourceRun → SinkRun → SinkRun → Result Status Fault → Type 0
+IsRunOfCertifiedVerify trace cert out = IsRunOfEngine InPieces (of_one IsSaidOfTrace) texts_with_certificate status_of_decision (trace ∷ []) (cert ∷ out ∷ [])
+
+-- the source handed out the text of a trace that has no legal schedule, and the sink took that of a certificate, which is accepted for
+-- the clauses of what is kept of the trace
+pub record Certifies (trace : SourceRun) (cert : SinkRun) : Type 0 where
+  pub text : List ℕ
+  pub handed : HandsOut trace text
+  pub value : TraceValue
+  pub admitted : Admits text value
+  pub written : List ℕ
+  pub whole : cert.now ≡ cert.before ++ written
+  pub certificate : Certificate
+  pub spelled : SpellsCertificate written certificate
+  pub count : ℕ
+  pub accepted : IsRechecked (clauses_of (kept_trace value)) certificate count
+  pub none_legal : (names : List OpName) → IsLegal value names → ⊥

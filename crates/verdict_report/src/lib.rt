@@ -30,4 +30,4 @@ pub use refused_parts::Part;
 pub use short_source::ShortSource;
 pub use source::Source;
 pub use status::{Status, exit_status};
-pub use verify_engine::run_verify;
+pub use verify_engine::{run_certified_verify, run_verify};

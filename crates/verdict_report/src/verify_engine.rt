@@ -1,10 +1,11 @@
 //! The engine that decides whether a trace has a legal schedule, from bytes to bytes.
 
-ghost use Rattle.std.specs.Prelude.{◌≡◌};
+ghost use Rattle.std.specs.Prelude.{◌≡◌, Ok};
 ghost use Rattle.trace_verdict.specs.Decision.{report};
 ghost use Rattle.verdict_report.specs.Engine.{IsRunOfWriting};
 ghost use Rattle.verdict_report.specs.Runs.{source_run, sink_run};
-ghost use Rattle.verdict_report.specs.VerifyEngine.{IsRunOfVerify, IsSaidOfTrace, status_of_decision};
+ghost use Rattle.verdict_report.specs.VerifyEngine.{Certifies, IsRunOfVerify, IsRunOfCertifiedVerify, IsSaidOfTrace, status_of_decision};
+ghost use Rattle.verdict_report.specs.declared.status.Status.TheVariants.{No};
 
 use crate::admitted::reduce_text;
 use crate::fault::Fault;
@@ -15,7 +16,8 @@ use cube_queue::{Gate, Options};
 use dimacs::{Sink, write_whole};
 use std::alloc::Global;
 use std::thread::Threads;
-use trace_verdict::{Decision, decide, report_of};
+use trace_verdict::laws::certificate_is_accepted;
+use trace_verdict::{Decision, decide, report_of, write_certificate};
 
 /// Decides whether the trace that the source hands out has a legal schedule, and writes the report: CONSISTENT and a legal
 /// schedule of the whole trace; INCONSISTENT, where each cube of some tree is refuted by a derivation that is accepted, so that
@@ -39,6 +41,36 @@ pub fn run_verify<R: Threads + Sync, T: Source, G: Gate, W: Sink>(
 {
     let text = read_one(alloc, trace)?;
     let decision = decide_text(alloc, rt, text.as_slice(), options, gate)?;
+    write_report(alloc, &decision, out)
+}
+
+/// Does what [`run_verify`] does, and writes the certificate of an INCONSISTENT to a sink of its own before the report: the tree, and
+/// for each of its leaves, in their order, the derivation that is accepted for its cube. With another report that sink takes nothing.
+///
+/// Where memory runs out or a sink fails while the certificate or the report is written, a prefix of the two may have been written, the
+/// certificate first. Before the other refusals, which are those of `run_verify`, nothing was.
+pub fn run_certified_verify<R: Threads + Sync, T: Source, G: Gate, C: Sink, W: Sink>(
+    alloc: Global,
+    rt: &R,
+    trace: &mut T,
+    options: &Options,
+    gate: &G,
+    cert: &mut C,
+    out: &mut W,
+) -> Result<Status, Fault>
+    ensures run { IsRunOfCertifiedVerify
+        (source_run T.handed_out T.is_at_end T.failures trace.old trace.new)
+        (sink_run C.written C.failures cert.old cert.new)
+        (sink_run W.written W.failures out.old out.new)
+        result }
+    ensures certified { result ≡ Ok No → Certifies
+        (source_run T.handed_out T.is_at_end T.failures trace.old trace.new)
+        (sink_run C.written C.failures cert.old cert.new) }
+{
+    certificate_is_accepted();
+    let text = read_one(alloc, trace)?;
+    let decision = decide_text(alloc, rt, text.as_slice(), options, gate)?;
+    write_certificate(alloc, &decision, cert)?;
     write_report(alloc, &decision, out)
 }
 

@@ -1,3 +1,4 @@
 pub mod Commands
 pub mod ExitStatus
+pub mod FileSink
 pub mod FileSource

@@ -10,15 +10,17 @@ ghost use Rattle.verdict_report.specs.JudgeEngine.{IsRunOfJudge};
 ghost use Rattle.verdict_report.specs.LratEngine.{IsRunOfLrat};
 ghost use Rattle.verdict_report.specs.RecheckEngine.{IsRunOfRecheck};
 ghost use Rattle.verdict_report.specs.VerifyEngine.{IsRunOfVerify};
-ghost use Rattle.vsc.specs.Commands.{RunsOnFile, RunsOnFiles, Runs, EndsWith};
+ghost use Rattle.vsc.specs.Commands.{RunsCertified, RunsOnFile, RunsOnFiles, RunsVerify, Runs, EndsWith};
 ghost use Rattle.vsc.specs.ExitStatus.{IsExitStatus};
 
+mod file_sink;
 mod file_source;
 mod progress;
 mod stream_sink;
 
 use command_line::{Line, LineFault, SearchNumbers, read_line};
 use cube_queue::{Gate, OpenGate, Options};
+use file_sink::FileSink;
 use file_source::FileSource;
 use progress::Progress;
 use std::alloc::{AllocError, Global};
@@ -28,8 +30,8 @@ use std::process::ExitCode;
 use std::thread::Threads;
 use stream_sink::StreamSink;
 use verdict_report::{
-    Fault, Status, exit_status, run_cnf, run_decode, run_judge, run_lrat, run_recheck, run_verify,
-    write_fault,
+    Fault, Status, exit_status, run_certified_verify, run_cnf, run_decode, run_judge, run_lrat,
+    run_recheck, run_verify, write_fault,
 };
 
 /// The exit status of a command line that is refused.
@@ -137,21 +139,68 @@ fn decide_file<G: Gate>(
     run_verify(rt.alloc(), threads, &mut trace, options, gate, &mut output)
 }
 
+/// The same, where a certificate is asked for. Its file is made or emptied before the trace is opened, and `Device` is answered where
+/// that is not possible.
+fn certify_file<G: Gate>(
+    rt: &HostRuntime,
+    threads: &(impl Threads + Sync),
+    trace: &str,
+    cert: &str,
+    options: &Options,
+    gate: &G,
+) -> Result<Status, Fault>
+    ensures { RunsCertified trace.now cert.now result }
+{
+    let Ok(mut cert) = FileSink::create(rt, cert) else {
+        return Err(Fault::Device);
+    };
+    let mut trace = FileSource::new(rt, trace);
+    let mut output = StreamSink::new(rt.stdout());
+    run_certified_verify(
+        rt.alloc(),
+        threads,
+        &mut trace,
+        options,
+        gate,
+        &mut cert,
+        &mut output,
+    )
+}
+
+/// Decides whether the trace in the file at this path has a legal schedule, with the gate, and writes the certificate to a file where
+/// one is asked for.
+fn decide_gated<G: Gate>(
+    rt: &HostRuntime,
+    threads: &(impl Threads + Sync),
+    trace: &str,
+    cert: Option<&str>,
+    options: &Options,
+    gate: &G,
+) -> Result<Status, Fault>
+    ensures { RunsVerify trace.now cert.entry result }
+{
+    match cert {
+        Some(cert) => certify_file(rt, threads, trace, cert, options, gate),
+        None => decide_file(rt, threads, trace, options, gate),
+    }
+}
+
 /// Decides whether the trace in the file at this path has a legal schedule. The progress is told on standard error, where it is
 /// asked for.
 fn verify_file(
     rt: &HostRuntime,
     threads: &(impl Threads + Sync),
     trace: &str,
+    cert: Option<&str>,
     options: &Options,
     tells: bool,
 ) -> Result<Status, Fault>
-    ensures { RunsOnFile IsRunOfVerify trace.now result }
+    ensures { RunsVerify trace.now cert.entry result }
 {
     if tells {
-        decide_file(rt, threads, trace, options, &Progress::new(rt))
+        decide_gated(rt, threads, trace, cert, options, &Progress::new(rt))
     } else {
-        decide_file(rt, threads, trace, options, &OpenGate)
+        decide_gated(rt, threads, trace, cert, options, &OpenGate)
     }
 }
 
@@ -172,10 +221,10 @@ fn run_engine(
         Line::Recheck { trace, cert } => recheck_files(rt, threads, trace, cert),
         Line::Verify {
             trace,
-            cert: _,
+            cert,
             numbers,
             progress,
-        } => verify_file(rt, threads, trace, &options_of(numbers), progress),
+        } => verify_file(rt, threads, trace, cert, &options_of(numbers), progress),
     }
 }
 

@@ -1,0 +1,12 @@
+//! What shows that a trace has no legal schedule.
+use cube_tree::Tree;
+use result_ledger::Derivations;
+
+/// A tree, and derivations for its leaves, in their order.
+#[derive(Drop)]
+pub struct Refutation {
+    /// The tree whose cubes cover.
+    pub tree: Tree,
+    /// What shows of each cube that no model makes all its literals true.
+    pub derivations: Derivations,
+}

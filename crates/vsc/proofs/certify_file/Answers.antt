@@ -1,0 +1,31 @@
+use Rattle.std.proofs.Common.{inl, inr, refl}
+use Rattle.verdict_report.specs.Runs.{sink_run}
+use Rattle.vsc.specs.FileSink.{sink_of}
+use Rattle.vsc.specs.FileSource.{file_run}
+use Rattle.vsc.proofs.certify_file.Goals as goal
+
+pub returns : goal.returns
+returns g c = inr (record {
+  certificate = sink_of c.in-Ok.cert c.run_certified_verify.new.cert;
+  writes_certificate = record {
+    before = c.in-Ok.cert;
+    after = c.run_certified_verify.new.cert;
+    path_is = c.in-Ok.ensures.path;
+    run_is = refl;
+    no_byte_before = c.in-Ok.ensures.written;
+    no_failure_before = c.in-Ok.ensures.failures;
+  };
+  file = file_run c.new-trace.result c.run_certified_verify.new.trace;
+  reads = record {
+    before = c.new-trace.result;
+    after = c.run_certified_verify.new.trace;
+    path_is = c.new-trace.ensures.path;
+    run_is = refl;
+    no_byte_before = c.new-trace.ensures.handed_out;
+    not_at_end_before = c.new-trace.ensures.is_at_end;
+    no_failure_before = c.new-trace.ensures.failures;
+  };
+  out = sink_run (λ s. s.written.bytes) (λ s. s.failures.count) c.new-output.result c.run_certified_verify.new.out;
+  writes = record { no_byte_before = c.new-output.ensures.written; no_failure_before = c.new-output.ensures.failures };
+  runs = c.run_certified_verify.ensures.run;
+})

@@ -1,0 +1,42 @@
+//! A file as a sink.
+ghost use Rattle.std.specs.Prelude.{◌≡◌, [], IfOk};
+ghost use Rattle.vsc.specs.FileSink.{path_to};
+
+use crate::stream_sink::StreamSink;
+use dimacs::{Failed, Sink};
+use std::fs::File;
+use std::rt::Files;
+
+/// A file of the system that was made, or emptied, to be written.
+#[derive(Drop)]
+pub struct FileSink<'a> {
+    path: &'a str,
+    stream: StreamSink<File>,
+}
+
+impl<'a> FileSink<'a> {
+    /// Makes the file at this path, or empties it.
+    pub fn create<R: Files<File = File>>(rt: &R, path: &'a str) -> Result<FileSink<'a>, Failed>
+        ensures path { IfOk result (λ sink. path_to sink ≡ path.now) }
+        ensures written { IfOk result (λ sink. ⟦<FileSink<'a> as Sink>⟧.written sink ≡ []) }
+        ensures failures { IfOk result (λ sink. ⟦<FileSink<'a> as Sink>⟧.failures sink ≡ 0) }
+    {
+        match File::create(rt, path) {
+            Ok(file) => Ok(FileSink {
+                path,
+                stream: StreamSink::new(file),
+            }),
+            Err(_) => Err(Failed),
+        }
+    }
+}
+
+impl<'a> Sink for FileSink<'a> {
+    ghost written = { λ s. s.stream.written.bytes };
+
+    ghost failures = { λ s. s.stream.failures.count };
+
+    fn write(&mut self, bytes: &[u8]) -> Result<usize, Failed> {
+        self.stream.write(bytes)
+    }
+}
