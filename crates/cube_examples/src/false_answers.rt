@@ -77,7 +77,7 @@ fn no_false_answer_makes_a_false_verdict(rt: HostRuntime) -> Result<(), Fail> {
     ] {
         let formula = formula_of(&rt, alloc, text);
         let split = format!(in alloc; "split {variable}\nleaf\nleaf\n")?;
-        let tree = tree_of(&rt, alloc, split.as_str());
+        let tree = tree_of(&rt, alloc, split.as_bytes());
         let mut ledger = Ledger::new(alloc, &tree)?;
         let left = result_of(&rt, alloc, 0, &[variable], first)?;
         let right = result_of(&rt, alloc, 1, &[variable.wrapping_neg()], second)?;

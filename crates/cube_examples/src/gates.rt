@@ -36,7 +36,7 @@ impl Gate for NotingGate {
 fn calls_the_gate_and_skips_after_a_model(rt: HostRuntime) -> Result<(), Fail> {
     let alloc = rt.alloc();
     let formula = formula_of(&rt, alloc, WRITTEN_AGAIN);
-    let tree = tree_of(&rt, alloc, "split 1\nleaf\nsplit 2\nleaf\nleaf\n");
+    let tree = tree_of(&rt, alloc, b"split 1\nleaf\nsplit 2\nleaf\nleaf\n");
     let options = Options::new(1, 3, 100, 1)
         .ok()
         .ok_or("an option is out of its range")?;

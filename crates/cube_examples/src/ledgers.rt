@@ -31,7 +31,7 @@ fn assert_refused(
 #[test]
 fn enters_each_leaf_once_under_its_cube(rt: HostRuntime) -> Result<(), Fail> {
     let alloc = rt.alloc();
-    let tree = tree_of(&rt, alloc, "split 3\nleaf\nleaf\n");
+    let tree = tree_of(&rt, alloc, b"split 3\nleaf\nleaf\n");
     let mut ledger = Ledger::new(alloc, &tree)?;
     assert_refused(&rt, alloc, &mut ledger, 2, &[3], EntryFault::Stranger)?;
     assert_refused(&rt, alloc, &mut ledger, 0, &[-3], EntryFault::WrongCube)?;
@@ -53,7 +53,7 @@ fn enters_each_leaf_once_under_its_cube(rt: HostRuntime) -> Result<(), Fail> {
 fn splits_a_leaf_and_forgets_its_answer(rt: HostRuntime) -> Result<(), Fail> {
     let alloc = rt.alloc();
     let formula = formula_of(&rt, alloc, STORE_BUFFERING);
-    let tree = tree_of(&rt, alloc, "split 3\nleaf\nleaf\n");
+    let tree = tree_of(&rt, alloc, b"split 3\nleaf\nleaf\n");
     let mut ledger = Ledger::new(alloc, &tree)?;
     let first = Says::Refuted("16 0 13 14 15 0\n");
     assert!(&rt; ledger.enter(result_of(&rt, alloc, 0, &[3], first)?).is_ok());

@@ -1,5 +1,5 @@
-//! Tests of calls that no command reaches: full trees, jobs and options, the search of a tree's leaves, and ledgers with answers
-//! that are right, wrong, or those of another leaf.
+//! Tests of trees, of calls that no command reaches, of the search of a tree's leaves, and of ledgers with answers that are right,
+//! wrong, or those of another leaf.
 #![tactic(auto)]
 
 #[cfg(test)]
@@ -11,10 +11,18 @@ mod full_trees;
 #[cfg(test)]
 mod gates;
 #[cfg(test)]
+mod large_trees;
+#[cfg(test)]
+mod leaves;
+#[cfg(test)]
 mod ledgers;
 #[cfg(test)]
 mod options;
 #[cfg(test)]
+mod refused_memory;
+#[cfg(test)]
 mod texts;
+#[cfg(test)]
+mod tree_texts;
 #[cfg(test)]
 mod verdicts;

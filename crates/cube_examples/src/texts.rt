@@ -27,8 +27,8 @@ pub fn formula_of(rt: &impl Abort, alloc: Global, text: &str) -> Formula {
 }
 
 /// The tree that the text spells.
-pub fn tree_of(rt: &impl Abort, alloc: Global, text: &str) -> Tree {
-    match read_tree(alloc, text.as_bytes()) {
+pub fn tree_of(rt: &impl Abort, alloc: Global, text: &[u8]) -> Tree {
+    match read_tree(alloc, text) {
         Ok((tree, _)) => tree,
         Err(_) => panic!(rt; "the tree is refused"),
     }

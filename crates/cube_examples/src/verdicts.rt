@@ -39,7 +39,7 @@ fn reaches_each_verdict(rt: HostRuntime) -> Result<(), Fail> {
         ),
     ] {
         let formula = formula_of(&rt, alloc, text);
-        let tree = tree_of(&rt, alloc, tree);
+        let tree = tree_of(&rt, alloc, tree.as_bytes());
         let options = Options::new(1, 3, budget, 1)
             .ok()
             .ok_or("an option is out of its range")?;
