@@ -10,8 +10,6 @@ mod leaf_split;
 mod node;
 mod node_line;
 mod split_fault;
-#[cfg(test)]
-mod tests;
 mod tree;
 mod tree_fault;
 pub mod tree_laws;

@@ -1,0 +1,82 @@
+//! Answers for leaves, made by a test and not by a search, and what is expected of a verdict.
+
+use crate::texts::{derivation_of, literals_of};
+use cube_queue::{Job, MOST_LITERALS, Outcome, Settled};
+use dimacs::Assignment;
+use result_ledger::Verdict;
+use std::alloc::{AllocError, Global};
+use std::process::Abort;
+
+/// What is said of a leaf's cube.
+#[derive(Clone, Copy)]
+pub enum Says {
+    /// These truth values of the variables 1, 2 and so on are a model.
+    Model(&'static [bool]),
+    /// The derivation of this text shows that there is none.
+    Refuted(&'static str),
+    /// The search came to no end.
+    Open,
+    /// The cube was not searched.
+    Skipped,
+}
+
+/// What a verdict is expected to be.
+#[derive(Clone, Copy)]
+pub enum Expected {
+    /// A model at this leaf, with these truth values of the variables 1, 2 and so on.
+    Consistent(u32, &'static [bool]),
+    /// That there is no model, by so many leaves.
+    Inconsistent(u32),
+    /// Nothing, since these leaves are open.
+    Unknown(&'static [u32]),
+}
+
+/// The outcome that says this.
+pub fn outcome_of(rt: &impl Abort, alloc: Global, says: Says) -> Result<Outcome, AllocError> {
+    Ok(match says {
+        Says::Model(values) => Outcome::Model(Assignment::new(Vec::from_slice(alloc, values)?)),
+        Says::Refuted(text) => Outcome::Refuted(derivation_of(rt, alloc, text)),
+        Says::Open => Outcome::Open,
+        Says::Skipped => Outcome::Skipped,
+    })
+}
+
+/// The result that says this of a cube, under a leaf's number.
+pub fn result_of(
+    rt: &impl Abort,
+    alloc: Global,
+    leaf: u32,
+    cube: &[i32],
+    says: Says,
+) -> Result<Settled, AllocError> {
+    let literals = literals_of(alloc, cube)?;
+    if literals.len() > MOST_LITERALS {
+        panic!(rt; "a cube has no more than 20 literals");
+    }
+    let job = Job::new(alloc, leaf, literals.as_slice());
+    Ok(job.settle(outcome_of(rt, alloc, says)?))
+}
+
+/// Whether these are the values of the variables 1, 2 and so on.
+fn has_values(truth: &Assignment, values: &[bool]) -> bool {
+    let mut variable = 0u32;
+    for value in values {
+        variable = variable.wrapping_add(1);
+        if truth.value(variable) != *value {
+            return false;
+        }
+    }
+    true
+}
+
+/// Whether the verdict is the expected one.
+pub fn is_expected(verdict: &Verdict, expected: Expected) -> bool {
+    match (verdict, expected) {
+        (Verdict::Consistent(leaf, truth), Expected::Consistent(there, values)) => {
+            *leaf == there && has_values(truth, values)
+        }
+        (Verdict::Inconsistent(count), Expected::Inconsistent(leaves)) => *count == leaves,
+        (Verdict::Unknown(leaves), Expected::Unknown(open)) => leaves.as_slice() == open,
+        _ => false,
+    }
+}

@@ -1,0 +1,158 @@
+//! Calls that may be refused memory: each says so, and hands back what was handed in as it was. With memory enough these tests show
+//! that the calls succeed; `tests/refused-memory` runs them with each request for memory refused in turn.
+
+use crate::answers::{Says, result_of};
+use crate::texts::{STORE_BUFFERING, literals_of};
+use cnf_reader::read_cnf;
+use cube_queue::{OpenGate, Options, Outcome, search};
+use cube_tree::{Tree, cubes, grow, read_tree, split_leaf, write_tree};
+use reducer::reduced::reduce;
+use result_ledger::{Ledger, Verdict, split_tree_splits_a_cube};
+use solver::Guide;
+use std::alloc::Global;
+use std::process::Abort;
+use std::test::Fail;
+use text_lines::fault::Fault;
+use trace_text::trace_reader::read_trace;
+use var_layout::layout::Layout;
+
+/// The tree of this text; a refusal ends the test.
+fn tree_if_memory(alloc: Global, text: &str) -> Result<Tree, Fail> {
+    match read_tree(alloc, text.as_bytes()) {
+        Ok((tree, _)) => Ok(tree),
+        Err(_) => Err(Fail::from("no tree is read")),
+    }
+}
+
+/// Asserts that this is the text of the tree.
+fn assert_text(rt: &impl Abort, alloc: Global, tree: &Tree, text: &str) -> Result<(), Fail> {
+    assert!(rt; write_tree(alloc, tree)?.as_slice() == text.as_bytes());
+    Ok(())
+}
+
+#[test]
+fn trees_are_read_written_and_listed(rt: HostRuntime) -> Result<(), Fail> {
+    let alloc = rt.alloc();
+    let text = "split 3\nleaf\nsplit 5\nleaf\nleaf\n";
+    let tree = match read_tree(alloc, text.as_bytes()) {
+        Ok((tree, _)) => tree,
+        Err(fault) => {
+            assert!(&rt; fault == Fault::OutOfMemory);
+            tree_if_memory(alloc, text)?
+        }
+    };
+    let _written = write_tree(alloc, &tree);
+    let _listed = cubes(alloc, &tree);
+    assert_eq!(&rt; cubes(alloc, &tree)?.len(), 3);
+    assert_text(&rt, alloc, &tree, text)
+}
+
+#[test]
+fn a_split_that_is_refused_hands_the_tree_back(rt: HostRuntime) -> Result<(), Fail> {
+    let alloc = rt.alloc();
+    let text = "split 3\nleaf\nleaf\n";
+    let tree = match split_leaf(alloc, tree_if_memory(alloc, text)?, 1, 5) {
+        Ok(tree) => tree,
+        Err((tree, fault)) => {
+            assert!(&rt; fault == Fault::OutOfMemory);
+            assert_text(&rt, alloc, &tree, text)?;
+            let Ok(tree) = split_leaf(alloc, tree, 1, 5) else {
+                panic!(&rt; "the leaf is not split");
+            };
+            tree
+        }
+    };
+    assert_text(&rt, alloc, &tree, "split 3\nleaf\nsplit 5\nleaf\nleaf\n")
+}
+
+#[test]
+fn a_full_tree_grows(rt: HostRuntime) -> Result<(), Fail> {
+    let alloc = rt.alloc();
+    let text = "vsc 1\nproc P\nW x 1\nproc Q\nR x 1\n";
+    let trace = read_trace(alloc, text.as_bytes())
+        .ok()
+        .ok_or("no trace is read")?;
+    let reduced = reduce(alloc, &trace)
+        .ok()
+        .ok_or("the trace is not reduced")?;
+    let layout = Layout::of(alloc, &reduced)?;
+    let tree = match grow(alloc, &layout, 3) {
+        Ok(tree) => tree,
+        Err(_) => grow(alloc, &layout, 3)?,
+    };
+    assert_text(&rt, alloc, &tree, "split 1\nleaf\nleaf\n")
+}
+
+/// Asserts that the ledger has the leaves 3 and -3, and that the first has an answer.
+fn assert_two_leaves(rt: &impl Abort, alloc: Global, ledger: &Ledger) -> Result<(), Fail> {
+    assert_eq!(rt; ledger.leaves(), 2);
+    assert!(rt; ledger.cube(0) == literals_of(alloc, &[3])?.as_slice());
+    assert!(rt; ledger.cube(1) == literals_of(alloc, &[-3])?.as_slice());
+    assert!(rt; ledger.unanswered(alloc)?.as_slice() == [1u32].as_slice());
+    Ok(())
+}
+
+#[test]
+fn a_split_that_is_refused_hands_the_ledger_back(rt: HostRuntime) -> Result<(), Fail> {
+    let alloc = rt.alloc();
+    let tree = tree_if_memory(alloc, "split 3\nleaf\nleaf\n")?;
+    let mut ledger = Ledger::new(alloc, &tree)?;
+    let answer = result_of(&rt, alloc, 0, &[3], Says::Open)?;
+    assert!(&rt; ledger.enter(answer).is_ok());
+    split_tree_splits_a_cube();
+    let Ok(tree) = split_leaf(alloc, tree, 1, 4) else {
+        return Err(Fail::from("the tree's leaf is not split"));
+    };
+    let ledger = match ledger.split(alloc, 1, &tree) {
+        Ok(ledger) => ledger,
+        Err((ledger, _)) => {
+            assert_two_leaves(&rt, alloc, &ledger)?;
+            let Ok(ledger) = ledger.split(alloc, 1, &tree) else {
+                panic!(&rt; "the ledger's leaf is not split");
+            };
+            ledger
+        }
+    };
+    assert_eq!(&rt; ledger.leaves(), 3);
+    assert!(&rt; ledger.unanswered(alloc)?.as_slice() == [1u32, 2].as_slice());
+    Ok(())
+}
+
+#[test]
+fn a_cube_without_memory_stays_open(rt: HostRuntime) -> Result<(), Fail> {
+    let alloc = rt.alloc();
+    let formula = read_cnf(alloc, STORE_BUFFERING.as_bytes())
+        .ok()
+        .ok_or("no formula is read")?;
+    let tree = tree_if_memory(alloc, "split 3\nleaf\nleaf\n")?;
+    let options = Options::new(1, 3, 100, 1).ok().ok_or("no options")?;
+    let mut ledger = Ledger::new(alloc, &tree)?;
+    let which = ledger.unanswered(alloc)?;
+    let leaves = which.as_slice();
+    let gate = OpenGate;
+    let Ok(results) = search(
+        alloc,
+        &rt,
+        &formula,
+        Guide::none(),
+        &tree,
+        leaves,
+        &options,
+        &gate,
+    ) else {
+        return Err(Fail::from("no search is begun"));
+    };
+    let mut open = 0u32;
+    for settled in results {
+        open = open.wrapping_add(u32::from(matches!(settled.outcome(), Outcome::Open)));
+        assert!(&rt; ledger.enter(settled).is_ok());
+    }
+    let verdict = ledger.confirm(alloc, &rt, &formula, 1)?;
+    let is_right = match &verdict {
+        Verdict::Inconsistent(count) => open == 0 && *count == 2,
+        Verdict::Unknown(leaves) => open > 0 && leaves.as_slice().len() == open as usize,
+        Verdict::Consistent(_, _) => false,
+    };
+    assert!(&rt; is_right);
+    Ok(())
+}
