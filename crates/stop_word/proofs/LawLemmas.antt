@@ -1,5 +1,5 @@
 -- What the word rule says of the word.
-use Rattle.std.proofs.Common.{◌≡◌, ◌≢◌, ◌⊎◌, ◌↔◌, ℕ, zero, suc, ◌<◌, ◌≤◌, List, [], ◌∷◌, ◌++◌, Option, Some, None, IfSome, IfNone, refl, sym, ◌∙◌, ap, subst, inl, inr, ⊎_elim, arith}
+use Rattle.std.proofs.Common.{◌≡◌, ◌≢◌, ◌⊎◌, ℕ, ◌<◌, ◌≤◌, List, [], ◌∷◌, Option, Some, None, IfSome, IfNone, sym, ◌∙◌, ap, subst, inl, inr, ⊎_elim, arith}
 use Rattle.std.specs.List.{All, Contains}
 use Rattle.std.proofs.lemmas.Bool.{cases_eq}
 use Rattle.std.proofs.lemmas.List.Elements.{All-nil, All-append, All-weaker, All-contains}
@@ -23,8 +23,8 @@ word_is_a_mark word views meets =
       );
       some_mark = λ some. subst (λ n. Contains (marks_in views) n) (sym meets.word_is) (least_among (marks_in views) (λ none. some (meets.word_is ∙ none)));
       at_most = λ id v at.
-      let f = meets.each id v at in
-      (f.at_most, All-weaker (λ k. least_of v.marks ≤ k) (λ k. word ≤ k) (λ k h. omega (arith, f.at_most, f.marked, h)) v.marks (least_below v.marks));
+          let f = meets.each id v at in
+          (f.at_most, All-weaker (λ k. least_of v.marks ≤ k) (λ k. word ≤ k) (λ k h. omega (arith, f.at_most, f.marked, h)) v.marks (least_below v.marks));
     }
 
 -- a word that is not nothing is a number of 32 bits

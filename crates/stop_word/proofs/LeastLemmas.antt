@@ -1,5 +1,5 @@
 -- The least of a list of numbers.
-use Rattle.std.proofs.Common.{◌≡◌, ◌≢◌, ◌⊎◌, ℕ, zero, suc, ◌<◌, ◌≤◌, min, List, [], ◌∷◌, ◌++◌, refl, sym, ap, subst, inl, inr, ⊎_elim, arith}
+use Rattle.std.proofs.Common.{◌≡◌, ◌≢◌, ℕ, zero, suc, ◌<◌, ◌≤◌, min, List, [], ◌∷◌, ◌++◌, refl, sym, subst, ⊎_elim, arith}
 use Rattle.std.specs.List.{All, Contains}
 use Rattle.std.proofs.lemmas.Bool.{cases_lt}
 use Rattle.std.proofs.lemmas.List.Elements.{All-nil, All-cons, All-head, All-weaker}
@@ -33,9 +33,9 @@ least_among (x ∷ xs) some =
     ⊎_elim
     (λ (lower : x < least_of xs). head_in x xs (min x (least_of xs)) (omega (arith, lower)))
     (λ (upper : least_of xs ≤ x).
-      let same : min x (least_of xs) ≡ least_of xs = omega (arith, upper) in
-      let more : least_of xs ≢ nothing = λ none. some (omega (arith, same, none)) in
-      subst (λ n. Contains (x ∷ xs) n) (sym same) (tail_in x xs (least_of xs) (least_among xs more)))
+    let same : min x (least_of xs) ≡ least_of xs = omega (arith, upper) in
+    let more : least_of xs ≢ nothing = λ none. some (omega (arith, same, none)) in
+    subst (λ n. Contains (x ∷ xs) n) (sym same) (tail_in x xs (least_of xs) (least_among xs more)))
     (cases_lt x (least_of xs))
 
 -- there is no number, where the least is nothing

@@ -1,11 +1,11 @@
 -- Lists of seats: how they are cut off the first one, and joined again.
-use Rattle.std.proofs.Common.{◌≡◌, ℕ, ◌+◌, ◌-◌, ◌<◌, ◌≤◌, min, List, [], ◌∷◌, ◌++◌, map, length, Option, Some, refl, sym, ◌∙◌, ap, subst, arith}
+use Rattle.std.proofs.Common.{◌≡◌, ℕ, ◌+◌, ◌-◌, ◌<◌, ◌≤◌, min, List, [], ◌∷◌, ◌++◌, length, Some, refl, sym, ◌∙◌, ap, subst, arith}
 use Rattle.std.specs.List.{All}
 use Rattle.std.proofs.lemmas.List.{map-append, length-append}
 use Rattle.std.proofs.lemmas.List.Elements.{All-nil, All-push, All-pop}
 use Rattle.atomic_table.specs.Seated.{TableId}
 use Rattle.stop_word.specs.declared.views.View.{View}
-use Rattle.stop_word.specs.WordRule.{nothing, view_of, least_of, marks_in, parts_in}
+use Rattle.stop_word.specs.WordRule.{nothing, view_of, least_of, parts_in}
 use Rattle.stop_word.specs.Seats.{SeatValue, known_by, KnowsNothing, AreAllSeats}
 use Rattle.stop_word.proofs.LeastLemmas.{least_small, least-append}
 use Rattle.stop_word.proofs.ViewLemmas.{least_in, least_more, parts_more}
@@ -68,8 +68,7 @@ pub all_cut : (word : TableId) (count : ℕ) (first : SeatValue) (seats : List S
     (length (seats ++ first ∷ []) ≡ count) × AreAllSeats word (seats ++ first ∷ []) × All KnowsNothing (known_by (seats ++ first ∷ []))
 all_cut word count first seats cut =
     let long = length-append seats (first ∷ []) in
-    let sum = parts_of_more seats first in
-    (
+    let sum = parts_of_more seats first in (
       omega (arith, long, cut.counted),
       record {
         at_word = All-push (λ (s : SeatValue). s.word ≡ word) seats first cut.at_word cut.first_at_word;
@@ -116,7 +115,7 @@ one_joined word all before rest whole seat after joined is after_at both =
       parts = omega (arith, joined.parts, sum, parts);
       least = omega (arith, joined.least, lower, marks);
       shown = λ n mine others.
-      joined.shown n (omega (arith, mine, least)) (subst (λ ss. All (λ (v : View). n ≤ v.least) (known_by ss)) (sym is) (all_known (λ (v : View). n ≤ v.least) rest seat others (omega (arith, mine, least))));
+          joined.shown n (omega (arith, mine, least)) (subst (λ ss. All (λ (v : View). n ≤ v.least) (known_by ss)) (sym is) (all_known (λ (v : View). n ≤ v.least) rest seat others (omega (arith, mine, least))));
     }
 
 -- nothing is left to be joined
@@ -125,8 +124,7 @@ pub all_joined : (word : TableId) (all rest : List SeatValue) (whole : SeatValue
 all_joined word all rest whole joined none =
     let no_parts : parts_in (known_by rest) ≡ 0 = ap (λ ss. parts_in (known_by ss)) none in
     let no_marks : least_in (known_by rest) ≡ nothing = ap (λ ss. least_in (known_by ss)) none in
-    let small = least_small whole.knows.marks in
-    (
+    let small = least_small whole.knows.marks in (
       omega (arith, no_parts, joined.parts),
       omega (arith, no_marks, joined.least, small),
       λ n mine. joined.shown n mine (subst (λ ss. All (λ (v : View). n ≤ v.least) (known_by ss)) (sym none) (All-nil _)),

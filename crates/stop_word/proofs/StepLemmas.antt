@@ -1,15 +1,14 @@
 -- What the steps on the stop word ask of its table.
-use Rattle.std.proofs.Common.{◌≡◌, ◌≢◌, ◌⊎◌, ℕ, zero, suc, ◌+◌, ◌-◌, ◌<◌, ◌≤◌, min, List, [], ◌∷◌, ◌++◌, length, set, get_or, refl, sym, ◌∙◌, ap, subst, inl, inr, ⊎_elim, arith}
-use Rattle.std.specs.List.{All}
+use Rattle.std.proofs.Common.{◌≡◌, ℕ, zero, suc, ◌+◌, ◌-◌, ◌<◌, ◌≤◌, min, List, [], ◌∷◌, ◌++◌, set, get_or, refl, sym, ◌∙◌, ap, subst, arith}
 use Rattle.std.proofs.lemmas.List.Elements.{All-nil, All-push, All-append}
 use mathlib.Core.Option.{some, some-injective, some-ne-none}
 use lib.ListN.{get_elem?}
 use Rattle.atomic_table.specs.Table.{State, Me, Allows, keeps, Splits, Joins, Final, Seen}
 use Rattle.atomic_table.proofs.Lists.{set_else}
 use Rattle.stop_word.specs.declared.views.View.{View}
-use Rattle.stop_word.specs.WordRule.{nothing, view_of, least_of, marks_in, parts_in, Fits, MeetsRule, Keeps, Looks, Marks}
+use Rattle.stop_word.specs.WordRule.{nothing, view_of, least_of, marks_in, Fits, MeetsRule, Keeps, Looks, Marks}
 use Rattle.stop_word.proofs.LeastLemmas.{least_small, least-append}
-use Rattle.stop_word.proofs.ViewLemmas.{Each, each_set, each_more, set_mine, parts_set, parts_more, least_in, least_at, least_set, least_spent, least_more, whole_marks}
+use Rattle.stop_word.proofs.ViewLemmas.{each_set, each_more, set_mine, parts_set, parts_more, least_at, least_set, least_spent, least_more, whole_marks}
 
 abbrev pub holds : State ℕ View → Type 0
 holds s = Keeps s.words s.views
@@ -99,8 +98,7 @@ forks id v more s rule there =
     let added = least_more views right in
     let largest = least_small (marks_in s.views) in
     let first : Fits word left = record { at_most = f.at_most; marked = f.marked; small = f.small; idle = λ none. absurd (omega (arith, none, more)) } in
-    let second : Fits word right = record { at_most = f.at_most; marked = omega (arith, f.marked, mine); small = All-nil _; idle = λ _. refl } in
-    (
+    let second : Fits word right = record { at_most = f.at_most; marked = omega (arith, f.marked, mine); small = All-nil _; idle = λ _. refl } in (
       word,
       rule.1,
       record {
@@ -137,8 +135,7 @@ merges id v other w some_part s rule there apart there' =
       small = All-append (λ k. k < 4294967296) v.marks w.marks f.small g.small;
       idle = λ none. absurd (omega (arith, none, some_part));
     } in
-    let second : Fits word spent = record { at_most = omega (arith, meets.word_is, largest); marked = omega arith; small = All-nil _; idle = λ _. refl } in
-    (
+    let second : Fits word spent = record { at_most = omega (arith, meets.word_is, largest); marked = omega arith; small = All-nil _; idle = λ _. refl } in (
       word,
       rule.1,
       record {

@@ -1,13 +1,11 @@
 -- The views of all seats, of which one changes or one is added.
-use Rattle.std.proofs.Common.{◌≡◌, ◌≢◌, ◌⊎◌, ℕ, zero, suc, ◌+◌, ◌<◌, ◌≤◌, min, List, [], ◌∷◌, ◌++◌, set, refl, sym, ◌∙◌, ap, subst, inl, inr, ⊎_elim, arith}
-use Rattle.std.specs.List.{All}
-use Rattle.std.proofs.lemmas.List.Elements.{All-nil, All-append}
+use Rattle.std.proofs.Common.{◌≡◌, ◌≢◌, ℕ, zero, suc, ◌+◌, ◌≤◌, min, List, [], ◌∷◌, ◌++◌, set, refl, sym, ◌∙◌, ap, subst, ⊎_elim, arith}
 use Rattle.std.proofs.lemmas.List.{append-nil}
 use mathlib.Core.Option.{some, some-injective, some-ne-none}
 use lib.ListN.{get_elem?}
 use Rattle.atomic_table.proofs.Lists.{at_set, at_snoc}
 use Rattle.stop_word.specs.declared.views.View.{View}
-use Rattle.stop_word.specs.WordRule.{nothing, least_of, marks_in, parts_in, Fits, MeetsRule}
+use Rattle.stop_word.specs.WordRule.{nothing, least_of, marks_in, parts_in}
 use Rattle.stop_word.proofs.LeastLemmas.{least_small, least-append}
 
 -- each seat has this

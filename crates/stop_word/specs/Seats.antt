@@ -1,5 +1,5 @@
 -- The seats at a stop word.
-use Rattle.std.specs.Prelude.{◌≡◌, ℕ, List, [], map, length}
+use Rattle.std.specs.Prelude.{◌≡◌, List, [], map}
 use Rattle.std.specs.List.{All}
 use Rattle.atomic_table.specs.Seated.{TableId}
 use Rattle.stop_word.specs.declared.views.View.{View}

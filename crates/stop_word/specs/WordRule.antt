@@ -1,5 +1,5 @@
 -- The stop word: the least of all marks. What each seat knows of it, and what a step on it tells.
-use Rattle.std.specs.Prelude.{◌≡◌, ◌≢◌, ℕ, ◌+◌, ◌<◌, ◌≤◌, ◌↔◌, List, [], ◌∷◌, ◌++◌, map, length, min, Option, Some, None}
+use Rattle.std.specs.Prelude.{◌≡◌, ◌≢◌, ℕ, ◌+◌, ◌<◌, ◌≤◌, ◌↔◌, List, [], ◌∷◌, ◌++◌, min, Option, Some, None}
 use Rattle.std.specs.List.{All, Contains, flat_map}
 use mathlib.Core.Option.{some}
 use lib.ListN.{get_elem?}

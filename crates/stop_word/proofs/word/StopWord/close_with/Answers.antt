@@ -1,4 +1,4 @@
-use Rattle.std.proofs.Common.{◌≡◌, ◌≤◌, sym, ◌∙◌, ap, arith}
+use Rattle.std.proofs.Common.{◌≡◌, ◌∙◌, ap, arith}
 use Rattle.stop_word.specs.WordRule.{least_of}
 use Rattle.stop_word.specs.Seats.{SeatValue}
 use Rattle.stop_word.proofs.StepLemmas.{ends}

@@ -1,4 +1,4 @@
-use Rattle.std.proofs.Common.{◌≡◌, ◌<◌, sym, ◌∙◌, ap, subst, arith}
+use Rattle.std.proofs.Common.{sym, ◌∙◌, ap, arith}
 use Rattle.stop_word.specs.Seats.{SeatValue}
 use Rattle.stop_word.proofs.StepLemmas.{merges}
 use Rattle.stop_word.proofs.word.StopWord.join.Goals as goal

@@ -1,4 +1,4 @@
-use Rattle.std.proofs.Common.{◌≡◌, ◌≤◌, IfNone, sym, ◌∙◌, ap, subst, arith}
+use Rattle.std.proofs.Common.{◌≡◌, IfNone, sym, ◌∙◌, ap, subst, arith}
 use Rattle.stop_word.specs.WordRule.{Fits, or_nothing}
 use Rattle.stop_word.specs.Seats.{SeatValue, KnowsNothing}
 use Rattle.stop_word.proofs.StepLemmas.{looks}

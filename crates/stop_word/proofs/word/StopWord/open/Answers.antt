@@ -1,4 +1,4 @@
-use Rattle.std.proofs.Common.{◌≡◌, arith}
+use Rattle.std.proofs.Common.{arith}
 use Rattle.stop_word.proofs.SeatLemmas.{one_cut, all_cut}
 use Rattle.stop_word.proofs.word.StopWord.open.Goals as goal
 
