@@ -1,0 +1,5 @@
+pub mod LeastLemmas
+pub mod ViewLemmas
+pub mod StepLemmas
+pub mod LawLemmas
+pub mod SeatLemmas

@@ -1,0 +1,2 @@
+pub mod WordRule
+pub mod Seats

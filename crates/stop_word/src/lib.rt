@@ -1,0 +1,14 @@
+//! The stop word: a number that workers mark and look at, so that those whose work no answer needs any more may stop. It only falls,
+//! and is the least number that was marked.
+#![tactic(auto)]
+
+pub mod laws;
+mod rule;
+mod seat;
+#[cfg(test)]
+mod tests;
+mod views;
+mod word;
+
+pub use seat::StopSeat;
+pub use word::{MOST_SEATS, StopWord};
