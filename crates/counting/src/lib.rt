@@ -25,6 +25,7 @@ mod source_sets;
 mod taken;
 mod writer;
 
-pub use reads::{Choice, Reader, Reads};
+pub use log::Free;
+pub use reads::{Choice, Reader, Reads, Update};
 pub use refutation::refute;
 pub use shortage::{Shortage, find_shortage};

@@ -7,6 +7,15 @@ use lrat_check::hints::Hints;
 use lrat_check::ids::Ids;
 use std::alloc::{AllocError, Global};
 
+/// Numbers that are free, with all above them.
+#[derive(Clone, Copy)]
+pub struct Free {
+    /// The number of the next clause.
+    pub clause: u32,
+    /// The next variable.
+    pub variable: u32,
+}
+
 /// Steps, up to so many. What does not fit is left out, and then there is no derivation.
 #[derive(Drop)]
 pub struct Log {
@@ -33,14 +42,14 @@ fn literals_of(alloc: Global, codes: &[u32]) -> Result<Vec<Lit>, AllocError> {
 }
 
 impl Log {
-    /// No step. The first clause will have this number, and the first new variable this one.
-    pub fn new(alloc: Global, first_id: u32, first_variable: u32, most_steps: u64) -> Log {
+    /// These steps, to which others are added up to so many in all. What they add has these numbers.
+    pub fn new(alloc: Global, steps: Vec<Step>, free: Free, most_steps: u64) -> Log {
         Log {
             alloc,
-            steps: Vec::new(alloc),
-            next_id: first_id,
-            next_variable: first_variable,
-            left: most_steps,
+            left: most_steps.saturating_sub(steps.len() as u64),
+            steps,
+            next_id: free.clause,
+            next_variable: free.variable,
             is_whole: true,
         }
     }

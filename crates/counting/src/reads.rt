@@ -1,16 +1,23 @@
 //! What a formula says of readers and their sources.
 
 use crate::codes::NEVER;
-use order_closure::tables::{at, size};
+use order_closure::tables::{at, put, size};
 use std::alloc::{AllocError, Global};
 
+/// An update.
+#[derive(Clone, Copy)]
+pub struct Update {
+    /// Its number among all operations, counted from 0.
+    pub operation: u32,
+    /// Its place among the writers of its location, counted from 0 by rising numbers of operations.
+    pub place: u32,
+}
+
 /// A reader that needs a source of its own: an update, or the final value of a location, which no update has read.
-///
-/// The writers of a location are counted from 0, by rising numbers of the operations. An update is one of them.
 #[derive(Clone, Copy)]
 pub struct Reader {
-    /// Its place among the writers of its location, or none where it is the final value.
-    pub place: Option<u32>,
+    /// The update that reads, or none where it is the final value.
+    pub update: Option<Update>,
     /// The number of the clause that says that it has one of its choices, counted from 1.
     pub clause: u32,
 }
@@ -22,7 +29,7 @@ pub struct Reader {
 /// `-s x(r,q)` for all q but r, and that of the final value and the writer w `-s x(q,w)` for all q but w.
 #[derive(Clone, Copy)]
 pub struct Choice {
-    /// The source, counted from 0 among those of all locations. Readers that have the same number compete.
+    /// The source: the number of an operation, or that of the initial value of a location, which is above those of all operations.
     pub source: u32,
     /// The source's place among the writers of its location, or none where it is the initial value.
     pub place: Option<u32>,
@@ -43,8 +50,8 @@ impl Choice {
     /// The number of its clause that forbids this writer to come between, where it is a choice of the reader.
     fn clause_against(self, reader: Reader, writer: u32) -> u32 {
         let mut number = self.first.wrapping_add(writer);
-        if let Some(place) = reader.place {
-            if place < writer {
+        if let Some(update) = reader.update {
+            if update.place < writer {
                 number = number.wrapping_sub(1);
             }
             // The clause that puts the source before the reader comes first.
@@ -96,6 +103,13 @@ impl Reads {
         Ok(())
     }
 
+    /// The choice of this number cannot be made, as the clause of this number says, which has one literal.
+    pub fn exclude(&mut self, number: u32, clause: u32) {
+        let mut choice = self.choice(number);
+        choice.excluded_by = clause;
+        put(self.choices.as_mut_slice(), number, choice);
+    }
+
     /// How many readers there are.
     pub fn readers(&self) -> u32 {
         size(self.readers.as_slice())
@@ -109,7 +123,7 @@ impl Reads {
     /// The reader of this number, counted from 0.
     pub fn reader(&self, number: u32) -> Reader {
         let nobody = Reader {
-            place: None,
+            update: None,
             clause: 0,
         };
         at(self.readers.as_slice(), number, nobody)
@@ -145,17 +159,27 @@ impl Reads {
         let other = self.reader(readers.1);
         let choice = self.choice(choices.0);
         let its_choice = self.choice(choices.1);
-        match (reader.place, other.place) {
-            (Some(place), Some(its_place)) => {
-                let between = choice.clause_against(reader, its_place);
-                let its_between = its_choice.clause_against(other, place);
+        match (reader.update, other.update) {
+            (Some(update), Some(its_update)) => {
+                let between = choice.clause_against(reader, its_update.place);
+                let its_between = its_choice.clause_against(other, update.place);
                 if choice.place.is_none() {
                     return [between, its_between, 0, 0];
                 }
                 [choice.first, its_choice.first, between, its_between]
             }
-            (None, Some(place)) => [choice.clause_against(reader, place), its_choice.first, 0, 0],
-            (Some(place), None) => [its_choice.clause_against(other, place), choice.first, 0, 0],
+            (None, Some(update)) => [
+                choice.clause_against(reader, update.place),
+                its_choice.first,
+                0,
+                0,
+            ],
+            (Some(update), None) => [
+                its_choice.clause_against(other, update.place),
+                choice.first,
+                0,
+                0,
+            ],
             (None, None) => [0; 4],
         }
     }

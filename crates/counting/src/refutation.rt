@@ -2,12 +2,13 @@
 
 ghost use Rattle.std.specs.Prelude.{◌≤◌, length, IfOk, IfSome};
 
+use crate::log::{Free, Log};
 use crate::reads::Reads;
 use crate::rows::Row;
 use crate::shortage::Shortage;
 use crate::taken::Taken;
 use crate::writer::Writer;
-use lrat_check::derivation::Derivation;
+use lrat_check::derivation::{Derivation, Step};
 use std::alloc::{AllocError, Global};
 
 /// A bound on the steps for so many sources: about half of their cube for pairs of readers, and the cube for counts.
@@ -115,34 +116,42 @@ fn add_lines(
     add_last_row(alloc, writer, reads, shortage, &taken, &before)
 }
 
+/// The derivation, if it has no more steps than that.
+pub fn within(derivation: Derivation, budget: u64) -> Option<Derivation>
+    ensures { IfSome result (λ kept. length kept ≤ budget) }
+{
+    let steps = derivation.steps().len() as u64;
+    if steps > budget {
+        return None;
+    }
+    Some(derivation)
+}
+
 /// Writes a derivation that the readers of a shortage do not all have a source of their own, if it surely takes no more steps than the
 /// budget has.
 ///
-/// Its additions have the numbers from `first_id` on, and its new variables those from `first_variable` on. What it cites of the
-/// formula is what `reads` says; if that is wrong, the derivation is refused by a checker.
+/// It begins with `steps`, which say why choices are excluded; their additions have smaller numbers than what is free. What it cites of
+/// the formula is what `reads` says; if that is wrong, the derivation is refused by a checker.
 pub fn refute(
     alloc: Global,
+    steps: Vec<Step>,
     reads: &Reads,
     shortage: &Shortage,
-    first_id: u32,
-    first_variable: u32,
+    free: Free,
     budget: u64,
 ) -> Result<Option<Derivation>, AllocError>
     ensures { IfOk result (λ found. IfSome found (λ derivation. length derivation ≤ budget)) }
 {
     let sources = shortage.sources();
-    let fits = shortage.readers() == sources.wrapping_add(1) && most_steps(sources) <= budget;
+    let expected = most_steps(sources).saturating_add(steps.len() as u64);
+    let fits = shortage.readers() == sources.wrapping_add(1) && expected <= budget;
     if !fits {
         return Ok(None);
     }
-    let mut writer = Writer::new(alloc, first_id, first_variable, budget);
+    let mut writer = Writer::new(alloc, Log::new(alloc, steps, free, budget));
     add_lines(alloc, &mut writer, reads, shortage)?;
     let Some(derivation) = writer.into_derivation() else {
         return Ok(None);
     };
-    let steps = derivation.steps().len() as u64;
-    if steps > budget {
-        return Ok(None);
-    }
-    Ok(Some(derivation))
+    Ok(within(derivation, budget))
 }

@@ -48,10 +48,10 @@ pub struct Writer {
 }
 
 impl Writer {
-    /// No line. The first clause will have this number, and the first new variable this one.
-    pub fn new(alloc: Global, first_id: u32, first_variable: u32, most_steps: u64) -> Writer {
+    /// Writes into this log.
+    pub fn new(alloc: Global, log: Log) -> Writer {
         Writer {
-            log: Log::new(alloc, first_id, first_variable, most_steps),
+            log,
             replay: Replay::new(alloc),
             literals: [NEVER; 3],
         }

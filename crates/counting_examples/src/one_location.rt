@@ -1,7 +1,7 @@
 //! Formulas of traces with one location, in which each writer has a process of its own. Clauses that say that an order is transitive
 //! are left out, since no derivation of this crate cites them.
 
-use counting::{Choice, Reader, Reads};
+use counting::{Choice, Reader, Reads, Update};
 use dimacs::{Clause, Formula, Lit};
 use std::alloc::{AllocError, Global};
 
@@ -135,7 +135,11 @@ impl Spelling {
             numbers.push(i32::try_from(self.variables).unwrap_or(0))?;
         }
         let clause = self.add(numbers.as_slice())?;
-        self.reads.add_reader(Reader { place, clause })?;
+        let update = place.map(|place| Update {
+            operation: place,
+            place,
+        });
+        self.reads.add_reader(Reader { update, clause })?;
         let mut variable = first;
         for source in &sources {
             self.add_choice(place, *source, variable)?;

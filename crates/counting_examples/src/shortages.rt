@@ -1,7 +1,7 @@
 //! Locks, lost updates and final values without enough sources.
 
 use crate::one_location::{Location, Spelling, Writer};
-use counting::{find_shortage, refute};
+use counting::{Free, find_shortage, refute};
 use lrat_check::checker::check;
 use std::alloc::{AllocError, Global};
 use std::test::Fail;
@@ -25,11 +25,13 @@ fn find(alloc: Global, location: Location<'_>, budget: u64) -> Result<Found, All
     let Some(shortage) = find_shortage(alloc, &spelling.reads)? else {
         return Ok(Found::Nothing);
     };
-    let first_id = spelling.count().wrapping_add(1);
-    let first_variable = spelling.variables().wrapping_add(1);
+    let free = Free {
+        clause: spelling.count().wrapping_add(1),
+        variable: spelling.variables().wrapping_add(1),
+    };
     let sources = shortage.sources();
     let reads = &spelling.reads;
-    let refuted = refute(alloc, reads, &shortage, first_id, first_variable, budget)?;
+    let refuted = refute(alloc, Vec::new(alloc), reads, &shortage, free, budget)?;
     let Some(derivation) = refuted else {
         return Ok(Found::Shortage(sources));
     };
