@@ -156,13 +156,14 @@ impl Row {
                 self.is_served(source),
                 NEVER,
             ];
-            writer.begin(literals)?;
-            writer.take(before.one_fewer.get(next, more))?;
-            writer.take(self.clause(next, more, NEEDS_SOURCE))?;
-            writer.take(self.served_only(next))?;
-            writer.take(taken.exclusion(self.reader, next))?;
-            writer.take(before.without_last.get(next, count))?;
-            let known = writer.add()?;
+            let hints = [
+                before.one_fewer.get(next, more),
+                self.clause(next, more, NEEDS_SOURCE),
+                self.served_only(next),
+                taken.exclusion(self.reader, next),
+                before.without_last.get(next, count),
+            ];
+            let known = writer.derive(literals, &hints)?;
             self.set_border(source, count, NEEDS_SOURCE, known);
         }
         Ok(())
@@ -184,13 +185,14 @@ impl Row {
                 self.is_served(source) ^ 1,
                 NEVER,
             ];
-            writer.begin(literals)?;
-            writer.take(before.one_fewer.get(source, source))?;
-            writer.take(self.clause(previous, source, BY_SOURCE))?;
-            writer.take(self.served_only(source))?;
-            writer.take(taken.exclusion(self.reader, source))?;
-            writer.take(before.without_last.get(source, source))?;
-            let known = writer.add()?;
+            let hints = [
+                before.one_fewer.get(source, source),
+                self.clause(previous, source, BY_SOURCE),
+                self.served_only(source),
+                taken.exclusion(self.reader, source),
+                before.without_last.get(source, source),
+            ];
+            let known = writer.derive(literals, &hints)?;
             self.set_border(source, source.wrapping_add(1), BY_SOURCE, known);
         }
         Ok(())
@@ -226,17 +228,18 @@ impl Row {
                     definition.literal,
                     self.at_least(count, previous),
                 ];
-                writer.begin(literals)?;
-                writer.take(definition.clauses[0])?;
-                writer.take(definition.clauses[1])?;
-                writer.take(self.clause(previous, count, BY_BEFORE))?;
-                writer.take(before.without_last.get(source, count))?;
-                writer.take(self.clause(source, count, NEEDS_SOURCE))?;
-                writer.take(self.served_only(source))?;
-                writer.take(self.clause(previous, count, BY_SOURCE))?;
-                writer.take(self.clause(source, count, NEEDS_FEWER))?;
-                writer.take(before.without_last.get(source, count.wrapping_sub(1)))?;
-                let known = writer.add()?;
+                let hints = [
+                    definition.clauses[0],
+                    definition.clauses[1],
+                    self.clause(previous, count, BY_BEFORE),
+                    before.without_last.get(source, count),
+                    self.clause(source, count, NEEDS_SOURCE),
+                    self.served_only(source),
+                    self.clause(previous, count, BY_SOURCE),
+                    self.clause(source, count, NEEDS_FEWER),
+                    before.without_last.get(source, count.wrapping_sub(1)),
+                ];
+                let known = writer.derive(literals, &hints)?;
                 self.without_last.set(source, count, known);
             }
         }
@@ -259,17 +262,18 @@ impl Row {
                     self.at_least(fewer, previous),
                     NEVER,
                 ];
-                writer.begin(literals)?;
-                writer.take(self.clause(previous, fewer, BY_BEFORE))?;
-                writer.take(before.one_fewer.get(source, count))?;
-                writer.take(self.clause(source, count, NEEDS_FEWER))?;
-                writer.take(self.clause(source, count, NEEDS_SOURCE))?;
-                writer.take(before.without_last.get(source, fewer))?;
-                writer.take(taken.exclusion(self.reader, source))?;
-                writer.take(self.served_only(source))?;
-                writer.take(self.clause(previous, fewer, BY_SOURCE))?;
-                writer.take(before.one_fewer.get(source, fewer))?;
-                let known = writer.add()?;
+                let hints = [
+                    self.clause(previous, fewer, BY_BEFORE),
+                    before.one_fewer.get(source, count),
+                    self.clause(source, count, NEEDS_FEWER),
+                    self.clause(source, count, NEEDS_SOURCE),
+                    before.without_last.get(source, fewer),
+                    taken.exclusion(self.reader, source),
+                    self.served_only(source),
+                    self.clause(previous, fewer, BY_SOURCE),
+                    before.one_fewer.get(source, fewer),
+                ];
+                let known = writer.derive(literals, &hints)?;
                 self.one_fewer.set(source, count, known);
             }
         }

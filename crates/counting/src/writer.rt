@@ -99,6 +99,15 @@ impl Writer {
         })
     }
 
+    /// Adds the line of this clause, of which these may be hints, in this order.
+    pub fn derive(&mut self, literals: [u32; 3], hints: &[Known]) -> Result<Known, AllocError> {
+        self.begin(literals)?;
+        for known in hints {
+            self.take(*known)?;
+        }
+        self.add()
+    }
+
     /// Adds a clause of a definition. The clauses that hold the negation of its first literal are true where it is false.
     fn define(&mut self, literals: [u32; 3], opposed: (Known, Known)) -> Result<Known, AllocError> {
         if literals[1] == ALWAYS || literals[2] == ALWAYS {
