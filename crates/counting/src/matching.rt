@@ -1,0 +1,122 @@
+//! A maximum matching of readers and sources.
+
+use crate::reads::Reads;
+use crate::source_sets::SourceSets;
+use order_closure::next_element;
+use order_closure::tables::{at, put, size};
+use std::alloc::{AllocError, Global};
+
+/// Readers with sources of their own, as many as there can be.
+#[derive(Drop)]
+pub struct Matching {
+    possible: SourceSets,
+    readers: u32,
+    /// For each reader its source and one more, or 0.
+    source_of: Vec<u32>,
+    /// For each source its reader and one more, or 0.
+    reader_of: Vec<u32>,
+    /// The sources that the walk at hand has not come to.
+    unseen: Vec<u64>,
+    /// For each source that it has come to the reader from which it came.
+    came_from: Vec<u32>,
+    /// The readers to which it has come.
+    reached: Vec<u32>,
+}
+
+impl Matching {
+    /// A maximum matching: from each reader in turn it is enlarged along an alternating path, if there is one.
+    pub fn of(alloc: Global, reads: &Reads) -> Result<Matching, AllocError> {
+        let possible = SourceSets::of(alloc, reads)?;
+        let sources = reads.sources() as usize;
+        let mut matching = Matching {
+            readers: reads.readers(),
+            source_of: vec![in alloc; 0; reads.readers() as usize]?,
+            reader_of: vec![in alloc; 0; sources]?,
+            unseen: vec![in alloc; 0; possible.words() as usize]?,
+            came_from: vec![in alloc; 0; sources]?,
+            reached: Vec::new(alloc),
+            possible,
+        };
+        for reader in 0..matching.readers {
+            if let Some(source) = matching.walk(reader)? {
+                matching.enlarge(source);
+            }
+        }
+        Ok(matching)
+    }
+
+    /// Whether the reader has no source of its own.
+    pub fn is_free(&self, reader: u32) -> bool {
+        at(self.source_of.as_slice(), reader, 1) == 0
+    }
+
+    /// The readers to which the last walk has come.
+    pub fn reached(&self) -> &[u32] {
+        self.reached.as_slice()
+    }
+
+    /// Takes the sources of this reader that the walk has not come to, up to the first that has no reader. It goes on from
+    /// the readers of the others.
+    fn look_around(&mut self, reader: u32) -> Result<Option<u32>, AllocError> {
+        for number in 0..self.possible.words() {
+            let unseen = at(self.unseen.as_slice(), number, 0);
+            let mut word = self.possible.word(reader, number) & unseen;
+            put(self.unseen.as_mut_slice(), number, unseen & !word);
+            for _ in 0..64 {
+                let Some(source) = next_element(&mut word, number) else {
+                    break;
+                };
+                put(self.came_from.as_mut_slice(), source, reader);
+                let its_reader = at(self.reader_of.as_slice(), source, 0);
+                if its_reader == 0 {
+                    return Ok(Some(source));
+                }
+                self.reached.push(its_reader.wrapping_sub(1))?;
+            }
+        }
+        Ok(None)
+    }
+
+    /// Walks from this reader to possible sources, from a source to its reader, and so on. It ends at a source without a reader, or
+    /// where it has come to all that it can come to.
+    pub fn walk(&mut self, reader: u32) -> Result<Option<u32>, AllocError> {
+        for number in 0..self.possible.words() {
+            put(self.unseen.as_mut_slice(), number, u64::MAX);
+        }
+        self.reached.clear();
+        self.reached.push(reader)?;
+        for place in 0..self.readers {
+            if place >= size(self.reached.as_slice()) {
+                break;
+            }
+            let next = at(self.reached.as_slice(), place, 0);
+            if let Some(source) = self.look_around(next)? {
+                return Ok(Some(source));
+            }
+        }
+        Ok(None)
+    }
+
+    /// Gives each reader on the way that the walk has come to this source the source that comes after it.
+    fn enlarge(&mut self, source: u32) {
+        let mut source = source;
+        for _ in 0..=self.readers {
+            let reader = at(self.came_from.as_slice(), source, 0);
+            let left = at(self.source_of.as_slice(), reader, 0);
+            put(
+                self.source_of.as_mut_slice(),
+                reader,
+                source.wrapping_add(1),
+            );
+            put(
+                self.reader_of.as_mut_slice(),
+                source,
+                reader.wrapping_add(1),
+            );
+            if left == 0 {
+                break;
+            }
+            source = left.wrapping_sub(1);
+        }
+    }
+}

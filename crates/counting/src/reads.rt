@@ -1,0 +1,186 @@
+//! What a formula says of readers and their sources.
+
+use crate::codes::NEVER;
+use order_closure::tables::{at, put, size};
+use std::alloc::{AllocError, Global};
+
+/// An update.
+#[derive(Clone, Copy)]
+pub struct Update {
+    /// Its number among all operations, counted from 0.
+    pub operation: u32,
+    /// Its place among the writers of its location, counted from 0 by rising numbers of operations.
+    pub place: u32,
+}
+
+/// A reader that needs a source of its own: an update, or the final value of a location, which no update has read.
+#[derive(Clone, Copy)]
+pub struct Reader {
+    /// The update that reads, or none where it is the final value.
+    pub update: Option<Update>,
+    /// The number of the clause that says that it has one of its choices, counted from 1.
+    pub clause: u32,
+}
+
+/// A choice: where its variable is true, the reader has its value from this source.
+///
+/// With the variable s and x(i,j) for "i stands before j", the choice of the update r and the writer w has the clauses `-s x(w,r)`,
+/// and then `-s x(q,w) x(r,q)` for all other writers q of the location, by their places. That of r and the initial value has
+/// `-s x(r,q)` for all q but r, and that of the final value and the writer w `-s x(q,w)` for all q but w.
+#[derive(Clone, Copy)]
+pub struct Choice {
+    /// The source: the number of an operation, or that of the initial value of a location, which is above those of all operations.
+    pub source: u32,
+    /// The source's place among the writers of its location, or none where it is the initial value.
+    pub place: Option<u32>,
+    /// The variable.
+    pub variable: u32,
+    /// The number of the first of its clauses, counted from 1.
+    pub first: u32,
+    /// The number of a clause `-s` of one literal, which says that it cannot be made, or 0.
+    pub excluded_by: u32,
+}
+
+impl Choice {
+    /// The code of the literal that says that it is made.
+    pub fn literal(self) -> u32 {
+        self.variable.wrapping_mul(2)
+    }
+
+    /// The number of its clause that forbids this writer to come between, where it is a choice of the reader.
+    fn clause_against(self, reader: Reader, writer: u32) -> u32 {
+        let mut number = self.first.wrapping_add(writer);
+        if let Some(update) = reader.update {
+            if update.place < writer {
+                number = number.wrapping_sub(1);
+            }
+            // The clause that puts the source before the reader comes first.
+            if self.place.is_some() {
+                number = number.wrapping_add(1);
+            }
+        }
+        if let Some(place) = self.place {
+            if place < writer {
+                number = number.wrapping_sub(1);
+            }
+        }
+        number
+    }
+}
+
+/// The readers that need sources of their own, and their choices.
+#[derive(Drop)]
+pub struct Reads {
+    readers: Vec<Reader>,
+    choices: Vec<Choice>,
+    /// Where the choices of each reader begin.
+    begins: Vec<u32>,
+    sources: u32,
+}
+
+impl Reads {
+    /// No reader.
+    pub fn new(alloc: Global) -> Reads {
+        Reads {
+            readers: Vec::new(alloc),
+            choices: Vec::new(alloc),
+            begins: Vec::new(alloc),
+            sources: 0,
+        }
+    }
+
+    /// Adds a reader without choices.
+    pub fn add_reader(&mut self, reader: Reader) -> Result<(), AllocError> {
+        self.begins.push(size(self.choices.as_slice()))?;
+        self.readers.push(reader)?;
+        Ok(())
+    }
+
+    /// Adds a choice of the reader that was added last.
+    pub fn add_choice(&mut self, choice: Choice) -> Result<(), AllocError> {
+        self.sources = self.sources.max(choice.source.saturating_add(1));
+        self.choices.push(choice)?;
+        Ok(())
+    }
+
+    /// The choice of this number cannot be made, as the clause of this number says, which has one literal.
+    pub fn exclude(&mut self, number: u32, clause: u32) {
+        let mut choice = self.choice(number);
+        choice.excluded_by = clause;
+        put(self.choices.as_mut_slice(), number, choice);
+    }
+
+    /// How many readers there are.
+    pub fn readers(&self) -> u32 {
+        size(self.readers.as_slice())
+    }
+
+    /// The number after that of the last source.
+    pub fn sources(&self) -> u32 {
+        self.sources
+    }
+
+    /// The reader of this number, counted from 0.
+    pub fn reader(&self, number: u32) -> Reader {
+        let nobody = Reader {
+            update: None,
+            clause: 0,
+        };
+        at(self.readers.as_slice(), number, nobody)
+    }
+
+    /// The number of the reader's first choice, counted from 0. Its choices stand before the first one of the next reader.
+    pub fn first_choice(&self, reader: u32) -> u32 {
+        at(
+            self.begins.as_slice(),
+            reader,
+            size(self.choices.as_slice()),
+        )
+    }
+
+    /// The choice of this number.
+    pub fn choice(&self, number: u32) -> Choice {
+        let nothing = Choice {
+            source: u32::MAX,
+            place: None,
+            variable: NEVER,
+            first: 0,
+            excluded_by: 0,
+        };
+        at(self.choices.as_slice(), number, nothing)
+    }
+
+    /// Hints that two readers do not have the same source, in the place of which 0 stands where fewer than four are needed.
+    ///
+    /// Each of two updates would stand before the other: where both come after the source, the one between it and the other forbids
+    /// that. And an update that reads the last write comes after it.
+    pub fn hints_of_pair(&self, readers: (u32, u32), choices: (u32, u32)) -> [u32; 4] {
+        let reader = self.reader(readers.0);
+        let other = self.reader(readers.1);
+        let choice = self.choice(choices.0);
+        let its_choice = self.choice(choices.1);
+        match (reader.update, other.update) {
+            (Some(update), Some(its_update)) => {
+                let between = choice.clause_against(reader, its_update.place);
+                let its_between = its_choice.clause_against(other, update.place);
+                if choice.place.is_none() {
+                    return [between, its_between, 0, 0];
+                }
+                [choice.first, its_choice.first, between, its_between]
+            }
+            (None, Some(update)) => [
+                choice.clause_against(reader, update.place),
+                its_choice.first,
+                0,
+                0,
+            ],
+            (Some(update), None) => [
+                its_choice.clause_against(other, update.place),
+                choice.first,
+                0,
+                0,
+            ],
+            (None, None) => [0; 4],
+        }
+    }
+}

@@ -1,0 +1,7 @@
+//! Contradictions of counting, with the checker that their derivations are for.
+#![tactic(auto)]
+
+#[cfg(test)]
+mod one_location;
+#[cfg(test)]
+mod shortages;

@@ -1,0 +1,230 @@
+//! Formulas of traces with one location, in which each writer has a process of its own. Clauses that say that an order is transitive
+//! are left out, since no derivation of this crate cites them.
+
+use counting::{Choice, Reader, Reads, Update};
+use dimacs::{Clause, Formula, Lit};
+use std::alloc::{AllocError, Global};
+
+/// A writer of the location: a write, or an update, which reads too.
+#[derive(Clone, Copy)]
+pub struct Writer {
+    pub reads: Option<u32>,
+    pub leaves: u32,
+}
+
+/// The writers, the value that the location holds at the start, and the one that it holds in the end, if that is known.
+#[derive(Clone, Copy)]
+pub struct Location<'a> {
+    pub writers: &'a [Writer],
+    pub initial: u32,
+    pub last: Option<u32>,
+    pub seed: u64,
+    /// Of 1000 choices so many are excluded.
+    pub excluded: u64,
+}
+
+/// A formula while it is made, and what is said of its readers.
+#[derive(Drop)]
+pub struct Spelling {
+    alloc: Global,
+    writers: u32,
+    variables: u32,
+    random: u64,
+    excluded: u64,
+    clauses: Vec<Clause>,
+    pub reads: Reads,
+}
+
+/// The number of the literal that says that one writer stands before another.
+fn before(writers: u32, first: u32, second: u32) -> i32 {
+    let (low, high) = if first < second {
+        (first, second)
+    } else {
+        (second, first)
+    };
+    let skipped = low.wrapping_mul(writers.wrapping_mul(2).wrapping_sub(low).wrapping_sub(1)) / 2;
+    let number = i32::try_from(skipped.wrapping_add(high.wrapping_sub(low))).unwrap_or(0);
+    if first < second {
+        number
+    } else {
+        number.wrapping_neg()
+    }
+}
+
+impl Spelling {
+    /// The formula of the location, and what is said of its readers.
+    pub fn of(alloc: Global, location: Location<'_>) -> Result<Spelling, AllocError> {
+        let writers = u32::try_from(location.writers.len()).unwrap_or(0);
+        let mut spelling = Spelling {
+            alloc,
+            writers,
+            variables: writers.wrapping_mul(writers.wrapping_sub(1)) / 2,
+            random: location.seed.wrapping_mul(0x9E37_79B9_7F4A_7C15) | 1,
+            excluded: location.excluded,
+            clauses: Vec::new(alloc),
+            reads: Reads::new(alloc),
+        };
+        for place in 0..writers {
+            let value = value_read(location, place);
+            if let Some(value) = value {
+                spelling.add_reader(location, Some(place), value)?;
+            }
+        }
+        if let Some(value) = location.last {
+            spelling.add_reader(location, None, value)?;
+        }
+        Ok(spelling)
+    }
+
+    /// Adds the clause of these numbers. Its own number.
+    fn add(&mut self, numbers: &[i32]) -> Result<u32, AllocError> {
+        let mut literals = Vec::new(self.alloc);
+        for number in numbers {
+            literals.push(Lit::new(*number).unwrap_or_default())?;
+        }
+        self.clauses
+            .push(Clause::from_slice(self.alloc, literals.as_slice())?)?;
+        Ok(self.count())
+    }
+
+    /// How many clauses there are.
+    pub fn count(&self) -> u32 {
+        u32::try_from(self.clauses.len()).unwrap_or(0)
+    }
+
+    /// How many variables there are.
+    pub fn variables(&self) -> u32 {
+        self.variables
+    }
+
+    /// The formula of the clauses.
+    pub fn formula(self) -> Formula {
+        let Spelling {
+            alloc,
+            variables,
+            clauses,
+            ..
+        } = self;
+        if Formula::fits(variables, clauses.as_slice()) {
+            Formula::new(variables, clauses)
+        } else {
+            Formula::new(0, Vec::new(alloc))
+        }
+    }
+
+    /// Adds the clauses of a reader of this value, which is the writer at this place, or the final value.
+    fn add_reader(
+        &mut self,
+        location: Location<'_>,
+        place: Option<u32>,
+        value: u32,
+    ) -> Result<(), AllocError> {
+        let mut sources: Vec<Option<u32>> = Vec::new(self.alloc);
+        if location.initial == value && place.is_some() {
+            sources.push(None)?;
+        }
+        for source in 0..self.writers {
+            if place != Some(source) && value_left(location, source) == Some(value) {
+                sources.push(Some(source))?;
+            }
+        }
+        let mut numbers = Vec::new(self.alloc);
+        let first = self.variables.wrapping_add(1);
+        for _source in &sources {
+            self.variables = self.variables.wrapping_add(1);
+            numbers.push(i32::try_from(self.variables).unwrap_or(0))?;
+        }
+        let clause = self.add(numbers.as_slice())?;
+        let update = place.map(|place| Update {
+            operation: place,
+            place,
+        });
+        self.reads.add_reader(Reader { update, clause })?;
+        let mut variable = first;
+        for source in &sources {
+            self.add_choice(place, *source, variable)?;
+            variable = variable.wrapping_add(1);
+        }
+        Ok(())
+    }
+
+    /// Adds the clauses of a choice.
+    fn add_choice(
+        &mut self,
+        place: Option<u32>,
+        source: Option<u32>,
+        variable: u32,
+    ) -> Result<(), AllocError> {
+        let first = self.count().wrapping_add(1);
+        let made = i32::try_from(variable).unwrap_or(0);
+        if let (Some(reader), Some(source)) = (place, source) {
+            self.add(&[-made, before(self.writers, source, reader)])?;
+        }
+        for writer in 0..self.writers {
+            if place == Some(writer) || source == Some(writer) {
+                continue;
+            }
+            self.add_between(place, source, made, writer)?;
+        }
+        let excluded_by = self.exclude(made)?;
+        self.reads.add_choice(Choice {
+            source: source.unwrap_or(self.writers),
+            place: source,
+            variable,
+            first,
+            excluded_by,
+        })
+    }
+
+    /// Adds the clause which says that the writer does not come between the source and the reader, where the choice is made.
+    fn add_between(
+        &mut self,
+        place: Option<u32>,
+        source: Option<u32>,
+        made: i32,
+        writer: u32,
+    ) -> Result<(), AllocError> {
+        let mut numbers = Vec::new(self.alloc);
+        numbers.push(made.wrapping_neg())?;
+        if let Some(source) = source {
+            numbers.push(before(self.writers, writer, source))?;
+        }
+        if let Some(reader) = place {
+            numbers.push(before(self.writers, reader, writer))?;
+        }
+        let _number = self.add(numbers.as_slice())?;
+        Ok(())
+    }
+
+    /// Adds a clause which says that the choice is not made, if chance wants it. Its number, or 0.
+    fn exclude(&mut self, made: i32) -> Result<u32, AllocError> {
+        self.random ^= self.random << 13;
+        self.random ^= self.random >> 7;
+        self.random ^= self.random << 17;
+        if (self.random >> 32) % 1000 < self.excluded {
+            self.add(&[made.wrapping_neg()])
+        } else {
+            Ok(0)
+        }
+    }
+}
+
+/// What the writer at this place reads, if it is an update.
+fn value_read(location: Location<'_>, place: u32) -> Option<u32> {
+    let place = place as usize;
+    if place < location.writers.len() {
+        location.writers[place].reads
+    } else {
+        None
+    }
+}
+
+/// What the writer at this place leaves.
+fn value_left(location: Location<'_>, place: u32) -> Option<u32> {
+    let place = place as usize;
+    if place < location.writers.len() {
+        Some(location.writers[place].leaves)
+    } else {
+        None
+    }
+}
