@@ -1,6 +1,6 @@
 //! Laws of a certificate's text.
 
-ghost use Rattle.std.specs.Prelude.{◌≡◌, ◌≤◌, ℕ, List, length, true};
+ghost use Rattle.std.specs.Prelude.{◌≡◌, ◌≤◌, ◌⊎◌, ℕ, List, length, true};
 ghost use Rattle.std.specs.List.{list_all};
 ghost use Rattle.cube_tree.specs.CubeTree.{CubeTree, IsCubeTree};
 ghost use Rattle.lrat_check.specs.LratText.{is_lrat_step};
@@ -25,6 +25,12 @@ pub fn one_cert_fault()
 pub fn never_spelled_and_faulty()
     ensures { (text : List ℕ) (certificate : Certificate) (cause : CertCause) (line : ℕ) →
         SpellsCertificate text certificate → HasCertFault text cause line → ⊥ }
+{}
+
+/// Each text spells a certificate or has a first fault.
+pub fn spelled_or_faulty()
+    ensures { (text : List ℕ) →
+        ((certificate : Certificate) × SpellsCertificate text certificate) ⊎ ((cause : CertCause) × (line : ℕ) × HasCertFault text cause line) }
 {}
 
 /// The canonical text of a certificate that can be written spells it.

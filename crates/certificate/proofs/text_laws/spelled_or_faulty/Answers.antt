@@ -1,0 +1,5 @@
+use Rattle.certificate.proofs.EitherLemmas.{spelled_or_refused}
+use Rattle.certificate.proofs.text_laws.spelled_or_faulty.Goals as goal
+
+pub returns : goal.returns
+returns c = spelled_or_refused
