@@ -1,4 +1,5 @@
 mod AdmittedLemmas
+mod CertificateLemmas
 mod DecodeLemmas
 mod EngineLemmas
 mod MeaningLemmas

@@ -1,6 +1,7 @@
 -- What the engine that decides traces answers and writes.
 use Rattle.std.specs.Prelude.{⊤, ℕ, List, [], ◌∷◌, Result, Ok, Err}
-use Rattle.cube_queue.specs.declared.search_fault.SearchFault.TheVariants.{Cut, NoThread}
+use Rattle.cube_queue.specs.declared.search_fault.SearchFault.{SearchFault}
+use Rattle.cube_queue.specs.declared.search_fault.SearchFault.TheVariants.{OutOfMemory as NoMemoryToSearch, Cut, NoThread}
 use Rattle.reducer.specs.declared.reduce_fault.ReduceCause.TheVariants.{StillTooLarge}
 use Rattle.traces.specs.Trace.{TraceValue}
 use Rattle.trace_text.specs.TraceFault.{HasTraceFault}
