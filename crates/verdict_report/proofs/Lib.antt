@@ -1,4 +1,5 @@
 mod AdmittedLemmas
+mod CertificateLemmas
 mod CertifiedLemmas
 mod DecodeLemmas
 mod EngineLemmas

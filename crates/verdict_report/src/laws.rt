@@ -1,6 +1,9 @@
 //! Laws of the texts that are admitted.
 
 ghost use Rattle.std.specs.Prelude.{◌≡◌, ◌⊎◌, ◌↔◌, ℕ, Bool, List};
+ghost use Rattle.certificate.specs.CertText.{SpellsCertificate};
+ghost use Rattle.certificate.specs.Rechecked.{IsRechecked};
+ghost use Rattle.certificate.specs.declared.certificate.Certificate.{Certificate};
 ghost use Rattle.trace_text.specs.declared.trace_fault.TraceCause.{TraceCause};
 ghost use Rattle.trace_text.specs.TraceFault.{HasTraceFault};
 ghost use Rattle.dimacs.specs.Models.{IsModel};
@@ -14,6 +17,9 @@ ghost use Rattle.verdict_report.specs.Admitted.{Admits, IsTooLarge, cnf_of};
 ghost use Rattle.verdict_report.specs.CnfEngine.{Translates};
 ghost use Rattle.verdict_report.specs.LratEngine.{AreAccepted};
 ghost use Rattle.verdict_report.specs.Runs.{SourceRun, HandsOut};
+
+use certificate::laws::accepted_has_no_model;
+use clause_blocks::laws::formula_is_over_its_variables;
 
 /// The same text gives the same clause list, to the byte.
 pub fn one_clause_list()
@@ -50,3 +56,12 @@ pub fn written_text_spells()
 pub fn accepted_proof_shows_no_schedule()
     ensures { (text proof : List ℕ) (value : TraceValue) (names : List OpName) → Admits text value → AreAccepted (cnf_of value) proof → IsLegal value names → ⊥ }
 {}
+
+/// A certificate that is accepted for the clauses of what is kept of an admitted trace shows that the whole trace has no legal schedule.
+pub fn accepted_certificate_shows_no_schedule()
+    ensures { (text cert : List ℕ) (value : TraceValue) (certificate : Certificate) (count : ℕ) (names : List OpName) →
+        Admits text value → SpellsCertificate cert certificate → IsRechecked (clauses_of (kept_trace value)) certificate count → IsLegal value names → ⊥ }
+{
+    accepted_has_no_model();
+    formula_is_over_its_variables();
+}
