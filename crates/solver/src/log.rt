@@ -122,15 +122,18 @@ impl Log {
         })
     }
 
-    /// The derivation of those additions on which the last one rests.
+    /// The derivation of those additions on which the last one rests. Where there is no memory to mark these, it has all of them.
     pub fn derivation(&self, alloc: Global) -> Result<Derivation, AllocError>
         ensures { IfOk result (λ derivation. length derivation ≤ vec_len self.now.ends) }
     {
-        let needed = self.needed(alloc)?;
+        let needed = match self.needed(alloc) {
+            Ok(needed) => needed,
+            Err(_) => Vec::new(alloc),
+        };
         let mut steps = Vec::new(alloc);
         for place in 0..self.ends.len() {
             let addition = u32::try_from(place).unwrap_or(u32::MAX);
-            if at(needed.as_slice(), addition, 0) != 0 {
+            if at(needed.as_slice(), addition, 1) != 0 {
                 steps.push(self.step(alloc, addition)?)?;
             }
         }
