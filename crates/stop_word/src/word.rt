@@ -102,8 +102,9 @@ impl StopWord {
             .fetch_min::<Marking>(&mut seat.seat, 0, k as u64);
     }
 
-    /// The least number that was marked, by any seat, if there is one. It is no more than the least that this seat has marked or been
-    /// shown before. It waits for nobody and takes no memory.
+    /// The word at one moment of the call: the least of all marks, and so a number that some seat has marked, at most the least that this
+    /// seat has marked or been shown. There is none only where this seat has marked nothing and was shown nothing. It waits for nobody
+    /// and takes no memory.
     pub fn look(&self, seat: &mut StopSeat) -> Option<u32>
         requires { seat.old.word ≡ self.now }
         ensures word { seat.new.word ≡ seat.old.word }
