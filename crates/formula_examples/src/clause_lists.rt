@@ -1,7 +1,9 @@
 //! Lists of clauses, however they are kept: what the calls answer.
 
-use crate::traces_of_texts::{HAND_OFF, reduced_of};
+use crate::formulas::literals_of;
+use crate::traces_of_texts::{HAND_OFF, STORE_BUFFERING, reduced_of};
 use clause_blocks::formula::formula;
+use clause_blocks::trace_clauses::TraceClauses;
 use dimacs::{Assignment, Clause, ClauseList, FirstFalse, Formula, ListedClause, Lit};
 use std::alloc::Global;
 use std::process::Abort;
@@ -58,10 +60,44 @@ fn assert_answers<F: ClauseList>(rt: &impl Abort, alloc: Global, list: &F) -> Re
 #[test]
 fn answers_however_it_is_kept(rt: HostRuntime) -> Result<(), Fail> {
     let reduced = reduced_of(&rt, rt.alloc(), HAND_OFF);
+    assert_answers(&rt, rt.alloc(), &TraceClauses::of(rt.alloc(), &reduced)?)?;
     for workers in [1, 2, 8] {
         let formula = formula(rt.alloc(), &rt, &reduced, workers)?;
         assert_answers(&rt, rt.alloc(), &formula)?;
         assert_answers(&rt, rt.alloc(), &PlainList { formula })?;
+    }
+    Ok(())
+}
+
+/// The clauses of store buffering. Its four operations have the order variables 1 to 6, and its two reads 7 and 8.
+const STORE_BUFFERING_CLAUSES: [&[i32]; 14] = [
+    &[1],
+    &[6],
+    &[-1, -4, 2],
+    &[1, 4, -2],
+    &[-1, -5, 3],
+    &[1, 5, -3],
+    &[-2, -6, 3],
+    &[2, 6, -3],
+    &[-4, -6, 5],
+    &[4, 6, -5],
+    &[7],
+    &[-7, 4],
+    &[8],
+    &[-8, -3],
+];
+
+#[test]
+fn gives_each_clause_of_a_trace_by_its_number(rt: HostRuntime) -> Result<(), Fail> {
+    let reduced = reduced_of(&rt, rt.alloc(), STORE_BUFFERING);
+    let list = TraceClauses::of(rt.alloc(), &reduced)?;
+    assert_eq!(rt; list.variables(), 8);
+    assert_eq!(rt; list.count(), STORE_BUFFERING_CLAUSES.len());
+    for place in 0..list.count() {
+        if let Some(expected) = STORE_BUFFERING_CLAUSES.get(place) {
+            let literals = literals_of(rt.alloc(), expected)?;
+            assert!(rt; list.clause(place).as_slice() == literals.as_slice());
+        }
     }
     Ok(())
 }
