@@ -96,3 +96,15 @@ fn keeps_the_limits(rt: HostRuntime) -> Result<(), Fail> {
     assert_refused(&rt, alloc, more.as_slice(), TreeCause::TooManyLeaves, 2049);
     Ok(())
 }
+
+#[test]
+fn a_malformed_split_is_never_too_deep(rt: HostRuntime) -> Result<(), Fail> {
+    let alloc = rt.alloc();
+    let mut text = Vec::new(alloc);
+    for _ in 0..20 {
+        text.extend_from_slice(b"split 1\n")?;
+    }
+    text.extend_from_slice(b"split 0\n")?;
+    assert_refused(&rt, alloc, text.as_slice(), TreeCause::BadLine, 21);
+    Ok(())
+}
