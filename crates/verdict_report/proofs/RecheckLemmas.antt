@@ -8,13 +8,13 @@ use Rattle.certificate.specs.declared.cert_fault.CertCause.{CertCause}
 use Rattle.certificate.specs.declared.certificate.Certificate.{Certificate}
 use Rattle.clause_blocks.specs.Clauses.{clauses_of}
 use Rattle.dimacs.specs.Models.{IsModel}
-use Rattle.reducer.specs.Reduced.{ReducedValue, IsReduced, HasReduceFault, operation_count}
+use Rattle.reducer.specs.Reduced.{ReducedValue, IsReduced, HasReduceFault}
 use Rattle.reducer.specs.declared.reduce_fault.ReduceCause.{ReduceCause}
 use Rattle.reducer.specs.declared.reduce_fault.ReduceCause.TheVariants.{StillTooLarge}
 use Rattle.text_lines.specs.Fault.{IsRefusal}
 use Rattle.text_lines.specs.declared.fault.Fault.{Fault as PartFault}
 use Rattle.text_lines.specs.declared.fault.Fault.TheVariants.{OutOfMemory as NoPartMemory, At}
-use Rattle.traces.specs.Trace.{TraceValue, IsTrace}
+use Rattle.traces.specs.Trace.{TraceValue, IsTrace, operation_count}
 use Rattle.trace_text.specs.TraceText.{SpellsTrace}
 use Rattle.verdict_report.specs.declared.fault.Fault.{Fault}
 use Rattle.verdict_report.specs.declared.fault.Fault.TheVariants.{OutOfMemory, Device, InputTooLong, Trace, Schedule, Model, Cnf, Lrat, Reduce, Decode, Check, Cert, Search}
