@@ -58,9 +58,7 @@ pub fn suits_a_schedule(trail: &OrderedTrail<'_>) -> bool {
             first = first.wrapping_add(1);
         }
     }
-    trail.readings.is_some()
-        && first.wrapping_mul(2) < elements
-        && states(trail) < MOST_STATES
+    trail.readings.is_some() && first.wrapping_mul(2) < elements && states(trail) < MOST_STATES
 }
 
 /// The owner of the set of elements so far.

@@ -49,5 +49,6 @@ pub fn solve<L: ClauseList>(
     }
     let mut second = Attempt::new(alloc, variables, formula, cube, guide)?;
     second.go_along_a_schedule()?;
-    take_turns(&mut second, &mut first, left)
+    let answer = take_turns(&mut second, &mut first, left)?;
+    Ok(answer)
 }

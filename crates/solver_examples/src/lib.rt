@@ -15,6 +15,8 @@ mod formulas;
 #[cfg(test)]
 mod guides;
 #[cfg(test)]
+mod locks;
+#[cfg(test)]
 mod plain_checker;
 #[cfg(test)]
 mod plain_solver;
@@ -22,3 +24,5 @@ mod plain_solver;
 mod random_formulas;
 #[cfg(test)]
 mod reads;
+#[cfg(test)]
+mod traced;

@@ -270,8 +270,5 @@ pub fn plain_check(
             }
         }
     }
-    Err(Refusal::At(
-        StepFault::NoEmptyClause,
-        number.wrapping_add(1),
-    ))
+    Err(Refusal::At(StepFault::NoEmptyClause, number.wrapping_add(1)))
 }
