@@ -31,8 +31,26 @@ enum Standing {
     Satisfied,
     /// All are false.
     Falsified,
-    /// This one alone is open, or it is the first of several.
-    Open(Lit, bool),
+    /// This one alone is open, and all others are false.
+    Unit(Lit),
+    /// This one is the first of several that are open.
+    Open(Lit),
+}
+
+/// How a clause stands with one more literal, which is open.
+fn with_open(standing: Standing, literal: Lit) -> Standing {
+    match standing {
+        Standing::Satisfied => Standing::Satisfied,
+        Standing::Falsified => Standing::Unit(literal),
+        Standing::Unit(first) => {
+            if first.number() == literal.number() {
+                standing
+            } else {
+                Standing::Open(first)
+            }
+        }
+        Standing::Open(first) => Standing::Open(first),
+    }
 }
 
 /// How the clause stands.
@@ -43,15 +61,27 @@ fn standing_of(clause: &[Lit], trail: &[Tried]) -> Standing {
             return Standing::Satisfied;
         }
         if !is_true(trail, literal.negated().number()) {
-            standing = match standing {
-                Standing::Open(first, is_alone) => {
-                    Standing::Open(first, is_alone && first.number() == literal.number())
-                }
-                _ => Standing::Open(*literal, true),
-            };
+            standing = with_open(standing, *literal);
         }
     }
     standing
+}
+
+/// What is asked for by clauses and by one more, which stands so: that one is false before that one leaves a literal alone, and this
+/// before that a literal can be decided.
+fn more_urgent(next: Standing, standing: Standing) -> Standing {
+    match standing {
+        Standing::Satisfied => next,
+        Standing::Falsified => Standing::Falsified,
+        Standing::Unit(literal) => match next {
+            Standing::Falsified => next,
+            _ => Standing::Unit(literal),
+        },
+        Standing::Open(literal) => match next {
+            Standing::Satisfied => Standing::Open(literal),
+            _ => next,
+        },
+    }
 }
 
 /// What the clauses ask for: a literal that one of them leaves alone, else one that can be decided. Falsified where one of them is,
@@ -59,16 +89,7 @@ fn standing_of(clause: &[Lit], trail: &[Tried]) -> Standing {
 fn next_of(clauses: &[Clause], trail: &[Tried]) -> Standing {
     let mut next = Standing::Satisfied;
     for clause in clauses {
-        match standing_of(clause.as_slice(), trail) {
-            Standing::Satisfied => {}
-            Standing::Falsified => return Standing::Falsified,
-            Standing::Open(literal, true) => next = Standing::Open(literal, true),
-            Standing::Open(literal, false) => {
-                if !matches!(next, Standing::Open(_, true)) {
-                    next = Standing::Open(literal, false);
-                }
-            }
-        }
+        next = more_urgent(next, standing_of(clause.as_slice(), trail));
     }
     next
 }
@@ -116,9 +137,13 @@ pub fn has_model(
                     return Ok(Some(false));
                 }
             }
-            Standing::Open(literal, is_alone) => trail.push(Tried {
+            Standing::Unit(literal) => trail.push(Tried {
                 literal,
-                is_decision: !is_alone,
+                is_decision: false,
+            })?,
+            Standing::Open(literal) => trail.push(Tried {
+                literal,
+                is_decision: true,
             })?,
         }
     }
