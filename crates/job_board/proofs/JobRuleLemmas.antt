@@ -1,15 +1,13 @@
 -- What the steps on the job channel ask of its rule.
-use Rattle.std.proofs.Common.{◌≡◌, ◌≢◌, ◌⊎◌, ℕ, ◌+◌, ◌<◌, ◌≤◌, List, [], ◌∷◌, ◌++◌, length, slice_index_or, Option, Some, None, refl, sym, ◌∙◌, ap, subst, inl, inr, ⊎_elim, arith}
-use mathlib.Core.Option.{some}
-use lib.ListN.{get_elem?}
+use Rattle.std.proofs.Common.{◌≡◌, ℕ, ◌+◌, List, [], ◌∷◌, ◌++◌, length, refl, sym, ◌∙◌, ap, subst}
 use Rattle.std.proofs.lemmas.List.{append_assoc}
 use Rattle.crossbeam_channel.specs.Fifo.{Pushes, Pops, Learns, Forks, Merges}
-use Rattle.job_board.specs.Merge.{Marked, marked, unmarked, IsMergeOf}
+use Rattle.job_board.specs.Merge.{unmarked}
 use Rattle.job_board.specs.ChannelRules.{Fits, IsDealt, TakesAccount}
 use Rattle.job_board.specs.declared.channel_view.ChannelView.{ChannelView}
 use Rattle.job_board.specs.declared.channel_view.ChannelView.TheVariants.{One, Worker, Spent}
-use Rattle.job_board.proofs.MergeLemmas.{mark_of, marked_same, marked_other, unmarked_more}
-use Rattle.job_board.proofs.ViewLemmas.{Each, each_set}
+use Rattle.job_board.proofs.MergeLemmas.{mark_of, marked_same, unmarked_more}
+use Rattle.job_board.proofs.ViewLemmas.{each_set}
 use Rattle.job_board.proofs.PassLemmas.{one_more, logged, all_parts, cut_each, join_each}
 
 module _ {X : Type 0} where
@@ -30,8 +28,8 @@ module _ {X : Type 0} where
           seat,
           log,
           each_set (Fits one seat log (unmarked log ++ items)) (Fits one seat log more) views pass w rule.3
-          (λ p v apart fits. one_more one seat log (unmarked log ++ items) more p v (λ e. apart (e ∙ sym mine.0)) fits)
-          (mine.0, longer, mine.2, mine.3, mine.4),
+              (λ p v apart fits. one_more one seat log (unmarked log ++ items) more p v (λ e. apart (e ∙ sym mine.0)) fits)
+              (mine.0, longer, mine.2, mine.3, mine.4),
         ),
         refl,
       )
@@ -52,17 +50,17 @@ module _ {X : Type 0} where
           seat,
           log',
           each_set (Fits one seat log (unmarked log ++ (x ∷ items))) (Fits one seat log' (unmarked log' ++ items)) views pass w rule.3
-          (λ p v apart fits. subst (λ (all : List X). Fits one seat log' all p v) same (logged one seat log (unmarked log ++ (x ∷ items)) number pass x mine.0 p v apart fits))
-          (mine.0, ap (λ (l : List X). l ++ x ∷ []) mine.1 ∙ sym (marked_same number log x)),
+              (λ p v apart fits. subst (λ (all : List X). Fits one seat log' all p v) same (logged one seat log (unmarked log ++ (x ∷ items)) number pass x mine.0 p v apart fits))
+              (mine.0, ap (λ (l : List X). l ++ x ∷ []) mine.1 ∙ sym (marked_same number log x)),
         ),
         refl,
       )
 
   -- what the dealer learns, once all workers are joined
   pub learns : (pass : ℕ) (v : ChannelView X) → Learns (IsDealt {X = X}) pass v (TakesAccount v)
-  learns pass (One put made joined) items views rule there all =
+  learns pass (One put made joined) items views rule there =
       let mine = rule.3 pass (One put made joined) there in
-      (unmarked rule.2, (rule.2, refl, all_parts rule.0 rule.1 rule.2 (unmarked rule.2 ++ items) pass put made joined mine all), mine.1)
+      λ all. (unmarked rule.2, (rule.2, refl, all_parts rule.0 rule.1 rule.2 (unmarked rule.2 ++ items) pass put made joined mine all), mine.1)
   learns pass (Worker number list) items views rule there = tt
   learns pass Spent items views rule there = tt
 

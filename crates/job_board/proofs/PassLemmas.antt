@@ -1,5 +1,5 @@
 -- A worker's pass is cut off that of the one seat, and joined into it again.
-use Rattle.std.proofs.Common.{◌≡◌, ◌≢◌, ◌⊎◌, ℕ, ◌+◌, ◌<◌, ◌≤◌, List, [], ◌∷◌, ◌++◌, length, set, slice_index_or, Bool, true, false, cond, Option, Some, None, eq-eqb, ne_eqb, refl, sym, ◌∙◌, ap, subst, inl, inr, ⊎_elim, arith, ◌==◌}
+use Rattle.std.proofs.Common.{◌≡◌, ◌≢◌, ℕ, ◌+◌, ◌<◌, ◌≤◌, List, [], ◌∷◌, ◌++◌, length, set, slice_index_or, Bool, cond, Option, Some, None, eq-eqb, ne_eqb, refl, sym, ◌∙◌, ap, subst, ⊎_elim, arith, ◌==◌}
 use mathlib.Core.Option.{some}
 use lib.ListN.{get_elem?}
 use Rattle.std.proofs.lemmas.Bool.{cases_lt}
@@ -38,14 +38,13 @@ module _ {X : Type 0} where
 module _ {X : Type 0} (one : ℕ) (seat : ℕ → Option ℕ) (log : List (Marked X)) (all : List X) where
   -- another pass, where the worker of this one took or gave an item
   pub logged : (number id : ℕ) (x : X) → seat number ≡ Some id → (pass : ℕ) (v : ChannelView X) → pass ≢ id → Fits one seat log all pass v → Fits one seat (log ++ mark_of number x ∷ []) all pass v
-  logged number id x here pass (One list made joined) apart fits =
-      (
-        fits.0,
-        fits.1,
-        λ k late. (let h = fits.2 k late in (h.0, marked_other k number log x (λ e. none_some id (sym h.0 ∙ ap seat (sym e) ∙ here)) ∙ h.1)),
-        λ k early. (let h = fits.3 k early in (h.0, marked_other k number log x (λ e. none_some id (sym h.0 ∙ ap seat (sym e) ∙ here)) ∙ h.1)),
-        fits.4,
-      )
+  logged number id x here pass (One list made joined) apart fits = (
+    fits.0,
+    fits.1,
+    λ k late. (let h = fits.2 k late in (h.0, marked_other k number log x (λ e. none_some id (sym h.0 ∙ ap seat (sym e) ∙ here)) ∙ h.1)),
+    λ k early. (let h = fits.3 k early in (h.0, marked_other k number log x (λ e. none_some id (sym h.0 ∙ ap seat (sym e) ∙ here)) ∙ h.1)),
+    fits.4,
+  )
   logged number id x here pass (Worker j list) apart fits =
       (fits.0, fits.1 ∙ sym (marked_other j number log x (λ e. apart (some_same pass id (sym fits.0 ∙ ap seat (sym e) ∙ here)))))
   logged number id x here pass Spent apart fits = tt
@@ -75,14 +74,13 @@ module _ {X : Type 0} (one : ℕ) (seat : ℕ → Option ℕ) (log : List (Marke
       let long : length (set views pass left) ≡ new = length-set views pass left in
       each_more (Fits one seat' log all) (set views pass left) (Worker made [])
       (each_set (Fits one seat log all) (Fits one seat' log all) views pass left each
-        (λ p v apart fits. seated made new p v free.0 (λ e. apart (e ∙ sym mine.0)) fits)
-        (
-          mine.0,
-          mine.1,
-          λ k late. (let h = mine.2 k (omega (arith, late)) in (seat_other seat made (Some new) k (λ e. omega (arith, e, late)) ∙ h.0, h.1)),
-          λ k early. (let h = mine.3 k early in (seat_other seat made (Some new) k (λ e. let few = mine.4 in omega (arith, e, early, few)) ∙ h.0, h.1)),
-          (let few = mine.4 in omega (arith, few)),
-        ))
+      (λ p v apart fits. seated made new p v free.0 (λ e. apart (e ∙ sym mine.0)) fits) (
+        mine.0,
+        mine.1,
+        λ k late. (let h = mine.2 k (omega (arith, late)) in (seat_other seat made (Some new) k (λ e. omega (arith, e, late)) ∙ h.0, h.1)),
+        λ k early. (let h = mine.3 k early in (seat_other seat made (Some new) k (λ e. let few = mine.4 in omega (arith, e, early, few)) ∙ h.0, h.1)),
+        (let few = mine.4 in omega (arith, few)),
+      ))
       (seat_same seat made (Some new) ∙ ap Some (sym long), sym free.1)
 
   -- another pass, where a worker is joined
@@ -107,9 +105,9 @@ module _ {X : Type 0} (one : ℕ) (seat : ℕ → Option ℕ) (log : List (Marke
       ⊎_elim
       (λ (low : k < length joined). before low ∙ sym (get_or_append_left joined (taken ∷ []) [] k low))
       (λ (high : length joined ≤ k).
-        let here : k ≡ length joined + 0 = omega (arith, early, high) in
-        subst (λ (i : ℕ). marked i log ≡ slice_index_or (joined ++ taken ∷ []) i []) (sym here)
-        (subst (λ (i : ℕ). marked i log ≡ slice_index_or (joined ++ taken ∷ []) (length joined + 0) []) (sym (omega arith)) (sym is ∙ sym (get_or-append-add joined (taken ∷ []) 0 []))))
+      let here : k ≡ length joined + 0 = omega (arith, early, high) in
+      subst (λ (i : ℕ). marked i log ≡ slice_index_or (joined ++ taken ∷ []) i []) (sym here)
+      (subst (λ (i : ℕ). marked i log ≡ slice_index_or (joined ++ taken ∷ []) (length joined + 0) []) (sym (omega arith)) (sym is ∙ sym (get_or-append-add joined (taken ∷ []) 0 []))))
       (cases_lt k (length joined))
 
   pub join_each : (views : List (ChannelView X)) (pass : ℕ) (list : List X) (made : ℕ) (joined : List (List X)) (other number : ℕ) (taken : List X) → Each (Fits one seat log all) views →
@@ -127,12 +125,12 @@ module _ {X : Type 0} (one : ℕ) (seat : ℕ → Option ℕ) (log : List (Marke
       each_set (Fits one seat log all) Q views pass both each
       (λ p v far fits away. unseated number other p v theirs.0 (λ e. far (e ∙ sym mine.0)) away fits)
       (λ away. (
-          mine.0,
-          mine.1,
-          λ k late. (seat_other seat number None k (λ e. omega (arith, e, late, low)) ∙ (mine.2 k late).0, (mine.2 k late).1),
-          λ k early. (seat_free k early mine.3, joined_more joined taken k (λ h. (mine.3 k h).1) (subst (λ (i : ℕ). taken ≡ marked i log) next theirs.1) (omega (arith, early, long))),
-          omega (arith, long, next, low),
-        )) in
+        mine.0,
+        mine.1,
+        λ k late. (seat_other seat number None k (λ e. omega (arith, e, late, low)) ∙ (mine.2 k late).0, (mine.2 k late).1),
+        λ k early. (seat_free k early mine.3, joined_more joined taken k (λ h. (mine.3 k h).1) (subst (λ (i : ℕ). taken ≡ marked i log) next theirs.1) (omega (arith, early, long))),
+        omega (arith, long, next, low),
+      )) in
       each_set Q (Fits one seat' log all) (set views pass both) other Spent first (λ p v away fits. fits away) tt
     where
       seat_free : (k : ℕ) → k < length (joined ++ taken ∷ []) → ((j : ℕ) → j < length joined → (seat j ≡ None) × (marked j log ≡ slice_index_or joined j [])) → with_seat seat number None k ≡ None
@@ -140,7 +138,7 @@ module _ {X : Type 0} (one : ℕ) (seat : ℕ → Option ℕ) (log : List (Marke
           ⊎_elim
           (λ (low : k < length joined). seat_other seat number None k (λ e. omega (arith, e, low, next)) ∙ (before k low).0)
           (λ (high : length joined ≤ k).
-            let long = length-append joined (taken ∷ []) in
-            let same : k ≡ number = omega (arith, early, high, next, long) in
-            ap (with_seat seat number None) same ∙ seat_same seat number None)
+          let long = length-append joined (taken ∷ []) in
+          let same : k ≡ number = omega (arith, early, high, next, long) in
+          ap (with_seat seat number None) same ∙ seat_same seat number None)
           (cases_lt k (length joined))

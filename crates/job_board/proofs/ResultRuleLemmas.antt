@@ -1,12 +1,11 @@
 -- What the steps on the result channel ask of its rule.
-use Rattle.std.proofs.Common.{◌≡◌, ◌≢◌, ◌⊎◌, ℕ, ◌+◌, ◌<◌, ◌≤◌, List, [], ◌∷◌, ◌++◌, length, slice_index_or, Option, Some, None, refl, sym, ◌∙◌, ap, subst, arith}
+use Rattle.std.proofs.Common.{◌≡◌, ℕ, ◌+◌, List, [], ◌∷◌, ◌++◌, length, refl, sym, ◌∙◌, ap}
 use Rattle.std.proofs.lemmas.List.{append_assoc}
 use Rattle.crossbeam_channel.specs.Fifo.{Pushes, Pops, Learns, Forks, Merges}
-use Rattle.job_board.specs.Merge.{Marked, marked, unmarked, IsMergeOf}
 use Rattle.job_board.specs.ChannelRules.{Fits, IsGathered, GivesAccount}
 use Rattle.job_board.specs.declared.channel_view.ChannelView.{ChannelView}
 use Rattle.job_board.specs.declared.channel_view.ChannelView.TheVariants.{One, Worker, Spent}
-use Rattle.job_board.proofs.MergeLemmas.{mark_of, marked_same, marked_other, unmarked_more}
+use Rattle.job_board.proofs.MergeLemmas.{mark_of, marked_same, unmarked_more}
 use Rattle.job_board.proofs.ViewLemmas.{each_set}
 use Rattle.job_board.proofs.PassLemmas.{one_more, logged, all_parts, cut_each, join_each}
 
@@ -38,7 +37,7 @@ module _ {X : Type 0} where
           got,
           unmarked_more number log x ∙ ap (λ (l : List X). l ++ x ∷ []) rule.4 ∙ append_assoc got items (x ∷ []),
           each_set (Fits one seat log got) (Fits one seat log' got) views pass w rule.5 (logged one seat log got number pass x mine.0)
-          (mine.0, ap (λ (l : List X). l ++ x ∷ []) mine.1 ∙ sym (marked_same number log x)),
+              (mine.0, ap (λ (l : List X). l ++ x ∷ []) mine.1 ∙ sym (marked_same number log x)),
         ),
         refl,
       )
@@ -61,16 +60,16 @@ module _ {X : Type 0} where
           more,
           rule.4 ∙ sym (append_assoc got (x ∷ []) items),
           each_set (Fits one seat log got) (Fits one seat log more) views pass w rule.5
-          (λ p v apart fits. one_more one seat log got more p v (λ e. apart (e ∙ sym mine.0)) fits)
-          (mine.0, ap (λ (l : List X). l ++ x ∷ []) mine.1, mine.2, mine.3, mine.4),
+              (λ p v apart fits. one_more one seat log got more p v (λ e. apart (e ∙ sym mine.0)) fits)
+              (mine.0, ap (λ (l : List X). l ++ x ∷ []) mine.1, mine.2, mine.3, mine.4),
         ),
         refl,
       )
 
   -- what the collector learns, once all workers are joined
   pub learns : (pass : ℕ) (v : ChannelView X) → Learns (IsGathered {X = X}) pass v (GivesAccount v)
-  learns pass (One got made joined) items views rule there all =
+  learns pass (One got made joined) items views rule there =
       let mine = rule.5 pass (One got made joined) there in
-      (rule.2, ap (λ (l : List X). l ++ items) mine.1 ∙ sym rule.4, all_parts rule.0 rule.1 rule.2 rule.3 pass got made joined mine all)
+      λ all. (rule.2, ap (λ (l : List X). l ++ items) mine.1 ∙ sym rule.4, all_parts rule.0 rule.1 rule.2 rule.3 pass got made joined mine all)
   learns pass (Worker number list) items views rule there = tt
   learns pass Spent items views rule there = tt

@@ -4,7 +4,7 @@ ghost use Rattle.job_board.specs.declared.channel_view.ChannelView.TheVariants.{
 ghost use Rattle.job_board.specs.ChannelRules.{IsDealt, IsGathered};
 
 use crate::channel_view::ChannelView;
-use crossbeam_channel::Protocol;
+use crossbeam_channel::protocol::Protocol;
 
 /// The rule of the job channel.
 pub struct JobRule;

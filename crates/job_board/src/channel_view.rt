@@ -11,7 +11,10 @@ pub enum ChannelView<T> {
         joined: LinkedList<LinkedList<T>>,
     },
     /// A worker: its number, and what it took or gave.
-    Worker { number: u32, list: LinkedList<T> },
+    Worker {
+        number: u32,
+        list: LinkedList<T>,
+    },
     /// A seat that was joined into another.
     Spent,
 }
