@@ -1,5 +1,4 @@
-//! Formulas of traces with one location, in which each writer has a process of its own. Clauses that say that an order is transitive
-//! are left out, since no derivation of this crate cites them.
+//! Formulas of traces with one location, in which each writer has a process of its own.
 
 use counting::{Choice, Reader, Reads, Update};
 use dimacs::{Clause, Formula, Lit};
@@ -64,6 +63,7 @@ impl Spelling {
             clauses: Vec::new(alloc),
             reads: Reads::new(alloc),
         };
+        spelling.add_order()?;
         for place in 0..writers {
             let value = value_read(location, place);
             if let Some(value) = value {
@@ -74,6 +74,22 @@ impl Spelling {
             spelling.add_reader(location, None, value)?;
         }
         Ok(spelling)
+    }
+
+    /// Adds the clauses which say that the order of the writers is transitive.
+    fn add_order(&mut self) -> Result<(), AllocError> {
+        let count = self.writers;
+        for i in 0..count {
+            for j in i.saturating_add(1)..count {
+                for k in j.saturating_add(1)..count {
+                    let steps = (before(count, i, j), before(count, j, k));
+                    let all = before(count, i, k);
+                    self.add(&[steps.0.wrapping_neg(), steps.1.wrapping_neg(), all])?;
+                    self.add(&[steps.0, steps.1, all.wrapping_neg()])?;
+                }
+            }
+        }
+        Ok(())
     }
 
     /// Adds the clause of these numbers. Its own number.
