@@ -114,7 +114,8 @@ impl Elimination {
             if choice.excluded_by == 0 {
                 literals.push(self.order.before(choice.source, operation))?;
                 hints.push(i64::from(choice.first))?;
-                self.sources.set(place, self.place_of(choice.source), 1);
+                let source = self.place_of(choice.source);
+                self.sources.set(place, source, 1);
             } else {
                 hints.push(i64::from(choice.excluded_by))?;
             }
