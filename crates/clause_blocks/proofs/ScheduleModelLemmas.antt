@@ -2,7 +2,7 @@
 use Rattle.std.proofs.Common.{◌≡◌, ◌⊎◌, ℕ, ◌+◌, ◌-◌, ◌<◌, ℤ, pos, neg_ℤ, List, [], ◌∷◌, length, map, Bool, true, false, not, ◌||◌, refl, ap, sym, ◌∙◌, arith, inl, inr, subst}
 use Rattle.std.specs.Prelude.{◌≢◌, ◌==◌, Option, Some, None, IsSome}
 use Rattle.std.specs.List.{Contains, filter, flat_map, list_all}
-use Rattle.std.proofs.lemmas.Bool.{and_parts, and_from, eqb-true}
+use Rattle.std.proofs.lemmas.Bool.{and_parts, and_from, eqb-true, or_cases}
 use Rattle.std.proofs.lemmas.List.Elements.{All-contains}
 use Rattle.dimacs.specs.Assignment.{makes_true, makes_some}
 use Rattle.traces.specs.declared.operation.OpName.{OpName}
@@ -50,10 +50,6 @@ or_from : (a b : Bool) → (a ≡ true) ⊎ (b ≡ true) → (a || b) ≡ true
 or_from true b h = refl
 or_from false b (inl h) = absurd (cc)
 or_from false b (inr h) = h
-
-or_cases : (a b : Bool) → (a || b) ≡ true → (a ≡ true) ⊎ (b ≡ true)
-or_cases true b h = inl refl
-or_cases false b h = inr h
 
 pub to_meets : (ahead : ℕ → ℕ → Bool) (t : TraceValue) (r : ℕ) (c : Candidate) → Meets ahead t r c → meets ahead t r c ≡ true
 to_meets ahead t r InitialValue m = pass_all (ahead r) (other_writers t r) m

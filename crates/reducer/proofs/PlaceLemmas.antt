@@ -1,8 +1,9 @@
 -- The names of a process by place, and how a list of them is cut.
-use Rattle.std.proofs.Common.{◌≡◌, ◌≤◌, ◌+◌, ℕ, zero, suc, List, [], ◌∷◌, ◌++◌, length, Bool, true, false, cond, refl, ap, sym, ◌∙◌, arith}
+use Rattle.std.proofs.Common.{◌≡◌, ◌+◌, ℕ, zero, suc, List, [], ◌∷◌, ◌++◌, length, Bool, true, false, cond, refl, ap, sym, ◌∙◌, arith}
 use Rattle.std.specs.Prelude.{Option, Some, None, IsSome}
 use Rattle.std.specs.List.{Contains, filter, filter_map, cons_option, slice_get}
 use Rattle.std.specs.Option.{option_and_then}
+use Rattle.text_lines.proofs.ListLemmas.{get_behind}
 use Rattle.traces.specs.declared.operation.OpName.{OpName}
 use Rattle.traces.specs.Trace.{at_place, first_names}
 use Rattle.traces.proofs.ElementLemmas.{head_in, tail_in}
@@ -73,14 +74,6 @@ filter_append {A} p (x ∷ xs) ys = at (p x) (filter_append p xs ys)
     at true e = ap (λ l. x ∷ l) e
     at false e = e
 
-pub few_filtered : {A : Type 0} (p : A → Bool) (xs : List A) → length (filter p xs) ≤ length xs
-few_filtered p [] = omega arith
-few_filtered {A} p (x ∷ xs) = at (p x) (few_filtered p xs)
-  where
-    at : (b : Bool) → length (filter p xs) ≤ length xs → length (cond b (x ∷ filter p xs) (filter p xs)) ≤ length (x ∷ xs)
-    at true l = omega (arith, l)
-    at false l = omega (arith, l)
-
 pub record Chosen {A : Type 0} (p : A → Bool) (xs : List A) (i : ℕ) (x : A) : Type 0 where
   pub front : List A
   pub back : List A
@@ -114,10 +107,6 @@ chosen_at p y ys i x false h more e =
 pub chosen : {A : Type 0} (p : A → Bool) (xs : List A) (i : ℕ) (x : A) → slice_get (filter p xs) i ≡ Some x → Chosen p xs i x
 chosen p [] i x e = absurd (cc)
 chosen p (y ∷ ys) i x e = chosen_at p y ys i x (p y) refl (λ j f. chosen p ys j x f) e
-
-pub get_behind : {A : Type 0} (xs : List A) (y : A) (ys : List A) → slice_get (xs ++ y ∷ ys) (length xs) ≡ Some y
-get_behind [] y ys = refl
-get_behind (x ∷ xs) y ys = get_behind xs y ys
 
 pub choose : {A : Type 0} (p : A → Bool) (front : List A) (x : A) (back : List A) → p x ≡ true → slice_get (filter p (front ++ x ∷ back)) (length (filter p front)) ≡ Some x
 choose p front x back h =

@@ -1,11 +1,12 @@
 -- What reads right with the dropped reads and without them.
 use Rattle.std.proofs.Common.{◌≡◌, ℕ, List, [], ◌∷◌, ◌++◌, true, cond, refl, ap, sym, ◌∙◌, subst}
 use Rattle.std.specs.Prelude.{Option, Some, None, IsSome}
-use Rattle.std.specs.List.{All, Contains, filter_map, cons_option, last_or, list_any}
+use Rattle.std.specs.List.{All, Contains, list_any}
 use Rattle.std.specs.Option.{option_and_then, option_map}
 use Rattle.std.specs.Str.{bytes_eq}
 use Rattle.std.proofs.lemmas.List.Elements.{All-contains}
 use Rattle.std.proofs.lemmas.Option.{option_and_then_some}
+use Rattle.text_lines.proofs.LastLemmas.{over, last_given}
 use Rattle.traces.specs.declared.operation.Op.{Op}
 use Rattle.traces.specs.declared.operation.Op.TheVariants.{Read, Write, Update}
 use Rattle.traces.specs.declared.operation.OpName.{OpName}
@@ -97,24 +98,6 @@ reads_with t ok names op known at right = record {
       (subst (λ l. ComesFrom (kept_trace t) (reduced t names) l (origin_of (new_op t op))) (same_location t op) right.source));
 }
 
--- directly after an operation that reads right, its location holds what it leaves or reads
-abbrev pub over : {X : Type 0} → Option X → Option X → Option X
-over None o = o
-over (Some x) o = Some x
-
-last_one : {Y : Type 0} (v o : Option Y) → last_or o (cons_option v []) ≡ over v o
-last_one None o = refl
-last_one (Some y) o = refl
-
-last_push : {X Y : Type 0} (f : X → Option Y) (o : Option Y) (xs : List X) (x : X) → last_or o (filter_map f (xs ++ x ∷ [])) ≡ over (f x) (last_or o (filter_map f xs))
-last_push f o [] x = last_one (f x) o
-last_push {X} {Y} f o (y ∷ ys) x = at (f y) (λ p. last_push f p ys x)
-  where
-    at : (v : Option Y) → ((p : Option Y) → last_or p (filter_map f (ys ++ x ∷ [])) ≡ over (f x) (last_or p (filter_map f ys))) →
-        last_or o (cons_option v (filter_map f (ys ++ x ∷ []))) ≡ over (f x) (last_or o (cons_option v (filter_map f ys)))
-    at None rest = rest o
-    at (Some z) rest = rest (Some z)
-
 held_by : (op : Op) (o : Option ℕ) → ((d : ℕ) → value_read op ≡ Some d → o ≡ Some d) → over (cond true (value_left op) None) o ≡ Some (value_behind op)
 held_by (Read location value origin) o h = h value refl
 held_by (Write location value) o h = refl
@@ -122,7 +105,7 @@ held_by (Update location read left origin) o h = refl
 
 pub held_behind : (t : TraceValue) (names : List OpName) (n : OpName) (op : Op) → operation_at t n ≡ Some op → ReadsRight t names op → value_after t (location_of op) (names ++ n ∷ []) ≡ Some (value_behind op)
 held_behind t names n op e right =
-    last_push (value_left_at t (location_of op)) (value_of t.initial (location_of op)) names n
+    last_given (value_left_at t (location_of op)) (value_of t.initial (location_of op)) names n
     ∙ ap (λ o. over (option_and_then (left_by (location_of op)) o) (value_after t (location_of op) names)) e
     ∙ ap (λ b. over (cond b (value_left op) None) (value_after t (location_of op) names)) (bytes_same (location_of op) (location_of op) refl)
     ∙ held_by op (value_after t (location_of op) names) right.value

@@ -9,6 +9,7 @@ use Rattle.std.proofs.lemmas.Bool.{cases_lt, le-leb, leb-true, lt-ltb}
 use Rattle.std.proofs.lemmas.List.{length-map, length-append, map-append, get_or_append_left, get_or-append_right}
 use Rattle.std.proofs.lemmas.List.Elements.{Contains-get_or, Contains-append_cases}
 use Rattle.std.proofs.lemmas.Option.{slice_get-map, slice_get_past}
+use Rattle.text_lines.proofs.ListLemmas.{few_pass}
 use Rattle.traces.specs.declared.operation.OpName.{OpName}
 use Rattle.traces.specs.declared.trace.Process.{Process}
 use Rattle.traces.specs.Trace.{TraceValue, IsTrace, process_named, operation_at, first_names}
@@ -18,7 +19,7 @@ use Rattle.reducer.specs.Reduction.{is_kept, names_of, new_name}
 use Rattle.reducer.specs.Runs.{names_from, bounds_of, AreBounds}
 use Rattle.reducer.proofs.BoundsLemmas.{few_listed}
 use Rattle.reducer.proofs.KeptLemmas.{found_process, process_of}
-use Rattle.reducer.proofs.PlaceLemmas.{joined_names, filter_append, few_filtered, length_names}
+use Rattle.reducer.proofs.PlaceLemmas.{joined_names, filter_append, length_names}
 use Rattle.reducer.proofs.RunLemmas.{in_names}
 
 -- what stands at the place of the first that passes
@@ -160,7 +161,7 @@ few_bounds : (t : TraceValue) (p : Process) → length (bounds_of t p) ≤ lengt
 few_bounds t p =
     let all = length-append (map (λ (m : OpName). m.place) (filter (is_kept t) (names_of p))) ((length p.operations + 1) ∷ []) in
     let mapped = length-map (filter (is_kept t) (names_of p)) (λ (m : OpName). m.place) in
-    omega (arith, all, mapped, few_filtered (is_kept t) (names_of p), length_names p.name 1 (length p.operations))
+    omega (arith, all, mapped, few_pass (is_kept t) (names_of p), length_names p.name 1 (length p.operations))
 
 pub few_here : (t : TraceValue) → IsTrace t → (n : OpName) (bounds : List ℕ) → BoundsHere t n bounds → length bounds ≤ 4097
 few_here t ok n bounds at =
