@@ -2,7 +2,7 @@
 use Rattle.std.proofs.Common.{◌≡◌, ◌⊎◌, ℕ, ◌+◌, ◌-◌, ◌<◌, ℤ, pos, neg_ℤ, List, [], ◌∷◌, length, map, Bool, true, false, not, ◌||◌, refl, ap, sym, ◌∙◌, arith, inl, inr, subst}
 use Rattle.std.specs.Prelude.{◌≢◌, ◌==◌, Option, Some, None, IsSome}
 use Rattle.std.specs.List.{Contains, filter, flat_map, list_all}
-use Rattle.std.proofs.lemmas.Bool.{and_parts, and_from, eqb-true, or_cases}
+use Rattle.std.proofs.lemmas.Bool.{and_parts, and_from, eqb-true, or_cases, or_right}
 use Rattle.std.proofs.lemmas.List.Elements.{All-contains}
 use Rattle.dimacs.specs.Assignment.{makes_true, makes_some}
 use Rattle.traces.specs.declared.operation.OpName.{OpName}
@@ -29,10 +29,6 @@ first_makes value a rest h = passes_some (makes_true value) (a ∷ rest) a (head
 
 pub rest_makes : (value : ℕ → Bool) (a : ℤ) (rest : List ℤ) → makes_some value rest ≡ true → makes_some value (a ∷ rest) ≡ true
 rest_makes value a rest h = or_right (makes_true value a) (makes_some value rest) h
-  where
-    or_right : (b c : Bool) → c ≡ true → (b || c) ≡ true
-    or_right true c h = refl
-    or_right false c h = h
 
 implies_by : (value : ℕ → Bool) (v : ℕ) (literals : List ℤ) (b : Bool) → 0 < v → value v ≡ b → (value v ≡ true → makes_some value literals ≡ true) → makes_some value (implies v literals) ≡ true
 implies_by value v literals true h e more = rest_makes value (neg_ℤ (pos v)) literals (more e)

@@ -1,5 +1,6 @@
 -- The names of a process by place, and how a list of them is cut.
 use Rattle.std.proofs.Common.{◌≡◌, ◌+◌, ℕ, zero, suc, List, [], ◌∷◌, ◌++◌, length, Bool, true, false, cond, refl, ap, sym, ◌∙◌, arith}
+use Rattle.std.proofs.lemmas.List.Elements.{filter-append}
 use Rattle.std.specs.Prelude.{Option, Some, None, IsSome}
 use Rattle.std.specs.List.{Contains, filter, filter_map, cons_option, slice_get}
 use Rattle.std.specs.Option.{option_and_then}
@@ -66,14 +67,6 @@ length_names process low zero = refl
 length_names process low (suc n) = ap suc (length_names process (low + 1) n)
 
 -- an element of a list, by how many of those before it pass
-pub filter_append : {A : Type 0} (p : A → Bool) (xs ys : List A) → filter p (xs ++ ys) ≡ filter p xs ++ filter p ys
-filter_append p [] ys = refl
-filter_append {A} p (x ∷ xs) ys = at (p x) (filter_append p xs ys)
-  where
-    at : (b : Bool) → filter p (xs ++ ys) ≡ filter p xs ++ filter p ys → cond b (x ∷ filter p (xs ++ ys)) (filter p (xs ++ ys)) ≡ cond b (x ∷ filter p xs) (filter p xs) ++ filter p ys
-    at true e = ap (λ l. x ∷ l) e
-    at false e = e
-
 pub record Chosen {A : Type 0} (p : A → Bool) (xs : List A) (i : ℕ) (x : A) : Type 0 where
   pub front : List A
   pub back : List A
@@ -110,7 +103,7 @@ chosen p (y ∷ ys) i x e = chosen_at p y ys i x (p y) refl (λ j f. chosen p ys
 
 pub choose : {A : Type 0} (p : A → Bool) (front : List A) (x : A) (back : List A) → p x ≡ true → slice_get (filter p (front ++ x ∷ back)) (length (filter p front)) ≡ Some x
 choose p front x back h =
-    ap (λ l. slice_get l (length (filter p front))) (filter_append p front (x ∷ back) ∙ ap (λ b. filter p front ++ cond b (x ∷ filter p back) (filter p back)) h)
+    ap (λ l. slice_get l (length (filter p front))) (filter-append p front (x ∷ back) ∙ ap (λ b. filter p front ++ cond b (x ∷ filter p back) (filter p back)) h)
     ∙ get_behind (filter p front) x (filter p back)
 
 pub in_list : {X : Type 0} (xs : List X) (k : ℕ) (y : X) → at_place xs k ≡ Some y → Contains xs y

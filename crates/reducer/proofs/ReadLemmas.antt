@@ -5,7 +5,7 @@ use Rattle.std.specs.List.{All, Contains, list_any}
 use Rattle.std.specs.Option.{option_and_then, option_map}
 use Rattle.std.specs.Str.{bytes_eq}
 use Rattle.std.proofs.lemmas.List.Elements.{All-contains}
-use Rattle.std.proofs.lemmas.Option.{option_and_then_some}
+use Rattle.std.proofs.lemmas.Option.{option_and_then_some, same_Some}
 use Rattle.text_lines.proofs.LastLemmas.{over, last_given}
 use Rattle.traces.specs.declared.operation.Op.{Op}
 use Rattle.traces.specs.declared.operation.Op.TheVariants.{Read, Write, Update}
@@ -114,11 +114,8 @@ held_behind t names n op e right =
 pub repeat_reads : (t : TraceValue) (names : List OpName) (m n : OpName) (first second : Op) → previous n ≡ m → is_dropped t n ≡ true → operation_at t m ≡ Some first → operation_at t n ≡ Some second → ReadsRight t names first → ReadsRight t (names ++ m ∷ []) second
 repeat_reads t names m n first second behind dropped e f right =
     let at = dropped_repeats t n dropped in
-    let one : at.earlier ≡ first = some_same at.earlier first (sym at.first_is ∙ ap (operation_at t) behind ∙ e) in
-    let two : Read at.location at.value Any ≡ second = some_same (Read at.location at.value Any) second (sym at.second_is ∙ f) in
+    let one : at.earlier ≡ first = same_Some at.earlier first (sym at.first_is ∙ ap (operation_at t) behind ∙ e) in
+    let two : Read at.location at.value Any ≡ second = same_Some (Read at.location at.value Any) second (sym at.second_is ∙ f) in
     let held : value_after t at.location (names ++ m ∷ []) ≡ Some at.value =
     ap (λ l. value_after t l (names ++ m ∷ [])) (sym at.same_location ∙ ap location_of one) ∙ held_behind t names m first e right ∙ ap Some (ap value_behind (sym one) ∙ at.same_value) in
     subst (λ o. ReadsRight t (names ++ m ∷ []) o) two (record { value = λ d g. held ∙ g; source = tt })
-  where
-    some_same : (x y : Op) → Some x ≡ Some y → x ≡ y
-    some_same x y g = cc

@@ -5,6 +5,7 @@ use Rattle.std.specs.List.{Contains, filter, take_while}
 use Rattle.std.proofs.lemmas.Bool.{eqb-true, eq-eqb, ne_eqb, cases_lt}
 use Rattle.std.proofs.lemmas.List.{length-append, drop_at}
 use Rattle.std.proofs.lemmas.List.Sums.{take_while-cons}
+use Rattle.std.proofs.lemmas.List.Elements.{filter-append}
 use Rattle.std.specs.Option.{option_and_then}
 use Rattle.traces.specs.declared.operation.OpName.{OpName}
 use Rattle.traces.specs.declared.trace.Process.{Process}
@@ -16,7 +17,7 @@ use Rattle.reducer.specs.Expansion.{run_at, with_run, expanded}
 use Rattle.reducer.specs.Reduction.{repeats, is_in_pair, is_an_origin, is_dropped, is_kept, names_of, kept_names, new_name}
 use Rattle.reducer.proofs.KeptLemmas.{IsFirst, found_process, process_of, listed_name, first_known, one_more_place}
 use Rattle.reducer.specs.Runs.{names_from}
-use Rattle.reducer.proofs.PlaceLemmas.{joined_names, length_names, filter_append}
+use Rattle.reducer.proofs.PlaceLemmas.{joined_names, length_names}
 use Rattle.reducer.proofs.StandsLemmas.{out_of_filter, rising_places}
 
 -- how many of the first operations of a process are kept
@@ -27,7 +28,7 @@ pub more_kept : (t : TraceValue) (process : List ℕ) (k d : ℕ) → kept_among
 more_kept t process k d =
     let all =
     ap (λ l. length (filter (is_kept t) l)) (joined_names process 1 k d)
-    ∙ ap length (filter_append (is_kept t) (first_names process k) (names_from process (1 + k) d))
+    ∙ ap length (filter-append (is_kept t) (first_names process k) (names_from process (1 + k) d))
     ∙ length-append (filter (is_kept t) (first_names process k)) (filter (is_kept t) (names_from process (1 + k) d)) in
     omega (arith, all)
 
@@ -168,7 +169,7 @@ expanded_is t ok x n first =
     ∙ ap (λ l. n ∷ l) (run_is t p.name n.place (length p.operations - n.place) ∙ ap (λ v. filter (has_place t v) behind) value)
     ∙ sym (ap (λ (b : Bool). cond b (n ∷ filter (has_place t x.place) behind) (filter (has_place t x.place) behind)) (eq-eqb (new_name t n).place x.place place))
     ∙ sym (ap (λ l. l ++ filter (has_place t x.place) (n ∷ behind)) none)
-    ∙ sym (filter_append (has_place t x.place) (first_names p.name (n.place - 1)) (n ∷ behind))
+    ∙ sym (filter-append (has_place t x.place) (first_names p.name (n.place - 1)) (n ∷ behind))
     ∙ ap (filter (has_place t x.place)) (sym s.parts)
 
 -- a name of what x expands to

@@ -6,7 +6,7 @@ use Rattle.std.specs.List.{AllPairs, Contains, filter, flat_map, list_any, list_
 use Rattle.std.specs.Option.{option_and_then}
 use Rattle.std.specs.Str.{bytes_eq}
 use Rattle.std.proofs.lemmas.Bool.Decides.{nat_tests}
-use Rattle.std.proofs.lemmas.Bool.{and_parts}
+use Rattle.std.proofs.lemmas.Bool.{and_parts, not-true, and_from}
 use Rattle.text_lines.specs.Fault.{IsRefusal}
 use Rattle.text_lines.specs.FirstFault.{IsFaultless}
 use Rattle.text_lines.specs.Lines.{lines_of}
@@ -80,13 +80,9 @@ each_known two lines ss ps a f s c =
     let line = from_map words_of lines (words_for s) unskipped.0 in
     let at = placed lines line.0 line.1 in
     let none : fault_of_line two ps line.0 ≡ None = f at.front line.0 at.back at.parts in
-    let skip : is_skipped (words_of line.0) ≡ false = ap is_skipped line.2 ∙ not_true (is_skipped (words_for s)) unskipped.1 in
+    let skip : is_skipped (words_of line.0) ≡ false = ap is_skipped line.2 ∙ not-true (is_skipped (words_for s)) unskipped.1 in
     ap (fault_of_references ps) (sym (ap (statement_of two) line.2 ∙ said_each two ss s a.said c))
     ∙ sym (ap (λ b. if b then None else fault_of_references ps (statement_of two (words_of line.0))) skip) ∙ none
-  where
-    not_true : (b : Bool) → not b ≡ true → b ≡ false
-    not_true true h = absurd (cc)
-    not_true false h = refl
 
 no_such : (b c : Bool) → (if not b then Some NoSuchOp else if c then Some BeforeItself else None) ≡ None → b ≡ true
 no_such true c h = refl
@@ -115,11 +111,8 @@ pairs_apart pairs two lines ss ps a e f pair c same =
     let there : Contains ss (before_statement pair) = (from_filter is_before ss (before_statement pair) (subst (λ (l : List Statement). Contains l (before_statement pair)) (sym e) (to_map before_statement pairs pair c))).0 in
     let none = each_known two lines ss ps a f (before_statement pair) there in
     let other : is_before_itself (before_statement pair) ≡ false = not_itself (list_all (is_among ps) (references_of (before_statement pair))) (is_before_itself (before_statement pair)) none in
-    let one : is_before_itself (before_statement pair) ≡ true = (λ i. bytes_eq pair.0.process (sym same i).process && bytes_eq (decimal pair.0.place) (decimal (sym same i).place)) ∙ both_same (bytes_eq pair.0.process pair.0.process) (bytes_eq (decimal pair.0.place) (decimal pair.0.place)) (bytes_same pair.0.process pair.0.process refl) (bytes_same (decimal pair.0.place) (decimal pair.0.place) refl) in
+    let one : is_before_itself (before_statement pair) ≡ true = (λ i. bytes_eq pair.0.process (sym same i).process && bytes_eq (decimal pair.0.place) (decimal (sym same i).place)) ∙ and_from (bytes_eq pair.0.process pair.0.process) (bytes_eq (decimal pair.0.place) (decimal pair.0.place)) (bytes_same pair.0.process pair.0.process refl) (bytes_same (decimal pair.0.place) (decimal pair.0.place) refl) in
     let clash : true ≡ false = sym one ∙ other in cc
-  where
-    both_same : (b c : Bool) → b ≡ true → c ≡ true → (b && c) ≡ true
-    both_same b c h k = ap (λ d. d && c) h ∙ k
 
 -- an origin names a known operation
 origin_known : (t : TraceValue) → AllPairs (λ (p q : Process). p.name ≢ q.name) t.processes → (o : Origin) → is_written_origin o ≡ true → list_all (is_among t.processes) (references_of_source (source_of o)) ≡ true → IsKnownOrigin t o
