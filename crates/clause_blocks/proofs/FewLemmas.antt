@@ -133,9 +133,9 @@ module _ {E : Type 0} (p : E → ℕ → Bool) where
       hit_or_not (p e x) (hits es x) (λ here. none_hit es x (λ k d l. h 0 (suc k) d (omega arith) (omega (arith, l)) here))
       (one_hit es x (λ i j d l m. h (suc i) (suc j) d (omega (arith, l)) (omega (arith, m))))
 
-  few_pass : (es : List E) (xs : List ℕ) → ((x : ℕ) → AllPairs (λ (d e : E). p d x ≡ true → p e x ≡ false) es) → passed es xs ≤ length xs
-  few_pass es [] h = omega (arith, none_passed es)
-  few_pass es (x ∷ xs) h = omega (arith, one_more es x xs, one_hit es x (h x), few_pass es xs h)
+  few_hits : (es : List E) (xs : List ℕ) → ((x : ℕ) → AllPairs (λ (d e : E). p d x ≡ true → p e x ≡ false) es) → passed es xs ≤ length xs
+  few_hits es [] h = omega (arith, none_passed es)
+  few_hits es (x ∷ xs) h = omega (arith, one_more es x xs, one_hit es x (h x), few_hits es xs h)
 
 -- no operation writes two locations
 apart_at : (a b : List ℕ) → a ≢ b → (op : Op) (x y : Bool) → bytes_eq (location_of op) a ≡ x → bytes_eq (location_of op) b ≡ y → (o : Option ℕ) → is_some (cond x o None) ≡ true → is_some (cond y o None) ≡ false
@@ -159,7 +159,7 @@ writes_at t entry i = is_some (left_at t entry.0 i)
 
 few_written : (t : TraceValue) → IsTrace t → passed (writes_at t) t.final_values (numbers t) ≤ operation_count t
 few_written t ok =
-    let all = few_pass (writes_at t) t.final_values (numbers t) (λ x i j d l m. one_location t (get_or t.final_values i d).0 (get_or t.final_values j d).0 x (ok.final_values i j d l m)) in
+    let all = few_hits (writes_at t) t.final_values (numbers t) (λ x i j d l m. one_location t (get_or t.final_values i d).0 (get_or t.final_values j d).0 x (ok.final_values i j d l m)) in
     omega (arith, all, length-range_with_len 0 (operation_count t))
 
 more_final : (a b c v w : ℕ) → a ≤ 2 + 160 * w → b ≤ 2 * v + 160 * c → a + b ≤ 2 * suc v + 160 * (w + c)

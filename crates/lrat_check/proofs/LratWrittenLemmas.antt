@@ -1,5 +1,5 @@
 -- The canonical text of a derivation spells it.
-use Rattle.std.proofs.Common.{◌≡◌, ◌≢◌, ℕ, ◌^◌, ◌<◌, ◌≤◌, List, [], ◌∷◌, ◌++◌, length, map, drop, suc, Bool, true, false, not, refl, ap, sym, ◌∙◌, subst, arith, append_assoc, append-nil, ◌&&◌}
+use Rattle.std.proofs.Common.{◌≡◌, ℕ, ◌^◌, ◌<◌, ◌≤◌, List, [], ◌∷◌, ◌++◌, length, map, drop, suc, Bool, true, false, not, refl, ap, sym, ◌∙◌, subst, arith, append_assoc, append-nil, ◌&&◌}
 use Rattle.std.specs.Prelude.{ℤ, pos, negsuc, nat_abs, Some, codes, nat_lt, nat_le, ◌==◌, slice_index}
 use Rattle.std.specs.Char.{is_ascii_digit}
 use Rattle.std.specs.Int.{is_negative}
