@@ -1,8 +1,9 @@
 -- From the verdict on the formula of a kept trace to what is decided of the whole trace.
-use Rattle.std.proofs.Common.{◌≡◌, ℕ, suc, ◌+◌, ◌<◌, ◌≤◌, ℤ, Bool, true, List, [], ◌∷◌, ◌++◌, length, map, take, get_or, Some, sym, ◌∙◌, ap, subst, arith}
+use Rattle.std.proofs.Common.{◌≡◌, ℕ, zero, suc, ◌+◌, ◌<◌, ◌≤◌, ℤ, Bool, true, List, [], ◌∷◌, ◌++◌, length, map, take, get_or, Some, refl, sym, ◌∙◌, ap, subst, arith}
 use Rattle.std.proofs.Math.Seq.{take-suc}
-use Rattle.std.proofs.lemmas.List.{map-append, take_all, get_or_default}
+use Rattle.std.proofs.lemmas.List.{map-append, take_all}
 use Rattle.std.specs.List.{AllZip, list_all, Contains, slice_get}
+use Rattle.std.proofs.lemmas.Option.{slice_get_within, slice_get_read}
 use Rattle.traces.proofs.ElementLemmas.{to_map, from_map}
 use Rattle.traces.specs.declared.operation.OpName.{OpName}
 use Rattle.traces.specs.Legal.{IsLegal}
@@ -40,9 +41,14 @@ expanded_legal r ok kept schedule legal expanded =
 
 -- ---- the cubes of leaves
 
+any_default : (xs : List ℕ) (k d e : ℕ) → k < length xs → get_or xs k d ≡ get_or xs k e
+any_default [] k d e h = absurd (omega arith)
+any_default (x ∷ xs) zero d e h = refl
+any_default (x ∷ xs) (suc k) d e h = any_default xs k d e (omega arith)
+
 -- the element at a place is in the list
 pub at_place : (xs : List ℕ) (k : ℕ) → k < length xs → Contains xs (get_or xs k 0)
-at_place xs k within = (k, within, get_or_default xs k (get_or xs k 0) 0 within)
+at_place xs k within = (k, within, any_default xs k (get_or xs k 0) 0 within)
 
 -- one cube more
 pub next_cube : (slots : List Slot) (listed : List ℕ) (k : ℕ) (cubes : List (List ℤ)) (cube : List ℤ) → k < length listed → AreCubesOf slots (take k listed) cubes →
@@ -75,7 +81,7 @@ listed_within clauses slots listed verdict is h leaf among =
     (at.1.each leaf among).0
 
 -- a schedule of the whole trace gives a model of the clauses of what is kept of it
-pub model_of_schedule : (t : TraceValue) → IsTrace t → (names : List OpName) → IsLegal t names → (truth : ℕ → Bool) × IsModel truth (clauses_of (kept_trace t))
+model_of_schedule : (t : TraceValue) → IsTrace t → (names : List OpName) → IsLegal t names → (truth : ℕ → Bool) × IsModel truth (clauses_of (kept_trace t))
 model_of_schedule t ok names legal =
     let made = schedule_values (kept_trace t) (reduced t names) (kept_is_trace t ok) (reduction_legal t names ok legal) in
     (made.0, made.1)

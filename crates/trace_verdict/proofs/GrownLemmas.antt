@@ -2,7 +2,6 @@
 use Rattle.std.proofs.Common.{◌≡◌, ◌∙◌, ℕ, zero, suc, ◌+◌, ◌<◌, ℤ, pos, neg_ℤ, List, [], ◌∷◌, ◌++◌, length, take, drop, Some, refl, sym, ap, subst, arith, length-append, length-drop}
 use Rattle.std.specs.List.{slice_get}
 use Rattle.std.proofs.lemmas.List.{length-take-le}
-use Rattle.text_lines.proofs.ListLemmas.{get_behind}
 use Rattle.cube_tree.specs.CubeTree.{CubeTree, cubes_of, with_split}
 use Rattle.result_ledger.specs.declared.slot.Slot.{Slot}
 use Rattle.result_ledger.specs.Ledger.{cubes_in, empty_slot, IsSplitAt, SplitsCube}
@@ -63,6 +62,11 @@ two_same : (before : List (List ℤ)) (a b c d : List ℤ) (after rest : List (L
 two_same [] a b c d after rest e = (cc, cc)
 two_same (x ∷ before) a b c d after rest e = two_same before a b c d after rest (cc)
 
+-- the element at a place is the one between those before and those after it
+cube_there : (before : List (List ℤ)) (cube : List ℤ) (after : List (List ℤ)) → slice_get (before ++ cube ∷ after) (length before) ≡ Some cube
+cube_there [] cube after = refl
+cube_there (x ∷ before) cube after = cube_there before cube after
+
 -- one leaf was split
 module _
     (variables : List ℕ) (leaf v : ℕ) (cube : List ℤ) (old new : List Slot) (tree after : CubeTree)
@@ -81,7 +85,7 @@ module _
     cube_is : there.cube ≡ cube
     cube_is =
         let here : slice_get (cubes_in old) leaf ≡ Some there.cube =
-        ap (λ (xs : List (List ℤ)). slice_get xs leaf) there.parts ∙ ap (λ (k : ℕ). slice_get (there.before ++ there.cube ∷ there.after) k) there.counted ∙ get_behind there.before there.cube there.after in
+        ap (λ (xs : List (List ℤ)). slice_get xs leaf) there.parts ∙ ap (λ (k : ℕ). slice_get (there.before ++ there.cube ∷ there.after) k) there.counted ∙ cube_there there.before there.cube there.after in
         let both : Some there.cube ≡ Some cube = sym here ∙ at_leaf in
         cc
 

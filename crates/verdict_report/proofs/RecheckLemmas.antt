@@ -1,7 +1,6 @@
 -- What a certificate for the clauses of a kept trace says of the whole trace.
 use Rattle.std.proofs.Common.{◌≤◌, ℕ, Bool, List, inl, inr, subst, sym}
 use Rattle.std.specs.Prelude.{Result, Ok, Err, OnOk}
-use Rattle.trace_verdict.proofs.DecideLemmas.{model_of_schedule}
 use Rattle.certificate.specs.CertFaults.{HasCertFault}
 use Rattle.certificate.specs.CertText.{SpellsCertificate}
 use Rattle.certificate.specs.Rechecked.{IsRechecked, HasRecheckFault}
@@ -24,6 +23,7 @@ use Rattle.verdict_report.specs.Fault.{fault_of_part}
 use Rattle.verdict_report.specs.Runs.{SourceRun, HandsOut}
 use Rattle.verdict_report.specs.declared.status.Status.{Status}
 use Rattle.verdict_report.specs.RecheckEngine.{HasNoSchedule, Refutes, IsRecheckedFor, AreRechecked, IsSaidOfCertificate, HandsOutUnschedulable}
+use Rattle.verdict_report.proofs.MeaningLemmas.{model_of_schedule}
 
 module _ (r : ReducedValue) (ok : IsReduced r) (certificate : Certificate) where
   -- where the clauses of what is kept have no model, the whole trace has no schedule

@@ -1,6 +1,5 @@
 -- The text that is written of an admitted trace, as readers of formulas and of proofs take it.
 use Rattle.std.proofs.Common.{◌≡◌, ◌≤◌, ℕ, ℤ, List, ap, sym, subst, arith}
-use Rattle.trace_verdict.proofs.DecideLemmas.{model_of_schedule}
 use Rattle.cnf_reader.specs.CnfReading.{SpellsCnf}
 use Rattle.cnf_reader.proofs.CnfLawLemmas.{one_spelled}
 use Rattle.cnf_reader.proofs.CnfWrittenLemmas.{written_spells}
@@ -19,6 +18,7 @@ use Rattle.clause_blocks.proofs.FewLemmas.{few_in_list}
 use Rattle.clause_blocks.proofs.FormulaLemmas.{clauses_over}
 use Rattle.verdict_report.specs.Admitted.{Admits, cnf_of}
 use Rattle.verdict_report.specs.LratEngine.{AreAccepted}
+use Rattle.verdict_report.proofs.MeaningLemmas.{model_of_schedule}
 
 pub written_text_spells : (text : List ℕ) (value : TraceValue) → Admits text value → SpellsCnf (cnf_of value) (formula_of (kept_trace value))
 written_text_spells text value admitted =

@@ -2,8 +2,8 @@ use Rattle.clause_blocks.specs.Clauses.{formula_of}
 use Rattle.reducer.proofs.TraceLemmas.{kept_is_trace}
 use Rattle.reducer.specs.Reduction.{kept_trace}
 use Rattle.verdict_report.proofs.CertificateLemmas.{sections_add_clauses}
+use Rattle.verdict_report.proofs.MeaningLemmas.{model_of_schedule}
 use Rattle.verdict_report.proofs.laws.accepted_certificate_shows_no_schedule.Goals as goal
-use Rattle.trace_verdict.proofs.DecideLemmas.{model_of_schedule}
 
 pub returns : goal.returns
 returns c text cert value certificate count names admitted spelled rechecked legal =
