@@ -9,6 +9,7 @@ use Rattle.std.proofs.lemmas.List.Concat.{length-flat_map}
 use Rattle.std.proofs.lemmas.List.FromFn.{length-enumerate_from, length-range_with_len}
 use Rattle.std.proofs.lemmas.List.Sums.{sum_by-le}
 use Rattle.std.proofs.lemmas.Nat.{mul-le}
+use Rattle.text_lines.proofs.ListLemmas.{few_pass}
 use Rattle.traces.proofs.NameLemmas.{same_bytes}
 use Rattle.traces.specs.declared.operation.Op.{Op}
 use Rattle.traces.specs.declared.operation.OpName.{OpName}
@@ -23,7 +24,7 @@ use Rattle.var_layout.specs.Candidates.{candidates}
 use Rattle.var_layout.specs.ChoiceVariables.{choices, first_choice}
 use Rattle.var_layout.specs.FinalVariables.{final_candidates, final_choices, first_final, is_untouched}
 use Rattle.var_layout.specs.Numbers.{in_one_process, left_at, name_at, number_of, numbers, others, other_writers, read_at, readers, writers}
-use Rattle.var_layout.proofs.BoundLemmas.{filter_few, few_candidates, few_finals, few_leavers, few_others}
+use Rattle.var_layout.proofs.BoundLemmas.{few_candidates, few_finals, few_leavers, few_others}
 use Rattle.clause_blocks.specs.Blocks.{before_clauses, clauses_of_final, clauses_of_read, final_clauses, implies, program_order, read_clauses, reads_from, stands_before, transitivity, void_clauses, writes_last}
 use Rattle.clause_blocks.specs.Clauses.{clauses_of}
 use Rattle.clause_blocks.proofs.CountLemmas.{few_transitivity}
@@ -48,7 +49,7 @@ few_reads_from t r v InitialValue few =
     omega (arith, long, few_others t r, few)
 few_reads_from t r v (Writer w) few =
     let long = length-map (others w (other_writers t r)) (λ (u : ℕ). implies v (stands_before t u w ∷ stands_before t r u ∷ [])) in
-    omega (arith, long, filter_few (λ (x : ℕ). not (eqb x w)) (other_writers t r), few_others t r, few)
+    omega (arith, long, few_pass (λ (x : ℕ). not (eqb x w)) (other_writers t r), few_others t r, few)
 
 few_choices : (t : TraceValue) (r : ℕ) → operation_count t ≤ 160 → length (choices t r) ≤ 161
 few_choices t r few =
@@ -65,13 +66,13 @@ few_of_read t r few =
 few_reads : (t : TraceValue) → operation_count t ≤ 160 → length (read_clauses t) ≤ 4147520
 few_reads t few =
     let all = few_flat (clauses_of_read t) 25922 (readers t) (λ r. few_of_read t r few) in
-    omega (arith, all, filter_few (λ (i : ℕ). is_some (read_at t i)) (numbers t), length-range_with_len 0 (operation_count t), few)
+    omega (arith, all, few_pass (λ (i : ℕ). is_some (read_at t i)) (numbers t), length-range_with_len 0 (operation_count t), few)
 
 -- final values
 few_last : (t : TraceValue) (location : List ℕ) (c : FinalChoice) → length (writes_last t location c) ≤ length (writers t location)
 few_last t location c =
     let long = length-map (others c.writer (writers t location)) (λ (v : ℕ). implies c.variable (stands_before t v c.writer ∷ [])) in
-    omega (arith, long, filter_few (λ (x : ℕ). not (eqb x c.writer)) (writers t location))
+    omega (arith, long, few_pass (λ (x : ℕ). not (eqb x c.writer)) (writers t location))
 
 few_final_choices : (t : TraceValue) (k : ℕ) (entry : List ℕ × ℕ) → operation_count t ≤ 160 → length (final_choices t k entry) ≤ 160
 few_final_choices t k entry few =
@@ -132,9 +133,9 @@ module _ {E : Type 0} (p : E → ℕ → Bool) where
       hit_or_not (p e x) (hits es x) (λ here. none_hit es x (λ k d l. h 0 (suc k) d (omega arith) (omega (arith, l)) here))
       (one_hit es x (λ i j d l m. h (suc i) (suc j) d (omega (arith, l)) (omega (arith, m))))
 
-  few_pass : (es : List E) (xs : List ℕ) → ((x : ℕ) → AllPairs (λ (d e : E). p d x ≡ true → p e x ≡ false) es) → passed es xs ≤ length xs
-  few_pass es [] h = omega (arith, none_passed es)
-  few_pass es (x ∷ xs) h = omega (arith, one_more es x xs, one_hit es x (h x), few_pass es xs h)
+  few_hits : (es : List E) (xs : List ℕ) → ((x : ℕ) → AllPairs (λ (d e : E). p d x ≡ true → p e x ≡ false) es) → passed es xs ≤ length xs
+  few_hits es [] h = omega (arith, none_passed es)
+  few_hits es (x ∷ xs) h = omega (arith, one_more es x xs, one_hit es x (h x), few_hits es xs h)
 
 -- no operation writes two locations
 apart_at : (a b : List ℕ) → a ≢ b → (op : Op) (x y : Bool) → bytes_eq (location_of op) a ≡ x → bytes_eq (location_of op) b ≡ y → (o : Option ℕ) → is_some (cond x o None) ≡ true → is_some (cond y o None) ≡ false
@@ -158,7 +159,7 @@ writes_at t entry i = is_some (left_at t entry.0 i)
 
 few_written : (t : TraceValue) → IsTrace t → passed (writes_at t) t.final_values (numbers t) ≤ operation_count t
 few_written t ok =
-    let all = few_pass (writes_at t) t.final_values (numbers t) (λ x i j d l m. one_location t (get_or t.final_values i d).0 (get_or t.final_values j d).0 x (ok.final_values i j d l m)) in
+    let all = few_hits (writes_at t) t.final_values (numbers t) (λ x i j d l m. one_location t (get_or t.final_values i d).0 (get_or t.final_values j d).0 x (ok.final_values i j d l m)) in
     omega (arith, all, length-range_with_len 0 (operation_count t))
 
 more_final : (a b c v w : ℕ) → a ≤ 2 + 160 * w → b ≤ 2 * v + 160 * c → a + b ≤ 2 * suc v + 160 * (w + c)

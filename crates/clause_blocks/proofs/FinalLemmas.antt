@@ -1,19 +1,19 @@
 -- Final values: their clauses by what the tables of a layout say.
 use Rattle.std.proofs.Common.{◌≡◌, ℕ, zero, suc, ◌+◌, ◌<◌, ◌≤◌, ℤ, pos, List, [], ◌∷◌, ◌++◌, length, get_or, map, Option, Some, None, Bool, true, false, cond, not, eqb, refl, sym, ap, ◌∙◌, subst, arith}
 use Rattle.std.specs.Prelude.{◌≢◌, ◌&&◌, slice_get}
-use Rattle.std.specs.List.{All, Contains, filter, flat_map, enumerate_from, range_with_len}
+use Rattle.std.specs.List.{All, Contains, flat_map, enumerate_from, range_with_len}
 use Rattle.std.specs.Option.{option_map_or, option_and_then}
 use Rattle.std.proofs.lemmas.Bool.Decides.{nat_tests}
-use Rattle.std.proofs.lemmas.List.{length-map}
 use Rattle.std.proofs.lemmas.List.Elements.{Contains-get_or}
-use Rattle.std.proofs.lemmas.List.FromFn.{length-enumerate_from}
-use Rattle.std.proofs.lemmas.List.Filters.{length-filter_both}
+use Rattle.std.proofs.lemmas.Bool.{and_left}
+use Rattle.text_lines.proofs.ListLemmas.{few_pass}
 use Rattle.traces.specs.Judgement.{is_held}
 use Rattle.traces.specs.Trace.{TraceValue, IsTrace, operation_count}
 use Rattle.var_layout.specs.declared.candidate.FinalChoice.{FinalChoice}
 use Rattle.var_layout.specs.FinalVariables.{final_candidates, is_untouched, final_choices, finals, first_final, void_final, void_of}
 use Rattle.var_layout.specs.Numbers.{left_at, others, writers}
 use Rattle.var_layout.proofs.VariableLemmas.{final_over}
+use Rattle.var_layout.proofs.BoundLemmas.{length_finals}
 use Rattle.clause_blocks.specs.Blocks.{implies, stands_before, clauses_of_final, final_clauses}
 use Rattle.clause_blocks.specs.FinalClauses.{clauses_at}
 use Rattle.clause_blocks.specs.Ranges.{FitsFormula}
@@ -43,26 +43,16 @@ some_test true z vs cs e h = absurd (cc)
 some_test false true vs cs e h = absurd (cc)
 some_test false false vs cs e h = refl
 
-length-finals : (t : TraceValue) (k : ℕ) (entry : List ℕ × ℕ) → length (final_choices t k entry) ≡ length (final_candidates t entry)
-length-finals t k entry = length-map (enumerate_from (first_final t k) (final_candidates t entry)) _ ∙ length-enumerate_from (first_final t k) (final_candidates t entry)
-
 empty_at : (t : TraceValue) (k : ℕ) (o : Option (List ℕ × ℕ)) (fs : List FinalChoice) → fs ≡ option_map_or (final_choices t k) o [] → option_and_then (void_of t k) o ≡ None → length fs ≡ 0 →
     option_map_or (clauses_of_final t k) o [] ≡ []
 empty_at t k None fs e v h = refl
 empty_at t k (Some entry) fs e v h =
-    let none : length (final_candidates t entry) ≡ 0 = sym (length-finals t k entry) ∙ ap length (sym e) ∙ h in
+    let none : length (final_candidates t entry) ≡ 0 = sym (length_finals t k entry) ∙ ap length (sym e) ∙ h in
     no_test (is_untouched t entry) (eqb (length (final_candidates t entry)) 0) (first_final t k) _ _ v (grind (arith, nat_tests, none))
 
 -- no writer leaves the final value, and it is there from the start
 pub empty_finals : (t : TraceValue) (k : ℕ) (fs : List FinalChoice) → fs ≡ finals t k → void_final t k ≡ None → length fs ≡ 0 → clauses_at t k ≡ []
 empty_finals t k fs e v h = empty_at t k (slice_get t.final_values k) fs e v h
-
-false_and : (b c : Bool) → b ≡ false → (b && c) ≡ false
-false_and true c e = absurd (cc)
-false_and false c e = refl
-
-filter_shorter : {X : Type 0} (p : X → Bool) (xs : List X) → length (filter p xs) ≤ length xs
-filter_shorter p xs = omega (arith, length-filter_both p (λ x. not (p x)) (λ _. refl) xs)
 
 test_of_more : (m n : ℕ) → m ≤ n → m ≢ 0 → eqb n 0 ≡ false
 test_of_more m n more some = grind (arith, nat_tests)
@@ -74,11 +64,11 @@ chosen_at : (t : TraceValue) (k : ℕ) (o : Option (List ℕ × ℕ)) (fs : List
     option_map_or (clauses_of_final t k) o [] ≡ map (λ (c : FinalChoice). pos c.variable) fs ∷ flat_map (λ (c : FinalChoice). map (λ v. implies c.variable (stands_before t v c.writer ∷ [])) (others c.writer ws)) fs
 chosen_at t k None fs ws e w h = absurd (h (ap length e))
 chosen_at t k (Some entry) fs ws e w h =
-    let count : length fs ≡ length (final_candidates t entry) = ap length e ∙ length-finals t k entry in
-    let fewer = filter_shorter (λ w. is_held (left_at t entry.0 w) entry.1) (writers t entry.0) in
+    let count : length fs ≡ length (final_candidates t entry) = ap length e ∙ length_finals t k entry in
+    let fewer = few_pass (λ w. is_held (left_at t entry.0 w) entry.1) (writers t entry.0) in
     let some : length (final_candidates t entry) ≢ 0 = λ none. h (count ∙ none) in
     some_test (is_untouched t entry) (eqb (length (final_candidates t entry)) 0) _ _
-    (false_and (eqb (length (writers t entry.0)) 0) _ (test_of_more (length (final_candidates t entry)) (length (writers t entry.0)) fewer some))
+    (and_left (eqb (length (writers t entry.0)) 0) _ (test_of_more (length (final_candidates t entry)) (length (writers t entry.0)) fewer some))
     (test_of_more (length (final_candidates t entry)) (length (final_candidates t entry)) (omega arith) some)
     ∙ (λ i. map (λ (c : FinalChoice). pos c.variable) (sym e i) ∷ flat_map (of_choice t (sym w i)) (sym e i))
 

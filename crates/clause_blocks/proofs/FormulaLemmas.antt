@@ -4,6 +4,7 @@ use Rattle.std.specs.Prelude.{◌≢◌, ◌&&◌, nat_abs, nat_lt, nat_le, is_s
 use Rattle.std.specs.List.{Contains, list_all, filter, flat_map, range_with_len}
 use Rattle.std.specs.Option.{option_map_or, option_and_then}
 use Rattle.std.proofs.lemmas.Bool.Decides.{nat_tests}
+use Rattle.std.proofs.lemmas.Bool.{and_from, and_parts}
 use Rattle.dimacs.specs.Formula.{is_formula}
 use Rattle.dimacs.specs.Literal.{is_literal_up_to, is_clause_up_to}
 use Rattle.traces.specs.declared.operation.OpName.{OpName}
@@ -32,25 +33,13 @@ use Rattle.clause_blocks.proofs.ListLemmas.{clause_list}
 use Rattle.clause_blocks.proofs.OperationLemmas.{shared_within}
 use Rattle.clause_blocks.proofs.VariableLemmas.{choice_source, final_writer}
 
-both_true : (a b : Bool) → a ≡ true → b ≡ true → (a && b) ≡ true
-both_true true b h k = k
-both_true false b h k = h
-
-first_true : (a b : Bool) → (a && b) ≡ true → a ≡ true
-first_true true b h = refl
-first_true false b h = h
-
-second_true : (a b : Bool) → (a && b) ≡ true → b ≡ true
-second_true true b h = h
-second_true false b h = absurd (cc)
-
 pub all_append : {X : Type 0} (p : X → Bool) (xs ys : List X) → list_all p xs ≡ true → list_all p ys ≡ true → list_all p (xs ++ ys) ≡ true
 all_append p [] ys h k = k
-all_append p (x ∷ xs) ys h k = both_true (p x) (list_all p (xs ++ ys)) (first_true (p x) (list_all p xs) h) (all_append p xs ys (second_true (p x) (list_all p xs) h) k)
+all_append p (x ∷ xs) ys h k = and_from (p x) (list_all p (xs ++ ys)) (and_parts (p x) (list_all p xs) h).0 (all_append p xs ys (and_parts (p x) (list_all p xs) h).1 k)
 
 all_map : {X A : Type 0} (p : A → Bool) (f : X → A) (xs : List X) → ((x : X) → Contains xs x → p (f x) ≡ true) → list_all p (map f xs) ≡ true
 all_map p f [] h = refl
-all_map p f (x ∷ xs) h = both_true (p (f x)) (list_all p (map f xs)) (h x (head_in x xs)) (all_map p f xs (λ y d. h y (tail_in x xs y d)))
+all_map p f (x ∷ xs) h = and_from (p (f x)) (list_all p (map f xs)) (h x (head_in x xs)) (all_map p f xs (λ y d. h y (tail_in x xs y d)))
 
 pub all_flat : {X A : Type 0} (p : A → Bool) (f : X → List A) (xs : List X) → ((x : X) → Contains xs x → list_all p (f x) ≡ true) → list_all p (flat_map f xs) ≡ true
 all_flat p f [] h = refl
@@ -62,13 +51,13 @@ all_if p false xs ys h k = k refl
 
 -- a clause of one, two or three literals
 one : {X : Type 0} (p : X → Bool) (x : X) → p x ≡ true → list_all p (x ∷ []) ≡ true
-one p x h = both_true (p x) true h refl
+one p x h = and_from (p x) true h refl
 
 pub two : {X : Type 0} (p : X → Bool) (x y : X) → p x ≡ true → p y ≡ true → list_all p (x ∷ y ∷ []) ≡ true
-two p x y h k = both_true (p x) (p y && true) h (one p y k)
+two p x y h k = and_from (p x) (p y && true) h (one p y k)
 
 three : {X : Type 0} (p : X → Bool) (x y z : X) → p x ≡ true → p y ≡ true → p z ≡ true → list_all p (x ∷ y ∷ z ∷ []) ≡ true
-three p x y z h k l = both_true (p x) (p y && (p z && true)) h (two p y z k l)
+three p x y z h k l = and_from (p x) (p y && (p z && true)) h (two p y z k l)
 
 abs_of_negation : (z : ℤ) → nat_abs (neg_ℤ z) ≡ nat_abs z
 abs_of_negation (pos zero) = refl
@@ -127,7 +116,7 @@ module _ (t : TraceValue) (ok : IsTrace t) where
   source_over r v InitialValue within of source = all_map (is_clause_up_to (variable_count t)) (λ w. implies v (stands_before t r w ∷ [])) (other_writers t r)
       (λ w d. (let other = other_writer t r w d in implied_over v r w of (within, other.0, λ e. other.1 (sym e))))
   source_over r v (Writer w) within of source =
-      both_true (is_clause_up_to (variable_count t) (implies v (stands_before t w r ∷ []))) _ (implied_over v w r of source)
+      and_from (is_clause_up_to (variable_count t) (implies v (stands_before t w r ∷ []))) _ (implied_over v w r of source)
       (all_map (is_clause_up_to (variable_count t)) (λ u. implies v (stands_before t u w ∷ stands_before t r u ∷ [])) (others w (other_writers t r))
       (λ u d. (let passed = from_filter (λ x. not (eqb x w)) (other_writers t r) u d in
       let other = other_writer t r u passed.0 in
@@ -142,7 +131,7 @@ module _ (t : TraceValue) (ok : IsTrace t) where
   read_over : (r : ℕ) → r < n → is_some (read_at t r) ≡ true → are_over (clauses_of_read t r) ≡ true
   read_over r within reads = all_if (is_clause_up_to (variable_count t)) (eqb (length (candidates t r)) 0) (void_clauses (first_choice t r)) _
       (λ none. void_clauses_over (first_choice t r) (void_over t (Read r) (first_choice t r) (void_test r (is_some (read_at t r)) (eqb (length (candidates t r)) 0) reads none)))
-      (λ some. both_true (is_clause_up_to (variable_count t) (map (λ (c : Choice). pos c.variable) (choices t r))) _
+      (λ some. and_from (is_clause_up_to (variable_count t) (map (λ (c : Choice). pos c.variable) (choices t r))) _
       (all_map is_over (λ (c : Choice). pos c.variable) (choices t r) (λ c d. variable_over c.variable (choice_over t r c d)))
       (all_flat (is_clause_up_to (variable_count t)) (λ (c : Choice). reads_from t r c.variable c.candidate) (choices t r)
       (λ c d. source_over r c.variable c.candidate within (choice_over t r c d) (choice_source t r c within d))))
@@ -168,7 +157,7 @@ module _ (t : TraceValue) (ok : IsTrace t) where
       (λ none. void_clauses_over (first_final t k) (void_over t (Final k) (first_final t k)
       (ap (option_and_then (void_of t k)) at ∙ void_final_test k (is_untouched t entry) (eqb (length (final_candidates t entry)) 0) touched none)))
       (λ some. (let listed = λ (c : FinalChoice) (d : Contains (final_choices t k entry) c). subst (λ (l : List FinalChoice). Contains l c) (sym (ap (λ (x : Option (List ℕ × ℕ)). option_map_or (final_choices t k) x []) at)) d in
-      both_true (is_clause_up_to (variable_count t) (map (λ (c : FinalChoice). pos c.variable) (final_choices t k entry))) _
+      and_from (is_clause_up_to (variable_count t) (map (λ (c : FinalChoice). pos c.variable) (final_choices t k entry))) _
       (all_map is_over (λ (c : FinalChoice). pos c.variable) (final_choices t k entry) (λ c d. variable_over c.variable (final_over t k c (listed c d))))
       (all_flat (is_clause_up_to (variable_count t)) (writes_last t entry.0) (final_choices t k entry)
       (λ c d. last_over entry.0 c (final_over t k c (listed c d)) (final_writer t k c (listed c d)))))))

@@ -14,11 +14,12 @@ use Rattle.var_layout.specs.Candidates.{candidates}
 use Rattle.var_layout.specs.ChoiceVariables.{choices, first_choice}
 use Rattle.var_layout.specs.FinalVariables.{final_candidates, is_untouched, first_final, final_choices}
 use Rattle.var_layout.specs.Numbers.{readers, writers, others, other_writers}
+use Rattle.var_layout.proofs.NumberingLemmas.{at_enumerated}
 use Rattle.clause_blocks.specs.Blocks.{stands_before, implies, void_clauses, reads_from, clauses_of_read, writes_last, clauses_of_final}
 use Rattle.clause_blocks.specs.Clauses.{clauses_of}
 use Rattle.clause_blocks.proofs.OperationNumberLemmas.{get_listed, listed_get}
 use Rattle.clause_blocks.proofs.OrderLiteralLemmas.{negation}
-use Rattle.clause_blocks.proofs.ModelClauseLemmas.{one_true, two_true, implied, AreTrue, first_true, rest_true, from_enumerate, to_enumerate, Meets, order_by, in_reads, in_finals}
+use Rattle.clause_blocks.proofs.ModelClauseLemmas.{one_true, two_true, implied, AreTrue, first_true, rest_true, to_enumerate, Meets, order_by, in_reads, in_finals}
 
 -- a void variable is true and false
 void_false : (value : ℕ → Bool) (v : ℕ) → 0 < v → AreTrue value (void_clauses v) → ⊥
@@ -53,7 +54,7 @@ meets_from value t r v (Writer w) h e all = (
 pub from_choices : (t : TraceValue) (r : ℕ) (c : Choice) → Contains (choices t r) c → (k : ℕ) × (c.variable ≡ first_choice t r + k) × (slice_get (candidates t r) k ≡ Some c.candidate)
 from_choices t r c d =
     let at = from_map (λ (numbered : ℕ × Candidate). record { candidate = numbered.1; variable = numbered.0 }) (enumerate_from (first_choice t r) (candidates t r)) c d in
-    let from = from_enumerate (first_choice t r) (candidates t r) at.0 at.1 in
+    let from = at_enumerated (first_choice t r) (candidates t r) at.0 at.1 in
     (from.0, sym (ap (λ (x : Choice). x.variable) at.2) ∙ from.1, from.2 ∙ ap (λ (x : Choice). Some x.candidate) at.2)
 
 read_by : (value : ℕ → Bool) (t : TraceValue) (r : ℕ) (b : Bool) →
@@ -88,7 +89,7 @@ pub from_final_choices : (t : TraceValue) (k : ℕ) (entry : List ℕ × ℕ) (c
     (i : ℕ) × (c.variable ≡ first_final t k + i) × (slice_get (final_candidates t entry) i ≡ Some c.writer)
 from_final_choices t k entry c d =
     let at = from_map (λ (numbered : ℕ × ℕ). record { writer = numbered.1; variable = numbered.0 }) (enumerate_from (first_final t k) (final_candidates t entry)) c d in
-    let from = from_enumerate (first_final t k) (final_candidates t entry) at.0 at.1 in
+    let from = at_enumerated (first_final t k) (final_candidates t entry) at.0 at.1 in
     (from.0, sym (ap (λ (x : FinalChoice). x.variable) at.2) ∙ from.1, from.2 ∙ ap (λ (x : FinalChoice). Some x.writer) at.2)
 
 final_by : (value : ℕ → Bool) (t : TraceValue) (k : ℕ) (entry : List ℕ × ℕ) (b g : Bool) → is_untouched t entry ≡ b →

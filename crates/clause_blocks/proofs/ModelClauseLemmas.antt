@@ -2,13 +2,13 @@
 use Rattle.std.proofs.Common.{◌≡◌, ◌⊎◌, ℕ, zero, suc, ◌+◌, ◌-◌, ◌<◌, ℤ, pos, neg_ℤ, List, [], ◌∷◌, ◌++◌, Bool, true, false, not, ◌||◌, refl, ap, sym, ◌∙◌, arith, inl, inr, subst}
 use Rattle.std.specs.Prelude.{◌≢◌, Some}
 use Rattle.std.specs.List.{Contains, enumerate_from, filter, flat_map, list_any, slice_get}
-use Rattle.std.proofs.lemmas.Bool.{cases_Bool, cases_order}
+use Rattle.std.proofs.lemmas.Bool.{cases_Bool, cases_order, true_from_ne_false, not-true}
 use Rattle.std.proofs.lemmas.List.Elements.{Contains-append_left, Contains-append_right}
 use Rattle.dimacs.specs.Assignment.{makes_true, makes_some}
 use Rattle.dimacs.specs.Models.{IsModel}
 use Rattle.traces.specs.declared.operation.OpName.{OpName}
 use Rattle.traces.specs.Trace.{TraceValue, operation_count}
-use Rattle.traces.proofs.ElementLemmas.{all_pass, cases_in, none_in, head_in, tail_in, to_map, to_filter, to_flat_map, to_range}
+use Rattle.traces.proofs.ElementLemmas.{all_pass, head_in, tail_in, to_map, to_filter, to_flat_map, to_range}
 use Rattle.var_layout.specs.declared.candidate.Candidate.{Candidate}
 use Rattle.var_layout.specs.declared.candidate.Candidate.TheVariants.{InitialValue, Writer}
 use Rattle.var_layout.specs.Numbers.{numbers, number_of, others, other_writers, in_one_process}
@@ -54,14 +54,6 @@ pub rest_true : {value : ℕ → Bool} {c : List ℤ} {cs : List (List ℤ)} →
 rest_true {value} {c} {cs} all = record { each = λ d e. all.each d (tail_in c cs d e) }
 
 -- the elements of a list with their numbers
-pub from_enumerate : {A : Type 0} (n : ℕ) (xs : List A) (p : ℕ × A) → Contains (enumerate_from n xs) p → (k : ℕ) × (p.0 ≡ n + k) × (slice_get xs k ≡ Some p.1)
-from_enumerate n [] p c = absurd (none_in p c)
-from_enumerate n (x ∷ xs) p c =
-    elim (cases_in (n, x) (enumerate_from (n + 1) xs) p c) [
-      | inl e ↦ (zero, (let same : n ≡ p.0 = ap (λ q. q.0) e in omega (arith, same)), (let same : x ≡ p.1 = ap (λ q. q.1) e in ap Some same))
-      | inr d ↦ (let more = from_enumerate (n + 1) xs p d in (suc more.0, omega (arith, more.1), more.2))
-    ]
-
 pub to_enumerate : {A : Type 0} (n : ℕ) (xs : List A) (k : ℕ) (x : A) → slice_get xs k ≡ Some x → Contains (enumerate_from n xs) (n + k, x)
 to_enumerate n [] k x e = absurd (cc)
 to_enumerate n (y ∷ ys) zero x e =
@@ -93,17 +85,9 @@ pub record HasNoCircle (ahead : ℕ → ℕ → Bool) (i j k : ℕ) : Type 0 whe
   pub up : ahead i j ≡ true → ahead j k ≡ true → ahead i k ≡ true
   pub down : ahead i j ≡ false → ahead j k ≡ false → ahead i k ≡ false
 
-true_or : (b : Bool) → (b ≡ false → ⊥) → b ≡ true
-true_or true h = refl
-true_or false h = absurd (h refl)
-
 clash : (b : Bool) → b ≡ true → b ≡ false → ⊥
 clash true h k = cc
 clash false h k = cc
-
-pub was_not : (b : Bool) → not b ≡ true → b ≡ false
-was_not true h = absurd (cc)
-was_not false h = refl
 
 module _ (ahead : ℕ → ℕ → Bool) (n : ℕ) (flips : (i j : ℕ) → i ≢ j → ahead j i ≡ not (ahead i j)) (sides : (i j k : ℕ) → i < j → j < k → k < n → HasNoCircle ahead i j k) where
   flipped : (i j : ℕ) → i ≢ j → ahead i j ≡ true → ahead j i ≡ false
@@ -122,7 +106,7 @@ module _ (ahead : ℕ → ℕ → Bool) (n : ℕ) (flips : (i j : ℕ) → i ≢
           | inr (inl jk) ↦ (sides i j k ij jk c).up g h
           | inr (inr kj) ↦ elim (cases_order i k) [
             | inl e ↦ absurd (r e)
-            | inr (inl ik) ↦ true_or (ahead i k) (λ f. clash (ahead i j) g ((sides i k j ik kj b).down f (flipped j k q h)))
+            | inr (inl ik) ↦ true_from_ne_false (ahead i k) (λ f. clash (ahead i j) g ((sides i k j ik kj b).down f (flipped j k q h)))
             | inr (inr ki) ↦ flipped_back k i (λ e. r (sym e)) (elim (cases_Bool (ahead k i)) [
               | inl f ↦ absurd (clash (ahead k j) ((sides k i j ki ij b).up f g) (flipped j k q h))
               | inr f ↦ f
@@ -133,7 +117,7 @@ module _ (ahead : ℕ → ℕ → Bool) (n : ℕ) (flips : (i j : ℕ) → i ≢
           | inl e ↦ absurd (q e)
           | inr (inl jk) ↦ elim (cases_order i k) [
             | inl e ↦ absurd (r e)
-            | inr (inl ik) ↦ true_or (ahead i k) (λ f. clash (ahead j k) h ((sides j i k ji ik c).down (flipped i j p g) f))
+            | inr (inl ik) ↦ true_from_ne_false (ahead i k) (λ f. clash (ahead j k) h ((sides j i k ji ik c).down (flipped i j p g) f))
             | inr (inr ki) ↦ flipped_back k i (λ e. r (sym e)) (elim (cases_Bool (ahead k i)) [
               | inl f ↦ absurd (clash (ahead j i) ((sides j k i jk ki a).up h f) (flipped i j p g))
               | inr f ↦ f
@@ -188,7 +172,7 @@ module _ (value : ℕ → Bool) (t : TraceValue) (model : IsModel value (clauses
     up = λ a b. third_true (makes_true value (neg_ℤ (stands_before t i j))) (makes_true value (neg_ℤ (stands_before t j k))) (order_by value t i k)
         (first_true (model_circle i j k h g l))
         (lit_negated value (operation_count t) i j h ∙ ap not a) (lit_negated value (operation_count t) j k g ∙ ap not b);
-    down = λ a b. was_not (order_by value t i k) (sym (lit_negated value (operation_count t) i k (omega (arith, h, g)))
+    down = λ a b. not-true (order_by value t i k) (sym (lit_negated value (operation_count t) i k (omega (arith, h, g)))
         ∙ third_true (order_by value t i j) (order_by value t j k) (makes_true value (neg_ℤ (stands_before t i k)))
         (first_true (rest_true (model_circle i j k h g l))) a b);
   }

@@ -19,12 +19,14 @@ use Rattle.traces.specs.ValueAfter.{value_left_at, value_after, last_writer}
 use Rattle.traces.proofs.ElementLemmas.{placed, none_in, tail_in, from_map, from_filter, cases_in}
 use Rattle.traces.proofs.NameLemmas.{same_name}
 use Rattle.traces.proofs.OrderLemmas.{stands_behind, stands_ahead, given_entry}
+use Rattle.traces.proofs.CauseLemmas.{held_same}
 use Rattle.reducer.proofs.StandsLemmas.{stands_left}
 use Rattle.var_layout.specs.declared.candidate.Candidate.{Candidate}
 use Rattle.var_layout.specs.declared.candidate.Candidate.TheVariants.{InitialValue, Writer}
 use Rattle.var_layout.specs.Candidates.{sources, value_from, is_read, is_allowed, is_candidate}
 use Rattle.var_layout.specs.FinalVariables.{is_untouched}
 use Rattle.var_layout.specs.Numbers.{name_at, number_of, left_at, writers, others, other_writers}
+use Rattle.var_layout.proofs.WriterLemmas.{from_others}
 use Rattle.clause_blocks.specs.Clauses.{clauses_of}
 use Rattle.clause_blocks.specs.ModelOrder.{IsInOrderOf}
 use Rattle.clause_blocks.proofs.LastWriterLemmas.{GivesNone, IsLast, value_unwritten, writer_unwritten, value_written, writer_written}
@@ -33,7 +35,7 @@ use Rattle.clause_blocks.proofs.ModelClauseLemmas.{Meets, order_by}
 use Rattle.clause_blocks.proofs.ModelLegalLemmas.{came, ahead_stands, interleaved}
 use Rattle.clause_blocks.proofs.OperationNumberLemmas.{number_is, known_at}
 use Rattle.clause_blocks.proofs.StandLemmas.{stands_once}
-use Rattle.clause_blocks.proofs.WriterNumberLemmas.{to_others, from_others, numbers_apart, known_op, op_numbered, reader_listed, candidates_are, other_writers_are, writer_known, writer_numbered, IsWriter, writer_at}
+use Rattle.clause_blocks.proofs.WriterNumberLemmas.{to_others, numbers_apart, known_op, op_numbered, reader_listed, candidates_are, other_writers_are, writer_known, writer_numbered, IsWriter, writer_at}
 
 -- a function gives nothing where giving something is absurd
 gives_none : {A B : Type 0} (f : A → Option B) (xs : List A) → ((x : A) → Contains xs x → (y : B) → f x ≡ Some y → ⊥) → GivesNone f xs
@@ -42,10 +44,6 @@ gives_none f xs h x c = none_at (f x) (h x c)
     none_at : {B : Type 0} (o : Option B) → ((y : B) → o ≡ Some y → ⊥) → o ≡ None
     none_at None h = refl
     none_at (Some y) h = absurd (h y refl)
-
-held_is : (o : Option ℕ) (d : ℕ) → is_held o d ≡ true → o ≡ Some d
-held_is None d h = absurd (cc)
-held_is (Some e) d h = ap Some (eqb-true e d h)
 
 read_is : (o : Option ℕ) (d : ℕ) → is_read o (Some d) ≡ true → o ≡ Some d
 read_is None d h = absurd (cc)
@@ -180,7 +178,7 @@ module _ (value : ℕ → Bool) (t : TraceValue) (names : List OpName) (ok : IsT
       let parted = and_parts (length (writers t entry.0) == 0) (is_held (value_of t.initial entry.0) entry.1) h in
       let none = gives_none (value_left_at t entry.0) names (λ x c y e. none_in (number_of t x)
       (subst (λ l. Contains l (number_of t x)) (no_length (writers t entry.0) (eqb-true (length (writers t entry.0)) 0 parted.0)) (writer_numbered t ok entry.0 x y e))) in
-      value_unwritten t entry.0 names none ∙ held_is (value_of t.initial entry.0) entry.1 parted.1
+      value_unwritten t entry.0 names none ∙ held_same (value_of t.initial entry.0) entry.1 parted.1
     where
       no_length : (xs : List ℕ) → length xs ≡ 0 → xs ≡ []
       no_length [] e = refl
@@ -212,7 +210,7 @@ module _ (value : ℕ → Bool) (t : TraceValue) (names : List OpName) (ok : IsT
         gives = at.leaves;
         none_behind = gives_none (value_left_at t entry.0) here.back (not_last entry w is.last at here.front here.back here.parts);
       } in
-      value_written t entry.0 names at.name at.value last ∙ sym at.left ∙ held_is (left_at t entry.0 w) entry.1 listed.1
+      value_written t entry.0 names at.name at.value last ∙ sym at.left ∙ held_same (left_at t entry.0 w) entry.1 listed.1
 
   final_held : (location : List ℕ) (d : ℕ) → value_of t.final_values location ≡ Some d → value_after t location names ≡ Some d
   final_held location d e =

@@ -1,9 +1,8 @@
 -- The numbers of operations and their names.
 use Rattle.std.proofs.Common.{◌≡◌, ℕ, zero, suc, ◌+◌, ◌<◌, List, [], ◌∷◌, ◌++◌, length, Bool, true, false, cond, not, refl, ap, sym, ◌∙◌, arith, inl, inr, subst}
 use Rattle.std.specs.Prelude.{◌≢◌, Some, IsSome}
-use Rattle.std.specs.List.{Contains, AllPairs, flat_map, slice_get, position_or_len, sum_by}
+use Rattle.std.specs.List.{Contains, AllPairs, flat_map, slice_get, position_or_len}
 use Rattle.std.proofs.lemmas.Bool.{cases_order}
-use Rattle.std.proofs.lemmas.List.Concat.{length-flat_map}
 use Rattle.std.proofs.lemmas.List.FromFn.{length-map-range_with_len, get_or-map-range_with_len}
 use Rattle.std.proofs.lemmas.Option.{slice_get_within, slice_get-get_or}
 use Rattle.traces.specs.declared.operation.OpName.{OpName}
@@ -15,6 +14,7 @@ use Rattle.traces.proofs.ElementLemmas.{cases_in, none_in, tail_in, from_flat_ma
 use Rattle.traces.proofs.NameLemmas.{same_name, name_same, from_first, listed_known, known_listed}
 use Rattle.reducer.proofs.StandsLemmas.{none_stands, stands_here, stands_there, Left, Right, Across, stands_joined, rising_places}
 use Rattle.var_layout.specs.Numbers.{name_at, number_of}
+use Rattle.var_layout.proofs.NumberLemmas.{names_counted}
 use Rattle.clause_blocks.proofs.StandLemmas.{IsOnce, once_rest}
 
 -- what stands at an index
@@ -126,22 +126,8 @@ name_in process k = record { process = process; place = k }
 first_counted : (process : List ℕ) (n : ℕ) → length (first_names process n) ≡ n
 first_counted process n = length-map-range_with_len (name_in process) 1 n
 
--- how many names there are
-pub names_counted : (t : TraceValue) → length (operation_names t) ≡ operation_count t
-names_counted t =
-    length-flat_map (λ (p : Process). first_names p.name (length p.operations)) t.processes
-    ∙ (λ i. sum_by (λ (p : Process). first_counted p.name (length p.operations) i) t.processes)
-
 pub number_within : (t : TraceValue) (i : ℕ) (n : OpName) → name_at t i ≡ Some n → i < operation_count t
 number_within t i n e = let h = slice_get_within (operation_names t) i n e in omega (arith, h, names_counted t)
-
-pub name_within : (t : TraceValue) (i : ℕ) → i < operation_count t → (n : OpName) × (name_at t i ≡ Some n)
-name_within t i h = named (operation_names t) i (omega (arith, h, names_counted t))
-  where
-    named : (xs : List OpName) (i : ℕ) → i < length xs → (n : OpName) × (slice_get xs i ≡ Some n)
-    named [] i h = absurd (omega (arith, h))
-    named (x ∷ xs) zero h = (x, refl)
-    named (x ∷ xs) (suc i) h = named xs i (omega (arith, h))
 
 -- the operations of a process have numbers in a row
 pub record Row (names : List OpName) (p : Process) : Type 0 where

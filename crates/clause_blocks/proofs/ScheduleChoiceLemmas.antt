@@ -2,9 +2,9 @@
 use Rattle.std.proofs.Common.{◌≡◌, ◌⊎◌, ℕ, List, [], ◌∷◌, ◌++◌, length, map, true, refl, ap, sym, ◌∙◌, inl, inr, subst}
 use Rattle.std.specs.Prelude.{◌≢◌, Option, Some, None, IsSome, is_some, ◌==◌}
 use Rattle.std.specs.List.{Contains}
-use Rattle.std.proofs.lemmas.Bool.{and_from, eq-eqb}
+use Rattle.std.proofs.lemmas.Bool.{and_from}
 use Rattle.std.proofs.lemmas.List.Elements.{Contains-append_cases}
-use Rattle.std.proofs.lemmas.Option.{option_and_then_some}
+use Rattle.std.proofs.lemmas.Option.{option_and_then_some, none-some}
 use Rattle.traces.specs.declared.operation.Op.{Op}
 use Rattle.traces.specs.declared.operation.OpName.{OpName}
 use Rattle.traces.specs.declared.operation.Origin.{Origin}
@@ -18,19 +18,21 @@ use Rattle.traces.specs.ValueAfter.{value_left_at, value_after, last_writer}
 use Rattle.traces.proofs.ElementLemmas.{placed, in_middle, head_in, tail_in, cases_in, to_map, from_filter, to_filter}
 use Rattle.traces.proofs.NameLemmas.{name_same, some_value}
 use Rattle.traces.proofs.OrderLemmas.{stands_behind, entry_given}
+use Rattle.traces.proofs.CauseLemmas.{same_held}
 use Rattle.reducer.proofs.StandsLemmas.{stands_in, stands_left}
 use Rattle.var_layout.specs.declared.candidate.Candidate.{Candidate}
 use Rattle.var_layout.specs.declared.candidate.Candidate.TheVariants.{InitialValue, Writer}
 use Rattle.var_layout.specs.Candidates.{sources, value_from, is_read, is_allowed, is_candidate, candidates}
 use Rattle.var_layout.specs.FinalVariables.{is_untouched}
 use Rattle.var_layout.specs.Numbers.{numbers, name_at, number_of, op_at, read_at, left_at, readers, writers, others, other_writers}
+use Rattle.var_layout.proofs.WriterLemmas.{from_others}
 use Rattle.clause_blocks.proofs.LastWriterLemmas.{GivesNone, IsLast, LastOrNone, NoOne, Last, last_or_none, value_unwritten, writer_unwritten, value_written, writer_written}
 use Rattle.clause_blocks.proofs.ModelChoiceLemmas.{IsRead, IsLastWriter, IsFinal}
 use Rattle.clause_blocks.proofs.ModelLegalLemmas.{came}
 use Rattle.clause_blocks.proofs.OperationNumberLemmas.{numbered, known_at}
 use Rattle.clause_blocks.proofs.ScheduleOrderLemmas.{ahead_in, stands_numbered, stands_either}
 use Rattle.clause_blocks.proofs.StandLemmas.{IsOnce, stands_once}
-use Rattle.clause_blocks.proofs.WriterNumberLemmas.{to_others, from_others, candidates_are, other_writers_are, writer_known, left_numbered, writer_numbered, writer_at}
+use Rattle.clause_blocks.proofs.WriterNumberLemmas.{to_others, candidates_are, other_writers_are, writer_known, left_numbered, writer_numbered, writer_at}
 
 -- a reading operation of this number
 pub record IsReader (t : TraceValue) (r : ℕ) : Type 0 where
@@ -49,25 +51,18 @@ reader_at t r c =
     option_and_then_some value_read (op_at t r) value.0 value.1 (λ op h k. option_and_then_some (operation_at t) (name_at t r) op h (λ n e f.
     record { name = n; op = op; value = value.0; named = e; op_is = f; at = h; reads = k }))
 
-none_some : {A : Type 0} (x : A) → None ≡ Some x → ⊥
-none_some x e = cc
-
-held_same : (o : Option ℕ) (d : ℕ) → o ≡ Some d → is_held o d ≡ true
-held_same None d e = absurd (cc)
-held_same (Some c) d e = eq-eqb c d (cc)
-
 read_same : (o p : Option ℕ) (d : ℕ) → o ≡ Some d → p ≡ Some d → is_read o p ≡ true
 read_same None p d e f = absurd (cc)
-read_same (Some c) p d e f = held_same p c (f ∙ sym e)
+read_same (Some c) p d e f = same_held p c (f ∙ sym e)
 
 initial_allowed : (t : TraceValue) (names : List OpName) (location : List ℕ) (origin : Origin) → ComesFrom t names location origin → last_writer t location names ≡ None → is_allowed t origin InitialValue ≡ true
 initial_allowed t names location Any c e = refl
 initial_allowed t names location Initial c e = refl
-initial_allowed t names location (Operation n) c e = absurd (none_some n (sym e ∙ c))
+initial_allowed t names location (Operation n) c e = absurd (none-some n (sym e ∙ c))
 
 writer_allowed : (t : TraceValue) (names : List OpName) (location : List ℕ) (origin : Origin) (w : ℕ) (x : OpName) → ComesFrom t names location origin → last_writer t location names ≡ Some x → name_at t w ≡ Some x → is_allowed t origin (Writer w) ≡ true
 writer_allowed t names location Any w x c e f = refl
-writer_allowed t names location Initial w x c e f = absurd (none_some x (sym c ∙ e))
+writer_allowed t names location Initial w x c e f = absurd (none-some x (sym c ∙ e))
 writer_allowed t names location (Operation n) w x c e f =
     let both : Some x ≡ Some n = sym e ∙ c in
     let same : x ≡ n = cc in
@@ -130,7 +125,7 @@ module _ (t : TraceValue) (names : List OpName) (ok : IsTrace t) (legal : IsLega
             let at = writer_at t (location_of reader.op) v other.0 in
             elim (stands_either t names ok legal.interleaving r v reader.name at.name (λ e. other.1 (sym e)) reader.named at.named) [
               | inl s ↦ stands_numbered t names ok legal.interleaving r v reader.name at.name reader.named at.named s
-              | inr s ↦ absurd (none_some at.value (sym (none at.name (came_before at.name s)) ∙ at.leaves))
+              | inr s ↦ absurd (none-some at.value (sym (none at.name (came_before at.name s)) ∙ at.leaves))
             ]
 
     -- the last writer before it
@@ -167,7 +162,7 @@ module _ (t : TraceValue) (names : List OpName) (ok : IsTrace t) (legal : IsLega
             elim (stands_either t names ok legal.interleaving v (number_of t x) at.name x second.1 at.named x_named) [
               | inl s ↦ inl (stands_numbered t names ok legal.interleaving v (number_of t x) at.name x at.named x_named s)
               | inr s ↦ elim (stands_either t names ok legal.interleaving v r at.name reader.name writer.1 at.named reader.named) [
-                | inl u ↦ absurd (none_some at.value (sym (last.none_behind at.name (behind names once before lift_before last.front x last.back last.parts at.name (came_before at.name u) s)) ∙ at.leaves))
+                | inl u ↦ absurd (none-some at.value (sym (last.none_behind at.name (behind names once before lift_before last.front x last.back last.parts at.name (came_before at.name u) s)) ∙ at.leaves))
                 | inr u ↦ inr (stands_numbered t names ok legal.interleaving r v reader.name at.name reader.named at.named u)
               ]
             ]
@@ -187,13 +182,13 @@ module _ (t : TraceValue) (names : List OpName) (ok : IsTrace t) (legal : IsLega
     unwritten : GivesNone (value_left_at t entry.0) names → is_untouched t entry ≡ true
     unwritten none =
         and_from (length (writers t entry.0) == 0) (is_held (value_of t.initial entry.0) entry.1)
-        (no_elements (writers t entry.0) (λ v c. (let at = writer_at t entry.0 v c in none_some at.value (sym (none at.name (legal.interleaving.each at.name (known_at t ok v at.name at.named))) ∙ at.leaves))))
-        (held_same (value_of t.initial entry.0) entry.1 (sym (value_unwritten t entry.0 names none) ∙ held))
+        (no_elements (writers t entry.0) (λ v c. (let at = writer_at t entry.0 v c in none-some at.value (sym (none at.name (legal.interleaving.each at.name (known_at t ok v at.name at.named))) ∙ at.leaves))))
+        (same_held (value_of t.initial entry.0) entry.1 (sym (value_unwritten t entry.0 names none) ∙ held))
 
     written : (x : OpName) (y : ℕ) → IsLast (value_left_at t entry.0) names x y → IsLastWriter (ahead_in t names) t entry (number_of t x)
     written x y last = record {
       listed = to_filter (λ (w : ℕ). is_held (left_at t entry.0 w) entry.1) (writers t entry.0) (number_of t x)
-          (held_same (left_at t entry.0 (number_of t x)) entry.1 (left_numbered t ok entry.0 x x_known ∙ last.gives ∙ sym (value_written t entry.0 names x y last) ∙ held))
+          (same_held (left_at t entry.0 (number_of t x)) entry.1 (left_numbered t ok entry.0 x x_known ∙ last.gives ∙ sym (value_written t entry.0 names x y last) ∙ held))
           (writer_numbered t ok entry.0 x y last.gives);
       last = earlier;
     }
@@ -210,7 +205,7 @@ module _ (t : TraceValue) (names : List OpName) (ok : IsTrace t) (legal : IsLega
             let at = writer_at t entry.0 v other.0 in
             elim (stands_either t names ok legal.interleaving v (number_of t x) at.name x other.1 at.named x_named) [
               | inl s ↦ stands_numbered t names ok legal.interleaving v (number_of t x) at.name x at.named x_named s
-              | inr s ↦ absurd (none_some at.value (sym (last.none_behind at.name (behind names once names (λ a b u. u) last.front x last.back last.parts at.name (stands_in names x at.name s).1 s)) ∙ at.leaves))
+              | inr s ↦ absurd (none-some at.value (sym (last.none_behind at.name (behind names once names (λ a b u. u) last.front x last.back last.parts at.name (stands_in names x at.name s).1 s)) ∙ at.leaves))
             ]
 
     final_by : LastOrNone (value_left_at t entry.0) names → IsFinal (ahead_in t names) t entry

@@ -18,19 +18,21 @@ use Rattle.var_layout.specs.Candidates.{sources, is_candidate, candidates}
 use Rattle.var_layout.specs.ChoiceVariables.{choices, first_choice}
 use Rattle.var_layout.specs.FinalVariables.{final_candidates, is_untouched, first_final, final_choices}
 use Rattle.var_layout.specs.Numbers.{name_at, left_at, readers, writers, others, other_writers}
+use Rattle.var_layout.proofs.NumberingLemmas.{at_enumerated}
+use Rattle.var_layout.proofs.WriterLemmas.{from_others}
 use Rattle.traces.specs.Judgement.{is_held}
 use Rattle.clause_blocks.specs.Blocks.{stands_before, implies, void_clauses, program_order, transitivity, reads_from, clauses_of_read, read_clauses, writes_last, clauses_of_final, final_clauses, before_clauses}
 use Rattle.clause_blocks.specs.Clauses.{clauses_of}
 use Rattle.clause_blocks.proofs.ListLemmas.{clause_list}
 use Rattle.clause_blocks.specs.ModelOrder.{IsInOrderOf}
 use Rattle.clause_blocks.proofs.ModelChoiceLemmas.{IsLastWriter, IsFinal, from_choices, from_final_choices}
-use Rattle.clause_blocks.proofs.ModelClauseLemmas.{Meets, from_enumerate, to_enumerate}
+use Rattle.clause_blocks.proofs.ModelClauseLemmas.{Meets, to_enumerate}
 use Rattle.clause_blocks.proofs.OperationNumberLemmas.{get_listed, listed_get}
 use Rattle.clause_blocks.proofs.ScheduleChoiceLemmas.{IsReader, reader_at, schedule_read, schedule_final}
 use Rattle.clause_blocks.proofs.ScheduleModelLemmas.{first_makes, rest_makes, implies_makes, variable_makes, to_meets, from_meets, no_length, values, literal_is, program_true, pairs_true, transitivity_true}
 use Rattle.clause_blocks.proofs.ScheduleOrderLemmas.{ahead_in, stands_numbered, numbered_stands}
 use Rattle.clause_blocks.proofs.ScheduleValueLemmas.{meets, is_last, choice_value, final_value}
-use Rattle.clause_blocks.proofs.WriterNumberLemmas.{from_others, candidates_are, other_writers_are, writer_at}
+use Rattle.clause_blocks.proofs.WriterNumberLemmas.{candidates_are, other_writers_are, writer_at}
 
 -- a candidate of a reading operation with its variable
 pub to_choices : (t : TraceValue) (r : ℕ) (c : Candidate) → Contains (candidates t r) c → (x : Choice) × Contains (choices t r) x × (x.candidate ≡ c)
@@ -177,7 +179,7 @@ module _ (t : TraceValue) (names : List OpName) (ok : IsTrace t) (legal : IsLega
   finals_true : (l : List ℤ) → Contains (final_clauses t) l → makes_some truths l ≡ true
   finals_true l d =
       let at = from_flat_map (λ (numbered : ℕ × (List ℕ × ℕ)). clauses_of_final t numbered.0 numbered.1) (enumerate_from 0 t.final_values) l d in
-      let from = from_enumerate 0 t.final_values at.0 at.1 in
+      let from = at_enumerated 0 t.final_values at.0 at.1 in
       final_by at.0.0 at.0.1 at.1 (schedule_final t names ok legal at.0.1 (get_listed t.final_values from.0 at.0.1 from.2))
       (is_untouched t at.0.1) (length (final_candidates t at.0.1) == 0) refl refl l at.2
 

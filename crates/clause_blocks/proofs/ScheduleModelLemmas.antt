@@ -2,7 +2,7 @@
 use Rattle.std.proofs.Common.{◌≡◌, ◌⊎◌, ℕ, ◌+◌, ◌-◌, ◌<◌, ℤ, pos, neg_ℤ, List, [], ◌∷◌, length, map, Bool, true, false, not, ◌||◌, refl, ap, sym, ◌∙◌, arith, inl, inr, subst}
 use Rattle.std.specs.Prelude.{◌≢◌, ◌==◌, Option, Some, None, IsSome}
 use Rattle.std.specs.List.{Contains, filter, flat_map, list_all}
-use Rattle.std.proofs.lemmas.Bool.{and_parts, and_from, eqb-true}
+use Rattle.std.proofs.lemmas.Bool.{and_parts, and_from, eqb-true, or_cases, or_right}
 use Rattle.std.proofs.lemmas.List.Elements.{All-contains}
 use Rattle.dimacs.specs.Assignment.{makes_true, makes_some}
 use Rattle.traces.specs.declared.operation.OpName.{OpName}
@@ -29,10 +29,6 @@ first_makes value a rest h = passes_some (makes_true value) (a ∷ rest) a (head
 
 pub rest_makes : (value : ℕ → Bool) (a : ℤ) (rest : List ℤ) → makes_some value rest ≡ true → makes_some value (a ∷ rest) ≡ true
 rest_makes value a rest h = or_right (makes_true value a) (makes_some value rest) h
-  where
-    or_right : (b c : Bool) → c ≡ true → (b || c) ≡ true
-    or_right true c h = refl
-    or_right false c h = h
 
 implies_by : (value : ℕ → Bool) (v : ℕ) (literals : List ℤ) (b : Bool) → 0 < v → value v ≡ b → (value v ≡ true → makes_some value literals ≡ true) → makes_some value (implies v literals) ≡ true
 implies_by value v literals true h e more = rest_makes value (neg_ℤ (pos v)) literals (more e)
@@ -50,10 +46,6 @@ or_from : (a b : Bool) → (a ≡ true) ⊎ (b ≡ true) → (a || b) ≡ true
 or_from true b h = refl
 or_from false b (inl h) = absurd (cc)
 or_from false b (inr h) = h
-
-or_cases : (a b : Bool) → (a || b) ≡ true → (a ≡ true) ⊎ (b ≡ true)
-or_cases true b h = inl refl
-or_cases false b h = inr h
 
 pub to_meets : (ahead : ℕ → ℕ → Bool) (t : TraceValue) (r : ℕ) (c : Candidate) → Meets ahead t r c → meets ahead t r c ≡ true
 to_meets ahead t r InitialValue m = pass_all (ahead r) (other_writers t r) m

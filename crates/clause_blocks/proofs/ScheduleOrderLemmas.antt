@@ -6,7 +6,8 @@ use Rattle.traces.specs.declared.operation.OpName.{OpName}
 use Rattle.traces.specs.Interleaving.{StandsBefore, IsInterleaving}
 use Rattle.traces.specs.Trace.{TraceValue, IsTrace, operation_count}
 use Rattle.var_layout.specs.Numbers.{name_at}
-use Rattle.clause_blocks.proofs.OperationNumberLemmas.{known_at, name_within, names_apart}
+use Rattle.var_layout.proofs.NumberLemmas.{name_here}
+use Rattle.clause_blocks.proofs.OperationNumberLemmas.{known_at, names_apart}
 use Rattle.clause_blocks.proofs.StandLemmas.{is_ahead, ahead_stands, stands_ahead, stands_trans, stands_total, stands_once}
 
 -- both have names, and one name stands before the other
@@ -52,15 +53,15 @@ module _ (t : TraceValue) (names : List OpName) (ok : IsTrace t) (given : IsInte
 
   pub schedule_flips : (i j : ℕ) → i ≢ j → i < operation_count t → j < operation_count t → ahead_in t names j i ≡ not (ahead_in t names i j)
   schedule_flips i j d h k =
-      let first = name_within t i h in
-      let second = name_within t j k in
+      let first = name_here t i h in
+      let second = name_here t j k in
       ahead_named t names j i second.0 first.0 second.1 first.1 ∙ flips_by first.0 second.0 (stands_either i j first.0 second.0 d first.1 second.1)
       ∙ ap not (sym (ahead_named t names i j first.0 second.0 first.1 second.1))
 
   pub schedule_trans : (i j k : ℕ) → i < operation_count t → j < operation_count t → k < operation_count t → ahead_in t names i j ≡ true → ahead_in t names j k ≡ true → ahead_in t names i k ≡ true
   schedule_trans i j k a b c e f =
-      let first = name_within t i a in
-      let second = name_within t j b in
-      let third = name_within t k c in
+      let first = name_here t i a in
+      let second = name_here t j b in
+      let third = name_here t k c in
       stands_numbered i k first.0 third.0 first.1 third.1 (stands_trans names given.once first.0 second.0 third.0
       (numbered_stands i j first.0 second.0 first.1 second.1 e) (numbered_stands j k second.0 third.0 second.1 third.1 f))

@@ -2,7 +2,8 @@
 use Rattle.std.proofs.Common.{◌≡◌, ℕ, ◌+◌, ◌-◌, ◌<◌, ◌≤◌, List, map, Bool, true, false, cond, not, ◌&&◌, ◌||◌, refl, ap, sym, ◌∙◌, arith, inl, inr, Some}
 use Rattle.std.specs.Prelude.{◌≢◌, ◌==◌, nat_le}
 use Rattle.std.specs.List.{Contains, enumerate_from, list_all, list_any, slice_get, range_with_len}
-use Rattle.std.proofs.lemmas.Bool.{and_parts, and_from, eqb-true, eq-eqb, cases_order, le-leb, lt-leb}
+use Rattle.std.proofs.lemmas.Bool.{and_parts, and_from, eqb-true, eq-eqb, cases_order, le-leb, lt-leb, not-true}
+use Rattle.text_lines.proofs.BoolLemmas.{same_truth}
 use Rattle.traces.specs.declared.operation.OpName.{OpName}
 use Rattle.traces.specs.Interleaving.{IsInterleaving}
 use Rattle.traces.specs.Trace.{TraceValue, IsTrace, operation_count}
@@ -15,9 +16,11 @@ use Rattle.var_layout.specs.ChoiceVariables.{all_choices, first_choice, choices}
 use Rattle.var_layout.specs.FinalVariables.{is_untouched, first_final, final_choices}
 use Rattle.var_layout.specs.Numbers.{readers, writers, others, other_writers}
 use Rattle.var_layout.specs.OrderVariables.{numbers_above, pairs, order_count, order_var}
+use Rattle.var_layout.proofs.OrderLemmas.{order_last, pairs_apart}
+use Rattle.var_layout.proofs.NumberingLemmas.{at_enumerated}
 use Rattle.clause_blocks.proofs.ModelChoiceLemmas.{from_choices, from_final_choices}
-use Rattle.clause_blocks.proofs.ModelClauseLemmas.{was_not, from_enumerate, order_by}
-use Rattle.clause_blocks.proofs.OrderLiteralLemmas.{lit_true, lit_false, var_within, one_var}
+use Rattle.clause_blocks.proofs.ModelClauseLemmas.{order_by}
+use Rattle.clause_blocks.proofs.OrderLiteralLemmas.{lit_true, lit_false}
 use Rattle.clause_blocks.proofs.ScheduleOrderLemmas.{ahead_in, schedule_flips}
 use Rattle.clause_blocks.proofs.VariableRangeLemmas.{choice_above, choice_within, one_choice, final_above, one_final}
 
@@ -48,11 +51,6 @@ final_truth ahead t v = list_any (final_truth_of ahead t v) (enumerate_from 0 t.
 -- the truth values of all variables
 abbrev pub truth : (ℕ → ℕ → Bool) → TraceValue → ℕ → Bool
 truth ahead t v = cond (nat_le v (order_count (operation_count t))) (order_truth ahead t v) (cond (nat_le v (order_count (operation_count t) + all_choices t)) (choice_truth ahead t v) (final_truth ahead t v))
-
-same_truth : (a b : Bool) → (a ≡ true → b ≡ true) → (b ≡ true → a ≡ true) → a ≡ b
-same_truth true b f g = sym (f refl)
-same_truth false true f g = g refl
-same_truth false false f g = refl
 
 -- the pairs of numbers
 pub from_pairs : (n : ℕ) (p : ℕ × ℕ) → Contains (pairs n) p → (p.0 < p.1) × (p.1 < n)
@@ -91,7 +89,7 @@ module _ (ahead : ℕ → ℕ → Bool) (t : TraceValue) where
       let found = some_passes (λ (pair : ℕ × ℕ). (order_var (operation_count t) pair.0 pair.1 == order_var (operation_count t) i j) && ahead pair.0 pair.1) (pairs (operation_count t)) e in
       let parts = and_parts (order_var (operation_count t) found.0.0 found.0.1 == order_var (operation_count t) i j) (ahead found.0.0 found.0.1) found.2 in
       let within = from_pairs (operation_count t) found.0 found.1 in
-      let one = one_var (operation_count t) found.0.0 found.0.1 i j within.0 within.1 h l (eqb-true (order_var (operation_count t) found.0.0 found.0.1) (order_var (operation_count t) i j) parts.0) in
+      let one = pairs_apart (operation_count t) found.0.0 found.0.1 i j within.0 within.1 h l (eqb-true (order_var (operation_count t) found.0.0 found.0.1) (order_var (operation_count t) i j) parts.0) in
       (λ k. ahead (sym one.0 k) (sym one.1 k)) ∙ parts.1
 
   to_order : (i j : ℕ) → i < j → j < operation_count t → ahead i j ≡ true → order_truth ahead t (order_var (operation_count t) i j) ≡ true
@@ -101,7 +99,7 @@ module _ (ahead : ℕ → ℕ → Bool) (t : TraceValue) where
 
   order_value : (i j : ℕ) → i < j → j < operation_count t → truth ahead t (order_var (operation_count t) i j) ≡ ahead i j
   order_value i j h l =
-      truth_low (order_var (operation_count t) i j) (var_within (operation_count t) i j h l)
+      truth_low (order_var (operation_count t) i j) (order_last (operation_count t) i j h l)
       ∙ same_truth (order_truth ahead t (order_var (operation_count t) i j)) (ahead i j) (from_order i j h l) (to_order i j h l)
 
   -- choice variables
@@ -134,7 +132,7 @@ module _ (ahead : ℕ → ℕ → Bool) (t : TraceValue) where
   from_final : (i : ℕ) (entry : List ℕ × ℕ) (c : FinalChoice) → slice_get t.final_values i ≡ Some entry → is_untouched t entry ≡ false → Contains (final_choices t i entry) c → final_truth ahead t c.variable ≡ true → is_last ahead t entry.0 c.writer ≡ true
   from_final i entry c g u d e =
       let numbered = some_passes (final_truth_of ahead t c.variable) (enumerate_from 0 t.final_values) e in
-      let place = from_enumerate 0 t.final_values numbered.0 numbered.1 in
+      let place = at_enumerated 0 t.final_values numbered.0 numbered.1 in
       let halves = and_parts (not (is_untouched t numbered.0.1)) (list_any (λ (x : FinalChoice). (x.variable == c.variable) && is_last ahead t numbered.0.1.0 x.writer) (final_choices t numbered.0.0 numbered.0.1)) numbered.2 in
       let found = some_passes (λ (x : FinalChoice). (x.variable == c.variable) && is_last ahead t numbered.0.1.0 x.writer) (final_choices t numbered.0.0 numbered.0.1) halves.1 in
       let parts = and_parts (found.0.variable == c.variable) (is_last ahead t numbered.0.1.0 found.0.writer) found.2 in
@@ -144,7 +142,7 @@ module _ (ahead : ℕ → ℕ → Bool) (t : TraceValue) where
       let that_given : slice_get t.final_values numbered.0.0 ≡ Some numbered.0.1 = ap (slice_get t.final_values) index ∙ place.2 in
       let same : first_final t numbered.0.0 + that.0 ≡ first_final t i + at.0 = omega (arith, that.1, eqb-true found.0.variable c.variable parts.0, at.1) in
       let one = one_final t numbered.0.0 numbered.0.1 that.0 found.0.writer i entry at.0 c.writer
-      (record { given = that_given; touched = was_not (is_untouched t numbered.0.1) halves.0; writer = that.2 }) (record { given = g; touched = u; writer = at.2 }) same in
+      (record { given = that_given; touched = not-true (is_untouched t numbered.0.1) halves.0; writer = that.2 }) (record { given = g; touched = u; writer = at.2 }) same in
       (λ k. is_last ahead t (sym one.0 k).0 (sym one.1 k)) ∙ parts.1
 
   to_final : (i : ℕ) (entry : List ℕ × ℕ) (c : FinalChoice) → Contains (enumerate_from 0 t.final_values) (i, entry) → is_untouched t entry ≡ false → Contains (final_choices t i entry) c → is_last ahead t entry.0 c.writer ≡ true → final_truth ahead t c.variable ≡ true
@@ -157,7 +155,7 @@ module _ (ahead : ℕ → ℕ → Bool) (t : TraceValue) where
   pub final_value : (i : ℕ) (entry : List ℕ × ℕ) (c : FinalChoice) → Contains (enumerate_from 0 t.final_values) (i, entry) → is_untouched t entry ≡ false → Contains (final_choices t i entry) c →
       truth ahead t c.variable ≡ is_last ahead t entry.0 c.writer
   final_value i entry c g u d =
-      let place = from_enumerate 0 t.final_values (i, entry) g in
+      let place = at_enumerated 0 t.final_values (i, entry) g in
       let index : i ≡ place.0 = omega (arith, place.1) in
       let given : slice_get t.final_values i ≡ Some entry = ap (slice_get t.final_values) index ∙ place.2 in
       let at = from_final_choices t i entry c d in

@@ -1,10 +1,11 @@
 -- Clauses that go to their sink in pieces: what it has taken, and what is still kept.
-use Rattle.std.proofs.Common.{◌≡◌, ℕ, zero, suc, ◌+◌, ◌-◌, ◌≤◌, ℤ, List, ◌∷◌, ◌++◌, length, refl, sym, ap, ◌∙◌, subst, arith, map, Bool, not}
+use Rattle.std.proofs.Common.{◌≡◌, ℕ, ◌+◌, ◌-◌, ◌≤◌, ℤ, List, ◌++◌, length, refl, sym, ap, ◌∙◌, subst, arith, map, Bool, not}
 use Rattle.std.specs.List.{filter, flat_map, range_with_len}
 use Rattle.std.proofs.lemmas.List.{append_assoc, length-map}
 use Rattle.std.proofs.lemmas.List.Filters.{length-filter_both}
 use Rattle.std.proofs.lemmas.List.FromFn.{length-range_with_len}
 use Rattle.std.proofs.lemmas.Grind.{flat_map-append}
+use Rattle.var_layout.proofs.RangeLemmas.{range_parted}
 use Rattle.dimacs.specs.CnfText.{clause_line}
 use Rattle.dimacs.specs.Sink.{AppendsFront, IsSent}
 use Rattle.dimacs.proofs.ChunkLemmas.{sent_more, sent_on, sent_last, sent_front}
@@ -37,17 +38,6 @@ front_of_both old new head first second f = subst (λ made. AppendsFront old new
 -- so is what the sink has taken once those of the first list were sent
 pub front_of_sent : (old new head kept : List ℕ) (first second : List (List ℤ)) → IsSent old new kept (head ++ flat_map clause_line first) → AppendsFront old new (head ++ flat_map clause_line (first ++ second))
 front_of_sent old new head kept first second s = subst (λ made. AppendsFront old new made) (both_lines head first second) (sent_front old new kept (head ++ flat_map clause_line first) (flat_map clause_line second) s)
-
--- the numbers from a on, and those after them
-range_parted : (a k m : ℕ) → range_with_len a (k + m) ≡ range_with_len a k ++ range_with_len (a + k) m
-range_parted a zero m =
-    let none : 0 + m ≡ m = omega arith in
-    let here : a ≡ a + 0 = omega arith in
-    λ p. range_with_len (here p) (none p)
-range_parted a (suc k) m =
-    let more : suc k + m ≡ suc (k + m) = omega arith in
-    let behind : a + 1 + k ≡ a + suc k = omega arith in
-    ap (range_with_len a) more ∙ ap (λ l. a ∷ l) (range_parted (a + 1) k m ∙ ap (λ b. range_with_len (a + 1) k ++ range_with_len b m) behind)
 
 -- what the numbers below k give, and then what the others below n do
 pub flat_parted : {A : Type 0} (f : ℕ → List A) (k n : ℕ) → k ≤ n → flat_map f (range_with_len 0 k) ++ flat_map f (range_with_len k (n - k)) ≡ flat_map f (range_with_len 0 n)

@@ -1,14 +1,11 @@
 -- The step of a loop that appends what each number, or each element, gives.
-use Rattle.std.proofs.Common.{◌≡◌, ℕ, ◌+◌, ◌-◌, ◌<◌, ◌≤◌, List, [], ◌∷◌, ◌++◌, length, get_or, take, map, Bool, true, false, cond, not, eqb, refl, sym, ap, ◌∙◌, arith, append_assoc, append-nil}
+use Rattle.std.proofs.Common.{◌≡◌, ℕ, ◌+◌, ◌-◌, ◌<◌, ◌≤◌, List, [], ◌∷◌, ◌++◌, length, get_or, take, map, Bool, true, false, cond, not, eqb, sym, ap, ◌∙◌, arith, append_assoc, append-nil}
 use Rattle.std.specs.Prelude.{◌≢◌}
 use Rattle.std.specs.List.{filter, flat_map, range_with_len}
 use Rattle.std.proofs.lemmas.Bool.Decides.{nat_tests}
-use Rattle.std.proofs.lemmas.List.{map-id, map-append, flat_map_more, take_more}
+use Rattle.std.proofs.lemmas.List.{map-append, flat_map_more, take_more}
 use Rattle.std.proofs.lemmas.List.Elements.{filter-append}
-use Rattle.std.proofs.lemmas.List.FromFn.{map-range_with_len_more}
-
-range_more : (a n : ℕ) → range_with_len a (n + 1) ≡ range_with_len a n ++ (a + n) ∷ []
-range_more a n = sym (map-id _) ∙ map-range_with_len_more (λ k. k) a n (a + n) refl ∙ ap (λ l. l ++ (a + n) ∷ []) (map-id _)
+use Rattle.var_layout.proofs.RangeLemmas.{range_more, filter_range_more}
 
 -- the numbers from a to below k, and then k
 pub range_upto : (a k : ℕ) → a ≤ k → range_with_len a (k + 1 - a) ≡ range_with_len a (k - a) ++ k ∷ []
@@ -26,9 +23,6 @@ flat_more f bs k = flat_map_more f bs (range_with_len 0 k) k ∙ ap (λ l. bs ++
 filter_one : {X : Type 0} (p : X → Bool) (xs : List X) (x : X) (b : Bool) → p x ≡ b → filter p (xs ++ x ∷ []) ≡ filter p xs ++ cond b (x ∷ []) []
 filter_one p xs x b h = filter-append p xs (x ∷ []) ∙ ap (λ v. filter p xs ++ cond v (x ∷ []) []) h
 
-filter_range : (p : ℕ → Bool) (k : ℕ) (b : Bool) → p k ≡ b → filter p (range_with_len 0 (k + 1)) ≡ filter p (range_with_len 0 k) ++ cond b (k ∷ []) []
-filter_range p k b h = ap (filter p) (range_more 0 k ∙ ap (λ x. range_with_len 0 k ++ x ∷ []) (omega arith)) ∙ filter_one p (range_with_len 0 k) k b h
-
 map_kept : {X A : Type 0} (f : X → A) (bs : List A) (xs : List X) (x : X) (b : Bool) → (bs ++ map f xs) ++ cond b (f x ∷ []) [] ≡ bs ++ map f (xs ++ cond b (x ∷ []) [])
 map_kept f bs xs x true = append_assoc bs (map f xs) (f x ∷ []) ∙ ap (λ l. bs ++ l) (sym (map-append f xs (x ∷ [])))
 map_kept f bs xs x false = append-nil _ ∙ ap (λ l. bs ++ map f l) (sym (append-nil xs))
@@ -40,11 +34,11 @@ flat_kept f bs xs x false = append-nil _ ∙ ap (λ l. bs ++ flat_map f l) (sym 
 -- where only the numbers count that pass
 pub map_passed : {A : Type 0} (f : ℕ → A) (p : ℕ → Bool) (bs : List A) (k : ℕ) (b : Bool) → p k ≡ b →
     (bs ++ map f (filter p (range_with_len 0 k))) ++ cond b (f k ∷ []) [] ≡ bs ++ map f (filter p (range_with_len 0 (k + 1)))
-map_passed f p bs k b h = map_kept f bs (filter p (range_with_len 0 k)) k b ∙ ap (λ l. bs ++ map f l) (sym (filter_range p k b h))
+map_passed f p bs k b h = map_kept f bs (filter p (range_with_len 0 k)) k b ∙ ap (λ l. bs ++ map f l) (sym (filter_range_more p k b h))
 
 pub flat_passed : {A : Type 0} (f : ℕ → List A) (p : ℕ → Bool) (bs : List A) (k : ℕ) (b : Bool) → p k ≡ b →
     (bs ++ flat_map f (filter p (range_with_len 0 k))) ++ cond b (f k) [] ≡ bs ++ flat_map f (filter p (range_with_len 0 (k + 1)))
-flat_passed f p bs k b h = flat_kept f bs (filter p (range_with_len 0 k)) k b ∙ ap (λ l. bs ++ flat_map f l) (sym (filter_range p k b h))
+flat_passed f p bs k b h = flat_kept f bs (filter p (range_with_len 0 k)) k b ∙ ap (λ l. bs ++ flat_map f l) (sym (filter_range_more p k b h))
 
 -- where only the elements count that pass
 pub map_taken : {X A : Type 0} (f : X → A) (p : X → Bool) (bs : List A) (xs : List X) (k : ℕ) (x : X) (b : Bool) → k < length xs → p (get_or xs k x) ≡ b →

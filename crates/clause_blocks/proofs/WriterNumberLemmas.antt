@@ -3,7 +3,7 @@ use Rattle.std.proofs.Common.{◌≡◌, ℕ, ◌<◌, List, [], Bool, true, fal
 use Rattle.std.specs.Prelude.{◌≢◌, ◌==◌, Some, IsSome, is_some}
 use Rattle.std.specs.List.{Contains, filter}
 use Rattle.std.specs.Option.{option_and_then, option_map_or}
-use Rattle.std.proofs.lemmas.Bool.{eqb-true, eq-eqb}
+use Rattle.std.proofs.lemmas.Bool.{eqb-true}
 use Rattle.std.proofs.lemmas.Option.{option_and_then_some}
 use Rattle.traces.specs.declared.operation.Op.{Op}
 use Rattle.traces.specs.declared.operation.OpName.{OpName}
@@ -23,15 +23,6 @@ to_others i xs x c d = to_filter (λ (y : ℕ). not (y == i)) xs x (differs (eqb
     differs : (b : Bool) → eqb x i ≡ b → not b ≡ true
     differs true e = absurd (d (eqb-true x i e))
     differs false e = refl
-
-pub from_others : (i : ℕ) (xs : List ℕ) (x : ℕ) → Contains (others i xs) x → Contains xs x × (x ≢ i)
-from_others i xs x c =
-    let at = from_filter (λ (y : ℕ). not (y == i)) xs x c in
-    (at.0, λ e. clash (eqb x i) (eq-eqb x i e) at.1)
-  where
-    clash : (b : Bool) → b ≡ true → not b ≡ true → ⊥
-    clash true h k = cc
-    clash false h k = cc
 
 -- names that differ have different numbers
 pub numbers_apart : (t : TraceValue) → IsTrace t → (m n : OpName) → IsSome (operation_at t m) → IsSome (operation_at t n) → m ≢ n → number_of t m ≢ number_of t n

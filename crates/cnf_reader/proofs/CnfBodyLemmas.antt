@@ -1,8 +1,8 @@
 -- The clauses of a formula's text, word by word.
-use Rattle.std.proofs.Common.{◌≡◌, ℕ, ◌+◌, ◌-◌, ◌<◌, List, [], ◌∷◌, ◌++◌, length, map, drop, Bool, true, false, cond, refl, ap, sym, ◌∙◌, subst, arith, inl, inr, append_assoc, append-nil, length-append}
-use Rattle.std.specs.Prelude.{Option, Some, ℤ, pos, nat_le, ◌&&◌}
+use Rattle.std.proofs.Common.{◌≡◌, ℕ, ◌+◌, ◌-◌, ◌<◌, List, [], ◌∷◌, ◌++◌, length, map, drop, true, false, cond, refl, ap, sym, ◌∙◌, subst, arith, inl, inr, append_assoc, append-nil, length-append}
+use Rattle.std.specs.Prelude.{Option, Some, ℤ, pos, nat_le}
 use Rattle.std.specs.List.{filter, flat_map, list_all}
-use Rattle.std.proofs.lemmas.Bool.{and_from, cond-false}
+use Rattle.std.proofs.lemmas.Bool.{and_from, cond-false, and_left}
 use Rattle.std.proofs.lemmas.Bool.Decides.{nat_tests}
 use Rattle.std.proofs.lemmas.List.{map_push, map-append, length_push, flat_map_more}
 use Rattle.std.proofs.lemmas.List.Elements.{filter-append}
@@ -78,10 +78,6 @@ push_end h words clauses begun word so_far room number =
       clear = faultless_push (word_fault h) words word so_far.clear (fault_here h words clauses begun word so_far ∙ fault_with_room h (length clauses) word.1 room ∙ small_clear h.variables word.1 (pos 0) number (omega arith));
     }
 
-first_false : (a b : Bool) → a ≡ false → (a && b) ≡ false
-first_false true b e = absurd (cc)
-first_false false b e = refl
-
 pub push_literal : (h : Header) (words : Words) (clauses : List (List ℤ)) (begun : List ℤ) (word : ℕ × List ℕ) (z : ℤ) → AreClauses h words clauses begun → length clauses < h.clauses → solver_number word.1 ≡ Some z →
     is_literal_up_to h.variables z ≡ true → AreClauses h (words ++ word ∷ []) clauses (begun ++ z ∷ [])
 push_literal h words clauses begun word z so_far room number literal =
@@ -97,7 +93,7 @@ push_literal h words clauses begun word z so_far room number literal =
       literals = list_all-append (is_literal_up_to h.variables) begun (z ∷ []) ∙ and_from _ _ so_far.literals (and_from _ true literal refl);
       few = so_far.few;
       counted = one_counted words word ∙ omega (arith, so_far.counted, none);
-      last = last_is words word ∙ first_false (is_zero word) true no_end ∙ sym (empty_push begun z);
+      last = last_is words word ∙ and_left (is_zero word) true no_end ∙ sym (empty_push begun z);
       clear = faultless_push (word_fault h) words word so_far.clear (fault_here h words clauses begun word so_far ∙ fault_with_room h (length clauses) word.1 room ∙ small_clear h.variables word.1 z number (literal_size h.variables z literal).1);
     }
 

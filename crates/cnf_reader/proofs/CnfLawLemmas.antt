@@ -6,6 +6,7 @@ use Rattle.std.proofs.lemmas.Bool.{and_parts, true≢false}
 use Rattle.std.proofs.lemmas.List.Folds.{list_all-append}
 use Rattle.std.proofs.lemmas.List.Concat.{flat_map-cons}
 use Rattle.text_lines.proofs.FaultLemmas.{compared}
+use Rattle.text_lines.proofs.ListLemmas.{same_somes}
 use Rattle.cnf_reader.specs.CnfLines.{said_lines, end_line, placed_words}
 use Rattle.cnf_reader.specs.CnfProgress.{AreBody}
 use Rattle.cnf_reader.specs.CnfReading.{Header, header_of, header_cause, ended, SpellsCnf, HasBodyFault, HasFaultAfter, HasFaultIn, HasCnfFault}
@@ -84,16 +85,6 @@ same_clauses variables (c ∷ a) (d ∷ b) h k e =
     let tail = same_clauses variables a b first.1 second.1 (same_rest d (flat_map ended a) (flat_map ended b) (ap (λ x. x ++ pos 0 ∷ flat_map ended a) (sym head) ∙ whole)) in
     (λ i. head i ∷ tail i)
 
-same_numbers : (a b : List ℤ) → map Some a ≡ map Some b → a ≡ b
-same_numbers [] [] e = refl
-same_numbers [] (y ∷ b) e = absurd (cc)
-same_numbers (x ∷ a) [] e = absurd (cc)
-same_numbers (x ∷ a) (y ∷ b) e =
-    let heads : Some x ≡ Some y = cc in
-    let head : x ≡ y = cc in
-    let tail = same_numbers a b (cc) in
-    (λ i. head i ∷ tail i)
-
 pub one_spelled : (text : List ℕ) (f g : FormulaValue) → SpellsCnf text f → SpellsCnf text g → f ≡ g
 one_spelled text f g s t =
     let lines : s.first ∷ s.rest ≡ t.first ∷ t.rest = sym s.lines ∙ t.lines in
@@ -102,7 +93,7 @@ one_spelled text f g s t =
     let headers : Some (counts f) ≡ Some (counts g) = sym s.header ∙ ap (λ (l : ℕ × List (List ℕ)). header_of l.1) first ∙ t.header in
     let header : counts f ≡ counts g = cc in
     let variables : f.variables ≡ g.variables = ap (λ (h : Header). h.variables) header in
-    let numbers = same_numbers (flat_map ended f.clauses) (flat_map ended g.clauses) (sym s.numbers ∙ ap (λ l. map number_of (placed_words l)) rest ∙ t.numbers) in
+    let numbers = same_somes (flat_map ended f.clauses) (flat_map ended g.clauses) (sym s.numbers ∙ ap (λ l. map number_of (placed_words l)) rest ∙ t.numbers) in
     let clauses = same_clauses g.variables f.clauses g.clauses (subst (λ (n : ℕ). list_all (is_clause_up_to n) f.clauses ≡ true) variables s.formula) t.formula numbers in
     (λ i. record { variables = variables i; clauses = clauses i })
 

@@ -2,7 +2,7 @@
 use Rattle.std.proofs.Common.{◌≡◌, ℕ, zero, suc, ◌<◌, ◌≤◌, ◌⊎◌, List, Bool, true, false, not, cond, refl, ap, sym, ◌∙◌, arith, inl, inr, eqb}
 use Rattle.std.specs.Prelude.{Option, Some, None, ℤ, pos, negsuc, nat_abs, nat_lt, nat_le, ◌&&◌, ◌==◌}
 use Rattle.std.specs.Str.Parse.{digits_value}
-use Rattle.std.proofs.lemmas.Bool.{and_parts, and_from, cond-false}
+use Rattle.std.proofs.lemmas.Bool.{and_parts, and_from, cond-false, eq-eqb, and_right}
 use Rattle.std.proofs.lemmas.Bool.Decides.{nat_tests}
 use Rattle.std.proofs.lemmas.Option.{cond_some, none-some}
 use Rattle.text_lines.specs.Numbers.{is_digits, has_minus, digits_after_sign, is_solver_number, solver_number}
@@ -21,14 +21,11 @@ both_apart true true h e f = absurd (cc)
 both_apart true false h e f = absurd (cc)
 both_apart false b h e f = absurd (cc)
 
-eqb_self : (n m : ℕ) → n ≡ m → eqb n m ≡ true
-eqb_self n m e = grind (arith, nat_tests)
-
 -- a solver number has a sign and a size
 pub parts_of : (word : List ℕ) → is_solver_number word ≡ true → HasParts word (has_minus word) (size word)
 parts_of word h =
     let both = and_parts (is_digits (digits_after_sign word)) (not (has_minus word && (size word == 0))) h in
-    read_number word (has_minus word) refl both.0 (λ minus zero_size. both_apart (has_minus word) (size word == 0) both.1 minus (eqb_self (size word) 0 zero_size))
+    read_number word (has_minus word) refl both.0 (λ minus zero_size. both_apart (has_minus word) (size word == 0) both.1 minus (eq-eqb (size word) 0 zero_size))
 
 -- a word that writes a number is one, of the number's size
 pub is_one : (word : List ℕ) (z : ℤ) → solver_number word ≡ Some z → is_solver_number word ≡ true
@@ -43,7 +40,7 @@ same_size word z e =
 
 -- 0 is no literal and has no fault
 pub zero_is_zero : (line : ℕ) (word : List ℕ) → solver_number word ≡ Some (pos 0) → is_zero (line, word) ≡ true
-zero_is_zero line word e = and_from _ _ (is_one word (pos 0) e) (eqb_self (size word) 0 (same_size word (pos 0) e))
+zero_is_zero line word e = and_from _ _ (is_one word (pos 0) e) (eq-eqb (size word) 0 (same_size word (pos 0) e))
 
 not_below : (n m : ℕ) → m ≤ n → nat_lt n m ≡ false
 not_below n m h = grind (arith, nat_tests)
@@ -62,13 +59,9 @@ literal_size variables z h =
 apart_eqb : (n : ℕ) → 0 < n → eqb n 0 ≡ false
 apart_eqb n h = grind (arith, nat_tests)
 
-second_false : (a b : Bool) → b ≡ false → (a && b) ≡ false
-second_false true b e = e
-second_false false b e = refl
-
 pub literal_is_no_zero : (variables line : ℕ) (word : List ℕ) (z : ℤ) → solver_number word ≡ Some z → is_literal_up_to variables z ≡ true → is_zero (line, word) ≡ false
 literal_is_no_zero variables line word z e h =
-    second_false (is_solver_number word) (eqb (size word) 0) (apart_eqb (size word) (omega (arith, same_size word z e, (literal_size variables z h).0)))
+    and_right (is_solver_number word) (eqb (size word) 0) (apart_eqb (size word) (omega (arith, same_size word z e, (literal_size variables z h).0)))
 
 -- a word without a fault writes 0 or a literal
 abbrev pub SaysNumber : ℕ → List ℕ → Type 0

@@ -18,6 +18,7 @@ use Rattle.text_lines.specs.Numbers.{is_digits, has_minus, digits_after_sign, di
 use Rattle.text_lines.proofs.LineLemmas.{line_ended, word_ended, one_word}
 use Rattle.text_lines.proofs.PlainLemmas.{own}
 use Rattle.text_lines.proofs.SolverLemmas.{chosen}
+use Rattle.text_lines.proofs.DigitLemmas.{digit_no_feed, digit_no_blank, none_in_digits}
 use Rattle.cnf_reader.specs.CnfLines.{begins_with, is_end, is_silent, said_from, said_lines, words_of_line, placed_words}
 use Rattle.cnf_reader.specs.CnfReading.{header_of, header_of_counts, ended, SpellsCnf}
 use Rattle.dimacs.specs.CnfText.{literal_text, clause_line, cnf_text}
@@ -59,18 +60,8 @@ below_digits b l x h = let r = digit_range x h in other_byte x b (λ e. omega (a
 above_digits : (b : ℕ) → 57 < b → NoDigit (λ x. x == b)
 above_digits b l x h = let r = digit_range x h in other_byte x b (λ e. omega (arith, l, r.1, e))
 
-no_line_feed : NoDigit is_line_feed
-no_line_feed = below_digits 10 (omega arith)
-
-no_blank : NoDigit is_blank
-no_blank x h = or_from _ _ (or_from _ _ (below_digits 32 (omega arith) x h) (below_digits 9 (omega arith) x h)) (below_digits 13 (omega arith) x h)
-
-none_in : (q : ℕ → Bool) → NoDigit q → (ds : List ℕ) → list_all is_ascii_digit ds ≡ true → list_any q ds ≡ false
-none_in q apart [] h = refl
-none_in q apart (d ∷ ds) h = let both = and_parts (is_ascii_digit d) (list_all is_ascii_digit ds) h in or_from (q d) (list_any q ds) (apart d both.0) (none_in q apart ds both.1)
-
 none_in_decimal : (q : ℕ → Bool) → NoDigit q → (n : ℕ) → n < 2 ^ 64 → list_any q (decimal n) ≡ false
-none_in_decimal q apart n small = none_in q apart (decimal n) (digits_of n small)
+none_in_decimal q apart n small = none_in_digits q apart (decimal n) (digits_of n small)
 
 none_in_signed : (q : ℕ → Bool) → NoDigit q → q 45 ≡ false → (z : ℤ) → nat_abs z < 2 ^ 64 → list_any q (signed_decimal z) ≡ false
 none_in_signed q apart minus (pos n) small = none_in_decimal q apart n small
@@ -117,7 +108,7 @@ module _ (variables : ℕ) (few : variables ≤ most_variable) where
   clause_words (z ∷ literals) h =
       let both = and_parts (is_literal_up_to variables z) (is_clause_up_to variables literals) h in
       let small = small_literal z both.0 in
-      ap words_of (joined z literals) ∙ word_ended (signed_decimal z) 32 (line_of_clause literals) (some_byte z small) (none_in_signed is_blank no_blank refl z small) refl
+      ap words_of (joined z literals) ∙ word_ended (signed_decimal z) 32 (line_of_clause literals) (some_byte z small) (none_in_signed is_blank digit_no_blank refl z small) refl
       ∙ ap (λ words. signed_decimal z ∷ words) (clause_words literals both.1)
 
   clause_on_line : (literals : List ℤ) → is_clause_up_to variables literals ≡ true → list_any is_line_feed (line_of_clause literals) ≡ false
@@ -125,7 +116,7 @@ module _ (variables : ℕ) (few : variables ≤ most_variable) where
   clause_on_line (z ∷ literals) h =
       let both = and_parts (is_literal_up_to variables z) (is_clause_up_to variables literals) h in
       ap (list_any is_line_feed) (joined z literals) ∙ list_any-append is_line_feed (signed_decimal z) (32 ∷ line_of_clause literals)
-      ∙ or_from _ _ (none_in_signed is_line_feed no_line_feed refl z (small_literal z both.0)) (or_from (is_line_feed 32) (list_any is_line_feed (line_of_clause literals)) refl (clause_on_line literals both.1))
+      ∙ or_from _ _ (none_in_signed is_line_feed digit_no_feed refl z (small_literal z both.0)) (or_from (is_line_feed 32) (list_any is_line_feed (line_of_clause literals)) refl (clause_on_line literals both.1))
 
   -- the first word begins with a minus or a digit
   clause_begins : (b : ℕ) → NoDigit (λ x. x == b) → (45 == b) ≡ false → (48 == b) ≡ false → (literals : List ℤ) → is_clause_up_to variables literals ≡ true → begins_with b (words_of_clause literals) ≡ false
@@ -196,14 +187,14 @@ module _ (f : FormulaValue) (formula : is_formula f ≡ true) (few_variables : f
   head_read =
       word_ended (codes "p") 32 (codes "cnf " ++ (decimal f.variables ++ (codes " " ++ decimal (length f.clauses)))) (omega arith) refl refl
       ∙ ap (λ words. codes "p" ∷ words) (word_ended (codes "cnf") 32 (decimal f.variables ++ (codes " " ++ decimal (length f.clauses))) (omega arith) refl refl
-      ∙ ap (λ words. codes "cnf" ∷ words) (word_ended (decimal f.variables) 32 (decimal (length f.clauses)) (some_digit f.variables small_variables) (none_in_decimal is_blank no_blank f.variables small_variables) refl
-      ∙ ap (λ words. decimal f.variables ∷ words) (one_word (decimal (length f.clauses)) (some_digit (length f.clauses) small_count) (none_in_decimal is_blank no_blank (length f.clauses) small_count))))
+      ∙ ap (λ words. codes "cnf" ∷ words) (word_ended (decimal f.variables) 32 (decimal (length f.clauses)) (some_digit f.variables small_variables) (none_in_decimal is_blank digit_no_blank f.variables small_variables) refl
+      ∙ ap (λ words. decimal f.variables ∷ words) (one_word (decimal (length f.clauses)) (some_digit (length f.clauses) small_count) (none_in_decimal is_blank digit_no_blank (length f.clauses) small_count))))
 
   head_on_line : list_any is_line_feed (head f) ≡ false
   head_on_line =
       list_any-append is_line_feed (codes "p cnf ") (decimal f.variables ++ (codes " " ++ decimal (length f.clauses)))
       ∙ (list_any-append is_line_feed (decimal f.variables) (codes " " ++ decimal (length f.clauses))
-      ∙ or_from _ _ (none_in_decimal is_line_feed no_line_feed f.variables small_variables) (none_in_decimal is_line_feed no_line_feed (length f.clauses) small_count))
+      ∙ or_from _ _ (none_in_decimal is_line_feed digit_no_feed f.variables small_variables) (none_in_decimal is_line_feed digit_no_feed (length f.clauses) small_count))
 
   text_lines : lines_of (cnf_text f) ≡ head f ∷ map line_of_clause f.clauses
   text_lines =

@@ -6,6 +6,7 @@ use Rattle.std.specs.Option.{option_map_or}
 use Rattle.std.specs.Str.{bytes_eq, chars}
 use Rattle.std.proofs.lemmas.Slice.Eq.{bytes_eq-Decides}
 use Rattle.std.proofs.lemmas.List.Folds.{list_all-append}
+use Rattle.std.proofs.lemmas.Bool.{and_from}
 use Rattle.clap.proofs.WalkLemmas.{both}
 use Rattle.clap.specs.Lexer.{long_of, short_of}
 use Rattle.clap.specs.Values.{is_request, read_as, refused_kind}
@@ -86,10 +87,6 @@ given_more : (vs ws : List Text) → is_given_text ws ≡ true → is_given_text
 given_more [] ws e = e
 given_more (v ∷ vs) ws e = refl
 
-both_hold : (a b : Bool) → a ≡ true → b ≡ true → (a && b) ≡ true
-both_hold true b x y = y
-both_hold false b x y = x
-
 -- `ok` is a test of an argument's id and one of its values
 module _ (ok : Text → Text → Bool) where
   abbrev pub has_value : Row → Bool
@@ -123,7 +120,7 @@ module _ (ok : Text → Text → Bool) where
       go : (b : Bool) → (b ≡ true → has_value r ≡ true → all_given (change r) ≡ true) → (has_value r ≡ true) × (all_given rs ≡ true)
           → all_given (at_row id change missing rs) ≡ true → all_given (cond b (change r ++ rs) (r ∷ at_row id change missing rs)) ≡ true
       go true changes parts below = given_append (change r) rs (changes refl parts.0) parts.1
-      go false changes parts below = both_hold (has_value r) _ parts.0 below
+      go false changes parts below = and_from (has_value r) _ parts.0 below
 
   given_without : (id : Text) (rows : List Row) → all_given rows ≡ true → all_given (without id rows) ≡ true
   given_without id rows h = given_at id (λ _. []) [] rows (λ r here given. refl) refl h
@@ -136,7 +133,7 @@ module _ (ok : Text → Text → Bool) where
       let same : r.id ≡ id = (bytes_eq-Decides r.id id).0 here in
       let had = both (list_all (ok r.id) r.values) (keeps_text r.reading) (both _ _ given).1 in
       let passes : list_all (ok r.id) (r.values ++ vs) ≡ true =
-      list_all-append (ok r.id) r.values vs ∙ both_hold _ _ had.0 (ap (λ t. list_all (ok t) vs) same ∙ pass) in
+      list_all-append (ok r.id) r.values vs ∙ and_from _ _ had.0 (ap (λ t. list_all (ok t) vs) same ∙ pass) in
       rw (given_more r.values vs some, passes, had.1) refl)
       (rw (some, pass, kept) refl) h
 

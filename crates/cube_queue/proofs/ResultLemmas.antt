@@ -3,7 +3,7 @@ use Rattle.std.proofs.Common.{◌≡◌, ◌≢◌, ◌⊎◌, ℕ, zero, suc, �
 use Rattle.std.specs.Prelude.{IsTrue}
 use Rattle.std.specs.List.{AllPairs, Contains, slice_get}
 use Rattle.std.proofs.Math.Seq.{take-suc}
-use Rattle.std.proofs.lemmas.List.{map-append, take_all}
+use Rattle.std.proofs.lemmas.List.{map-append, take_all, get_or_default}
 use Rattle.std.proofs.lemmas.List.Elements.{Contains-append_cases, Contains-append_left, Contains-append_right}
 use Rattle.traces.proofs.ElementLemmas.{cases_in, head_in, none_in, to_map}
 use Rattle.cube_queue.specs.declared.job.Settled.{Settled}
@@ -35,11 +35,6 @@ none_yet clauses cubes which = record {
 }
 
 -- elements of the front of a rising list are below the next one
-any_default : (xs : List ℕ) (k d e : ℕ) → k < length xs → get_or xs k d ≡ get_or xs k e
-any_default [] k d e h = absurd (omega arith)
-any_default (x ∷ xs) zero d e h = refl
-any_default (x ∷ xs) (suc k) d e h = any_default xs k d e (omega arith)
-
 in_front : (xs : List ℕ) (k : ℕ) (x : ℕ) → Contains (take k xs) x → (i : ℕ) × (i < k) × (i < length xs) × (get_or xs i 0 ≡ x)
 in_front xs zero x c = absurd (none_in x c)
 in_front [] (suc k) x c = absurd (none_in x c)
@@ -122,4 +117,4 @@ all_settled clauses cubes which k results has_model asked whole so =
 
 -- a leaf that is asked for is one of the tree's
 pub is_leaf : (cubes : List (List ℤ)) (which : List ℕ) (k : ℕ) → AreLeaves cubes which → k < length which → get_or which k 0 < length cubes
-is_leaf cubes which k asked below = asked.each (get_or which k 0) (k, below, any_default which k (get_or which k 0) 0 below)
+is_leaf cubes which k asked below = asked.each (get_or which k 0) (k, below, get_or_default which k (get_or which k 0) 0 below)

@@ -1,12 +1,11 @@
 -- The laws of a tree's text.
-use Rattle.std.proofs.Common.{◌≡◌, ◌⊎◌, ℕ, ◌+◌, ◌^◌, ◌<◌, ◌≤◌, List, [], ◌∷◌, ◌++◌, length, map, take, drop, true, cond, leb, refl, ap, sym, ◌∙◌, subst, arith, inl, inr, append_assoc, append-nil}
+use Rattle.std.proofs.Common.{◌≡◌, ◌⊎◌, ℕ, ◌+◌, ◌<◌, ◌≤◌, List, [], ◌∷◌, ◌++◌, length, map, take, drop, true, cond, refl, ap, sym, ◌∙◌, subst, arith, inl, inr, append_assoc, append-nil}
 use Rattle.std.specs.Prelude.{min, Some, None, Option, ◌&&◌, is_some, slice_get, codes, decimal}
-use Rattle.std.proofs.lemmas.Bool.{and_parts, leb-true, lt-leb, false≢true}
+use Rattle.std.proofs.lemmas.Bool.{and_parts, lt-leb, false≢true}
 use Rattle.std.proofs.lemmas.Fmt.{decimal_injective}
 use Rattle.std.proofs.lemmas.List.{map-append, take-append-drop}
 use Rattle.std.proofs.lemmas.List.Elements.{filter_map-append}
 use Rattle.std.proofs.lemmas.Option.{none-some}
-use Rattle.dimacs.specs.Literal.{most_variable}
 use Rattle.text_lines.specs.FirstFault.{IsFaultless}
 use Rattle.text_lines.specs.Lines.{lines_of}
 use Rattle.text_lines.specs.Words.{words_of}
@@ -22,9 +21,7 @@ use Rattle.cube_tree.specs.TreeText.{tree_lines, line_bytes, front_bytes, Spells
 use Rattle.cube_tree.proofs.TreeLemmas.{is_node, leaf_count-append, leaves_counted}
 use Rattle.cube_tree.proofs.ReaderLemmas.{node_words, node_read, due_append, IsProgress, no_lines, fault_here, next_node, whole_tree}
 use Rattle.cube_tree.proofs.TextLemmas.{whole_spelled, some_due}
-
-small : (v : ℕ) → is_variable v ≡ true → v < 2 ^ 64
-small v h = (let high = leb-true v most_variable (and_parts (leb 1 v) (leb v most_variable) h).1 in omega (arith, high))
+use Rattle.cube_tree.proofs.WrittenLemmas.{variable_small}
 
 -- no tree's lines begin those of another tree
 pub same_tree : (s t : CubeTree) (x y : List (List (List ℕ))) → splits_variables s ≡ true → splits_variables t ≡ true → tree_lines s ++ x ≡ tree_lines t ++ y → (s ≡ t) × (x ≡ y)
@@ -39,7 +36,7 @@ same_tree (split v l r) (split u m n) x y h k e =
     let second = and_parts (is_variable u) (splits_variables m && splits_variables n) k in
     let ones = and_parts (splits_variables l) (splits_variables r) first.1 in
     let twos = and_parts (splits_variables m) (splits_variables n) second.1 in
-    let number = decimal_injective v u (small v first.0) (small u second.0) digits in
+    let number = decimal_injective v u (variable_small v first.0) (variable_small u second.0) digits in
     let left = same_tree l m (tree_lines r ++ x) (tree_lines n ++ y) ones.0 twos.0 (sym (append_assoc (tree_lines l) (tree_lines r) x) ∙ tails ∙ append_assoc (tree_lines m) (tree_lines n) y) in
     let right = same_tree r n x y ones.1 twos.1 left.1 in
     ((λ i. split (number i) (left.0 i) (right.0 i)), right.1)

@@ -1,10 +1,9 @@
 -- The canonical text of a tree spells it, and the lines after a tree are the text's others.
-use Rattle.std.proofs.Common.{◌≡◌, ℕ, zero, suc, ◌+◌, ◌-◌, ◌^◌, ◌<◌, ◌≤◌, List, [], ◌∷◌, ◌++◌, length, map, take, drop, Bool, true, false, eqb, leb, refl, ap, sym, ◌∙◌, arith, inl, inr, append_assoc, length-append, length-drop}
+use Rattle.std.proofs.Common.{◌≡◌, ℕ, zero, suc, ◌+◌, ◌-◌, ◌^◌, ◌<◌, ◌≤◌, List, [], ◌∷◌, ◌++◌, length, map, take, drop, true, leb, refl, ap, sym, ◌∙◌, arith, inl, inr, append_assoc, length-append, length-drop}
 use Rattle.std.specs.Prelude.{min, ◌&&◌, codes, decimal}
 use Rattle.std.specs.Char.{is_ascii_digit}
-use Rattle.std.specs.List.{list_all, list_any, before_first, after_first, position_or_len}
-use Rattle.std.proofs.lemmas.Bool.{and_parts, leb-true, or_from, cases_lt}
-use Rattle.std.proofs.lemmas.Bool.Decides.{nat_tests}
+use Rattle.std.specs.List.{list_all, before_first, after_first, position_or_len}
+use Rattle.std.proofs.lemmas.Bool.{and_parts, leb-true, cases_lt}
 use Rattle.std.proofs.lemmas.Fmt.{decimal_is_IsNumeral}
 use Rattle.std.proofs.lemmas.List.{map-append, length-map, drop-drop, drop_all, length-take, take_at}
 use Rattle.std.proofs.lemmas.List.Folds.{list_any-append}
@@ -14,36 +13,16 @@ use Rattle.text_lines.specs.Words.{words_of, is_blank}
 use Rattle.text_lines.proofs.CutLemmas.{lines_cut}
 use Rattle.text_lines.proofs.LineLemmas.{line_ended, word_ended, one_word}
 use Rattle.text_lines.proofs.PlainLemmas.{own}
+use Rattle.text_lines.proofs.DigitLemmas.{none_in_digits, digit_no_feed, digit_no_blank}
 use Rattle.cube_tree.specs.CubeTree.{CubeTree, leaf, split, is_variable, splits_variables, IsCubeTree}
 use Rattle.cube_tree.specs.TreeText.{tree_lines, line_bytes, front_bytes, SpellsTree, tree_text}
 use Rattle.cube_tree.proofs.TextLemmas.{line_bytes-append}
 
--- no digit is a line feed or a blank
-no_digit : (q : ℕ → Bool) → ((x : ℕ) → is_ascii_digit x ≡ true → q x ≡ false) → (ds : List ℕ) → list_all is_ascii_digit ds ≡ true → list_any q ds ≡ false
-no_digit q apart [] h = refl
-no_digit q apart (d ∷ ds) h =
-    let parts = and_parts (is_ascii_digit d) (list_all is_ascii_digit ds) h in
-    or_from (q d) (list_any q ds) (apart d parts.0) (no_digit q apart ds parts.1)
-
-digit_from : (x : ℕ) → is_ascii_digit x ≡ true → 48 ≤ x
-digit_from x h = leb-true 48 x (and_parts _ _ h).0
-
-no_byte : (b x : ℕ) → b < 48 → 48 ≤ x → eqb x b ≡ false
-no_byte b x l h = grind (arith, nat_tests)
-
-digit_no_feed : (x : ℕ) → is_ascii_digit x ≡ true → is_line_feed x ≡ false
-digit_no_feed x h = no_byte 10 x (omega arith) (digit_from x h)
-
-digit_no_blank : (x : ℕ) → is_ascii_digit x ≡ true → is_blank x ≡ false
-digit_no_blank x h =
-    let low = digit_from x h in
-    or_from _ _ (or_from _ _ (no_byte 32 x (omega arith) low) (no_byte 9 x (omega arith) low)) (no_byte 13 x (omega arith) low)
-
-small : (v : ℕ) → is_variable v ≡ true → v < 2 ^ 64
-small v h = (let high = leb-true v most_variable (and_parts (leb 1 v) (leb v most_variable) h).1 in omega (arith, high))
+pub variable_small : (v : ℕ) → is_variable v ≡ true → v < 2 ^ 64
+variable_small v h = (let high = leb-true v most_variable (and_parts (leb 1 v) (leb v most_variable) h).1 in omega (arith, high))
 
 digits : (v : ℕ) → is_variable v ≡ true → list_all is_ascii_digit (decimal v) ≡ true
-digits v h = own.from (decimal v) (decimal_is_IsNumeral v (small v h)).0.1
+digits v h = own.from (decimal v) (decimal_is_IsNumeral v (variable_small v h)).0.1
 
 -- the lines of the canonical text, without their line feeds
 abbrev written : CubeTree → List (List ℕ)
@@ -52,7 +31,7 @@ written (split v left right) = (codes "split " ++ decimal v) ∷ (written left +
 
 split_line : (v : ℕ) (rest : List ℕ) → is_variable v ≡ true → lines_of ((codes "split " ++ decimal v) ++ 10 ∷ rest) ≡ (codes "split " ++ decimal v) ∷ lines_of rest
 split_line v rest h =
-    line_ended (codes "split " ++ decimal v) rest (list_any-append is_line_feed (codes "split ") (decimal v) ∙ no_digit is_line_feed digit_no_feed (decimal v) (digits v h))
+    line_ended (codes "split " ++ decimal v) rest (list_any-append is_line_feed (codes "split ") (decimal v) ∙ none_in_digits is_line_feed digit_no_feed (decimal v) (digits v h))
 
 written_lines : (tree : CubeTree) (behind : List ℕ) → splits_variables tree ≡ true → lines_of (tree_text tree ++ behind) ≡ written tree ++ lines_of behind
 written_lines leaf behind h = line_ended (codes "leaf") behind refl
@@ -75,7 +54,7 @@ written_words leaf h = ap (λ w. w ∷ []) (one_word (codes "leaf") (omega arith
 written_words (split v left right) h =
     let parts = and_parts (is_variable v) (splits_variables left && splits_variables right) h in
     let below = and_parts (splits_variables left) (splits_variables right) parts.1 in
-    let number = one_word (decimal v) (decimal_is_IsNumeral v (small v parts.0)).0.0 (no_digit is_blank digit_no_blank (decimal v) (digits v parts.0)) in
+    let number = one_word (decimal v) (decimal_is_IsNumeral v (variable_small v parts.0)).0.0 (none_in_digits is_blank digit_no_blank (decimal v) (digits v parts.0)) in
     let line : words_of (codes "split " ++ decimal v) ≡ codes "split" ∷ (decimal v ∷ []) =
     word_ended (codes "split") 32 (decimal v) (omega arith) refl refl ∙ ap (λ ws. codes "split" ∷ ws) number in
     (λ i. line i ∷ (map-append words_of (written left) (written right) ∙ (λ j. written_words left below.0 j ++ written_words right below.1 j)) i)

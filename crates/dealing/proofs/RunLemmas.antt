@@ -1,7 +1,7 @@
 -- Runs over lists of events.
-use Rattle.std.proofs.Common.{◌≡◌, ℕ, ◌+◌, ◌<◌, ◌==◌, Bool, true, false, not, if◌then◌else◌, Option, None, Some, is_some, List, [], ◌∷◌, ◌++◌, length, replicate, option_to_list, refl, sym, ◌∙◌, ap, subst, ltb-true, append_assoc, append-nil, length-append, arith}
+use Rattle.std.proofs.Common.{◌≡◌, ℕ, ◌+◌, ◌<◌, ◌==◌, Bool, true, false, if◌then◌else◌, Option, None, Some, is_some, List, [], ◌∷◌, ◌++◌, length, replicate, option_to_list, refl, sym, ◌∙◌, ap, subst, ltb-true, append_assoc, append-nil, length-append, arith}
 use Rattle.std.specs.List.{filter_map, cons_option}
-use Rattle.std.proofs.lemmas.Bool.{eqb-false}
+use Rattle.std.proofs.lemmas.Bool.{eqb-false, not-false}
 use Rattle.std.proofs.lemmas.List.Elements.{filter_map-append}
 use Rattle.cube_queue.specs.declared.outcome.Outcome.{Outcome}
 use Rattle.dealing.specs.declared.event.Event.{Event}
@@ -36,10 +36,6 @@ counted_at takers takers' puts puts' gives gives' gathers gathers' m ts ps gs n 
     (subst (λ (xs : List (ℕ × Outcome)). Counted takers puts xs gathers' m) (sym gs) (subst (λ (k : ℕ). Counted takers puts gives k m) (sym n) c)))
 
 -- what a possible event tells of the machine
-not_true : (b : Bool) → not b ≡ false → b ≡ true
-not_true true e = refl
-not_true false e = absurd (cc)
-
 passed : (b : Bool) (refused : Refused) → (if b then Some refused else None) ≡ None → b ≡ false
 passed true refused e = absurd (cc)
 passed false refused e = refl
@@ -86,7 +82,7 @@ counted_step events m (Put ticket) c e =
     (counted_put (takers events) (puts events) (gives events) (gathers events) m ticket c (passed _ _ e))
 counted_step events m (Take worker) c e =
     let ok = passed_take _ _ _ e in
-    let within : worker < length m.hands = ltb-true worker (length m.hands) (not_true _ ok.0) in
+    let within : worker < length m.hands = ltb-true worker (length m.hands) (not-false _ ok.0) in
     let front = front_of m.jobs ok.1 in
     counted_at (takers events ++ worker ∷ []) _ (puts events) _ (gives events) _ (gathers events) _ (after m (Take worker))
     (more_map taker_in events (Take worker) worker refl)
@@ -96,7 +92,7 @@ counted_step events m (Take worker) c e =
     (counted_take (takers events) (puts events) (gives events) (gathers events) m worker front.0 front.1 c within (none_of (hand_of m worker) ok.2) front.2)
 counted_step events m (Give worker outcome) c e =
     let ok = passed_give _ _ e in
-    let within : worker < length m.hands = ltb-true worker (length m.hands) (not_true _ ok.0) in
+    let within : worker < length m.hands = ltb-true worker (length m.hands) (not-false _ ok.0) in
     let held = held_of (hand_of m worker) ok.1 in
     counted_at (takers events) _ (puts events) _ (gives events ++ (worker, outcome) ∷ []) _ (gathers events) _ (after m (Give worker outcome))
     (same_map taker_in events (Give worker outcome) refl)

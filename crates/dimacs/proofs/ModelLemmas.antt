@@ -11,6 +11,7 @@ use Rattle.dimacs.specs.Assignment.{makes_true, makes_some}
 use Rattle.dimacs.specs.Literal.{is_literal}
 use Rattle.dimacs.specs.Models.{IsModel, IsFirstFalse}
 use Rattle.text_lines.proofs.FaultLemmas.{compared}
+use Rattle.text_lines.proofs.BoolLemmas.{not_not}
 
 -- one more element that passes
 pub all_take_more : {X : Type 0} (test : X → Bool) (xs : List X) (k : ℕ) (d : X) → k < length xs → list_all test (take k xs) ≡ true → test (get_or xs k d) ≡ true → list_all test (take (k + 1) xs) ≡ true
@@ -85,12 +86,8 @@ one_first_false value clauses p q f g =
       | inr (inr (m, e)) ↦ absurd (never_within value g.before m g.clause f.before g.untrue f.first e)
     ]
 
-twice_not : (b : Bool) → b ≡ not (not b)
-twice_not true = refl
-twice_not false = refl
-
 -- a literal and its negation have opposite truth values
 pub opposite : (value : ℕ → Bool) (z : ℤ) → is_literal z ≡ true → makes_true value (neg_ℤ z) ≡ not (makes_true value z)
 opposite value (pos zero) h = absurd cc
 opposite value (pos (suc n)) h = refl
-opposite value (negsuc n) h = twice_not (value (suc n))
+opposite value (negsuc n) h = sym (not_not (value (suc n)))

@@ -10,6 +10,7 @@ use Rattle.std.proofs.lemmas.Option.{none-some}
 use Rattle.std.proofs.lemmas.Slice.Eq.{bytes_eq-Decides}
 use Rattle.dimacs.specs.Literal.{is_literal, is_clause}
 use Rattle.text_lines.specs.Numbers.{solver_number}
+use Rattle.text_lines.proofs.IntegerLemmas.{not_negative}
 use Rattle.lrat_check.specs.LratFaults.{list_fault, literal_fault, hint_fault, id_fault, first_fault, behind_fault, addition_fault, deletion_fault, is_deletion, is_zero, words_fault}
 use Rattle.lrat_check.specs.LratRead.{IsWrittenStep}
 use Rattle.lrat_check.specs.LratText.{is_id, is_id_number, most_id, Says, ended}
@@ -17,7 +18,7 @@ use Rattle.lrat_check.specs.declared.derivation.Step.{Step}
 use Rattle.lrat_check.specs.declared.derivation.Step.TheVariants.{Addition, Deletion}
 use Rattle.lrat_check.specs.declared.lrat_fault.LratCause.{LratCause}
 use Rattle.lrat_check.specs.declared.lrat_fault.LratCause.TheVariants.{BadNumber}
-use Rattle.lrat_check.proofs.ListLemmas.{list_step, list_end, literal_right, literal_not_zero, not_negative}
+use Rattle.lrat_check.proofs.ListLemmas.{list_step, list_end, literal_right, literal_not_zero, hint_not_zero, hint_right}
 use Rattle.lrat_check.proofs.LratLineLemmas.{first_right}
 
 -- the first of some words that are numbers
@@ -90,17 +91,8 @@ ids_plain (id ∷ ids) h =
     let parts = and_parts (is_id id) (list_all is_id ids) h in
     and_from _ _ (and_from _ _ (ap not (not_negative id)) parts.0) (ids_plain ids parts.1)
 
--- hints
-abs_more : (z : ℤ) → is_id_number z ≡ true → is_zero (Some z) ≡ false
-abs_more z h =
-    let above : 0 < nat_abs z = ltb-true 0 (nat_abs z) (and_parts (nat_lt 0 (nat_abs z)) (nat_le (nat_abs z) most_id) h).0 in
-    ne_eqb (nat_abs z) 0 (λ e. omega (arith, above, e))
-
-abs_fits : (z : ℤ) → is_id_number z ≡ true → hint_fault (Some z) ≡ None
-abs_fits z h = cond-true (nat_le (nat_abs z) most_id) None (Some BadNumber) (and_parts (nat_lt 0 (nat_abs z)) (nat_le (nat_abs z) most_id) h).1
-
 hints_right : AreRight hint_fault is_id_number
-hints_right = record { right = abs_fits; more = abs_more; zero_right = refl }
+hints_right = record { right = hint_right; more = hint_not_zero; zero_right = refl }
 
 hints_clear : (hints : List ℤ) (words : List (List ℕ)) → list_all is_id_number hints ≡ true → Says words (ended hints) → list_fault hint_fault behind_fault words ≡ None
 hints_clear hints words good h =

@@ -1,15 +1,16 @@
 -- The lines of a derivation's text and the steps that they are.
-use Rattle.std.proofs.Common.{◌≡◌, ℕ, ◌+◌, ◌<◌, ◌≤◌, List, [], ◌∷◌, ◌++◌, length, map, true, false, cond, refl, ap, sym, ◌∙◌, subst, arith, append_assoc, append-nil, not}
+use Rattle.std.proofs.Common.{◌≡◌, ℕ, ◌+◌, ◌<◌, ◌≤◌, List, [], ◌∷◌, ◌++◌, length, true, refl, ap, sym, ◌∙◌, subst, arith, append-nil}
 use Rattle.std.specs.Prelude.{None, Some}
-use Rattle.std.specs.List.{list_all, AllZip, filter}
+use Rattle.std.specs.List.{list_all, AllZip}
 use Rattle.std.proofs.lemmas.Bool.{and_from, cond-true, cond-false}
-use Rattle.std.proofs.lemmas.List.{length_push, map-append}
-use Rattle.std.proofs.lemmas.List.Elements.{filter-append}
+use Rattle.std.proofs.lemmas.List.{length_push}
 use Rattle.std.proofs.lemmas.List.Folds.{list_all-append}
 use Rattle.text_lines.specs.FirstFault.{IsFaultless}
 use Rattle.text_lines.specs.Lines.{lines_of}
 use Rattle.text_lines.specs.Words.{words_of}
 use Rattle.text_lines.proofs.FaultLemmas.{faultless_nil, faultless_push}
+use Rattle.text_lines.proofs.KeptLemmas.{kept_append, kept_skipped, kept_more}
+use Rattle.text_lines.proofs.ListLemmas.{next_parts}
 use Rattle.lrat_check.specs.LratFaults.{line_fault, words_fault, HasLratFault}
 use Rattle.lrat_check.specs.LratRead.{IsSkippedLine, IsLineOf}
 use Rattle.lrat_check.specs.LratText.{IsStepLine, SpellsDerivation, is_lrat_step, is_skipped, kept}
@@ -19,16 +20,6 @@ use Rattle.text_lines.specs.declared.fault.Fault.{Fault}
 use Rattle.text_lines.specs.declared.fault.Fault.TheVariants.{OutOfMemory, At}
 use Rattle.text_lines.specs.Fault.{IsRefusal, IsRefusalAt}
 use Rattle.lrat_check.proofs.ClearLemmas.{step_clear}
-
--- lines that are kept
-pub kept_append : (a b : List (List ℕ)) → kept (a ++ b) ≡ kept a ++ kept b
-kept_append a b = ap (filter (λ words. not (is_skipped words))) (map-append words_of a b) ∙ filter-append (λ words. not (is_skipped words)) (map words_of a) (map words_of b)
-
-pub kept_skipped : (line : List ℕ) (rest : List (List ℕ)) → is_skipped (words_of line) ≡ true → kept (line ∷ rest) ≡ kept rest
-kept_skipped line rest h = ap (λ b. cond (not b) (words_of line ∷ kept rest) (kept rest)) h
-
-pub kept_more : (line : List ℕ) (rest : List (List ℕ)) → is_skipped (words_of line) ≡ false → kept (line ∷ rest) ≡ words_of line ∷ kept rest
-kept_more line rest h = ap (λ b. cond (not b) (words_of line ∷ kept rest) (kept rest)) h
 
 -- two lists side by side, with one more
 zip_push : (lines : List (List (List ℕ))) (steps : List Step) (words : List (List ℕ)) (step : Step) → AllZip IsStepLine lines steps → IsStepLine words step → AllZip IsStepLine (lines ++ words ∷ []) (steps ++ step ∷ [])
@@ -49,7 +40,7 @@ no_lines = record { lines_are = tt; written = refl; faultless = faultless_nil li
 -- one more line that is skipped
 pub push_skipped : (lines : List (List ℕ)) (steps : List Step) (line : List ℕ) → AreSteps lines steps → IsSkippedLine line → AreSteps (lines ++ line ∷ []) steps
 push_skipped lines steps line h skipped =
-    let same : kept (lines ++ line ∷ []) ≡ kept lines = kept_append lines (line ∷ []) ∙ ap (λ l. kept lines ++ l) (kept_skipped line [] skipped) ∙ append-nil (kept lines) in
+    let same : kept (lines ++ line ∷ []) ≡ kept lines = kept_append is_skipped lines (line ∷ []) ∙ ap (λ l. kept lines ++ l) (kept_skipped is_skipped line [] skipped) ∙ append-nil (kept lines) in
     record {
       lines_are = subst (λ (ls : List (List (List ℕ))). AllZip IsStepLine ls steps) (sym same) h.lines_are;
       written = h.written;
@@ -63,7 +54,7 @@ line_clear before line step h = cond-false (is_skipped (words_of line)) None (wo
 -- one more line that is a step
 pub push_step : (lines : List (List ℕ)) (steps : List Step) (line : List ℕ) (step : Step) → AreSteps lines steps → IsLineOf line step → AreSteps (lines ++ line ∷ []) (steps ++ step ∷ [])
 push_step lines steps line step h new =
-    let more : kept (lines ++ line ∷ []) ≡ kept lines ++ words_of line ∷ [] = kept_append lines (line ∷ []) ∙ ap (λ l. kept lines ++ l) (kept_more line [] new.said) in
+    let more : kept (lines ++ line ∷ []) ≡ kept lines ++ words_of line ∷ [] = kept_append is_skipped lines (line ∷ []) ∙ ap (λ l. kept lines ++ l) (kept_more is_skipped line [] new.said) in
     record {
       lines_are = subst (λ (ls : List (List (List ℕ))). AllZip IsStepLine ls (steps ++ step ∷ [])) (sym more) (zip_push (kept lines) steps (words_of line) step h.lines_are new.step_is.is);
       written = list_all-append is_lrat_step steps (step ∷ []) ∙ and_from _ _ h.written (and_from _ true new.step_is.written refl);
@@ -80,9 +71,6 @@ pub record IsReadSoFar (text : List ℕ) (number : ℕ) (rest : List ℕ) (steps
 
 pub at_start : (text : List ℕ) → IsReadSoFar text 0 text []
 at_start text = record { done = []; parts = refl; counted = refl; spelled = no_lines; behind = omega arith }
-
-next_parts : (all done : List (List ℕ)) (line : List ℕ) (rest after : List (List ℕ)) → all ≡ done ++ rest → rest ≡ line ∷ after → all ≡ (done ++ line ∷ []) ++ after
-next_parts all done line rest after e f = e ∙ ap (λ l. done ++ l) f ∙ sym (append_assoc done (line ∷ []) after)
 
 pub turn_skipped : (text : List ℕ) (number : ℕ) (rest : List ℕ) (steps : List Step) (line after : List ℕ) → IsReadSoFar text number rest steps →
     lines_of rest ≡ line ∷ lines_of after → length after < length rest → IsSkippedLine line → IsReadSoFar text (number + 1) after steps

@@ -1,11 +1,11 @@
 -- The clauses that are counted so far, where all are counted.
-use Rattle.std.proofs.Common.{◌≡◌, ℕ, zero, suc, ◌+◌, ◌<◌, Bool, true, false, cond, eqb, leb, rules, ◌||◌, List, [], ◌∷◌, refl, ap, sym, ◌∙◌, subst, inl, inr, le-leb, leb-true, arith}
+use Rattle.std.proofs.Common.{◌≡◌, ℕ, zero, suc, ◌+◌, ◌<◌, Bool, true, false, cond, eqb, leb, rules, ◌||◌, List, [], ◌∷◌, refl, ap, sym, ◌∙◌, subst, inl, inr, le-leb, arith}
 use Rattle.std.specs.Prelude.{ℤ, Option, Some, None}
 use Rattle.std.specs.Borrow.{Bor}
 use Rattle.std.specs.List.{list_any, IsDistinct, AllByRecursion}
 use Rattle.std.specs.Map.{keys_of, lookup}
 use Rattle.std.specs.Option.{option_map, option_or, is_some}
-use Rattle.std.proofs.lemmas.Bool.{cond-true, cond-false, eqb-true, eq-eqb, ne_eqb, or_cases, or_left, or_parts, false≢true, true≢false, false_from_ne_true, cases_eq, cases_lt}
+use Rattle.std.proofs.lemmas.Bool.{cond-true, cond-false, eqb-true, eq-eqb, ne_eqb, or_cases, or_left, or_parts, false≢true, true≢false, cases_eq, cases_lt, lt-leb}
 use Rattle.lrat_check.specs.ClauseAt.{up_to}
 use Rattle.lrat_check.specs.Counted.{AreRightCounts}
 use Rattle.lrat_check.specs.Counts.{times, count_of, AreCounts}
@@ -13,12 +13,9 @@ use Rattle.lrat_check.specs.declared.literal_counts.LiteralCounts.{LiteralCounts
 use Rattle.lrat_check.proofs.CheckLemmas.{same_active}
 use Rattle.lrat_check.proofs.CountLemmas.{are_more, are_same_counts}
 
-above : (id last : ℕ) → last < id → leb id last ≡ false
-above id last h = false_from_ne_true (leb id last) (λ e. (let low = leb-true id last e in omega (arith, h, low)))
-
 next_same : (id last : ℕ) → (id ≡ last + 1 → ⊥) → leb id (last + 1) ≡ leb id last
 next_same id last apart = elim (cases_lt last id) [
-  | inl more ↦ (let past : last + 1 < id = omega (arith, more, apart) in above id (last + 1) past ∙ sym (above id last more))
+  | inl more ↦ (let past : last + 1 < id = omega (arith, more, apart) in lt-leb id (last + 1) past ∙ sym (lt-leb id last more))
   | inr low ↦ le-leb id (last + 1) (omega (arith, low)) ∙ sym (le-leb id last low)
 ]
 
@@ -33,7 +30,7 @@ one_on f last id o e = elim (cases_eq (last + 1) id) [
 pub up_to_more : (f : ℕ → Option (List ℤ)) (last : ℕ) (clause : List ℤ) (old new : LiteralCounts) → f (last + 1) ≡ Some clause → ((z : ℤ) → count_of new z ≡ count_of old z + times clause z) →
     AreCounts (up_to last f) old → AreCounts (up_to (last + 1) f) new
 up_to_more f last clause old new known more h =
-    are_more (up_to last f) (up_to (last + 1) f) (last + 1) clause old new (cond-false (leb (last + 1) last) (f (last + 1)) None (above (last + 1) last (omega arith))) (λ id. one_on f last id (Some clause) known) more h
+    are_more (up_to last f) (up_to (last + 1) f) (last + 1) clause old new (cond-false (leb (last + 1) last) (f (last + 1)) None (lt-leb (last + 1) last (omega arith))) (λ id. one_on f last id (Some clause) known) more h
 
 none_on : (b : Bool) (o : Option (List ℤ)) → (b ≡ true → o ≡ None) → cond b None o ≡ o
 none_on true o h = sym (h refl)
@@ -42,18 +39,18 @@ none_on false o h = refl
 pub up_to_same : (f : ℕ → Option (List ℤ)) (last : ℕ) (counts : LiteralCounts) → f (last + 1) ≡ None → AreCounts (up_to last f) counts → AreCounts (up_to (last + 1) f) counts
 up_to_same f last counts none h =
     are_same_counts (up_to last f) (up_to (last + 1) f) counts
-    (λ id. one_on f last id None none ∙ none_on (eqb (last + 1) id) (up_to last f id) (λ e. ap (λ n. up_to last f n) (sym (eqb-true (last + 1) id e)) ∙ cond-false (leb (last + 1) last) (f (last + 1)) None (above (last + 1) last (omega arith)))) h
+    (λ id. one_on f last id None none ∙ none_on (eqb (last + 1) id) (up_to last f id) (λ e. ap (λ n. up_to last f n) (sym (eqb-true (last + 1) id e)) ∙ cond-false (leb (last + 1) last) (f (last + 1)) None (lt-leb (last + 1) last (omega arith)))) h
 
 pub up_to_none : (f : ℕ → Option (List ℤ)) (counts : LiteralCounts) → f 0 ≡ None → AreCounts (λ id. None) counts → AreCounts (up_to 0 f) counts
 up_to_none f counts none h = are_same_counts (λ id. None) (up_to 0 f) counts first h
   where
     first : (id : ℕ) → up_to 0 f id ≡ None
     first zero = cond-true (leb 0 0) (f 0) None (le-leb 0 0 (omega arith)) ∙ none
-    first (suc k) = cond-false (leb (suc k) 0) (f (suc k)) None (above (suc k) 0 (omega arith))
+    first (suc k) = cond-false (leb (suc k) 0) (f (suc k)) None (lt-leb (suc k) 0 (omega arith))
 
 pub up_to_all : (f : ℕ → Option (List ℤ)) (last : ℕ) (counts : LiteralCounts) → ((id : ℕ) → last < id → f id ≡ None) → AreCounts (up_to last f) counts → AreCounts f counts
 up_to_all f last counts none h = are_same_counts (up_to last f) f counts (λ id. elim (cases_lt last id) [
-  | inl more ↦ none id more ∙ sym (cond-false (leb id last) (f id) None (above id last more))
+  | inl more ↦ none id more ∙ sym (cond-false (leb id last) (f id) None (lt-leb id last more))
   | inr low ↦ sym (cond-true (leb id last) (f id) None (le-leb id last low))
 ]) h
 
@@ -129,11 +126,6 @@ not_left id entries h = none_is id entries h.0
 pub shows_one : (o : Option (List ℤ)) → is_some o ≡ true → (clause : List ℤ) × (o ≡ Some clause)
 shows_one None h = absurd (false≢true h)
 shows_one (Some clause) h = (clause, refl)
-
--- under an id that had no clause at the start none is kept
-pub hidden_none : (b : Bool) (o : Option (List ℤ)) → o ≡ None → cond b None o ≡ None
-hidden_none true o h = refl
-hidden_none false o h = h
 
 -- what is not active is not taken out
 pub without_none : (active : ℕ → Option (List ℤ)) (id : ℕ) → active id ≡ None → (other : ℕ) → cond (eqb id other || false) None (active other) ≡ active other

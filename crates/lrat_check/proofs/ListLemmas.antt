@@ -4,12 +4,11 @@ use Rattle.std.specs.Prelude.{ℤ, pos, negsuc, suc, nat_abs, Option, Some, None
 use Rattle.std.specs.Option.{option_or}
 use Rattle.std.proofs.lemmas.Bool.{and_from, and_parts, cond-true, cond-false, le-leb, leb-true, lt-ltb, ltb-true, ne_eqb}
 use Rattle.std.specs.Int.{is_negative}
-use Rattle.std.proofs.lemmas.Int.{ints}
-use Rattle.std.proofs.lemmas.Bool.Decides.{nat_tests}
 use Rattle.std.proofs.lemmas.List.{map_push}
 use Rattle.std.proofs.lemmas.List.Folds.{list_all-append}
 use Rattle.dimacs.specs.Literal.{is_literal, most_variable}
 use Rattle.text_lines.specs.Numbers.{solver_number}
+use Rattle.text_lines.proofs.IntegerLemmas.{not_negative}
 use Rattle.lrat_check.specs.ListFault.{HasListFault}
 use Rattle.lrat_check.specs.LratFaults.{list_fault, literal_fault, hint_fault, id_fault, is_zero}
 use Rattle.lrat_check.specs.LratRead.{BeginsWith, BeginsWithList}
@@ -65,9 +64,6 @@ number_fault fault passes words numbers rest word after cause h cut e =
 pub list_unended : (fault : Option ℤ → Option LratCause) (passes : ℤ → Bool) (words : List (List ℕ)) (numbers : List ℤ) (rest : List (List ℕ)) →
     BeginsWith fault passes words numbers rest → rest ≡ [] → HasListFault fault words Unended
 list_unended fault passes words numbers rest h none = λ next. h.faultless next ∙ ap (list_fault fault next) none
-
-pub not_negative : (n : ℕ) → is_negative (pos n) ≡ false
-not_negative n = grind (arith, ints, nat_tests)
 
 -- an id or 0 is right
 pub id_right : (n : ℕ) → n ≤ most_id → id_fault (Some (pos n)) ≡ None

@@ -7,13 +7,14 @@ use Rattle.text_lines.specs.FirstFault.{IsFaultless}
 use Rattle.text_lines.specs.Lines.{lines_of}
 use Rattle.text_lines.specs.Words.{words_of}
 use Rattle.text_lines.proofs.FaultLemmas.{none_is_some, one_first, either}
+use Rattle.text_lines.proofs.KeptLemmas.{kept_append, kept_more}
 use Rattle.lrat_check.specs.LratFaults.{HasLratFault, line_fault, words_fault}
 use Rattle.lrat_check.specs.LratRead.{IsSkippedLine, IsLineOf, IsWrittenStep}
 use Rattle.lrat_check.specs.LratText.{SpellsDerivation, IsStepLine, is_lrat_step, is_skipped, kept}
 use Rattle.lrat_check.specs.declared.derivation.Step.{Step}
 use Rattle.lrat_check.specs.declared.lrat_fault.LratCause.{LratCause}
 use Rattle.lrat_check.proofs.ClearLemmas.{step_clear}
-use Rattle.lrat_check.proofs.DerivationTextLemmas.{AreSteps, no_lines, push_skipped, push_step, kept_append, kept_more, spelled_by}
+use Rattle.lrat_check.proofs.DerivationTextLemmas.{AreSteps, no_lines, push_skipped, push_step, spelled_by}
 use Rattle.lrat_check.proofs.LratStepLemmas.{one_step, step_found}
 
 -- the same lines, the same steps
@@ -50,7 +51,7 @@ spelled_clear text steps h before line after e =
     elim (cases_Bool (is_skipped (words_of line))) [
       | inl skipped ↦ cond-true (is_skipped (words_of line)) None (words_fault (words_of line)) skipped
       | inr said ↦ (
-          let all : kept (lines_of text) ≡ kept before ++ words_of line ∷ kept after = ap kept e ∙ kept_append before (line ∷ after) ∙ ap (λ l. kept before ++ l) (kept_more line after said) in
+          let all : kept (lines_of text) ≡ kept before ++ words_of line ∷ kept after = ap kept e ∙ kept_append is_skipped before (line ∷ after) ∙ ap (λ l. kept before ++ l) (kept_more is_skipped line after said) in
           let s = step_of (kept before) (words_of line) (kept after) steps (subst (λ (ls : List (List (List ℕ))). AllZip IsStepLine ls steps) all h.lines_are) h.written in
           cond-false (is_skipped (words_of line)) None (words_fault (words_of line)) said ∙ step_clear (words_of line) s.0 s.1)
     ]

@@ -19,7 +19,7 @@ use Rattle.lrat_check.specs.declared.lrat_fault.LratCause.TheVariants.{BadNumber
 use Rattle.text_lines.specs.declared.fault.Fault.{Fault}
 use Rattle.text_lines.specs.declared.fault.Fault.TheVariants.{OutOfMemory, At}
 use Rattle.text_lines.specs.Fault.{IsRefusalAt}
-use Rattle.lrat_check.proofs.ListLemmas.{not_negative}
+use Rattle.text_lines.proofs.IntegerLemmas.{not_negative}
 
 -- a refusal that says more
 pub refusal_weaker : (P Q : LratCause → Type 0) (number : ℕ) (fault : Fault LratCause) → ((cause : LratCause) → P cause → Q cause) → IsRefusalAt P number fault → IsRefusalAt Q number fault

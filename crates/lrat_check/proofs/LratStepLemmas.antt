@@ -11,6 +11,7 @@ use Rattle.std.proofs.lemmas.Option.{none-some}
 use Rattle.std.proofs.lemmas.Slice.Eq.{bytes_eq-Decides}
 use Rattle.dimacs.specs.Literal.{is_literal, is_clause, most_variable}
 use Rattle.text_lines.specs.Numbers.{solver_number}
+use Rattle.text_lines.proofs.ListLemmas.{same_somes}
 use Rattle.lrat_check.specs.LratFaults.{list_fault, literal_fault, hint_fault, id_fault, first_fault, behind_fault, addition_fault, deletion_fault, is_deletion, is_zero, words_fault}
 use Rattle.lrat_check.specs.LratRead.{IsWrittenStep}
 use Rattle.lrat_check.specs.LratText.{is_id, is_id_number, most_id, is_skipped, Says, ended}
@@ -19,17 +20,6 @@ use Rattle.lrat_check.specs.declared.derivation.Step.TheVariants.{Addition, Dele
 use Rattle.lrat_check.specs.declared.lrat_fault.LratCause.{LratCause}
 use Rattle.lrat_check.specs.declared.lrat_fault.LratCause.TheVariants.{BadLine, BadNumber, Unended}
 use Rattle.lrat_check.proofs.ClearLemmas.{is_plain_id, ids_plain, no_deletion_list, says_rest}
-
--- the same words, the same numbers
-same_numbers : (xs ys : List ℤ) → map Some xs ≡ map Some ys → xs ≡ ys
-same_numbers [] [] h = refl
-same_numbers [] (y ∷ ys) h = absurd (cc)
-same_numbers (x ∷ xs) [] h = absurd (cc)
-same_numbers (x ∷ xs) (y ∷ ys) h =
-    let first : x ≡ y = cc in
-    let rest : map Some xs ≡ map Some ys = cc in
-    let later = same_numbers xs ys rest in
-    (λ i. first i ∷ later i)
 
 -- lists without 0, up to their 0
 same_lists : (p : ℤ → Bool) → p (pos 0) ≡ false → (xs ys rs ss : List ℤ) → list_all p xs ≡ true → list_all p ys ≡ true → ended xs ++ rs ≡ ended ys ++ ss → (xs ≡ ys) × (rs ≡ ss)
@@ -69,7 +59,7 @@ never_both_kinds words id literals hints first ids h k =
 
 pub one_step : (words : List (List ℕ)) (s t : Step) → IsWrittenStep words s → IsWrittenStep words t → s ≡ t
 one_step words (Addition id literals hints) (Addition jd others fore) h k =
-    let e = same_numbers (pos id ∷ (ended literals ++ ended hints)) (pos jd ∷ (ended others ++ ended fore)) (sym h.is ∙ k.is) in
+    let e = same_somes (pos id ∷ (ended literals ++ ended hints)) (pos jd ∷ (ended others ++ ended fore)) (sym h.is ∙ k.is) in
     let ids : id ≡ jd = cc in
     let rest : ended literals ++ ended hints ≡ ended others ++ ended fore = cc in
     let good = and_parts (is_clause literals) (list_all is_id_number hints) (and_parts (is_id id) (is_clause literals && list_all is_id_number hints) h.written).1 in
@@ -87,7 +77,7 @@ one_step words (Deletion first ids) (Deletion second others) h k =
     let same : first ≡ second = cc in
     let good = and_parts (nat_le first most_id) (list_all is_id ids) h.written in
     let well = and_parts (nat_le second most_id) (list_all is_id others) k.written in
-    let last = same_last ids others good.1 well.1 (same_numbers (ended (map pos ids)) (ended (map pos others)) (sym h.is.4 ∙ ap (map solver_number) rest ∙ k.is.4)) in
+    let last = same_last ids others good.1 well.1 (same_somes (ended (map pos ids)) (ended (map pos others)) (sym h.is.4 ∙ ap (map solver_number) rest ∙ k.is.4)) in
     (λ i. Deletion (same i) (last i))
 
 -- neither of two is anything

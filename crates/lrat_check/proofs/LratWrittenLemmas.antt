@@ -1,52 +1,41 @@
 -- The canonical text of a derivation spells it.
-use Rattle.std.proofs.Common.{◌≡◌, ◌≢◌, ℕ, ◌^◌, ◌<◌, ◌≤◌, List, [], ◌∷◌, ◌++◌, length, map, drop, suc, Bool, true, false, not, refl, ap, sym, ◌∙◌, subst, arith, append_assoc, append-nil, ◌&&◌}
+use Rattle.std.proofs.Common.{◌≡◌, ℕ, ◌^◌, ◌<◌, ◌≤◌, List, [], ◌∷◌, ◌++◌, length, map, drop, suc, Bool, true, false, not, refl, ap, sym, ◌∙◌, subst, arith, append_assoc, append-nil, ◌&&◌}
 use Rattle.std.specs.Prelude.{ℤ, pos, negsuc, nat_abs, Some, codes, nat_lt, nat_le, ◌==◌, slice_index}
 use Rattle.std.specs.Char.{is_ascii_digit}
 use Rattle.std.specs.Int.{is_negative}
 use Rattle.std.specs.List.{list_all, list_any, flat_map, AllZip}
 use Rattle.std.specs.Fmt.{decimal, signed_decimal}
 use Rattle.std.specs.Str.Parse.{digits_value}
-use Rattle.std.proofs.lemmas.Bool.{and_parts, and_from, or_from, cond-false, false≢true, true≢false, ne_eqb, leb-true, le-leb, eqb-false, not-true}
+use Rattle.std.proofs.lemmas.Bool.{and_parts, and_from, or_from, cond-false, false≢true, true≢false, ne_eqb, leb-true, le-leb}
 use Rattle.std.proofs.lemmas.Bool.Decides.{nat_tests}
 use Rattle.std.proofs.lemmas.Int.{ints}
 use Rattle.std.proofs.lemmas.Fmt.{decimal_digit}
 use Rattle.std.proofs.lemmas.List.{map-append}
 use Rattle.std.proofs.lemmas.List.Folds.{list_any-append, list_all-append, flat_map-map}
 use Rattle.std.proofs.lemmas.Grind.{flat_map-append}
-use Rattle.lrat_check.proofs.ListLemmas.{not_negative}
 use Rattle.std.proofs.lemmas.Option.{cond_some}
 use Rattle.dimacs.specs.Literal.{is_literal, is_clause, most_variable}
 use Rattle.text_lines.specs.Lines.{lines_of, is_line_feed}
 use Rattle.text_lines.specs.Numbers.{solver_number, is_digits, is_plain, has_minus, digits_after_sign}
 use Rattle.text_lines.specs.Words.{words_of, is_blank, is_empty}
 use Rattle.text_lines.proofs.LineLemmas.{line_ended, one_word, word_ended}
-use Rattle.text_lines.proofs.PlainLemmas.{decimal_is_plain}
+use Rattle.text_lines.proofs.PlainLemmas.{decimal_is_plain, not_empty}
 use Rattle.text_lines.proofs.SolverLemmas.{read_number}
+use Rattle.text_lines.proofs.IntegerLemmas.{not_negative}
+use Rattle.text_lines.proofs.KeptLemmas.{kept_more}
+use Rattle.text_lines.proofs.DigitLemmas.{none_in_digits, digit_no_blank, digit_no_feed}
 use Rattle.lrat_check.specs.LratText.{SpellsDerivation, IsStepLine, Says, ended, is_id, is_id_number, is_lrat_step, is_skipped, kept, most_id}
 use Rattle.lrat_check.specs.LratWritten.{canonical_derivation, step_line, list_text}
 use Rattle.lrat_check.specs.declared.derivation.Step.{Step}
 use Rattle.lrat_check.specs.declared.derivation.Step.TheVariants.{Addition, Deletion}
-use Rattle.lrat_check.proofs.DerivationTextLemmas.{kept_more}
 
 -- a digit is no other byte
 digit_apart : (k x : ℕ) → is_ascii_digit k ≡ false → is_ascii_digit x ≡ true → (x == k) ≡ false
 digit_apart k x other digit = ne_eqb x k (λ e. true≢false (sym digit ∙ ap is_ascii_digit e ∙ other))
 
-none_in_digits : (q : ℕ → Bool) → ((x : ℕ) → is_ascii_digit x ≡ true → q x ≡ false) → (ds : List ℕ) → list_all is_ascii_digit ds ≡ true → list_any q ds ≡ false
-none_in_digits q apart [] h = refl
-none_in_digits q apart (d ∷ ds) h =
-    let parts = and_parts (is_ascii_digit d) (list_all is_ascii_digit ds) h in
-    or_from (q d) (list_any q ds) (apart d parts.0) (none_in_digits q apart ds parts.1)
-
 first_apart : (k : ℕ) → is_ascii_digit k ≡ false → (0 == k) ≡ false → (ds : List ℕ) → list_all is_ascii_digit ds ≡ true → (slice_index ds 0 == k) ≡ false
 first_apart k other none [] h = none
 first_apart k other none (d ∷ ds) h = digit_apart k d other (and_parts (is_ascii_digit d) (list_all is_ascii_digit ds) h).0
-
-blank_apart : (x : ℕ) → is_ascii_digit x ≡ true → is_blank x ≡ false
-blank_apart x h = or_from _ _ (or_from _ _ (digit_apart 32 x refl h) (digit_apart 9 x refl h)) (digit_apart 13 x refl h)
-
-filled : (word : List ℕ) → not (is_empty word) ≡ true → 0 < length word
-filled word h = (let apart : length word ≢ 0 = eqb-false (length word) 0 (not-true (is_empty word) h) in omega (arith, apart))
 
 -- the digits of a number
 record AreDigitsOf (n : ℕ) (ds : List ℕ) : Type 0 where
@@ -61,7 +50,7 @@ digits_of n h =
     let plain = cond_some (is_plain (decimal n)) (digits_value 10 (decimal n)) n (decimal_is_plain n small) in
     let digits = (and_parts (is_digits (decimal n)) _ plain.0).0 in
     let parts = and_parts (not (is_empty (decimal n))) (list_all is_ascii_digit (decimal n)) digits in
-    record { digits = digits; all = parts.1; some = filled (decimal n) parts.0; value = plain.1 }
+    record { digits = digits; all = parts.1; some = not_empty (decimal n) parts.0; value = plain.1 }
 
 -- bytes that are one word of a line
 record IsWord (word : List ℕ) : Type 0 where
@@ -76,7 +65,7 @@ AreWords (word ∷ words) = IsWord word × AreWords words
 decimal_word : (n : ℕ) → n ≤ most_id → IsWord (decimal n)
 decimal_word n h =
     let d = digits_of n h in
-    record { some = d.some; no_blank = none_in_digits is_blank blank_apart (decimal n) d.all; no_feed = none_in_digits is_line_feed (λ x. digit_apart 10 x refl) (decimal n) d.all }
+    record { some = d.some; no_blank = none_in_digits is_blank digit_no_blank (decimal n) d.all; no_feed = none_in_digits is_line_feed digit_no_feed (decimal n) d.all }
 
 -- whether a number is small enough to be written
 abbrev is_small : ℤ → Bool
@@ -246,7 +235,7 @@ written_lines (step ∷ steps) h =
     ∙ ap lines_of (append_assoc line (10 ∷ []) (canonical_derivation steps))
     ∙ line_ended line (canonical_derivation steps) (no_feed_in w.number w.words w.number_is w.words_are) in
     let all : kept (lines_of (step_line step ++ canonical_derivation steps)) ≡ (w.number ∷ w.words) ∷ kept (lines_of (canonical_derivation steps)) =
-    ap kept lines ∙ kept_more line (lines_of (canonical_derivation steps)) (ap is_skipped words ∙ w.said) ∙ ap (λ l. l ∷ kept (lines_of (canonical_derivation steps))) words in
+    ap kept lines ∙ kept_more is_skipped line (lines_of (canonical_derivation steps)) (ap is_skipped words ∙ w.said) ∙ ap (λ l. l ∷ kept (lines_of (canonical_derivation steps))) words in
     subst (λ (ls : List (List (List ℕ))). AllZip IsStepLine ls (step ∷ steps)) (sym all) (w.step_is, written_lines steps parts.1)
 
 pub written_spells : (steps : List Step) → list_all is_lrat_step steps ≡ true → SpellsDerivation (canonical_derivation steps) steps

@@ -9,14 +9,12 @@ use Rattle.std.proofs.lemmas.List.{take_more, map_push, take-append-drop}
 use Rattle.lrat_check.specs.Standing.{IsAssumed}
 use Rattle.dimacs.specs.Literal.{is_literal, is_clause}
 use Rattle.std.proofs.lemmas.List.Folds.{list_any-append, list_all-append, list_any_at}
+use Rattle.text_lines.proofs.IntegerLemmas.{same_integer, twice_negated}
 use Rattle.lrat_check.specs.Propagation.{has, is_tautology, is_falsified, Falsifies, IsUnit, HasTwoUnfalsified}
 
 -- equality of literals
 pub int_same : (y z : ℤ) → int_eq y z ≡ true → y ≡ z
 int_same y z h = (Decides-int_eq y z).0 h
-
-pub int_self : (z : ℤ) → int_eq z z ≡ true
-int_self z = (Decides-int_eq z z).1 refl
 
 pub int_apart : (y z : ℤ) → y ≢ z → int_eq y z ≡ false
 int_apart y z h = false_from_ne_true (int_eq y z) (λ e. h (int_same y z e))
@@ -29,7 +27,7 @@ pub has_old : (clause : List ℤ) (x z : ℤ) → has clause z ≡ true → has 
 has_old clause x z h = has_push clause x z ∙ or_left (has clause z) (int_eq x z || false) h
 
 pub has_new : (clause : List ℤ) (x : ℤ) → has (clause ++ x ∷ []) x ≡ true
-has_new clause x = has_push clause x x ∙ or_right (has clause x) (int_eq x x || false) (or_left (int_eq x x) false (int_self x))
+has_new clause x = has_push clause x x ∙ or_right (has clause x) (int_eq x x || false) (or_left (int_eq x x) false (same_integer x))
 
 pub has_cases : (clause : List ℤ) (x z : ℤ) → has (clause ++ x ∷ []) z ≡ true → (has clause z ≡ true) ⊎ (x ≡ z)
 has_cases clause x z h =
@@ -107,13 +105,8 @@ pub take_item : (clause : List ℤ) (i : ℕ) (x : ℤ) → i < length clause �
 take_item clause i x h e = take_more clause i x h ∙ ap (λ y. take i clause ++ y ∷ []) (sym e)
 
 -- negations
-pub neg_neg : (z : ℤ) → neg_ℤ (neg_ℤ z) ≡ z
-neg_neg (pos zero) = refl
-neg_neg (pos (suc n)) = refl
-neg_neg (negsuc n) = refl
-
 neg_same : (y z : ℤ) → neg_ℤ y ≡ neg_ℤ z → y ≡ z
-neg_same y z e = sym (neg_neg y) ∙ ap neg_ℤ e ∙ neg_neg z
+neg_same y z e = sym (twice_negated y) ∙ ap neg_ℤ e ∙ twice_negated z
 
 int_eq_neg : (y z : ℤ) → int_eq (neg_ℤ y) (neg_ℤ z) ≡ int_eq y z
 int_eq_neg y z = same_from_decides (int_eq (neg_ℤ y) (neg_ℤ z)) (int_eq y z) (Decides-like (int_eq (neg_ℤ y) (neg_ℤ z)) (neg_same y z) (ap neg_ℤ) (Decides-int_eq (neg_ℤ y) (neg_ℤ z))) (Decides-int_eq y z)
@@ -140,7 +133,7 @@ pub any_has : (p : ℤ → Bool) (clause : List ℤ) → list_any p clause ≡ t
 any_has p [] h = absurd (false≢true h)
 any_has p (y ∷ clause) h =
     elim (or_cases (p y) (list_any p clause) h) [
-      | inl here ↦ (y, or_left (int_eq y y) (has clause y) (int_self y), here)
+      | inl here ↦ (y, or_left (int_eq y y) (has clause y) (same_integer y), here)
       | inr later ↦ (let found = any_has p clause later in (found.0, or_right (int_eq y found.0) (has clause found.0) found.1, found.2))
     ]
 
@@ -160,7 +153,7 @@ pub pair_taut : (clause : List ℤ) (z : ℤ) → has clause z ≡ true → has 
 pair_taut clause z h k = has_any (λ z. has clause (neg_ℤ z)) clause z h k
 
 has_at : (clause : List ℤ) (i : ℕ) (x : ℤ) → i < length clause → x ≡ get_or clause i x → has clause x ≡ true
-has_at clause i x h e = list_any_at (λ y. int_eq y x) clause i x h (ap (λ y. int_eq y x) (sym e) ∙ int_self x)
+has_at clause i x h e = list_any_at (λ y. int_eq y x) clause i x h (ap (λ y. int_eq y x) (sym e) ∙ same_integer x)
 
 has_front : (clause : List ℤ) (i : ℕ) (z : ℤ) → has (take i clause) z ≡ true → has clause z ≡ true
 has_front clause i z h =
@@ -177,7 +170,7 @@ taut_push clause x lit never none = false_from_ne_true (is_tautology (clause ++ 
     elim (has_cases clause x pair.0 pair.1) [
       | inl old ↦ elim (has_cases clause x (neg_ℤ pair.0) pair.2) [
         | inl both ↦ false≢true (sym never ∙ pair_taut clause pair.0 old both)
-        | inr new ↦ (let same : neg_ℤ x ≡ pair.0 = ap neg_ℤ new ∙ neg_neg pair.0 in false≢true (sym none ∙ ap (has clause) same ∙ old))
+        | inr new ↦ (let same : neg_ℤ x ≡ pair.0 = ap neg_ℤ new ∙ twice_negated pair.0 in false≢true (sym none ∙ ap (has clause) same ∙ old))
       ]
       | inr same ↦ elim (has_cases clause x (neg_ℤ pair.0) pair.2) [
         | inl old ↦ false≢true (sym none ∙ ap (λ z. has clause (neg_ℤ z)) same ∙ old)
@@ -199,4 +192,4 @@ assume_found clause trues i x h e so un =
     taut_found clause i x h e (sym (falsified_negation (take i clause) x) ∙ ap (λ t. is_falsified t (neg_ℤ x)) (sym so.1) ∙ un)
 
 pub cases_same : (y z : ℤ) → (y ≡ z) ⊎ (y ≢ z)
-cases_same y z = elim (cases_Bool (int_eq y z)) [ inl same ↦ inl (int_same y z same) | inr apart ↦ inr (λ e. true≢false (sym (int_self z) ∙ ap (λ x. int_eq x z) (sym e) ∙ apart)) ]
+cases_same y z = elim (cases_Bool (int_eq y z)) [ inl same ↦ inl (int_same y z same) | inr apart ↦ inr (λ e. true≢false (sym (same_integer z) ∙ ap (λ x. int_eq x z) (sym e) ∙ apart)) ]

@@ -1,9 +1,10 @@
 -- A derivation is accepted or refused, in one way.
-use Rattle.std.proofs.Common.{◌≡◌, ◌≢◌, ◌⊎◌, ℕ, zero, suc, ◌+◌, ◌<◌, ◌≤◌, Bool, true, false, cond, eqb, length, map, ap, arith, List, [], ◌∷◌, ◌++◌, refl, sym, ◌∙◌, subst, inl, inr, append_assoc, append-nil}
+use Rattle.std.proofs.Common.{◌≡◌, ◌≢◌, ◌⊎◌, ℕ, zero, suc, ◌+◌, ◌<◌, ◌≤◌, true, eqb, length, map, ap, arith, List, [], ◌∷◌, ◌++◌, refl, sym, ◌∙◌, subst, inl, inr, append_assoc, append-nil}
 use Rattle.std.specs.Prelude.{ℤ, neg_ℤ, Option, Some, None, IsSome}
-use Rattle.std.specs.List.{list_any, slice_get}
+use Rattle.std.specs.List.{list_any}
 use Rattle.std.proofs.lemmas.Bool.{cases_Bool, cases_lt, cond-false, ne_eqb, false≢true, true≢false}
-use Rattle.std.proofs.lemmas.Option.{same_Some, none-some}
+use Rattle.std.proofs.lemmas.Option.{same_Some, none-some, slice_get_past}
+use Rattle.text_lines.proofs.BoolLemmas.{hidden_none}
 use Rattle.lrat_check.specs.Active.{numbered, at_start, after}
 use Rattle.lrat_check.specs.Checked.{IsRight, IsWrong, ends, Accepts, Refuses, IsAccepted, IsRefused}
 use Rattle.lrat_check.specs.Hints.{Group, has_group, first_hints, groups_of}
@@ -357,23 +358,14 @@ abbrev end_after : ℕ → Step → ℕ
 end_after end (Addition id literals hints) = end + suc id
 end_after end (Deletion first ids) = end
 
-cond_none : (b : Bool) (o : Option (List ℤ)) → o ≡ None → cond b None o ≡ None
-cond_none true o e = refl
-cond_none false o e = e
-
 below_after : (active : ℕ → Option (List ℤ)) (end : ℕ) (step : Step) → IsBelow end active → IsBelow (end_after end step) (after active step)
 below_after active end (Addition id literals hints) none other past =
     cond-false (eqb id other) (Some literals) (active other) (ne_eqb id other (λ e. omega (arith, e, past))) ∙ none other (omega (arith, past))
-below_after active end (Deletion first ids) none other past = cond_none (list_any (λ id. eqb id other) ids) (active other) (none other past)
-
-nothing_past : (clauses : List (List ℤ)) (k : ℕ) → length clauses ≤ k → slice_get clauses k ≡ None
-nothing_past [] k h = refl
-nothing_past (c ∷ clauses) zero h = absurd (omega (arith, h))
-nothing_past (c ∷ clauses) (suc k) h = nothing_past clauses k (omega (arith, h))
+below_after active end (Deletion first ids) none other past = hidden_none (list_any (λ id. eqb id other) ids) (active other) (none other past)
 
 below_start : (clauses : List (List ℤ)) → IsBelow (suc (length clauses)) (numbered clauses)
 below_start clauses zero past = refl
-below_start clauses (suc k) past = nothing_past clauses k (omega (arith, past))
+below_start clauses (suc k) past = slice_get_past clauses k (omega (arith, past))
 
 -- all steps
 refused_once : (steps : List Step) (active : ℕ → Option (List ℤ)) (first : ℕ) (f g : StepFault) (p q : ℕ) → Refuses active first steps f p → Refuses active first steps g q → (f ≡ g) × (p ≡ q)

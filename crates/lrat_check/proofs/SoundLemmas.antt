@@ -6,6 +6,8 @@ use Rattle.std.specs.Ordering.{int_eq}
 use Rattle.std.proofs.lemmas.Bool.{cases_Bool, or_cases, or_left, or_right, or_parts, ne_eqb, and_from, and_parts, false≢true, true≢false, false_from_ne_true, not-true, not_from_false, or_from, cond-true, cond-false, eq-eqb, eqb-true}
 use Rattle.std.proofs.lemmas.Option.{same_Some, none-some}
 use Rattle.std.proofs.lemmas.List.Folds.{list_all-append, list_any-append}
+use Rattle.text_lines.proofs.BoolLemmas.{not_not}
+use Rattle.text_lines.proofs.IntegerLemmas.{same_integer, twice_negated}
 use Rattle.dimacs.specs.Assignment.{makes_true, makes_some}
 use Rattle.dimacs.specs.Models.{HasNoModelIn}
 use Rattle.dimacs.specs.Literal.{is_literal_up_to, is_clause_up_to, is_clause}
@@ -20,11 +22,7 @@ use Rattle.lrat_check.specs.Propagation.{has, is_tautology, is_falsified}
 use Rattle.lrat_check.specs.Sound.{has_no_zero, HaveNoZero, Satisfies, HasModel}
 use Rattle.lrat_check.specs.declared.derivation.Step.{Step}
 use Rattle.lrat_check.specs.declared.derivation.Step.TheVariants.{Addition, Deletion}
-use Rattle.lrat_check.proofs.PropagationLemmas.{each_has, has_any, any_has, has_cases, has_negated, taut_pair, neg_neg, cases_same, int_self, int_same}
-
-not_not : (b : Bool) → not (not b) ≡ b
-not_not true = refl
-not_not false = refl
+use Rattle.lrat_check.proofs.PropagationLemmas.{each_has, has_any, any_has, has_cases, has_negated, taut_pair, cases_same, int_same}
 
 suc_not_zero : (n : ℕ) → (suc n == 0) ≡ true → ⊥
 suc_not_zero n h = omega (arith, eqb-true (suc n) 0 h)
@@ -76,9 +74,9 @@ refuted active value clean sat (hint ∷ hints) trues all (clause, known, inr (u
 -- where no literal is true, all negations are
 negations_true : (value : ℕ → Bool) (clause : List ℤ) → has_no_zero clause ≡ true → makes_some value clause ≡ false → MakesAll value (negated clause)
 negations_true value clause clean none z h =
-    let in_it : has clause (neg_ℤ z) ≡ true = sym (has_negated clause (neg_ℤ z)) ∙ ap (has (negated clause)) (neg_neg z) ∙ h in
+    let in_it : has clause (neg_ℤ z) ≡ true = sym (has_negated clause (neg_ℤ z)) ∙ ap (has (negated clause)) (twice_negated z) ∙ h in
     let untrue : makes_true value (neg_ℤ z) ≡ false = false_from_ne_true (makes_true value (neg_ℤ z)) (λ holds. true≢false (sym (has_any (makes_true value) clause (neg_ℤ z) in_it holds) ∙ none)) in
-    ap (makes_true value) (sym (neg_neg z)) ∙ opposite value (neg_ℤ z) (not_zero clause (neg_ℤ z) clean in_it) ∙ ap not untrue
+    ap (makes_true value) (sym (twice_negated z)) ∙ opposite value (neg_ℤ z) (not_zero clause (neg_ℤ z) clean in_it) ∙ ap not untrue
 
 -- a literal and its negation: one is true
 tautology_true : (value : ℕ → Bool) (clause : List ℤ) → has_no_zero clause ≡ true → is_tautology clause ≡ true → makes_some value clause ≡ true
@@ -176,7 +174,7 @@ has_others pivot (y ∷ clause) z h = elim (cases_Bool (int_eq y (neg_ℤ pivot)
   | inr apart ↦ (
       let shown = ap (λ b. has (cond b (others pivot clause) (y ∷ others pivot clause)) z) (sym apart) ∙ h in
       elim (or_cases (int_eq y z) (has (others pivot clause) z) shown) [
-        | inl here ↦ (or_left (int_eq y z) (has clause z) here, λ e. true≢false (sym (int_self (neg_ℤ pivot)) ∙ ap (λ x. int_eq x (neg_ℤ pivot)) (sym (int_same y z here ∙ e)) ∙ apart))
+        | inl here ↦ (or_left (int_eq y z) (has clause z) here, λ e. true≢false (sym (same_integer (neg_ℤ pivot)) ∙ ap (λ x. int_eq x (neg_ℤ pivot)) (sym (int_same y z here ∙ e)) ∙ apart))
         | inr there ↦ (let later = has_others pivot clause z there in (or_right (int_eq y z) (has clause z) later.0, later.1))
       ])
 ]

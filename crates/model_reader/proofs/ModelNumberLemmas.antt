@@ -1,9 +1,9 @@
 -- The numbers of a model, one after the other.
-use Rattle.std.proofs.Common.{◌≡◌, ◌≢◌, ◌<◌, ◌⊎◌, inl, inr, ℕ, zero, suc, ℤ, pos, negsuc, neg_ℤ, nat_abs, Bool, true, false, ◌||◌, Some, List, [], ◌∷◌, ◌++◌, map, get_or, refl, sym, ◌∙◌, ap, leb}
+use Rattle.std.proofs.Common.{◌≡◌, ◌≢◌, ◌<◌, inl, inr, ℕ, zero, suc, ℤ, pos, negsuc, neg_ℤ, nat_abs, Bool, true, false, ◌||◌, Some, List, [], ◌∷◌, ◌++◌, map, get_or, refl, sym, ◌∙◌, ap, leb}
 use Rattle.std.specs.List.{list_any, Contains}
 use Rattle.std.specs.Option.{option_eq}
 use Rattle.std.specs.Ordering.{int_eq}
-use Rattle.std.proofs.lemmas.Bool.{and_parts, and_from, false_from_ne_true, true≢false, cases_Bool, lt-ltb}
+use Rattle.std.proofs.lemmas.Bool.{and_parts, and_from, true≢false, cases_Bool, lt-ltb, or_cases}
 use Rattle.std.proofs.lemmas.Bool.Decides.{Decides-int_eq}
 use Rattle.std.proofs.lemmas.Cmp.{int_eq_equiv}
 use Rattle.std.proofs.lemmas.List.{map_push}
@@ -11,6 +11,7 @@ use Rattle.std.proofs.lemmas.List.Folds.{list_any-append, list_all-append}
 use Rattle.std.proofs.lemmas.Map.Views.{Contains-from_any, list_any-from_Contains}
 use Rattle.std.proofs.lemmas.Option.{option_and_then_some, cond_some}
 use Rattle.text_lines.specs.Numbers.{solver_number}
+use Rattle.text_lines.proofs.IntegerLemmas.{other_integer, twice_negated}
 use Rattle.dimacs.specs.Literal.{is_clause, is_literal, most_variable}
 use Rattle.model_reader.specs.ModelText.{Said, Word, small, model_number}
 use Rattle.model_reader.specs.ModelFirstFault.{writes}
@@ -24,12 +25,6 @@ has_contains zs z h = Contains-from_any (λ x y. (Decides-int_eq x y).0) z zs h
 
 pub contains_has : (zs : List ℤ) (z : ℤ) → Contains zs z → has zs z ≡ true
 contains_has zs z h = list_any-from_Contains int_eq_equiv z zs h
-
-pub same_number : (z : ℤ) → int_eq z z ≡ true
-same_number z = (Decides-int_eq z z).1 refl
-
-pub other_number : (x y : ℤ) → ¬ (x ≡ y) → int_eq x y ≡ false
-other_number x y apart = false_from_ne_true _ (λ h. apart ((Decides-int_eq x y).0 h))
 
 pub or_false : (b : Bool) → (b || false) ≡ b
 or_false true = refl
@@ -46,7 +41,7 @@ pub no_zero : (zs : List ℤ) → is_clause zs ≡ true → has zs (pos 0) ≡ f
 no_zero [] h = refl
 no_zero (z ∷ zs) h =
     let parts = and_parts (is_literal z) (is_clause zs) h in
-    λ i. other_number (pos 0) z (λ e. literal_not_zero z parts.0 (sym e)) i || no_zero zs parts.1 i
+    λ i. other_integer (pos 0) z (λ e. literal_not_zero z parts.0 (sym e)) i || no_zero zs parts.1 i
 
 -- a number that is not zero is a literal
 pub model_literal : (word : List ℕ) (z : ℤ) → model_number word ≡ Some z → 0 < nat_abs z → is_literal z ≡ true
@@ -54,11 +49,6 @@ model_literal word z m above =
     option_and_then_some small (solver_number word) z m (λ y number kept.
     let found = cond_some (leb (nat_abs y) most_variable) y z kept in
     and_from _ _ (lt-ltb 0 (nat_abs z) above) (ap (λ n. leb (nat_abs n) most_variable) (sym found.1) ∙ found.0))
-
-pub twice_negated : (z : ℤ) → neg_ℤ (neg_ℤ z) ≡ z
-twice_negated (pos zero) = refl
-twice_negated (pos (suc n)) = refl
-twice_negated (negsuc n) = refl
 
 pub not_own_negation : (z : ℤ) → is_literal z ≡ true → neg_ℤ z ≢ z
 not_own_negation (pos zero) h e = absurd (cc)
@@ -69,18 +59,14 @@ not_own_negation (negsuc n) h e = absurd (cc)
 abbrev pub NoClash : List ℤ → Type 0
 NoClash zs = (z : ℤ) → has zs z ≡ true → has zs (neg_ℤ z) ≡ false
 
-or_cases : (a b : Bool) → (a || b) ≡ true → (a ≡ true) ⊎ (b ≡ true)
-or_cases true b h = inl refl
-or_cases false b h = inr h
-
 pub no_clash_push : (zs : List ℤ) (z : ℤ) → NoClash zs → is_literal z ≡ true → has zs (neg_ℤ z) ≡ false → NoClash (zs ++ z ∷ [])
 no_clash_push zs z none literal free y h =
     has_push zs z (neg_ℤ y) ∙
     elim (or_cases (has zs y) (int_eq y z) (sym (has_push zs z y) ∙ h)) [
-      | inl before ↦ (λ i. none y before i || other_number (neg_ℤ y) z (λ e. true≢false (sym before ∙ ap (has zs) (sym (twice_negated y) ∙ ap neg_ℤ e) ∙ free)) i)
+      | inl before ↦ (λ i. none y before i || other_integer (neg_ℤ y) z (λ e. true≢false (sym before ∙ ap (has zs) (sym (twice_negated y) ∙ ap neg_ℤ e) ∙ free)) i)
       | inr now ↦ (
           let same = (Decides-int_eq y z).0 now in
-          (λ i. has zs (neg_ℤ (same i)) || int_eq (neg_ℤ (same i)) z) ∙ (λ i. free i || other_number (neg_ℤ z) z (not_own_negation z literal) i))
+          (λ i. has zs (neg_ℤ (same i)) || int_eq (neg_ℤ (same i)) z) ∙ (λ i. free i || other_integer (neg_ℤ z) z (not_own_negation z literal) i))
     ]
 
 -- these things are words, whose numbers are these literals
@@ -141,8 +127,8 @@ values_of (negsuc k ∷ zs) = values_of zs
 
 pub values_found : (zs : List ℤ) (k : ℕ) → get_or (values_of zs) k false ≡ has zs (pos (suc k))
 values_found [] k = refl
-values_found (pos zero ∷ zs) k = values_found zs k ∙ ap (λ b. b || has zs (pos (suc k))) (sym (other_number (pos (suc k)) (pos 0) (λ e. absurd (cc))))
-values_found (negsuc j ∷ zs) k = values_found zs k ∙ ap (λ b. b || has zs (pos (suc k))) (sym (other_number (pos (suc k)) (negsuc j) (λ e. absurd (cc))))
+values_found (pos zero ∷ zs) k = values_found zs k ∙ ap (λ b. b || has zs (pos (suc k))) (sym (other_integer (pos (suc k)) (pos 0) (λ e. absurd (cc))))
+values_found (negsuc j ∷ zs) k = values_found zs k ∙ ap (λ b. b || has zs (pos (suc k))) (sym (other_integer (pos (suc k)) (negsuc j) (λ e. absurd (cc))))
 values_found (pos (suc j) ∷ zs) k =
     elim (cases_Bool (int_eq (pos (suc k)) (pos (suc j)))) [
       | inl same ↦ (

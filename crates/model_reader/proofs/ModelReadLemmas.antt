@@ -3,7 +3,7 @@ use Rattle.std.proofs.Common.{◌≡◌, ◌<◌, length, ℕ, zero, suc, ◌+�
 use Rattle.std.specs.List.{list_any}
 use Rattle.std.specs.Int.{is_positive}
 use Rattle.std.specs.Ordering.{int_eq}
-use Rattle.std.proofs.lemmas.Bool.{false_from_ne_true, true≢false}
+use Rattle.std.proofs.lemmas.Bool.{true≢false}
 use Rattle.std.proofs.lemmas.Int.{ints}
 use Rattle.std.proofs.lemmas.Bool.Decides.{nat_tests, Decides-int_eq, Decides-eqb, Decides-like, same_from_decides}
 use Rattle.std.specs.Option.{option_eq, option_map}
@@ -14,6 +14,8 @@ use Rattle.text_lines.specs.FirstFault.{IsFaultless}
 use Rattle.text_lines.specs.Lines.{lines_of}
 use Rattle.text_lines.specs.Words.{words_of}
 use Rattle.text_lines.proofs.FaultLemmas.{faultless_nil, faultless_push}
+use Rattle.text_lines.proofs.IntegerLemmas.{other_integer}
+use Rattle.text_lines.proofs.BoolLemmas.{or_last}
 use Rattle.model_reader.specs.declared.model_reader.ModelReader.{ModelReader}
 use Rattle.model_reader.specs.declared.model_fault.ModelCause.{ModelCause}
 use Rattle.model_reader.specs.declared.model_fault.ModelCause.TheVariants.{BadLine, BadNumber, Clash, Unended}
@@ -32,9 +34,6 @@ same_positive a b = same_from_decides _ _ (Decides-like _ (λ e. sym (ap nat_abs
 same_negative : (a b : ℕ) → int_eq (negsuc a) (negsuc b) ≡ eqb (suc b) (suc a)
 same_negative a b = same_from_decides _ _ (Decides-like _ (λ e. sym (ap nat_abs e)) (λ e. cc) (Decides-int_eq (negsuc a) (negsuc b))) (Decides-eqb (suc b) (suc a))
 
-unequal : (x y : ℤ) → ¬ (x ≡ y) → int_eq x y ≡ false
-unequal x y apart = false_from_ne_true _ (λ h. apart ((Decides-int_eq x y).0 h))
-
 above_zero : (k : ℕ) → is_positive (pos (suc k)) ≡ true
 above_zero k = grind (arith, ints, nat_tests)
 
@@ -42,9 +41,9 @@ above_zero k = grind (arith, ints, nat_tests)
 pub positive_added : (old new : ModelReader) (y : ℤ) → is_positive y ≡ true → new.ended ≡ old.ended → new.negative ≡ old.negative →
     ((n : ℕ) → value_of new.positive.items n ≡ (eqb (nat_abs y) n || value_of old.positive.items n)) → HasNumberMore y old new
 positive_added old new (pos zero) h e n p z = absurd (cc)
-positive_added old new (pos (suc k)) h e n p (pos zero) = e ∙ ap (λ b. b || old.ended) (sym (unequal (pos 0) (pos (suc k)) (λ same. absurd (cc))))
+positive_added old new (pos (suc k)) h e n p (pos zero) = e ∙ ap (λ b. b || old.ended) (sym (other_integer (pos 0) (pos (suc k)) (λ same. absurd (cc))))
 positive_added old new (pos (suc k)) h e n p (pos (suc j)) = p (suc j) ∙ ap (λ b. b || value_of old.positive.items (suc j)) (sym (same_positive (suc j) (suc k)))
-positive_added old new (pos (suc k)) h e n p (negsuc j) = ap (λ v. value_of v.items (suc j)) n ∙ ap (λ b. b || value_of old.negative.items (suc j)) (sym (unequal (negsuc j) (pos (suc k)) (λ same. absurd (cc))))
+positive_added old new (pos (suc k)) h e n p (negsuc j) = ap (λ v. value_of v.items (suc j)) n ∙ ap (λ b. b || value_of old.negative.items (suc j)) (sym (other_integer (negsuc j) (pos (suc k)) (λ same. absurd (cc))))
 positive_added old new (negsuc k) h e n p z = absurd (cc)
 
 -- a variable of which the negative literal comes
@@ -52,8 +51,8 @@ pub negative_added : (old new : ModelReader) (y : ℤ) → is_positive y ≡ fal
     ((n : ℕ) → value_of new.negative.items n ≡ (eqb (nat_abs y) n || value_of old.negative.items n)) → HasNumberMore y old new
 negative_added old new (pos zero) h l e n p z = absurd (omega (arith, l))
 negative_added old new (pos (suc k)) h l e n p z = absurd (true≢false (sym (above_zero k) ∙ h))
-negative_added old new (negsuc k) h l e n p (pos zero) = e ∙ ap (λ b. b || old.ended) (sym (unequal (pos 0) (negsuc k) (λ same. absurd (cc))))
-negative_added old new (negsuc k) h l e n p (pos (suc j)) = ap (λ v. value_of v.items (suc j)) n ∙ ap (λ b. b || value_of old.positive.items (suc j)) (sym (unequal (pos (suc j)) (negsuc k) (λ same. absurd (cc))))
+negative_added old new (negsuc k) h l e n p (pos zero) = e ∙ ap (λ b. b || old.ended) (sym (other_integer (pos 0) (negsuc k) (λ same. absurd (cc))))
+negative_added old new (negsuc k) h l e n p (pos (suc j)) = ap (λ v. value_of v.items (suc j)) n ∙ ap (λ b. b || value_of old.positive.items (suc j)) (sym (other_integer (pos (suc j)) (negsuc k) (λ same. absurd (cc))))
 negative_added old new (negsuc k) h l e n p (negsuc j) = p (suc j) ∙ ap (λ b. b || value_of old.negative.items (suc j)) (sym (same_negative j k))
 
 -- nothing has come
@@ -64,12 +63,6 @@ nothing_read reader p n e = record { clear = faultless_nil model_fault; numbers 
     none (pos zero) = e
     none (pos (suc k)) = ap (λ v. value_of v (suc k)) p
     none (negsuc k) = ap (λ v. value_of v (suc k)) n
-
-or_last : (a b : Bool) → (a || b) ≡ (b || (a || false))
-or_last true true = refl
-or_last true false = refl
-or_last false true = refl
-or_last false false = refl
 
 -- a word is taken
 pub word_taken : (old new : ModelReader) (before : List (ℕ × Said)) (number : ℕ) (word : List ℕ) (z : ℤ) → old.ended ≡ false → model_number word ≡ Some z → TakesNumber z old new →

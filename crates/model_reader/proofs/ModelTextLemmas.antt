@@ -14,13 +14,14 @@ use Rattle.text_lines.specs.FirstFault.{IsFaultless}
 use Rattle.text_lines.specs.Lines.{lines_of}
 use Rattle.text_lines.specs.Words.{words_of}
 use Rattle.text_lines.proofs.FaultLemmas.{none_is_some, one_first, either, faultless_nil, faultless_push}
+use Rattle.text_lines.proofs.IntegerLemmas.{same_integer, other_integer}
 use Rattle.model_reader.specs.declared.model_fault.ModelCause.{ModelCause}
 use Rattle.model_reader.specs.declared.model_fault.ModelCause.TheVariants.{SaysUnsatisfiable, BadLine, BadNumber, Clash, Unended}
 use Rattle.dimacs.specs.Assignment.{value_of}
 use Rattle.dimacs.specs.Literal.{is_clause, is_literal}
 use Rattle.model_reader.specs.ModelText.{Said, Word, Unsatisfiable, Unknown, End, status, said, model_number, SpellsModel}
 use Rattle.model_reader.specs.ModelFirstFault.{at_line, said_from, writes, number_fault, said_fault, model_fault, HasModelFault}
-use Rattle.model_reader.proofs.ModelNumberLemmas.{has, has_contains, contains_has, same_number, other_number, or_false, has_push, no_zero, model_literal, NoClash, AreOpen, none_open, found_push, open_push, values_of, values_found}
+use Rattle.model_reader.proofs.ModelNumberLemmas.{has, has_contains, contains_has, or_false, has_push, no_zero, model_literal, NoClash, AreOpen, none_open, found_push, open_push, values_of, values_found}
 
 -- the first fault is one
 pub one_refused_model : (text : List ℕ) (c d : ModelCause) (p q : ℕ) → HasModelFault text c p → HasModelFault text d q → (c ≡ d) × (p ≡ q)
@@ -178,7 +179,7 @@ ended_words [] last before words zs line word h m clear = record {
 }
 ended_words (w ∷ rest) last before words zs line word h m clear =
     let now = before ++ (line, Word word) ∷ [] in
-    let closed : list_any (writes (pos 0)) now ≡ true = found_push before zs line word (pos 0) h.found m (pos 0) ∙ has_push zs (pos 0) (pos 0) ∙ or_right (has zs (pos 0)) true (same_number (pos 0)) in
+    let closed : list_any (writes (pos 0)) now ≡ true = found_push before zs line word (pos 0) h.found m (pos 0) ∙ has_push zs (pos 0) (pos 0) ∙ or_right (has zs (pos 0)) true (same_integer (pos 0)) in
     absurd (none-some (BadLine, w.0) (
     sym (ap (λ b. option_map (λ cause. (cause, w.0)) (cond b (Some BadLine) (number_fault now (model_number w.1)))) (sym closed)
     ∙ clear now (w.0, Word w.1) (worded rest ++ (last, End) ∷ []) refl)))
@@ -217,7 +218,7 @@ end_clear : (rest : List (ℕ × List ℕ)) (last : ℕ) (before : List (ℕ × 
 end_clear (w ∷ rest) last before words zs line word h clear m none = absurd (cc)
 end_clear [] last before words zs line word h clear m none =
     let now = before ++ (line, Word word) ∷ [] in
-    let closed : list_any (writes (pos 0)) now ≡ true = found_push before zs line word (pos 0) h.found m (pos 0) ∙ has_push zs (pos 0) (pos 0) ∙ or_right (has zs (pos 0)) true (same_number (pos 0)) in
+    let closed : list_any (writes (pos 0)) now ≡ true = found_push before zs line word (pos 0) h.found m (pos 0) ∙ has_push zs (pos 0) (pos 0) ∙ or_right (has zs (pos 0)) true (same_integer (pos 0)) in
     subst (λ (items : List (ℕ × Said)). IsFaultless model_fault items) (append_assoc before ((line, Word word) ∷ []) ((last, End) ∷ []))
     (faultless_push model_fault now (last, End)
     (faultless_push model_fault before (line, Word word) clear (word_clear before words zs line word (pos 0) h m (no_zero zs h.written)))
@@ -233,7 +234,7 @@ clear_walk (w ∷ rest) last before words zs (z ∷ more) h clear e written apar
     let m : model_number w.1 ≡ Some z = cc in
     let others : map model_number (words_alone rest) ≡ map Some (more ++ pos 0 ∷ []) = cc in
     let parts = and_parts (is_literal z) (is_clause more) written in
-    let here : has (zs ++ z ∷ more) z ≡ true = list_any-append (int_eq z) zs (z ∷ more) ∙ or_right (has zs z) (has (z ∷ more) z) (or_left (int_eq z z) (has more z) (same_number z)) in
+    let here : has (zs ++ z ∷ more) z ≡ true = list_any-append (int_eq z) zs (z ∷ more) ∙ or_right (has zs z) (has (z ∷ more) z) (or_left (int_eq z z) (has more z) (same_integer z)) in
     let free : has zs (neg_ℤ z) ≡ false = (or_parts (has zs (neg_ℤ z)) (has (z ∷ more) (neg_ℤ z)) (sym (list_any-append (int_eq (neg_ℤ z)) zs (z ∷ more)) ∙ apart z here)).0 in
     subst (λ (items : List (ℕ × Said)). IsFaultless model_fault items) (append_assoc before ((w.0, Word w.1) ∷ []) (worded rest ++ (last, End) ∷ []))
     (clear_walk rest last (before ++ (w.0, Word w.1) ∷ []) (words ++ w.1 ∷ []) (zs ++ z ∷ []) more
@@ -311,7 +312,7 @@ spelled_by_model text values clear found =
     let r = clear_read text clear in
     spelled_from text values r.words r.lines r.ended (λ k.
     found k ∙ r.found (pos (suc k)) ∙ has_push r.ended.literals (pos 0) (pos (suc k))
-    ∙ ap (λ b. has r.ended.literals (pos (suc k)) || b) (other_number (pos (suc k)) (pos 0) (λ e. absurd (cc))) ∙ or_false (has r.ended.literals (pos (suc k))))
+    ∙ ap (λ b. has r.ended.literals (pos (suc k)) || b) (other_integer (pos (suc k)) (pos 0) (λ e. absurd (cc))) ∙ or_false (has r.ended.literals (pos (suc k))))
 
 -- each text spells a model or has a first fault
 pub spelled_or_refused_model : (text : List ℕ) → ((values : List Bool) × SpellsModel text values) ⊎ ((cause : ModelCause) × (line : ℕ) × HasModelFault text cause line)

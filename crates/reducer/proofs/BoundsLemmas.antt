@@ -4,7 +4,7 @@ use Rattle.std.specs.Prelude.{Some}
 use Rattle.std.specs.List.{Contains, filter, sum_by}
 use Rattle.std.specs.Option.{option_and_then}
 use Rattle.std.proofs.lemmas.List.{map-append, map_more}
-use Rattle.std.proofs.lemmas.List.Elements.{Contains-get_or}
+use Rattle.std.proofs.lemmas.List.Elements.{Contains-get_or, filter-append}
 use Rattle.std.proofs.lemmas.List.Sums.{get_or-le-sum_by}
 use Rattle.traces.specs.declared.operation.OpName.{OpName}
 use Rattle.traces.specs.declared.trace.Process.{Process}
@@ -16,7 +16,7 @@ use Rattle.reducer.specs.Named.{HasNamed}
 use Rattle.reducer.specs.Reduction.{repeats, previous, is_kept, names_of}
 use Rattle.reducer.specs.Runs.{bounds_by, bounds_of, keeps}
 use Rattle.reducer.proofs.KeptLemmas.{process_of}
-use Rattle.reducer.proofs.PlaceLemmas.{one_more_name, filter_append}
+use Rattle.reducer.proofs.PlaceLemmas.{one_more_name}
 
 -- one more operation
 one_filtered : (passes : OpName → Bool) (n : OpName) (b : Bool) → passes n ≡ b → map (λ (m : OpName). m.place) (filter passes (n ∷ [])) ≡ cond b (n.place ∷ []) []
@@ -27,7 +27,7 @@ pub one_more_bound : (passes : OpName → Bool) (process : List ℕ) (k : ℕ) (
     map (λ (n : OpName). n.place) (filter passes (first_names process (k + 1))) ≡ map (λ (n : OpName). n.place) (filter passes (first_names process k)) ++ cond b ((k + 1) ∷ []) []
 one_more_bound passes process k b e =
     ap (λ l. map (λ (n : OpName). n.place) (filter passes l)) (one_more_name process k)
-    ∙ ap (map (λ (n : OpName). n.place)) (filter_append passes (first_names process k) (record { process = process; place = k + 1 } ∷ []))
+    ∙ ap (map (λ (n : OpName). n.place)) (filter-append passes (first_names process k) (record { process = process; place = k + 1 } ∷ []))
     ∙ map-append (λ (n : OpName). n.place) (filter passes (first_names process k)) (filter passes (record { process = process; place = k + 1 } ∷ []))
     ∙ ap (λ l. map (λ (n : OpName). n.place) (filter passes (first_names process k)) ++ l) (one_filtered passes (record { process = process; place = k + 1 }) b e)
 

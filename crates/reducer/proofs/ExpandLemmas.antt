@@ -7,6 +7,7 @@ use Rattle.std.specs.Str.{bytes_eq}
 use Rattle.std.proofs.lemmas.Bool.{cases_lt}
 use Rattle.std.proofs.lemmas.List.{length-map, length-append, map-append, get_or_at, get_or-append-add}
 use Rattle.std.proofs.lemmas.List.Sums.{take_while-cons}
+use Rattle.std.proofs.lemmas.List.Elements.{filter-append}
 use Rattle.traces.specs.declared.operation.OpName.{OpName}
 use Rattle.traces.specs.declared.trace.Process.{Process}
 use Rattle.traces.specs.Trace.{TraceValue, IsTrace, process_named, operation_at, first_names}
@@ -16,7 +17,7 @@ use Rattle.reducer.specs.Reduction.{is_dropped, is_kept, kept_names, kept_proces
 use Rattle.reducer.specs.Runs.{names_from, bounds_of, AreBounds}
 use Rattle.reducer.proofs.KeptLemmas.{IsFirst, first_known, kept_first, one_more_place}
 use Rattle.reducer.proofs.PairLemmas.{kept_order_of}
-use Rattle.reducer.proofs.PlaceLemmas.{joined_names, filter_append}
+use Rattle.reducer.proofs.PlaceLemmas.{joined_names}
 use Rattle.reducer.proofs.RenamedLemmas.{bounds_found}
 use Rattle.reducer.proofs.RunLemmas.{standing, expanded_first, behind_it}
 
@@ -87,7 +88,7 @@ run_here t ok x n first places e =
     let low : List ℕ = map (λ (m : OpName). m.place) front in
     let high : List ℕ = map (λ (m : OpName). m.place) back ++ (length p.operations + 1) ∷ [] in
     let kept : kept_names t p ≡ front ++ n ∷ back =
-    ap (filter (is_kept t)) s.parts ∙ filter_append (is_kept t) (first_names p.name (n.place - 1)) (n ∷ names_from p.name (n.place + 1) rest)
+    ap (filter (is_kept t)) s.parts ∙ filter-append (is_kept t) (first_names p.name (n.place - 1)) (n ∷ names_from p.name (n.place + 1) rest)
     ∙ ap (λ b. front ++ cond b (n ∷ back) back) known.kept in
     let parts : places ≡ low ++ n.place ∷ high =
     e ∙ ap (λ l. map (λ (m : OpName). m.place) l ++ (length p.operations + 1) ∷ []) kept

@@ -3,6 +3,7 @@ use Rattle.std.proofs.Common.{◌≡◌, ◌<◌, List, map, Bool, true, false, 
 use Rattle.std.specs.Prelude.{IsSome}
 use Rattle.std.specs.List.{Contains, filter}
 use Rattle.std.proofs.lemmas.List.Elements.{All-contains}
+use Rattle.std.proofs.lemmas.Bool.{or_left, or_right}
 use Rattle.traces.specs.declared.operation.OpName.{OpName}
 use Rattle.traces.specs.Interleaving.{StandsBefore, IsInterleaving}
 use Rattle.traces.specs.Operation.{same_op}
@@ -25,26 +26,18 @@ stays true false true h = refl
 stays true false false h = absurd (cc)
 stays false b c h = refl
 
-either : (b c : Bool) → b ≡ true → (b || c) ≡ true
-either true c h = refl
-either false c h = absurd (cc)
-
-either_right : (b c : Bool) → c ≡ true → (b || c) ≡ true
-either_right true c h = refl
-either_right false c h = h
-
 -- what a before pair or an origin names is kept
 pub kept_in_pair : (t : TraceValue) (n : OpName) → is_in_pair t n ≡ true → is_kept t n ≡ true
-kept_in_pair t n h = stays (repeats (operation_at t (previous n)) (operation_at t n)) (is_in_pair t n) (is_an_origin t n) (either (is_in_pair t n) (is_an_origin t n) h)
+kept_in_pair t n h = stays (repeats (operation_at t (previous n)) (operation_at t n)) (is_in_pair t n) (is_an_origin t n) (or_left (is_in_pair t n) (is_an_origin t n) h)
 
 pub kept_as_origin : (t : TraceValue) (n : OpName) → is_an_origin t n ≡ true → is_kept t n ≡ true
-kept_as_origin t n h = stays (repeats (operation_at t (previous n)) (operation_at t n)) (is_in_pair t n) (is_an_origin t n) (either_right (is_in_pair t n) (is_an_origin t n) h)
+kept_as_origin t n h = stays (repeats (operation_at t (previous n)) (operation_at t n)) (is_in_pair t n) (is_an_origin t n) (or_right (is_in_pair t n) (is_an_origin t n) h)
 
 pub first_in_pair : (t : TraceValue) (m n : OpName) → Contains t.before (m, n) → is_kept t m ≡ true
-first_in_pair t m n c = kept_in_pair t m (passes_some (λ (pair : OpName × OpName). same_op pair.0 m || same_op pair.1 m) t.before (m, n) c (either (same_op m m) (same_op n m) (name_same m m refl)))
+first_in_pair t m n c = kept_in_pair t m (passes_some (λ (pair : OpName × OpName). same_op pair.0 m || same_op pair.1 m) t.before (m, n) c (or_left (same_op m m) (same_op n m) (name_same m m refl)))
 
 pub second_in_pair : (t : TraceValue) (m n : OpName) → Contains t.before (m, n) → is_kept t n ≡ true
-second_in_pair t m n c = kept_in_pair t n (passes_some (λ (pair : OpName × OpName). same_op pair.0 n || same_op pair.1 n) t.before (m, n) c (either_right (same_op m n) (same_op n n) (name_same n n refl)))
+second_in_pair t m n c = kept_in_pair t n (passes_some (λ (pair : OpName × OpName). same_op pair.0 n || same_op pair.1 n) t.before (m, n) c (or_right (same_op m n) (same_op n n) (name_same n n refl)))
 
 -- with the dropped reads
 module _ (t : TraceValue) (ok : IsTrace t) (names : List OpName) (given : IsInterleaving (kept_trace t) names) where

@@ -6,6 +6,7 @@ use Rattle.std.specs.Option.{option_and_then, option_map}
 use Rattle.std.specs.Str.{bytes_eq}
 use Rattle.std.proofs.lemmas.List.{length-append}
 use Rattle.std.proofs.lemmas.Option.{slice_get-map, same_Some}
+use Rattle.std.proofs.lemmas.List.Elements.{filter-append}
 use Rattle.traces.specs.declared.operation.Op.{Op}
 use Rattle.traces.specs.declared.operation.OpName.{OpName}
 use Rattle.traces.specs.declared.trace.Process.{Process}
@@ -14,7 +15,7 @@ use Rattle.traces.proofs.ElementLemmas.{found, finds, same_from_key, from_filter
 use Rattle.traces.proofs.NameLemmas.{same_bytes, bytes_same, from_first, known_named, named_known}
 use Rattle.reducer.specs.Reduction.{is_kept, names_of, kept_names, new_name, new_op, kept_process, kept_trace}
 use Rattle.reducer.specs.Runs.{names_from}
-use Rattle.reducer.proofs.PlaceLemmas.{joined_names, one_more_name, cut_names, filter_append, chosen, choose, place_more, value_at, in_list}
+use Rattle.reducer.proofs.PlaceLemmas.{joined_names, one_more_name, cut_names, chosen, choose, place_more, value_at, in_list}
 
 -- the process of a name, in the trace and in the kept one
 pub found_process : (t : TraceValue) (name : List ℕ) (p : Process) → process_named t name ≡ Some p → Contains t.processes p × (p.name ≡ name)
@@ -67,7 +68,7 @@ pub one_more_place : (t : TraceValue) (process : List ℕ) (k : ℕ) (b : Bool) 
     length (filter (is_kept t) (first_names process (k + 1))) ≡ length (filter (is_kept t) (first_names process k)) + cond b 1 0
 one_more_place t process k b e =
     ap (λ l. length (filter (is_kept t) l)) (one_more_name process k)
-    ∙ ap length (filter_append (is_kept t) (first_names process k) (record { process = process; place = k + 1 } ∷ []))
+    ∙ ap length (filter-append (is_kept t) (first_names process k) (record { process = process; place = k + 1 } ∷ []))
     ∙ length-append (filter (is_kept t) (first_names process k)) (filter (is_kept t) (record { process = process; place = k + 1 } ∷ []))
     ∙ ap (λ m. length (filter (is_kept t) (first_names process k)) + m) (kept_one t (record { process = process; place = k + 1 }) b e)
 

@@ -1,6 +1,5 @@
 pub mod BoundsLemmas
 pub mod CopyLemmas
-pub mod DistinctLemmas
 pub mod ExpandLemmas
 pub mod InterleavingLemmas
 pub mod KeptLemmas

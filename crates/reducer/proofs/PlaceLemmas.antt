@@ -1,8 +1,10 @@
 -- The names of a process by place, and how a list of them is cut.
-use Rattle.std.proofs.Common.{◌≡◌, ◌≤◌, ◌+◌, ℕ, zero, suc, List, [], ◌∷◌, ◌++◌, length, Bool, true, false, cond, refl, ap, sym, ◌∙◌, arith}
+use Rattle.std.proofs.Common.{◌≡◌, ◌+◌, ℕ, zero, suc, List, [], ◌∷◌, ◌++◌, length, Bool, true, false, cond, refl, ap, sym, ◌∙◌, arith}
+use Rattle.std.proofs.lemmas.List.Elements.{filter-append}
 use Rattle.std.specs.Prelude.{Option, Some, None, IsSome}
 use Rattle.std.specs.List.{Contains, filter, filter_map, cons_option, slice_get}
 use Rattle.std.specs.Option.{option_and_then}
+use Rattle.text_lines.proofs.ListLemmas.{get_behind}
 use Rattle.traces.specs.declared.operation.OpName.{OpName}
 use Rattle.traces.specs.Trace.{at_place, first_names}
 use Rattle.traces.proofs.ElementLemmas.{head_in, tail_in}
@@ -65,22 +67,6 @@ length_names process low zero = refl
 length_names process low (suc n) = ap suc (length_names process (low + 1) n)
 
 -- an element of a list, by how many of those before it pass
-pub filter_append : {A : Type 0} (p : A → Bool) (xs ys : List A) → filter p (xs ++ ys) ≡ filter p xs ++ filter p ys
-filter_append p [] ys = refl
-filter_append {A} p (x ∷ xs) ys = at (p x) (filter_append p xs ys)
-  where
-    at : (b : Bool) → filter p (xs ++ ys) ≡ filter p xs ++ filter p ys → cond b (x ∷ filter p (xs ++ ys)) (filter p (xs ++ ys)) ≡ cond b (x ∷ filter p xs) (filter p xs) ++ filter p ys
-    at true e = ap (λ l. x ∷ l) e
-    at false e = e
-
-pub few_filtered : {A : Type 0} (p : A → Bool) (xs : List A) → length (filter p xs) ≤ length xs
-few_filtered p [] = omega arith
-few_filtered {A} p (x ∷ xs) = at (p x) (few_filtered p xs)
-  where
-    at : (b : Bool) → length (filter p xs) ≤ length xs → length (cond b (x ∷ filter p xs) (filter p xs)) ≤ length (x ∷ xs)
-    at true l = omega (arith, l)
-    at false l = omega (arith, l)
-
 pub record Chosen {A : Type 0} (p : A → Bool) (xs : List A) (i : ℕ) (x : A) : Type 0 where
   pub front : List A
   pub back : List A
@@ -115,13 +101,9 @@ pub chosen : {A : Type 0} (p : A → Bool) (xs : List A) (i : ℕ) (x : A) → s
 chosen p [] i x e = absurd (cc)
 chosen p (y ∷ ys) i x e = chosen_at p y ys i x (p y) refl (λ j f. chosen p ys j x f) e
 
-pub get_behind : {A : Type 0} (xs : List A) (y : A) (ys : List A) → slice_get (xs ++ y ∷ ys) (length xs) ≡ Some y
-get_behind [] y ys = refl
-get_behind (x ∷ xs) y ys = get_behind xs y ys
-
 pub choose : {A : Type 0} (p : A → Bool) (front : List A) (x : A) (back : List A) → p x ≡ true → slice_get (filter p (front ++ x ∷ back)) (length (filter p front)) ≡ Some x
 choose p front x back h =
-    ap (λ l. slice_get l (length (filter p front))) (filter_append p front (x ∷ back) ∙ ap (λ b. filter p front ++ cond b (x ∷ filter p back) (filter p back)) h)
+    ap (λ l. slice_get l (length (filter p front))) (filter-append p front (x ∷ back) ∙ ap (λ b. filter p front ++ cond b (x ∷ filter p back) (filter p back)) h)
     ∙ get_behind (filter p front) x (filter p back)
 
 pub in_list : {X : Type 0} (xs : List X) (k : ℕ) (y : X) → at_place xs k ≡ Some y → Contains xs y

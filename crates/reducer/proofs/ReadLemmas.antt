@@ -1,11 +1,12 @@
 -- What reads right with the dropped reads and without them.
 use Rattle.std.proofs.Common.{◌≡◌, ℕ, List, [], ◌∷◌, ◌++◌, true, cond, refl, ap, sym, ◌∙◌, subst}
 use Rattle.std.specs.Prelude.{Option, Some, None, IsSome}
-use Rattle.std.specs.List.{All, Contains, filter_map, cons_option, last_or, list_any}
+use Rattle.std.specs.List.{All, Contains, list_any}
 use Rattle.std.specs.Option.{option_and_then, option_map}
 use Rattle.std.specs.Str.{bytes_eq}
 use Rattle.std.proofs.lemmas.List.Elements.{All-contains}
-use Rattle.std.proofs.lemmas.Option.{option_and_then_some}
+use Rattle.std.proofs.lemmas.Option.{option_and_then_some, same_Some}
+use Rattle.text_lines.proofs.LastLemmas.{over, last_given}
 use Rattle.traces.specs.declared.operation.Op.{Op}
 use Rattle.traces.specs.declared.operation.Op.TheVariants.{Read, Write, Update}
 use Rattle.traces.specs.declared.operation.OpName.{OpName}
@@ -97,24 +98,6 @@ reads_with t ok names op known at right = record {
       (subst (λ l. ComesFrom (kept_trace t) (reduced t names) l (origin_of (new_op t op))) (same_location t op) right.source));
 }
 
--- directly after an operation that reads right, its location holds what it leaves or reads
-abbrev pub over : {X : Type 0} → Option X → Option X → Option X
-over None o = o
-over (Some x) o = Some x
-
-last_one : {Y : Type 0} (v o : Option Y) → last_or o (cons_option v []) ≡ over v o
-last_one None o = refl
-last_one (Some y) o = refl
-
-last_push : {X Y : Type 0} (f : X → Option Y) (o : Option Y) (xs : List X) (x : X) → last_or o (filter_map f (xs ++ x ∷ [])) ≡ over (f x) (last_or o (filter_map f xs))
-last_push f o [] x = last_one (f x) o
-last_push {X} {Y} f o (y ∷ ys) x = at (f y) (λ p. last_push f p ys x)
-  where
-    at : (v : Option Y) → ((p : Option Y) → last_or p (filter_map f (ys ++ x ∷ [])) ≡ over (f x) (last_or p (filter_map f ys))) →
-        last_or o (cons_option v (filter_map f (ys ++ x ∷ []))) ≡ over (f x) (last_or o (cons_option v (filter_map f ys)))
-    at None rest = rest o
-    at (Some z) rest = rest (Some z)
-
 held_by : (op : Op) (o : Option ℕ) → ((d : ℕ) → value_read op ≡ Some d → o ≡ Some d) → over (cond true (value_left op) None) o ≡ Some (value_behind op)
 held_by (Read location value origin) o h = h value refl
 held_by (Write location value) o h = refl
@@ -122,7 +105,7 @@ held_by (Update location read left origin) o h = refl
 
 pub held_behind : (t : TraceValue) (names : List OpName) (n : OpName) (op : Op) → operation_at t n ≡ Some op → ReadsRight t names op → value_after t (location_of op) (names ++ n ∷ []) ≡ Some (value_behind op)
 held_behind t names n op e right =
-    last_push (value_left_at t (location_of op)) (value_of t.initial (location_of op)) names n
+    last_given (value_left_at t (location_of op)) (value_of t.initial (location_of op)) names n
     ∙ ap (λ o. over (option_and_then (left_by (location_of op)) o) (value_after t (location_of op) names)) e
     ∙ ap (λ b. over (cond b (value_left op) None) (value_after t (location_of op) names)) (bytes_same (location_of op) (location_of op) refl)
     ∙ held_by op (value_after t (location_of op) names) right.value
@@ -131,11 +114,8 @@ held_behind t names n op e right =
 pub repeat_reads : (t : TraceValue) (names : List OpName) (m n : OpName) (first second : Op) → previous n ≡ m → is_dropped t n ≡ true → operation_at t m ≡ Some first → operation_at t n ≡ Some second → ReadsRight t names first → ReadsRight t (names ++ m ∷ []) second
 repeat_reads t names m n first second behind dropped e f right =
     let at = dropped_repeats t n dropped in
-    let one : at.earlier ≡ first = some_same at.earlier first (sym at.first_is ∙ ap (operation_at t) behind ∙ e) in
-    let two : Read at.location at.value Any ≡ second = some_same (Read at.location at.value Any) second (sym at.second_is ∙ f) in
+    let one : at.earlier ≡ first = same_Some at.earlier first (sym at.first_is ∙ ap (operation_at t) behind ∙ e) in
+    let two : Read at.location at.value Any ≡ second = same_Some (Read at.location at.value Any) second (sym at.second_is ∙ f) in
     let held : value_after t at.location (names ++ m ∷ []) ≡ Some at.value =
     ap (λ l. value_after t l (names ++ m ∷ [])) (sym at.same_location ∙ ap location_of one) ∙ held_behind t names m first e right ∙ ap Some (ap value_behind (sym one) ∙ at.same_value) in
     subst (λ o. ReadsRight t (names ++ m ∷ []) o) two (record { value = λ d g. held ∙ g; source = tt })
-  where
-    some_same : (x y : Op) → Some x ≡ Some y → x ≡ y
-    some_same x y g = cc

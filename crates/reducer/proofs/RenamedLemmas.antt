@@ -7,8 +7,9 @@ use Rattle.std.specs.Option.{option_and_then, option_map}
 use Rattle.std.specs.Str.{bytes_eq}
 use Rattle.std.proofs.lemmas.Bool.{cases_lt, le-leb, leb-true, lt-ltb}
 use Rattle.std.proofs.lemmas.List.{length-map, length-append, map-append, get_or_append_left, get_or-append_right}
-use Rattle.std.proofs.lemmas.List.Elements.{Contains-get_or, Contains-append_cases}
+use Rattle.std.proofs.lemmas.List.Elements.{Contains-get_or, Contains-append_cases, filter-append}
 use Rattle.std.proofs.lemmas.Option.{slice_get-map, slice_get_past}
+use Rattle.text_lines.proofs.ListLemmas.{few_pass}
 use Rattle.traces.specs.declared.operation.OpName.{OpName}
 use Rattle.traces.specs.declared.trace.Process.{Process}
 use Rattle.traces.specs.Trace.{TraceValue, IsTrace, process_named, operation_at, first_names}
@@ -18,7 +19,7 @@ use Rattle.reducer.specs.Reduction.{is_kept, names_of, new_name}
 use Rattle.reducer.specs.Runs.{names_from, bounds_of, AreBounds}
 use Rattle.reducer.proofs.BoundsLemmas.{few_listed}
 use Rattle.reducer.proofs.KeptLemmas.{found_process, process_of}
-use Rattle.reducer.proofs.PlaceLemmas.{joined_names, filter_append, few_filtered, length_names}
+use Rattle.reducer.proofs.PlaceLemmas.{joined_names, length_names}
 use Rattle.reducer.proofs.RunLemmas.{in_names}
 
 -- what stands at the place of the first that passes
@@ -106,7 +107,7 @@ bounds_parted t p place l =
     let cut : map (λ (m : OpName). m.place) (filter (is_kept t) (names_of p)) ≡ first ++ second =
     ap (λ k. map (λ (m : OpName). m.place) (filter (is_kept t) (names_from p.name 1 k))) all
     ∙ ap (λ l. map (λ (m : OpName). m.place) (filter (is_kept t) l)) (joined_names p.name 1 place rest)
-    ∙ ap (map (λ (m : OpName). m.place)) (filter_append (is_kept t) (first_names p.name place) (names_from p.name (1 + place) rest))
+    ∙ ap (map (λ (m : OpName). m.place)) (filter-append (is_kept t) (first_names p.name place) (names_from p.name (1 + place) rest))
     ∙ map-append (λ (m : OpName). m.place) (filter (is_kept t) (first_names p.name place)) (filter (is_kept t) (names_from p.name (1 + place) rest)) in
     record {
       low = first;
@@ -160,7 +161,7 @@ few_bounds : (t : TraceValue) (p : Process) → length (bounds_of t p) ≤ lengt
 few_bounds t p =
     let all = length-append (map (λ (m : OpName). m.place) (filter (is_kept t) (names_of p))) ((length p.operations + 1) ∷ []) in
     let mapped = length-map (filter (is_kept t) (names_of p)) (λ (m : OpName). m.place) in
-    omega (arith, all, mapped, few_filtered (is_kept t) (names_of p), length_names p.name 1 (length p.operations))
+    omega (arith, all, mapped, few_pass (is_kept t) (names_of p), length_names p.name 1 (length p.operations))
 
 pub few_here : (t : TraceValue) → IsTrace t → (n : OpName) (bounds : List ℕ) → BoundsHere t n bounds → length bounds ≤ 4097
 few_here t ok n bounds at =

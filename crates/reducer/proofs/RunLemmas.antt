@@ -1,23 +1,23 @@
 -- What a name of the kept trace expands to: the names of the whole trace that have it as their new name.
 use Rattle.std.proofs.Common.{◌≡◌, ◌≢◌, ◌<◌, ◌≤◌, ◌+◌, ◌-◌, ◌==◌, ℕ, zero, suc, List, [], ◌∷◌, ◌++◌, length, drop, Bool, true, false, cond, not, ◌&&◌, ◌||◌, refl, ap, sym, ◌∙◌, arith, inl, inr, subst, append_assoc}
-use Rattle.std.specs.Prelude.{Option, Some, None, IsSome, is_some}
+use Rattle.std.specs.Prelude.{Option, Some, None, IsSome}
 use Rattle.std.specs.List.{Contains, filter, take_while}
 use Rattle.std.proofs.lemmas.Bool.{eqb-true, eq-eqb, ne_eqb, cases_lt}
 use Rattle.std.proofs.lemmas.List.{length-append, drop_at}
 use Rattle.std.proofs.lemmas.List.Sums.{take_while-cons}
-use Rattle.std.proofs.lemmas.Option.{slice_get-get_or}
+use Rattle.std.proofs.lemmas.List.Elements.{filter-append}
 use Rattle.std.specs.Option.{option_and_then}
 use Rattle.traces.specs.declared.operation.OpName.{OpName}
 use Rattle.traces.specs.declared.trace.Process.{Process}
 use Rattle.traces.specs.Interleaving.{StandsBefore}
 use Rattle.traces.specs.Trace.{TraceValue, IsTrace, at_place, process_named, operation_at, first_names}
 use Rattle.traces.proofs.ElementLemmas.{none_in, cases_in, head_in, tail_in, from_filter, to_filter}
-use Rattle.traces.proofs.NameLemmas.{from_first, to_first, known_named, some_value}
+use Rattle.traces.proofs.NameLemmas.{from_first, to_first, known_named, some_value, within_place}
 use Rattle.reducer.specs.Expansion.{run_at, with_run, expanded}
 use Rattle.reducer.specs.Reduction.{repeats, is_in_pair, is_an_origin, is_dropped, is_kept, names_of, kept_names, new_name}
 use Rattle.reducer.proofs.KeptLemmas.{IsFirst, found_process, process_of, listed_name, first_known, one_more_place}
 use Rattle.reducer.specs.Runs.{names_from}
-use Rattle.reducer.proofs.PlaceLemmas.{joined_names, length_names, filter_append}
+use Rattle.reducer.proofs.PlaceLemmas.{joined_names, length_names}
 use Rattle.reducer.proofs.StandsLemmas.{out_of_filter, rising_places}
 
 -- how many of the first operations of a process are kept
@@ -28,7 +28,7 @@ pub more_kept : (t : TraceValue) (process : List ℕ) (k d : ℕ) → kept_among
 more_kept t process k d =
     let all =
     ap (λ l. length (filter (is_kept t) l)) (joined_names process 1 k d)
-    ∙ ap length (filter_append (is_kept t) (first_names process k) (names_from process (1 + k) d))
+    ∙ ap length (filter-append (is_kept t) (first_names process k) (names_from process (1 + k) d))
     ∙ length-append (filter (is_kept t) (first_names process k)) (filter (is_kept t) (names_from process (1 + k) d)) in
     omega (arith, all)
 
@@ -169,7 +169,7 @@ expanded_is t ok x n first =
     ∙ ap (λ l. n ∷ l) (run_is t p.name n.place (length p.operations - n.place) ∙ ap (λ v. filter (has_place t v) behind) value)
     ∙ sym (ap (λ (b : Bool). cond b (n ∷ filter (has_place t x.place) behind) (filter (has_place t x.place) behind)) (eq-eqb (new_name t n).place x.place place))
     ∙ sym (ap (λ l. l ++ filter (has_place t x.place) (n ∷ behind)) none)
-    ∙ sym (filter_append (has_place t x.place) (first_names p.name (n.place - 1)) (n ∷ behind))
+    ∙ sym (filter-append (has_place t x.place) (first_names p.name (n.place - 1)) (n ∷ behind))
     ∙ ap (filter (has_place t x.place)) (sym s.parts)
 
 -- a name of what x expands to
@@ -209,11 +209,6 @@ some_kept t m l =
     let low = no_lower t first m refl (omega (arith, l)) in
     omega (arith, one, low)
 
-filled : {X : Type 0} (xs : List X) (k : ℕ) → 1 ≤ k → k ≤ length xs → IsSome (at_place xs k)
-filled xs zero low high = absurd (omega (arith, low))
-filled [] (suc k) low high = absurd (omega (arith, high))
-filled (x ∷ xs) (suc k) low high = ap is_some (slice_get-get_or (x ∷ xs) k x (omega (arith, high)))
-
 -- each operation has a first name: that of the last kept operation up to it
 pub record Belongs (t : TraceValue) (m : OpName) : Type 0 where
   pub first : OpName
@@ -229,7 +224,7 @@ belongs t ok m known =
     let e : m.place + (length p.operations - m.place) ≡ length p.operations = omega (arith, named.most) in
     let few : kept_among t m.process m.place ≤ length (kept_names t p) =
     subst (λ k. kept_among t m.process m.place ≤ k) ((λ i. kept_among t (sym named.called i) (e i))) (more_kept t m.process m.place (length p.operations - m.place)) in
-    let n = some_value (at_place (kept_names t p) x.place) (filled (kept_names t p) x.place (some_kept t m named.least) few) in
+    let n = some_value (at_place (kept_names t p) x.place) (within_place (kept_names t p) x.place (some_kept t m named.least) few) in
     let first : IsFirst t x n.0 = record { process = p; found = found; placed = n.1 } in
     record {
       first = n.0;

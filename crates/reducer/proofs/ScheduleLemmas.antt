@@ -4,8 +4,9 @@ use Rattle.std.specs.Prelude.{⊤, Option, Some, None}
 use Rattle.std.specs.List.{Contains, filter, take_while}
 use Rattle.std.specs.Option.{option_map}
 use Rattle.std.proofs.lemmas.List.{map-append}
-use Rattle.std.proofs.lemmas.List.Elements.{Contains-append_left}
+use Rattle.std.proofs.lemmas.List.Elements.{Contains-append_left, filter-append}
 use Rattle.std.proofs.lemmas.List.Sums.{take_while-cons}
+use Rattle.std.proofs.lemmas.Option.{same_Some}
 use Rattle.traces.specs.declared.operation.Op.{Op}
 use Rattle.traces.specs.declared.operation.OpName.{OpName}
 use Rattle.traces.specs.Legal.{ReadsRight, IsLegal}
@@ -18,7 +19,6 @@ use Rattle.reducer.specs.Reduction.{previous, is_dropped, is_kept, new_name, new
 use Rattle.reducer.proofs.InterleavingLemmas.{reduced, expansion_interleaves, reduction_interleaves}
 use Rattle.reducer.proofs.KeptLemmas.{IsFirst, first_known, known_first, kept_first, first_operation}
 use Rattle.reducer.specs.Runs.{names_from}
-use Rattle.reducer.proofs.PlaceLemmas.{filter_append}
 use Rattle.reducer.proofs.ReadLemmas.{op_listed, reads_without, reads_with, repeat_reads}
 use Rattle.reducer.proofs.RunLemmas.{expanded_member, expanded_first, standing, behind_it}
 use Rattle.reducer.proofs.ValueLemmas.{AreKnown, dropped_repeats, values_alike}
@@ -70,10 +70,7 @@ left t (n ∷ names) before x after e = left_at t n names before x after (is_kep
 
 mapped_some : (t : TraceValue) (o : Option Op) (op : Op) (new : Op) → o ≡ Some op → option_map (new_op t) o ≡ Some new → new_op t op ≡ new
 mapped_some t None op new e f = absurd (cc)
-mapped_some t (Some other) op new e f = let same : other ≡ op = cc in ap (new_op t) (sym same) ∙ some_same (new_op t other) new f
-  where
-    some_same : (x y : Op) → Some x ≡ Some y → x ≡ y
-    some_same x y g = cc
+mapped_some t (Some other) op new e f = let same : other ≡ op = cc in ap (new_op t) (sym same) ∙ same_Some (new_op t other) new f
 
 -- without the dropped reads
 module _ (t : TraceValue) (ok : IsTrace t) (names : List OpName) (legal : IsLegal t names) where
@@ -152,7 +149,7 @@ pub expansion_left : (t : TraceValue) → IsTrace t → (names : List OpName) �
 expansion_left t ok [] known = refl
 expansion_left t ok (x ∷ names) known =
     let first = kept_first t ok x (known x (head_in x names)) in
-    ap (map (new_name t)) (filter_append (is_kept t) (expanded t x) (expansion t names))
+    ap (map (new_name t)) (filter-append (is_kept t) (expanded t x) (expansion t names))
     ∙ map-append (new_name t) (filter (is_kept t) (expanded t x)) (filter (is_kept t) (expansion t names))
     ∙ (λ i. expanded_left t ok x first.0 first.1 i ++ expansion_left t ok names (λ m c. known m (tail_in x names m c)) i)
 
@@ -203,11 +200,8 @@ along : (t : TraceValue) (done : List OpName) (m : OpName) (op : Op) (rest earli
     m ∷ rest ≡ earlier ++ n ∷ later → operation_at t n ≡ Some wanted → ReadsRight t (done ++ earlier) wanted
 along t done m op rest [] n later wanted known right run e f =
     let same : m ≡ n = cc in
-    let one : op ≡ wanted = some_same op wanted (sym known ∙ ap (operation_at t) same ∙ f) in
+    let one : op ≡ wanted = same_Some op wanted (sym known ∙ ap (operation_at t) same ∙ f) in
     subst (λ l. ReadsRight t l wanted) (sym (append-nil done)) (subst (λ o. ReadsRight t done o) one right)
-  where
-    some_same : (x y : Op) → Some x ≡ Some y → x ≡ y
-    some_same x y g = cc
 along t done m op [] (y ∷ []) n later wanted known right run e f = absurd (cc)
 along t done m op [] (y ∷ (z ∷ earlier)) n later wanted known right run e f = absurd (cc)
 along t done m op (d ∷ rest) (y ∷ earlier) n later wanted known right run e f =

@@ -9,6 +9,7 @@ use Rattle.std.proofs.lemmas.Bool.{and_parts, and_from, le-leb, leb-true}
 use Rattle.std.proofs.lemmas.List.{length-map, get_or-map}
 use Rattle.std.proofs.lemmas.List.Elements.{All-contains, Contains-get_or, Contains-append_cases, Contains-append_left, Contains-append_right}
 use Rattle.std.proofs.lemmas.List.Sums.{sum_by-cons}
+use Rattle.text_lines.proofs.ListLemmas.{few_pass}
 use Rattle.traces.specs.declared.operation.Op.{Op}
 use Rattle.traces.specs.declared.operation.Op.TheVariants.{Read, Write, Update}
 use Rattle.traces.specs.declared.operation.OpName.{OpName}
@@ -20,12 +21,12 @@ use Rattle.traces.specs.Operation.{location_of, origin_of}
 use Rattle.traces.specs.PairOrder.{pair_order, ArePairsRising}
 use Rattle.traces.specs.Trace.{TraceValue, IsTrace, IsKnownOrigin, operation_at, first_names, is_written_name, is_written_origin, is_written_op, is_written_process, is_written_pair, locations_of}
 use Rattle.traces.proofs.ElementLemmas.{none_in, cases_in, head_in, tail_in, all_pass, pass_all, from_map, to_map, from_flat_map, to_flat_map}
+use Rattle.traces.proofs.DistinctLemmas.{few_named}
 use Rattle.reducer.specs.Reduction.{is_kept, names_of, kept_names, new_name, new_origin, new_op, kept_process, new_pair, kept_trace}
-use Rattle.reducer.proofs.DistinctLemmas.{few_named}
 use Rattle.reducer.proofs.InterleavingLemmas.{first_in_pair, second_in_pair}
 use Rattle.reducer.proofs.KeptLemmas.{IsFirst, one_first, known_first, first_kept}
 use Rattle.reducer.proofs.PairLemmas.{pairs_less}
-use Rattle.reducer.proofs.PlaceLemmas.{length_names, few_filtered}
+use Rattle.reducer.proofs.PlaceLemmas.{length_names}
 use Rattle.reducer.proofs.ReadLemmas.{Listed, op_listed, named_by_origin, origin_known}
 use Rattle.reducer.proofs.RunLemmas.{some_kept}
 use Rattle.reducer.proofs.ValueLemmas.{same_location, same_origin}
@@ -64,7 +65,7 @@ few_mapped {A} {B} f (x ∷ xs) = at (f x) (few_mapped f xs)
 few_kept : (t : TraceValue) (p : Process) → length (kept_process t p).operations ≤ length p.operations
 few_kept t p =
     let same = length-map (filter_map (operation_at t) (kept_names t p)) (new_op t) in
-    omega (arith, same, few_mapped (operation_at t) (kept_names t p), few_filtered (is_kept t) (names_of p), length_names p.name 1 (length p.operations))
+    omega (arith, same, few_mapped (operation_at t) (kept_names t p), few_pass (is_kept t) (names_of p), length_names p.name 1 (length p.operations))
 
 few_in_all : (t : TraceValue) (ps : List Process) → sum_by (λ (p : Process). length p.operations) (map (kept_process t) ps) ≤ sum_by (λ (p : Process). length p.operations) ps
 few_in_all t [] = omega arith
@@ -143,7 +144,7 @@ module _ (t : TraceValue) (ok : IsTrace t) where
 
   -- names, values and places as they can be written
   fewer_places : (n : OpName) → (new_name t n).place ≤ n.place
-  fewer_places n = let few = few_filtered (is_kept t) (first_names n.process n.place) in omega (arith, few, length_names n.process 1 n.place)
+  fewer_places n = let few = few_pass (is_kept t) (first_names n.process n.place) in omega (arith, few, length_names n.process 1 n.place)
 
   written_name : (n : OpName) → is_written_name n ≡ true → is_written_name (new_name t n) ≡ true
   written_name n h =

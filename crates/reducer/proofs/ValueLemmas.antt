@@ -5,6 +5,7 @@ use Rattle.std.specs.List.{Contains, filter, filter_map, cons_option, last_or}
 use Rattle.std.specs.Option.{option_and_then, option_map}
 use Rattle.std.specs.Str.{bytes_eq}
 use Rattle.std.proofs.lemmas.Bool.{and_parts, eqb-true}
+use Rattle.text_lines.proofs.BoolLemmas.{hidden_none}
 use Rattle.traces.specs.declared.operation.Op.{Op}
 use Rattle.traces.specs.declared.operation.Op.TheVariants.{Read, Write, Update}
 use Rattle.traces.specs.declared.operation.OpName.{OpName}
@@ -82,14 +83,10 @@ pub left_kept : (t : TraceValue) → IsTrace t → (location : List ℕ) (n : Op
 left_kept t ok location n known kept =
     ap (option_and_then (left_by location)) (first_operation t ok (new_name t n) n (known_first t ok n known kept)) ∙ left_mapped t location (operation_at t n)
 
-nothing : (b : Bool) → cond {A = Option ℕ} b None None ≡ None
-nothing true = refl
-nothing false = refl
-
 pub left_dropped : (t : TraceValue) (location : List ℕ) (n : OpName) → is_dropped t n ≡ true → value_left_at t location n ≡ None
 left_dropped t location n h =
     let at = dropped_repeats t n h in
-    ap (option_and_then (left_by location)) at.second_is ∙ nothing (bytes_eq at.location location)
+    ap (option_and_then (left_by location)) at.second_is ∙ hidden_none (bytes_eq at.location location) None refl
 
 -- all of these names are known
 abbrev pub AreKnown : TraceValue → List OpName → Type 0

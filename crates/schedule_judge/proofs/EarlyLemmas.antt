@@ -9,7 +9,8 @@ use Rattle.traces.specs.Judgement.{has_come, put_before}
 use Rattle.traces.specs.Operation.{same_op}
 use Rattle.schedule_judge.specs.Tables.{number_at, is_below, is_broken, FindsFirst, FindsEarly}
 use Rattle.traces.specs.Trace.{TraceValue}
-use Rattle.schedule_judge.proofs.PlaceLemmas.{below_first, first_at, same_op_true, same_op_refl}
+use Rattle.traces.proofs.NameLemmas.{same_name}
+use Rattle.schedule_judge.proofs.PlaceLemmas.{below_first, first_at, same_op_refl}
 
 -- the pair is broken, and this operation is its second
 abbrev pub is_early_by : OpTable → OpName → OpName × OpName → Bool
@@ -65,4 +66,4 @@ early_is t names places early i n first finds at fresh =
     finds n ∙ any_not_all {P = OpName × OpName} (λ pair. same_op pair.1 n) (λ pair. is_broken (number_at places pair.0) (number_at places pair.1)) (λ pair. pair.0) (has_come (take i names)) (λ pair e. each pair e here) t.before
   where
     each : (pair : OpName × OpName) → same_op pair.1 n ≡ true → number_at places n ≡ Some i → is_broken (number_at places pair.0) (number_at places pair.1) ≡ not (has_come (take i names) pair.0)
-    each pair e here = ap (λ m. is_broken (number_at places pair.0) (number_at places m)) (same_op_true pair.1 n e) ∙ ap (is_broken (number_at places pair.0)) here ∙ ap (λ o. not (is_below o i)) (first pair.0) ∙ ap not (below_first (same_op pair.0) names i)
+    each pair e here = ap (λ m. is_broken (number_at places pair.0) (number_at places m)) (same_name pair.1 n e) ∙ ap (is_broken (number_at places pair.0)) here ∙ ap (λ o. not (is_below o i)) (first pair.0) ∙ ap not (below_first (same_op pair.0) names i)

@@ -1,9 +1,11 @@
 -- Memory after the operations so far.
 use Rattle.std.proofs.Common.{◌≡◌, ℕ, List, [], ◌∷◌, ◌++◌, Bool, true, false, cond, refl, ap, sym, ◌∙◌}
 use Rattle.std.specs.Prelude.{Option, Some, None, is_some, MatchOption}
-use Rattle.std.specs.List.{slice_get, filter, filter_map, last_or, cons_option}
+use Rattle.std.specs.List.{slice_get, filter, last_or}
 use Rattle.std.specs.Option.{option_and_then}
 use Rattle.std.specs.Str.{bytes_eq}
+use Rattle.text_lines.proofs.LastLemmas.{over, last_given}
+use Rattle.text_lines.proofs.BoolLemmas.{hidden_none}
 use Rattle.schedule_judge.specs.declared.memory.Memory.{Memory}
 use Rattle.traces.specs.declared.operation.Op.{Op}
 use Rattle.traces.specs.declared.operation.OpName.{OpName}
@@ -12,23 +14,6 @@ use Rattle.traces.specs.Operation.{location_of, value_left}
 use Rattle.traces.specs.NameNumbers.{number_of}
 use Rattle.traces.specs.Trace.{TraceValue, operation_at, value_of}
 use Rattle.traces.specs.ValueAfter.{value_left_at, value_after, last_writer}
-
--- the first, if there is one, and else the second
-abbrev over : {X : Type 0} → Option X → Option X → Option X
-over None o = o
-over (Some x) o = Some x
-
-last_map_one : {Y : Type 0} (v o : Option Y) → last_or o (cons_option v []) ≡ over v o
-last_map_one None o = refl
-last_map_one (Some y) o = refl
-
-last_map_push : {X Y : Type 0} (f : X → Option Y) (o : Option Y) (xs : List X) (x : X) → last_or o (filter_map f (xs ++ x ∷ [])) ≡ over (f x) (last_or o (filter_map f xs))
-last_map_push {Y = Y} f o [] x = last_map_one (f x) o
-last_map_push {Y = Y} f o (y ∷ ys) x = chosen (f y) (λ o. last_map_push f o ys x)
-  where
-    chosen : (v : Option Y) → ((o : Option Y) → last_or o (filter_map f (ys ++ x ∷ [])) ≡ over (f x) (last_or o (filter_map f ys))) → last_or o (cons_option v (filter_map f (ys ++ x ∷ []))) ≡ over (f x) (last_or o (cons_option v (filter_map f ys)))
-    chosen None rest = rest o
-    chosen (Some z) rest = rest (Some z)
 
 last_push : {X : Type 0} (p : X → Bool) (o : Option X) (xs : List X) (x : X) → last_or o (filter p (xs ++ x ∷ [])) ≡ cond (p x) (Some x) (last_or o (filter p xs))
 last_push {X = X} p o [] x = chosen (p x)
@@ -43,17 +28,13 @@ last_push {X = X} p o (y ∷ ys) x = chosen (p y) (λ o. last_push p o ys x)
     chosen false rest = rest o
 
 value_push : (t : TraceValue) (location : List ℕ) (done : List OpName) (n : OpName) (o : Option ℕ) → value_left_at t location n ≡ o → value_after t location (done ++ n ∷ []) ≡ over o (value_after t location done)
-value_push t location done n o e = last_map_push (value_left_at t location) (value_of t.initial location) done n ∙ ap (λ v. over v (value_after t location done)) e
+value_push t location done n o e = last_given (value_left_at t location) (value_of t.initial location) done n ∙ ap (λ v. over v (value_after t location done)) e
 
 writer_push : (t : TraceValue) (location : List ℕ) (done : List OpName) (n : OpName) (o : Option ℕ) → value_left_at t location n ≡ o → last_writer t location (done ++ n ∷ []) ≡ cond (is_some o) (Some n) (last_writer t location done)
 writer_push t location done n o e = last_push (λ m. is_some (value_left_at t location m)) None done n ∙ ap (λ v. cond (is_some v) (Some n) (last_writer t location done)) e
 
 left_at : (t : TraceValue) (location : List ℕ) (n : OpName) (op : Op) (w : Option ℕ) → operation_at t n ≡ Some op → value_left op ≡ w → value_left_at t location n ≡ cond (bytes_eq (location_of op) location) w None
 left_at t location n op w known value = ap (option_and_then (λ op. cond (bytes_eq (location_of op) location) (value_left op) None)) known ∙ ap (λ v. cond (bytes_eq (location_of op) location) v None) value
-
-nothing : (b : Bool) → cond {A = Option ℕ} b None None ≡ None
-nothing true = refl
-nothing false = refl
 
 chosen_value : (b : Bool) (v : ℕ) (o : Option ℕ) → cond b (Some v) o ≡ over (cond b (Some v) None) o
 chosen_value true v o = refl
@@ -66,8 +47,8 @@ chosen_writer names place n false v o w at e = e
 -- one more operation is run
 run_step : (t : TraceValue) (names done : List OpName) (old new : Memory) (n : OpName) (op : Op) (place : ℕ) (w : Option ℕ) → value_left op ≡ w → IsMemoryAfter t names done old → slice_get names place ≡ Some n → operation_at t n ≡ Some op → MatchOption w (new ≡ old) (λ value. Writes old (location_of op) value place new) → IsMemoryAfter t names (done ++ n ∷ []) new
 run_step t names done old new n op place None value before at known stays = record {
-  values = λ location. ap (λ (m : Memory). number_of m.values location) stays ∙ before.values location ∙ sym (value_push t location done n None (left_at t location n op None known value ∙ nothing (bytes_eq (location_of op) location)));
-  writers = λ location. ap (λ (m : Memory). writer_of names m location) stays ∙ before.writers location ∙ sym (writer_push t location done n None (left_at t location n op None known value ∙ nothing (bytes_eq (location_of op) location)));
+  values = λ location. ap (λ (m : Memory). number_of m.values location) stays ∙ before.values location ∙ sym (value_push t location done n None (left_at t location n op None known value ∙ hidden_none (bytes_eq (location_of op) location) None refl));
+  writers = λ location. ap (λ (m : Memory). writer_of names m location) stays ∙ before.writers location ∙ sym (writer_push t location done n None (left_at t location n op None known value ∙ hidden_none (bytes_eq (location_of op) location) None refl));
 }
 run_step t names done old new n op place (Some v) value before at known writes = record {
   values = λ location. writes.values location ∙ ap (cond (bytes_eq (location_of op) location) (Some v)) (before.values location) ∙ chosen_value (bytes_eq (location_of op) location) v (value_after t location done) ∙ sym (value_push t location done n (cond (bytes_eq (location_of op) location) (Some v) None) (left_at t location n op (Some v) known value));

@@ -1,36 +1,20 @@
 -- Where operations come first.
-use Rattle.std.proofs.Common.{◌≡◌, ◌<◌, ◌≤◌, ◌+◌, ◌-◌, ℕ, zero, suc, List, [], ◌∷◌, length, take, drop, get_or, Bool, true, false, cond, ◌&&◌, ◌||◌, nat_lt, nat_eq, refl, ap, sym, ◌∙◌, arith}
+use Rattle.std.proofs.Common.{◌≡◌, ◌<◌, ◌≤◌, ◌+◌, ◌-◌, ℕ, zero, suc, List, [], ◌∷◌, length, take, drop, get_or, Bool, true, false, cond, ◌&&◌, ◌||◌, nat_lt, refl, ap, sym, ◌∙◌, arith}
 use Rattle.std.specs.Prelude.{Option, Some, None, find}
 use Rattle.std.specs.List.{slice_get, position_from, list_any}
 use Rattle.std.specs.Option.{option_and_then}
 use Rattle.std.specs.Str.{bytes_eq}
-use Rattle.std.proofs.Math.Seq.{drop-cons, drop-length}
+use Rattle.std.proofs.Math.Seq.{drop-length}
 use Rattle.std.proofs.lemmas.Bool.Decides.{nat_tests, Decides-eqb}
-use Rattle.std.proofs.lemmas.Bool.{le-ltb}
+use Rattle.std.proofs.lemmas.Bool.{le-ltb, or_parts}
 use Rattle.std.proofs.lemmas.Option.{slice_get-get_or}
 use Rattle.std.proofs.lemmas.Slice.Eq.{bytes_eq-Decides}
 use Rattle.traces.specs.declared.operation.OpName.{OpName}
 use Rattle.traces.specs.declared.trace.Process.{Process}
 use Rattle.traces.specs.Operation.{same_op}
+use Rattle.traces.proofs.NameLemmas.{name_turned}
+use Rattle.traces.proofs.ValueLemmas.{drop_front}
 use Rattle.schedule_judge.specs.Tables.{is_below}
-
-eqb_sym : (x y : ℕ) → nat_eq x y ≡ nat_eq y x
-eqb_sym x y = grind (arith, nat_tests)
-
-bytes_eq_sym : (xs ys : List ℕ) → bytes_eq xs ys ≡ bytes_eq ys xs
-bytes_eq_sym [] [] = refl
-bytes_eq_sym [] (y ∷ ys) = refl
-bytes_eq_sym (x ∷ xs) [] = refl
-bytes_eq_sym (x ∷ xs) (y ∷ ys) = λ i. eqb_sym x y i && bytes_eq_sym xs ys i
-
-pub same_op_sym : (m n : OpName) → same_op m n ≡ same_op n m
-same_op_sym m n = λ i. bytes_eq_sym m.process n.process i && eqb_sym m.place n.place i
-
--- the elements from a place on
-drop_front : {X : Type 0} (xs : List X) (k : ℕ) (x : X) → 0 < k → k ≤ length xs → x ≡ get_or xs (k - 1) x → drop (k - 1) xs ≡ x ∷ drop k xs
-drop_front xs k x p l e =
-    let s : suc (k - 1) ≡ k = omega arith in
-    drop-cons xs (k - 1) x (omega arith) ∙ (λ i. sym e i ∷ drop (s i) xs)
 
 -- no name yet
 pub first_none : (names : List OpName) (n : OpName) → position_from (same_op n) (length names) (drop (length names) names) ≡ None
@@ -44,7 +28,7 @@ process_none processes name found e = ap (option_and_then (slice_get processes))
 pub first_step : (names : List OpName) (k : ℕ) (x n : OpName) (old new : Option ℕ) → 0 < k → k ≤ length names → x ≡ get_or names (k - 1) x → new ≡ cond (same_op x n) (Some (k - 1)) old → old ≡ position_from (same_op n) k (drop k names) → new ≡ position_from (same_op n) (k - 1) (drop (k - 1) names)
 first_step names k x n old new p l e here there =
     let s : k ≡ k - 1 + 1 = omega arith in
-    here ∙ (λ i. cond (same_op_sym x n i) (Some (k - 1)) ((there ∙ (λ j. position_from (same_op n) (s j) (drop k names))) i)) ∙ sym (ap (position_from (same_op n) (k - 1)) (drop_front names k x p l e))
+    here ∙ (λ i. cond (name_turned x n i) (Some (k - 1)) ((there ∙ (λ j. position_from (same_op n) (s j) (drop k names))) i)) ∙ sym (ap (position_from (same_op n) (k - 1)) (drop_front names k x p l e))
 
 -- one more process in front
 pub process_step : (processes : List Process) (k : ℕ) (x : Process) (name : List ℕ) (old new : Option ℕ) → 0 < k → k ≤ length processes → x ≡ get_or processes (k - 1) x → (s : List ℕ) → s ≡ (get_or processes (k - 1) x).name → new ≡ cond (bytes_eq s name) (Some (k - 1)) old → option_and_then (slice_get processes) old ≡ find (λ p. bytes_eq p.name name) (drop k processes) → option_and_then (slice_get processes) new ≡ find (λ p. bytes_eq p.name name) (drop (k - 1) processes)
@@ -85,10 +69,6 @@ below_from p (x ∷ xs) j (suc c) =
 pub below_first : {X : Type 0} (p : X → Bool) (xs : List X) (c : ℕ) → is_below (position_from p 0 xs) c ≡ list_any p (take c xs)
 below_first p xs c = let s : c ≡ 0 + c = omega arith in ap (is_below (position_from p 0 xs)) s ∙ below_from p xs 0 c
 
-or_false : (b c : Bool) → (b || c) ≡ false → (b ≡ false) × (c ≡ false)
-or_false true c e = absurd (cc)
-or_false false c e = (refl, e)
-
 -- what passes and has not come before comes first here
 pub first_at : {X : Type 0} (p : X → Bool) (xs : List X) (j i : ℕ) (x : X) → slice_get xs i ≡ Some x → p x ≡ true → list_any p (take i xs) ≡ false → position_from p j xs ≡ Some (j + i)
 first_at p [] j i x at here before = absurd (cc)
@@ -97,21 +77,9 @@ first_at p (y ∷ xs) j zero x at here before =
     let zeros : j ≡ j + 0 = omega arith in
     ap (λ b. cond b (Some j) (position_from p (j + 1) xs)) (ap p same ∙ here) ∙ ap Some zeros
 first_at p (y ∷ xs) j (suc i) x at here before =
-    let parts = or_false (p y) (list_any p (take i xs)) before in
+    let parts = or_parts (p y) (list_any p (take i xs)) before in
     let s : j + 1 + i ≡ j + suc i = omega arith in
     ap (λ b. cond b (Some j) (position_from p (j + 1) xs)) parts.0 ∙ first_at p xs (j + 1) i x at here parts.1 ∙ ap Some s
-
-and_true : (b c : Bool) → (b && c) ≡ true → (b ≡ true) × (c ≡ true)
-and_true true c e = (refl, e)
-and_true false c e = absurd (cc)
-
--- two names that are the same by the test are equal
-pub same_op_true : (m n : OpName) → same_op m n ≡ true → m ≡ n
-same_op_true m n e =
-    let parts = and_true (bytes_eq m.process n.process) (nat_eq m.place n.place) e in
-    let processes : m.process ≡ n.process = (bytes_eq-Decides m.process n.process).0 parts.0 in
-    let places : m.place ≡ n.place = (Decides-eqb m.place n.place).0 parts.1 in
-    λ i. record { process = processes i; place = places i }
 
 pub same_op_refl : (n : OpName) → same_op n n ≡ true
 same_op_refl n = λ i. (bytes_eq-Decides n.process n.process).1 refl i && (Decides-eqb n.place n.place).1 refl i

@@ -19,10 +19,10 @@ use Rattle.traces.specs.Judgement.{has_come, fault_at, fault_of_op, fault_of_nam
 use Rattle.schedule_judge.specs.Memory.{IsMemoryAfter, Runs}
 use Rattle.traces.specs.Operation.{same_op}
 use Rattle.traces.specs.Trace.{TraceValue, operation_at, first_names}
+use Rattle.traces.proofs.NameLemmas.{same_name}
 use Rattle.schedule_judge.specs.Walk.{IsWalk, IsInProgramOrder}
 use Rattle.schedule_judge.proofs.MemoryLemmas.{memory_run}
 use Rattle.schedule_judge.proofs.ProgramOrderLemmas.{first_have_come}
-use Rattle.schedule_judge.proofs.PlaceLemmas.{same_op_true}
 
 -- nothing has been run
 pub walk_none : (s : Survey) (state : Memory) → IsMemoryAfter s.trace.now s.names.now [] state → IsWalk s state 0
@@ -53,7 +53,7 @@ order_more t done n op order right process k come =
     elim (either_true (has_come done next) (same_op next n) (sym (list_any-append (same_op next) done (n ∷ [])) ∙ come)) [
       | inl before ↦ come_more done n here (order process k before)
       | inr same ↦
-          let e : next ≡ n = same_op_true next n same in
+          let e : next ≡ n = same_name next n same in
           let all : list_all (has_come done) (first_names n.process (n.place - 1)) ≡ true = in_order (has_come done n) (list_all (has_come done) (first_names n.process (n.place - 1))) _ right in
           let all_of : list_all (has_come done) (first_names process (k + 2 - 1)) ≡ true = ap (λ (m : OpName). list_all (has_come done) (first_names m.process (m.place - 1))) e ∙ all in
           let one : suc k ≡ k + 2 - 1 = omega arith in

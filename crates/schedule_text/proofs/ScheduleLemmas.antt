@@ -1,5 +1,5 @@
 -- The lines of a schedule's text and the names that they spell.
-use Rattle.std.proofs.Common.{◌≡◌, ℕ, ◌+◌, ◌<◌, ◌≤◌, List, [], ◌∷◌, ◌++◌, length, map, true, false, refl, ap, sym, ◌∙◌, subst, arith, append_assoc, append-nil}
+use Rattle.std.proofs.Common.{◌≡◌, ℕ, ◌+◌, ◌<◌, ◌≤◌, List, [], ◌∷◌, ◌++◌, length, map, true, false, refl, ap, sym, ◌∙◌, subst, arith, append-nil}
 use Rattle.std.specs.Prelude.{None}
 use Rattle.std.specs.List.{list_all}
 use Rattle.std.specs.Fmt.{decimal}
@@ -12,6 +12,7 @@ use Rattle.text_lines.specs.Lines.{lines_of}
 use Rattle.text_lines.specs.Words.{words_of}
 use Rattle.text_lines.proofs.FaultLemmas.{faultless_nil, faultless_push}
 use Rattle.text_lines.proofs.KeptLemmas.{kept_append, kept_skipped, kept_more}
+use Rattle.text_lines.proofs.ListLemmas.{next_parts}
 use Rattle.traces.specs.declared.operation.OpName.{OpName}
 use Rattle.text_lines.specs.declared.fault.Fault.{Fault}
 use Rattle.text_lines.specs.declared.fault.Fault.TheVariants.{OutOfMemory, At}
@@ -48,7 +49,7 @@ fault_here lines names line h = ap (λ k. line_fault k line) (counted lines name
 pub push_skipped : (lines : List (List ℕ)) (names : List OpName) (line : List ℕ) → AreNames lines names → IsSkippedLine line → AreNames (lines ++ line ∷ []) names
 push_skipped lines names line h skipped =
     record {
-      spelled = kept_append lines (line ∷ []) ∙ ap (λ l. kept lines ++ l) (kept_skipped line [] skipped) ∙ append-nil (kept lines) ∙ h.spelled;
+      spelled = kept_append is_skipped lines (line ∷ []) ∙ ap (λ l. kept lines ++ l) (kept_skipped is_skipped line [] skipped) ∙ append-nil (kept lines) ∙ h.spelled;
       written = h.written;
       few = h.few;
       faultless = faultless_push schedule_line_fault lines line h.faultless (cond-true (is_skipped (words_of line)) None (schedule_words_fault (length (kept lines)) (words_of line)) skipped);
@@ -67,7 +68,7 @@ name_line_clear earlier line n h =
 pub push_name : (lines : List (List ℕ)) (names : List OpName) (line : List ℕ) (n : OpName) → AreNames lines names → IsNameLine (length names) line n → AreNames (lines ++ line ∷ []) (names ++ n ∷ [])
 push_name lines names line n h new =
     record {
-      spelled = kept_append lines (line ∷ []) ∙ (λ i. h.spelled i ++ (kept_more line [] (name_kept (length names) line n new) ∙ ap (λ ws. ws ∷ []) new.word) i) ∙ sym (map_push (λ m. name_word m ∷ []) names n);
+      spelled = kept_append is_skipped lines (line ∷ []) ∙ (λ i. h.spelled i ++ (kept_more is_skipped line [] (name_kept (length names) line n new) ∙ ap (λ ws. ws ∷ []) new.word) i) ∙ sym (map_push (λ m. name_word m ∷ []) names n);
       written = list_all-append is_op_name names (n ∷ []) ∙ and_from _ _ h.written (and_from _ true new.written refl);
       few = omega (arith, new.room, length_push names n);
       faultless = faultless_push schedule_line_fault lines line h.faultless (fault_here lines names line h ∙ name_line_clear (length names) line n new);
@@ -83,9 +84,6 @@ pub record IsReadSoFar (text : List ℕ) (number : ℕ) (rest : List ℕ) (names
 
 pub at_start : (text : List ℕ) → IsReadSoFar text 0 text []
 at_start text = record { done = []; parts = refl; counted = refl; spelled = no_lines; behind = omega arith }
-
-next_parts : (all done : List (List ℕ)) (line : List ℕ) (rest after : List (List ℕ)) → all ≡ done ++ rest → rest ≡ line ∷ after → all ≡ (done ++ line ∷ []) ++ after
-next_parts all done line rest after e f = e ∙ ap (λ l. done ++ l) f ∙ sym (append_assoc done (line ∷ []) after)
 
 pub turn_skipped : (text : List ℕ) (number : ℕ) (rest : List ℕ) (names : List OpName) (line after : List ℕ) → IsReadSoFar text number rest names →
     lines_of rest ≡ line ∷ lines_of after → length after < length rest → IsSkippedLine line → IsReadSoFar text (number + 1) after names

@@ -68,7 +68,7 @@ spelled_clear text names h before line after e =
     elim (cases_Bool (is_skipped (words_of line))) [
       | inl skipped ↦ cond-true (is_skipped (words_of line)) None (schedule_words_fault (length (kept before)) (words_of line)) skipped
       | inr said ↦ (
-          let all : name_lines names ≡ kept before ++ words_of line ∷ kept after = sym h.lines ∙ ap kept e ∙ kept_append before (line ∷ after) ∙ ap (λ l. kept before ++ l) (kept_more line after said) in
+          let all : name_lines names ≡ kept before ++ words_of line ∷ kept after = sym h.lines ∙ ap kept e ∙ kept_append is_skipped before (line ∷ after) ∙ ap (λ l. kept before ++ l) (kept_more is_skipped line after said) in
           let s = split names (kept before) (kept after) (words_of line) all in
           let count : length names ≡ length s.earlier + length (s.name ∷ s.later) = ap length s.parts ∙ length-append s.earlier (s.name ∷ s.later) in
           name_line_clear (length (kept before)) line s.name (record { word = s.word; written = one_written names s.earlier s.name s.later s.parts h.written; room = omega (arith, h.few, count, s.counted) }))

@@ -57,7 +57,7 @@ kept_names [] h = refl
 kept_names (n ∷ names) h =
     let parts = and_parts (is_op_name n) (list_all is_op_name names) h in
     let word = name_is_word n parts.0 in
-    kept_more (name_word n) (map name_word names) (ap is_skipped word ∙ begins_no_comment n.process (46 ∷ decimal n.place) (writable n parts.0).name)
+    kept_more is_skipped (name_word n) (map name_word names) (ap is_skipped word ∙ begins_no_comment n.process (46 ∷ decimal n.place) (writable n parts.0).name)
     ∙ (λ i. word i ∷ kept_names names parts.1 i)
 
 pub written_spells : (names : List OpName) → list_all is_op_name names ≡ true → length names ≤ 4096 → SpellsSchedule (canonical_schedule names) names

@@ -11,6 +11,7 @@ use Rattle.std.proofs.lemmas.Bool.Decides.{nat_tests}
 use Rattle.std.proofs.lemmas.List.{take_all, drop_all}
 use Rattle.text_lines.specs.Lines.{lines_of, is_line_feed, without_empty_end}
 use Rattle.text_lines.specs.Words.{words_of, is_blank, is_empty}
+use Rattle.text_lines.proofs.BoolLemmas.{not_not}
 
 -- a split has a first part
 pub record FirstPart (parts : List (List ℕ)) : Type 0 where
@@ -120,20 +121,16 @@ words_from xs start e l =
 pub words_none : (xs : List ℕ) → length xs ≤ prefix_len is_blank xs → words_of xs ≡ []
 words_none xs h = words_skip xs ∙ ap words_of (drop_all _ xs h)
 
-double_not : (b : Bool) → not (not b) ≡ b
-double_not true = refl
-double_not false = refl
-
 -- the place of the first byte that is no blank, where there is one
 pub word_at : (xs : List ℕ) (start : ℕ) → Some start ≡ position (λ byte. not (is_blank byte)) xs → (start ≡ prefix_len is_blank xs) × (start < length xs)
 word_at xs start e =
     let found = cond_some (ltb (position_or_len (λ byte. not (is_blank byte)) xs) (length xs)) (position_or_len (λ byte. not (is_blank byte)) xs) start (sym e) in
-    let same : position_or_len (λ byte. not (is_blank byte)) xs ≡ prefix_len is_blank xs = λ i. prefix_len (λ x. double_not (is_blank x) i) xs in
+    let same : position_or_len (λ byte. not (is_blank byte)) xs ≡ prefix_len is_blank xs = λ i. prefix_len (λ x. not_not (is_blank x) i) xs in
     (sym found.1 ∙ same, (let below = ltb-true _ _ found.0 in omega (arith, below, found.1)))
 
 pub no_word : (xs : List ℕ) → None ≡ position (λ byte. not (is_blank byte)) xs → length xs ≤ prefix_len is_blank xs
 no_word xs e =
-    let same : position_or_len (λ byte. not (is_blank byte)) xs ≡ prefix_len is_blank xs = λ i. prefix_len (λ x. double_not (is_blank x) i) xs in
+    let same : position_or_len (λ byte. not (is_blank byte)) xs ≡ prefix_len is_blank xs = λ i. prefix_len (λ x. not_not (is_blank x) i) xs in
     elim (cases_lt (position_or_len (λ byte. not (is_blank byte)) xs) (length xs)) [
       | inl h ↦ absurd (let none : None ≡ Some (position_or_len (λ byte. not (is_blank byte)) xs) = e ∙ sym (cond_below _ _ (Some (position_or_len (λ byte. not (is_blank byte)) xs)) None h) in cc)
       | inr h ↦ omega (arith, h, same)

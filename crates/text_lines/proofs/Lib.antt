@@ -1,7 +1,12 @@
+pub mod BoolLemmas
 pub mod CutLemmas
+pub mod DigitLemmas
 pub mod FaultLemmas
+pub mod IntegerLemmas
 pub mod KeptLemmas
+pub mod LastLemmas
 pub mod LineLemmas
+pub mod ListLemmas
 pub mod NumberLemmas
 pub mod PlainLemmas
 pub mod SolverLemmas

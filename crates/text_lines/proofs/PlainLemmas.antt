@@ -21,7 +21,7 @@ tells_digits = search rules
 pub own : IsNumeralModel AreDigits (digits_value 10)
 own = numerals_by_value AreDigits tells_digits
 
-not_empty : (word : List ℕ) → not (is_empty word) ≡ true → 0 < length word
+pub not_empty : (word : List ℕ) → not (is_empty word) ≡ true → 0 < length word
 not_empty word h =
     let apart : (length word ≡ 0) → ⊥ = eqb-false (length word) 0 (not-true _ h) in omega (arith, apart)
 

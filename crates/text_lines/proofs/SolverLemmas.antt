@@ -1,5 +1,5 @@
 -- Solver numbers, by their sign and their digits.
-use Rattle.std.proofs.Common.{◌≡◌, ◌≢◌, ℕ, zero, suc, ◌^◌, List, Bool, true, false, not, ◌&&◌, drop, refl, ap, sym, ◌∙◌, eqb, arith}
+use Rattle.std.proofs.Common.{◌≡◌, ◌≢◌, ℕ, zero, suc, ◌^◌, List, Bool, true, false, not, ◌&&◌, drop, refl, ap, sym, ◌∙◌, eqb}
 use Rattle.std.specs.Prelude.{Option, Some, None, ℤ, pos, neg_ℤ, nat_abs, nat_lt, if◌then◌else◌, ◌==◌}
 use Rattle.std.specs.Int.{is_negative}
 use Rattle.std.specs.Option.{option_eq}
@@ -7,9 +7,8 @@ use Rattle.text_lines.specs.declared.numbers.SolverNumber.{SolverNumber}
 use Rattle.text_lines.specs.SolverNumber.{IsNumber}
 use Rattle.std.specs.Str.Parse.{digits_value}
 use Rattle.std.proofs.lemmas.Bool.{ne_eqb}
-use Rattle.std.proofs.lemmas.Bool.Decides.{nat_tests}
-use Rattle.std.proofs.lemmas.Int.{ints}
 use Rattle.text_lines.specs.Numbers.{is_digits, has_minus, digits_after_sign, is_solver_number, solver_number}
+use Rattle.text_lines.proofs.IntegerLemmas.{not_negative}
 
 -- a solver number of this sign and this absolute value
 pub record HasParts (word : List ℕ) (minus : Bool) (absolute : ℕ) : Type 0 where
@@ -33,9 +32,6 @@ after_sign word minus e = ap (λ b. if b then drop 1 word else word) e
 negative : (n : ℕ) → n ≢ 0 → (is_negative (neg_ℤ (pos n)) ≡ true) × (nat_abs (neg_ℤ (pos n)) ≡ n)
 negative zero apart = absurd (apart refl)
 negative (suc k) apart = (refl, refl)
-
-not_negative : (n : ℕ) → is_negative (pos n) ≡ false
-not_negative n = grind (arith, ints, nat_tests)
 
 pub read_number : (word : List ℕ) (minus : Bool) → has_minus word ≡ minus → is_digits (digits_after_sign word) ≡ true → (minus ≡ true → digits_value 10 (digits_after_sign word) ≢ 0) → HasParts word minus (digits_value 10 (digits_after_sign word))
 read_number word true e digits some =

@@ -6,6 +6,7 @@ use Rattle.std.proofs.lemmas.Bool.{lt-leb, false_from_ne_true}
 use Rattle.std.proofs.lemmas.List.{get_or_append_left, get_or-append-add}
 use Rattle.std.proofs.lemmas.List.Elements.{filter-append}
 use Rattle.std.proofs.lemmas.Slice.Eq.{bytes_eq-Decides}
+use Rattle.text_lines.proofs.ListLemmas.{none_passes}
 use Rattle.traces.specs.declared.trace.Process.{Process}
 use Rattle.trace_text.specs.Entry.{init_statement, final_statement}
 use Rattle.trace_text.specs.Gathered.{is_init, is_final}
@@ -91,10 +92,6 @@ proc_repeat name (Write b v) h = absurd (cc)
 proc_repeat name (Update b v u source) h = absurd (cc)
 proc_repeat name (Before p i q j) h = absurd (cc)
 
-never : {A : Type 0} (xs : List A) → list_any (λ (x : A). false) xs ≡ false
-never [] = refl
-never (x ∷ xs) = never xs
-
 -- the statements of which there is one each, as what makes them
 pub record AreOnce (ss : List Statement) (ps : List Process) (initial finals : List (List ℕ × ℕ)) : Type 0 where
   pub procs : filter is_proc ss ≡ map (λ (p : Process). Proc p.name) ps
@@ -133,10 +130,10 @@ unrepeated front (Proc name) back ps initial finals once = false_from_ne_true (l
     let second : Proc made.second.name ≡ Proc name = made.second_is in
     let two : made.second.name ≡ name = cc in
     made.apart (one ∙ other.2 ∙ sym two))
-unrepeated front (Read a w source) back ps initial finals once = never front
-unrepeated front (Write a w) back ps initial finals once = never front
-unrepeated front (Update a w v source) back ps initial finals once = never front
-unrepeated front (Before p i q j) back ps initial finals once = never front
+unrepeated front (Read a w source) back ps initial finals once = none_passes front
+unrepeated front (Write a w) back ps initial finals once = none_passes front
+unrepeated front (Update a w v source) back ps initial finals once = none_passes front
+unrepeated front (Before p i q j) back ps initial finals once = none_passes front
 
 -- there is room for one more where there are few with it
 pub room : (p : Statement → Bool) (front : List Statement) (s : Statement) (back : List Statement) (n : ℕ) → length (filter p (front ++ s ∷ back)) ≤ n → p s ≡ true → nat_le n (length (filter p front)) ≡ false

@@ -23,9 +23,10 @@ use Rattle.trace_text.specs.TraceFault.{statement_fault, is_proc, is_operation, 
 use Rattle.trace_text.specs.TraceText.{SpellsTrace, init_line, final_line, before_line, begins, is_process_line, needs_version_2}
 use Rattle.trace_text.proofs.CountLemmas.{count_procs, count_operations}
 use Rattle.trace_text.proofs.KnownLemmas.{pairs_known, pairs_apart, origins_known}
-use Rattle.trace_text.proofs.LocationLemmas.{few_named, named_by_some}
+use Rattle.trace_text.proofs.LocationLemmas.{named_by_some}
 use Rattle.trace_text.proofs.OrderedLemmas.{one_each_moved, rising}
 use Rattle.traces.proofs.ElementLemmas.{from_map, to_map, all_pass, pass_all}
+use Rattle.traces.proofs.DistinctLemmas.{few_named}
 use Rattle.trace_text.proofs.PairOrderLemmas.{IsKnownPair, pair_kept}
 use Rattle.trace_text.proofs.SpellLemmas.{filter_lines, any_line, of_process, of_init, of_final, of_before, of_proc, of_value, processes_words, mapped_words, values_in_front, split_lines, no_origins, no_pairs}
 

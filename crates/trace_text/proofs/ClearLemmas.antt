@@ -2,7 +2,7 @@
 use Rattle.std.proofs.Common.{◌≡◌, ℕ, ◌+◌, List, [], ◌∷◌, ◌++◌, length, map, Bool, true, false, not, ◌&&◌, ◌||◌, refl, inl, inr, ap, sym, ◌∙◌, subst, arith}
 use Rattle.std.specs.Prelude.{Option, Some, None, nat_le, if◌then◌else◌}
 use Rattle.std.specs.List.{Contains, filter, filter_map, flat_map, list_any, list_all}
-use Rattle.std.proofs.lemmas.Bool.{lt-leb, or_parts, false_from_ne_true}
+use Rattle.std.proofs.lemmas.Bool.{lt-leb, or_parts, false_from_ne_true, or_right}
 use Rattle.std.proofs.lemmas.List.Elements.{Contains-append_left, Contains-append_right, Contains-append_cases}
 use Rattle.text_lines.specs.FirstFault.{IsFaultless}
 use Rattle.trace_text.specs.declared.entry.Entry.{Entry}
@@ -21,7 +21,8 @@ use Rattle.trace_text.specs.TraceFault.{is_proc, is_operation, is_before, is_val
 use Rattle.trace_text.proofs.ApartLemmas.{unrepeated, room, filter_cut, from_filter_map}
 use Rattle.trace_text.proofs.CountLemmas.{procs_within, no_proc, count_procs, count_operations}
 use Rattle.traces.proofs.ElementLemmas.{head_in, none_in, cases_in, in_middle, passes_some, from_filter, to_map, to_flat_map}
-use Rattle.trace_text.proofs.LocationLemmas.{few_named, op_named}
+use Rattle.traces.proofs.DistinctLemmas.{few_named}
+use Rattle.trace_text.proofs.LocationLemmas.{op_named}
 use Rattle.trace_text.proofs.SeenLemmas.{distinct_push}
 use Rattle.trace_text.proofs.StatedLemmas.{IsHad, AreStated}
 use Rattle.trace_text.proofs.ToldLemmas.{Has, has_writable}
@@ -48,11 +49,7 @@ begun_by (p ∷ ps) (f ∷ front) s back e h =
     (f, head_in f front, ap is_proc (sym first))
 
 operation_of_process : (s : Statement) → is_operation s ≡ true → (is_proc s || is_operation s) ≡ true
-operation_of_process s h = or_last (is_proc s) (is_operation s) h
-  where
-    or_last : (a b : Bool) → b ≡ true → (a || b) ≡ true
-    or_last true b h = refl
-    or_last false b h = h
+operation_of_process s h = or_right (is_proc s) (is_operation s) h
 
 -- an entry of the trace names one of its locations
 named_had : (t : TraceValue) (e : Entry) → Has t e → (q : List ℕ) → location_named (statement_for e) ≡ Some q → Contains (locations_of t) q

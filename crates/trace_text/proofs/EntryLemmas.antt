@@ -3,6 +3,7 @@ use Rattle.std.proofs.Common.{◌≡◌, ℕ, ◌^◌, List, [], ◌∷◌, ◌+
 use Rattle.std.specs.Prelude.{nat_lt}
 use Rattle.std.specs.List.{list_all}
 use Rattle.std.proofs.lemmas.List.Folds.{list_all-append}
+use Rattle.std.proofs.lemmas.Bool.{and_from, and_parts}
 use Rattle.trace_text.specs.declared.entry.Entry.{Entry}
 use Rattle.trace_text.specs.declared.entry.Entry.TheVariants.{Initial as InitialEntry, Final as FinalEntry, Process as ProcessEntry, Operation as OperationEntry, Before as BeforeEntry}
 use Rattle.trace_text.specs.declared.gathered.Gathered.{Gathered}
@@ -19,53 +20,49 @@ use Rattle.trace_text.specs.Progress.{IsWrittenSoFar}
 use Rattle.trace_text.specs.Seen.{names_of_source}
 use Rattle.traces.specs.Trace.{is_written_value, is_written_origin, is_written_op, is_written_process, is_written_pair}
 use Rattle.trace_text.specs.TraceFault.{names_of}
-use Rattle.trace_text.proofs.SaidLemmas.{both}
-
-pub and_both : (a b : Bool) → a ≡ true → b ≡ true → (a && b) ≡ true
-and_both a b h k = ap (λ x. x && b) h ∙ k
 
 -- one more that passes
 pub all_push : {A : Type 0} (p : A → Bool) (xs : List A) (x : A) → list_all p xs ≡ true → p x ≡ true → list_all p (xs ++ x ∷ []) ≡ true
-all_push p xs x h k = list_all-append p xs (x ∷ []) ∙ and_both (list_all p xs) (p x && true) h (and_both (p x) true k refl)
+all_push p xs x h k = list_all-append p xs (x ∷ []) ∙ and_from (list_all p xs) (p x && true) h (and_from (p x) true k refl)
 
 origin_written : (o : Origin) → list_all is_name (names_of_source (source_of o)) ≡ true → origin_fits o ≡ true → is_written_origin o ≡ true
 origin_written Any h k = refl
 origin_written Initial h k = refl
-origin_written (Operation n) h k = and_both (is_name n.process) (fits_place n.place) (both (is_name n.process) true h).0 k
+origin_written (Operation n) h k = and_from (is_name n.process) (fits_place n.place) (and_parts (is_name n.process) true h).0 k
 
 op_written : (op : Op) → list_all is_name (names_of (op_statement op)) ≡ true → op_fits op ≡ true → is_written_op op ≡ true
 op_written (ReadOp a d o) h k =
-    let names = both (is_name a) (list_all is_name (names_of_source (source_of o))) h in
-    let fits = both (fits_value d) (origin_fits o) k in
-    and_both (is_name a) (nat_lt d (2 ^ 64) && is_written_origin o) names.0 (and_both (nat_lt d (2 ^ 64)) (is_written_origin o) fits.0 (origin_written o names.1 fits.1))
-op_written (WriteOp a d) h k = and_both (is_name a) (nat_lt d (2 ^ 64)) (both (is_name a) true h).0 k
+    let names = and_parts (is_name a) (list_all is_name (names_of_source (source_of o))) h in
+    let fits = and_parts (fits_value d) (origin_fits o) k in
+    and_from (is_name a) (nat_lt d (2 ^ 64) && is_written_origin o) names.0 (and_from (nat_lt d (2 ^ 64)) (is_written_origin o) fits.0 (origin_written o names.1 fits.1))
+op_written (WriteOp a d) h k = and_from (is_name a) (nat_lt d (2 ^ 64)) (and_parts (is_name a) true h).0 k
 op_written (UpdateOp a d e o) h k =
-    let names = both (is_name a) (list_all is_name (names_of_source (source_of o))) h in
-    let fits = both (fits_value d) (fits_value e && origin_fits o) k in
-    let more = both (fits_value e) (origin_fits o) fits.1 in
-    and_both (is_name a) (nat_lt d (2 ^ 64) && (nat_lt e (2 ^ 64) && is_written_origin o)) names.0
-    (and_both (nat_lt d (2 ^ 64)) (nat_lt e (2 ^ 64) && is_written_origin o) fits.0
-    (and_both (nat_lt e (2 ^ 64)) (is_written_origin o) more.0 (origin_written o names.1 more.1)))
+    let names = and_parts (is_name a) (list_all is_name (names_of_source (source_of o))) h in
+    let fits = and_parts (fits_value d) (fits_value e && origin_fits o) k in
+    let more = and_parts (fits_value e) (origin_fits o) fits.1 in
+    and_from (is_name a) (nat_lt d (2 ^ 64) && (nat_lt e (2 ^ 64) && is_written_origin o)) names.0
+    (and_from (nat_lt d (2 ^ 64)) (nat_lt e (2 ^ 64) && is_written_origin o) fits.0
+    (and_from (nat_lt e (2 ^ 64)) (is_written_origin o) more.0 (origin_written o names.1 more.1)))
 
 written_with : (ps : List Process) (op : Op) → list_all is_written_process ps ≡ true → is_written_op op ≡ true → list_all is_written_process (with_operation ps op) ≡ true
 written_with [] op w o = refl
 written_with (p ∷ []) op w o =
-    let parts = both (is_name p.name) (list_all is_written_op p.operations) (both (is_written_process p) true w).0 in
-    and_both (is_name p.name && list_all is_written_op (p.operations ++ op ∷ [])) true
-    (and_both (is_name p.name) (list_all is_written_op (p.operations ++ op ∷ [])) parts.0 (all_push is_written_op p.operations op parts.1 o)) refl
+    let parts = and_parts (is_name p.name) (list_all is_written_op p.operations) (and_parts (is_written_process p) true w).0 in
+    and_from (is_name p.name && list_all is_written_op (p.operations ++ op ∷ [])) true
+    (and_from (is_name p.name) (list_all is_written_op (p.operations ++ op ∷ [])) parts.0 (all_push is_written_op p.operations op parts.1 o)) refl
 written_with (p ∷ q ∷ ps) op w o =
-    let parts = both (is_written_process p) (list_all is_written_process (q ∷ ps)) w in
-    and_both (is_written_process p) (list_all is_written_process (with_operation (q ∷ ps) op)) parts.0 (written_with (q ∷ ps) op parts.1 o)
+    let parts = and_parts (is_written_process p) (list_all is_written_process (q ∷ ps)) w in
+    and_from (is_written_process p) (list_all is_written_process (with_operation (q ∷ ps) op)) parts.0 (written_with (q ∷ ps) op parts.1 o)
 
 pub processes_written : (e : Entry) (ps : List Process) → list_all is_name (names_of (statement_for e)) ≡ true → entry_fits e ≡ true → list_all is_written_process ps ≡ true → list_all is_written_process (processes_with ps e) ≡ true
 processes_written (InitialEntry a d) ps h k w = w
 processes_written (FinalEntry a d) ps h k w = w
-processes_written (ProcessEntry name) ps h k w = all_push is_written_process ps (record { name = name; operations = [] }) w (and_both (is_name name) true (both (is_name name) true h).0 refl)
+processes_written (ProcessEntry name) ps h k w = all_push is_written_process ps (record { name = name; operations = [] }) w (and_from (is_name name) true (and_parts (is_name name) true h).0 refl)
 processes_written (OperationEntry op) ps h k w = written_with ps op w (op_written op h k)
 processes_written (BeforeEntry m n) ps h k w = w
 
 pub initial_written : (e : Entry) (xs : List (List ℕ × ℕ)) → list_all is_name (names_of (statement_for e)) ≡ true → entry_fits e ≡ true → list_all is_written_value xs ≡ true → list_all is_written_value (initial_with xs e) ≡ true
-initial_written (InitialEntry a d) xs h k w = all_push is_written_value xs (a, d) w (and_both (is_name a) (nat_lt d (2 ^ 64)) (both (is_name a) true h).0 k)
+initial_written (InitialEntry a d) xs h k w = all_push is_written_value xs (a, d) w (and_from (is_name a) (nat_lt d (2 ^ 64)) (and_parts (is_name a) true h).0 k)
 initial_written (FinalEntry a d) xs h k w = w
 initial_written (ProcessEntry name) xs h k w = w
 initial_written (OperationEntry op) xs h k w = w
@@ -73,7 +70,7 @@ initial_written (BeforeEntry m n) xs h k w = w
 
 pub final_written : (e : Entry) (xs : List (List ℕ × ℕ)) → list_all is_name (names_of (statement_for e)) ≡ true → entry_fits e ≡ true → list_all is_written_value xs ≡ true → list_all is_written_value (final_with xs e) ≡ true
 final_written (InitialEntry a d) xs h k w = w
-final_written (FinalEntry a d) xs h k w = all_push is_written_value xs (a, d) w (and_both (is_name a) (nat_lt d (2 ^ 64)) (both (is_name a) true h).0 k)
+final_written (FinalEntry a d) xs h k w = all_push is_written_value xs (a, d) w (and_from (is_name a) (nat_lt d (2 ^ 64)) (and_parts (is_name a) true h).0 k)
 final_written (ProcessEntry name) xs h k w = w
 final_written (OperationEntry op) xs h k w = w
 final_written (BeforeEntry m n) xs h k w = w
@@ -84,10 +81,10 @@ before_written (FinalEntry a d) xs h k w = w
 before_written (ProcessEntry name) xs h k w = w
 before_written (OperationEntry op) xs h k w = w
 before_written (BeforeEntry m n) xs h k w =
-    let names = both (is_name m.process) (is_name n.process && true) h in
-    let fits = both (fits_place m.place) (fits_place n.place) k in
-    all_push is_written_pair xs (m, n) w (and_both (is_name m.process && fits_place m.place) (is_name n.process && fits_place n.place)
-    (and_both (is_name m.process) (fits_place m.place) names.0 fits.0) (and_both (is_name n.process) (fits_place n.place) (both (is_name n.process) true names.1).0 fits.1))
+    let names = and_parts (is_name m.process) (is_name n.process && true) h in
+    let fits = and_parts (fits_place m.place) (fits_place n.place) k in
+    all_push is_written_pair xs (m, n) w (and_from (is_name m.process && fits_place m.place) (is_name n.process && fits_place n.place)
+    (and_from (is_name m.process) (fits_place m.place) names.0 fits.0) (and_from (is_name n.process) (fits_place n.place) (and_parts (is_name n.process) true names.1).0 fits.1))
 
 -- one more entry
 pub written_more : (e : Entry) (old new : Gathered) → list_all is_name (names_of (statement_for e)) ≡ true → entry_fits e ≡ true → IsWrittenSoFar old → Adds old new e → IsWrittenSoFar new

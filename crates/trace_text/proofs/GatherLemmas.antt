@@ -2,9 +2,10 @@
 use Rattle.std.proofs.Common.{◌≡◌, ℕ, ◌+◌, ◌<◌, ◌≤◌, List, [], ◌∷◌, ◌++◌, length, Bool, true, false, cond, not, ◌&&◌, ◌||◌, refl, ap, sym, subst, arith, append-nil, append_assoc, length-append}
 use Rattle.std.specs.Prelude.{Option, Some, None, nat_le, if◌then◌else◌}
 use Rattle.std.specs.List.{Contains, filter, filter_map, cons_option, flat_map, list_any, list_all}
-use Rattle.std.proofs.lemmas.Bool.{leb-false}
+use Rattle.std.proofs.lemmas.Bool.{leb-false, not-false}
 use Rattle.std.proofs.lemmas.List.Elements.{filter-append, filter_map-append}
 use Rattle.text_lines.specs.FirstFault.{IsFaultless}
+use Rattle.text_lines.proofs.BoolLemmas.{never_without}
 use Rattle.trace_text.specs.declared.entry.Entry.{Entry}
 use Rattle.traces.specs.declared.trace.Process.{Process}
 use Rattle.trace_text.specs.declared.trace_fault.TraceCause.{TraceCause}
@@ -42,10 +43,6 @@ passed : (b : Bool) (cause : TraceCause) (rest : Option TraceCause) → (if b th
 passed true cause rest h = absurd (cc)
 passed false cause rest h = (refl, h)
 
-not_not : (b : Bool) → not b ≡ false → b ≡ true
-not_not true h = refl
-not_not false h = absurd (cc)
-
 fine : (ss : List Statement) (s : Statement) → statement_fault ss s ≡ None → IsFine ss s
 fine ss s h =
     let outer = none_first (shape_fault ss s) _ h in
@@ -61,8 +58,8 @@ fine ss s h =
     let locations = passed (is_location_too_many ss (location_named s)) TooManyLocations None limits.1 in
     record {
       inside = inside.0;
-      named = not_not (list_all is_name (names_of s)) named.0;
-      numbered = not_not (has_numbers s) numbered.0;
+      named = not-false (list_all is_name (names_of s)) named.0;
+      numbered = not-false (has_numbers s) numbered.0;
       once = once.0;
       few_processes = processes.0;
       few_operations = operations.0;
@@ -88,11 +85,6 @@ located ss (Some a) h few =
     omega (arith, located_by (length (distinct (filter_map location_named ss))) (holds_name (filter_map location_named ss) a) h few, distinct_push (filter_map location_named ss) a)
 
 -- an operation has a process
-inside_one : (a b : Bool) → (a && not b) ≡ false → a ≡ true → b ≡ true
-inside_one true true h k = refl
-inside_one true false h k = absurd (cc)
-inside_one false b h k = absurd (cc)
-
 of_process : (s : Statement) → is_proc s ≡ true → is_of_process s ≡ true
 of_process s h = ap (λ b. b || is_operation s) h
 
@@ -108,7 +100,7 @@ with_entry u e = record { processes = processes_with u.processes e; initial = in
 
 one_more : (ss : List Statement) (u : TraceValue) (e : Entry) → AreGathered ss u → IsFine ss (statement_for e) → entry_fits e ≡ true → AreGathered (ss ++ statement_for e ∷ []) (with_entry u e)
 one_more ss u e g f fits = record {
-  processes = processes_push ss e u.processes (λ o. some_process ss u.processes g.processes (inside_one (is_operation (statement_for e)) (list_any is_proc ss) f.inside o)) g.processes;
+  processes = processes_push ss e u.processes (λ o. some_process ss u.processes g.processes (never_without (is_operation (statement_for e)) (list_any is_proc ss) f.inside o)) g.processes;
   initial = initial_push ss e u.initial g.initial;
   final_values = final_push ss e u.final_values g.final_values;
   before = before_push ss e u.before g.before;

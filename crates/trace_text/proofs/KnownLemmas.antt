@@ -1,12 +1,12 @@
 -- The operations that statements name are operations of their processes.
-use Rattle.std.proofs.Common.{◌≡◌, ◌≢◌, ℕ, zero, suc, ◌^◌, ◌<◌, ◌≤◌, List, [], ◌∷◌, length, map, Bool, true, false, not, ◌&&◌, refl, inr, ap, sym, ◌∙◌, arith, subst}
+use Rattle.std.proofs.Common.{◌≡◌, ◌≢◌, ℕ, ◌^◌, ◌<◌, List, length, map, Bool, true, false, not, ◌&&◌, refl, inr, ap, sym, ◌∙◌, arith, subst}
 use Rattle.std.specs.Prelude.{Option, Some, None, IsSome, is_some, nat_le, nat_lt, if◌then◌else◌}
 use Rattle.std.specs.Fmt.{decimal}
 use Rattle.std.specs.List.{AllPairs, Contains, filter, flat_map, list_any, list_all}
 use Rattle.std.specs.Option.{option_and_then}
 use Rattle.std.specs.Str.{bytes_eq}
 use Rattle.std.proofs.lemmas.Bool.Decides.{nat_tests}
-use Rattle.std.proofs.lemmas.Option.{slice_get-get_or}
+use Rattle.std.proofs.lemmas.Bool.{and_parts, not-true, and_from}
 use Rattle.text_lines.specs.Fault.{IsRefusal}
 use Rattle.text_lines.specs.FirstFault.{IsFaultless}
 use Rattle.text_lines.specs.Lines.{lines_of}
@@ -36,9 +36,9 @@ use Rattle.trace_text.specs.TraceFault.{has_operation_at, references_of, referen
 use Rattle.trace_text.specs.TraceText.{header_line}
 use Rattle.traces.proofs.ElementLemmas.{placed, tail_in, from_filter, from_map, to_map, to_flat_map, some_passes, same_from_key, finds, all_pass}
 use Rattle.trace_text.proofs.LineLemmas.{version_is}
-use Rattle.traces.proofs.NameLemmas.{Named, same_bytes, bytes_same}
+use Rattle.traces.proofs.NameLemmas.{Named, same_bytes, bytes_same, within_place}
 use Rattle.trace_text.proofs.ReferenceLemmas.{has_operation-listed}
-use Rattle.trace_text.proofs.SaidLemmas.{both, statements_said}
+use Rattle.trace_text.proofs.SaidLemmas.{statements_said}
 use Rattle.trace_text.proofs.SpellLemmas.{said_each}
 
 -- a place that is written is read
@@ -48,11 +48,6 @@ place_read i low high =
     ap (λ o. option_and_then (λ n. if nat_le 1 n then Some n else None) (option_and_then (λ n. if nat_le n 65535 then Some n else None) o)) (decimal_is_plain i small)
     ∙ ap (λ b. option_and_then (λ n. if nat_le 1 n then Some n else None) (if b then Some i else None)) high
     ∙ ap (λ b. if b then Some i else None) low
-
-within_place : {X : Type 0} (xs : List X) (k : ℕ) → 1 ≤ k → k ≤ length xs → IsSome (at_place xs k)
-within_place xs zero low high = absurd (omega (arith, low))
-within_place [] (suc k) low high = absurd (omega (arith, high))
-within_place (x ∷ xs) (suc k) low high = ap is_some (slice_get-get_or (x ∷ xs) k x (omega (arith, high)))
 
 -- a name whose process is there and long enough names an operation
 named_known : (t : TraceValue) → AllPairs (λ (p q : Process). p.name ≢ q.name) t.processes → (n : OpName) → Named t n → IsSome (operation_at t n)
@@ -64,10 +59,10 @@ named_known t distinct n at =
 
 pub among_known : (t : TraceValue) → AllPairs (λ (p q : Process). p.name ≢ q.name) t.processes → (n : OpName) → is_written_name n ≡ true → is_among t.processes (n.process, decimal n.place) ≡ true → IsSome (operation_at t n)
 among_known t distinct n w h =
-    let range = both (nat_le 1 n.place) (nat_le n.place 65535) (both (is_name n.process) (nat_le 1 n.place && nat_le n.place 65535) w).1 in
+    let range = and_parts (nat_le 1 n.place) (nat_le n.place 65535) (and_parts (is_name n.process) (nat_le 1 n.place && nat_le n.place 65535) w).1 in
     let there : list_any (is_of n.process n.place) t.processes ≡ true = ap (some_is_of t.processes n.process) (sym (place_read n.place range.0 range.1)) ∙ h in
     let at = some_passes (is_of n.process n.place) t.processes there in
-    let parts = both (bytes_eq at.0.name n.process) (nat_le n.place (length at.0.operations)) at.2 in
+    let parts = and_parts (bytes_eq at.0.name n.process) (nat_le n.place (length at.0.operations)) at.2 in
     named_known t distinct n (record {
       process = at.0;
       listed = at.1;
@@ -85,13 +80,9 @@ each_known two lines ss ps a f s c =
     let line = from_map words_of lines (words_for s) unskipped.0 in
     let at = placed lines line.0 line.1 in
     let none : fault_of_line two ps line.0 ≡ None = f at.front line.0 at.back at.parts in
-    let skip : is_skipped (words_of line.0) ≡ false = ap is_skipped line.2 ∙ not_true (is_skipped (words_for s)) unskipped.1 in
+    let skip : is_skipped (words_of line.0) ≡ false = ap is_skipped line.2 ∙ not-true (is_skipped (words_for s)) unskipped.1 in
     ap (fault_of_references ps) (sym (ap (statement_of two) line.2 ∙ said_each two ss s a.said c))
     ∙ sym (ap (λ b. if b then None else fault_of_references ps (statement_of two (words_of line.0))) skip) ∙ none
-  where
-    not_true : (b : Bool) → not b ≡ true → b ≡ false
-    not_true true h = absurd (cc)
-    not_true false h = refl
 
 no_such : (b c : Bool) → (if not b then Some NoSuchOp else if c then Some BeforeItself else None) ≡ None → b ≡ true
 no_such true c h = refl
@@ -104,9 +95,9 @@ pairs_known t pairs two lines ss distinct a e w f pair c =
     let there : Contains ss (before_statement pair) = (from_filter is_before ss (before_statement pair) (subst (λ (l : List Statement). Contains l (before_statement pair)) (sym e) (to_map before_statement pairs pair c))).0 in
     let none = each_known two lines ss t.processes a f (before_statement pair) there in
     let known = no_such (list_all (is_among t.processes) (references_of (before_statement pair))) (is_before_itself (before_statement pair)) none in
-    let first = both (is_among t.processes (pair.0.process, decimal pair.0.place)) (is_among t.processes (pair.1.process, decimal pair.1.place) && true) known in
-    let written = both (is_written_name pair.0) (is_written_name pair.1) (all_pass is_written_pair pairs w pair c) in
-    (among_known t distinct pair.0 written.0 first.0, among_known t distinct pair.1 written.1 (both (is_among t.processes (pair.1.process, decimal pair.1.place)) true first.1).0)
+    let first = and_parts (is_among t.processes (pair.0.process, decimal pair.0.place)) (is_among t.processes (pair.1.process, decimal pair.1.place) && true) known in
+    let written = and_parts (is_written_name pair.0) (is_written_name pair.1) (all_pass is_written_pair pairs w pair c) in
+    (among_known t distinct pair.0 written.0 first.0, among_known t distinct pair.1 written.1 (and_parts (is_among t.processes (pair.1.process, decimal pair.1.place)) true first.1).0)
 
 not_itself : (b c : Bool) → (if not b then Some NoSuchOp else if c then Some BeforeItself else None) ≡ None → c ≡ false
 not_itself true true h = absurd (cc)
@@ -120,24 +111,21 @@ pairs_apart pairs two lines ss ps a e f pair c same =
     let there : Contains ss (before_statement pair) = (from_filter is_before ss (before_statement pair) (subst (λ (l : List Statement). Contains l (before_statement pair)) (sym e) (to_map before_statement pairs pair c))).0 in
     let none = each_known two lines ss ps a f (before_statement pair) there in
     let other : is_before_itself (before_statement pair) ≡ false = not_itself (list_all (is_among ps) (references_of (before_statement pair))) (is_before_itself (before_statement pair)) none in
-    let one : is_before_itself (before_statement pair) ≡ true = (λ i. bytes_eq pair.0.process (sym same i).process && bytes_eq (decimal pair.0.place) (decimal (sym same i).place)) ∙ both_same (bytes_eq pair.0.process pair.0.process) (bytes_eq (decimal pair.0.place) (decimal pair.0.place)) (bytes_same pair.0.process pair.0.process refl) (bytes_same (decimal pair.0.place) (decimal pair.0.place) refl) in
+    let one : is_before_itself (before_statement pair) ≡ true = (λ i. bytes_eq pair.0.process (sym same i).process && bytes_eq (decimal pair.0.place) (decimal (sym same i).place)) ∙ and_from (bytes_eq pair.0.process pair.0.process) (bytes_eq (decimal pair.0.place) (decimal pair.0.place)) (bytes_same pair.0.process pair.0.process refl) (bytes_same (decimal pair.0.place) (decimal pair.0.place) refl) in
     let clash : true ≡ false = sym one ∙ other in cc
-  where
-    both_same : (b c : Bool) → b ≡ true → c ≡ true → (b && c) ≡ true
-    both_same b c h k = ap (λ d. d && c) h ∙ k
 
 -- an origin names a known operation
 origin_known : (t : TraceValue) → AllPairs (λ (p q : Process). p.name ≢ q.name) t.processes → (o : Origin) → is_written_origin o ≡ true → list_all (is_among t.processes) (references_of_source (source_of o)) ≡ true → IsKnownOrigin t o
 origin_known t distinct Any w h = tt
 origin_known t distinct Initial w h = tt
-origin_known t distinct (Operation n) w h = among_known t distinct n w (both (is_among t.processes (n.process, decimal n.place)) true h).0
+origin_known t distinct (Operation n) w h = among_known t distinct n w (and_parts (is_among t.processes (n.process, decimal n.place)) true h).0
 
 op_known : (t : TraceValue) → AllPairs (λ (p q : Process). p.name ≢ q.name) t.processes → (op : Op) → is_written_op op ≡ true → list_all (is_among t.processes) (references_of (op_statement op)) ≡ true → IsKnownOrigin t (origin_of op)
-op_known t distinct (ReadOp a d o) w h = origin_known t distinct o (both (nat_lt d (2 ^ 64)) (is_written_origin o) (both (is_name a) (nat_lt d (2 ^ 64) && is_written_origin o) w).1).1 h
+op_known t distinct (ReadOp a d o) w h = origin_known t distinct o (and_parts (nat_lt d (2 ^ 64)) (is_written_origin o) (and_parts (is_name a) (nat_lt d (2 ^ 64) && is_written_origin o) w).1).1 h
 op_known t distinct (WriteOp a d) w h = tt
 op_known t distinct (UpdateOp a d e o) w h =
-    let values = both (nat_lt d (2 ^ 64)) (nat_lt e (2 ^ 64) && is_written_origin o) (both (is_name a) (nat_lt d (2 ^ 64) && (nat_lt e (2 ^ 64) && is_written_origin o)) w).1 in
-    origin_known t distinct o (both (nat_lt e (2 ^ 64)) (is_written_origin o) values.1).1 h
+    let values = and_parts (nat_lt d (2 ^ 64)) (nat_lt e (2 ^ 64) && is_written_origin o) (and_parts (is_name a) (nat_lt d (2 ^ 64) && (nat_lt e (2 ^ 64) && is_written_origin o)) w).1 in
+    origin_known t distinct o (and_parts (nat_lt e (2 ^ 64)) (is_written_origin o) values.1).1 h
 
 -- each origin names a known operation
 pub origins_known : (t : TraceValue) (two : Bool) (lines : List (List ℕ)) (ss : List Statement) → AllPairs (λ (p q : Process). p.name ≢ q.name) t.processes → AreSaid two lines ss → filter is_of_process ss ≡ flat_map process_statements t.processes → list_all is_written_process t.processes ≡ true →
@@ -146,7 +134,7 @@ origins_known t two lines ss distinct a e w f p c op d =
     let listed : Contains (flat_map process_statements t.processes) (op_statement op) = to_flat_map process_statements t.processes p (op_statement op) c (tail_in (Proc p.name) (map op_statement p.operations) (op_statement op) (to_map op_statement p.operations op d)) in
     let there : Contains ss (op_statement op) = (from_filter is_of_process ss (op_statement op) (subst (λ (l : List Statement). Contains l (op_statement op)) (sym e) listed)).0 in
     let known = no_such (list_all (is_among t.processes) (references_of (op_statement op))) (is_before_itself (op_statement op)) (each_known two lines ss t.processes a f (op_statement op) there) in
-    let written = both (is_name p.name) (list_all is_written_op p.operations) (all_pass is_written_process t.processes w p c) in
+    let written = and_parts (is_name p.name) (list_all is_written_op p.operations) (all_pass is_written_process t.processes w p c) in
     op_known t distinct op (all_pass is_written_op p.operations written.1 op d) known
 
 -- statements have an operation where their processes have it, at a place that is written or is none

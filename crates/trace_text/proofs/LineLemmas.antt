@@ -188,9 +188,9 @@ header_whole two (a ∷ []) h = h
 header_whole two (a ∷ b ∷ []) h = h
 header_whole two (a ∷ b ∷ c ∷ ws) h = absurd (cc)
 
-header_tests : (two : Bool) → is_header (header_line two) ≡ true
-header_tests true = refl
-header_tests false = refl
+pub header_passes : (two : Bool) → is_header (header_line two) ≡ true
+header_passes true = refl
+header_passes false = refl
 
 header_unskipped : (two : Bool) → is_skipped (header_line two) ≡ false
 header_unskipped true = refl
@@ -226,7 +226,7 @@ header_line_read text next rest line after two b e l h =
       counted = omega (arith, b.counted, length-append b.lines (line ∷ []));
       parts = b.parts ∙ ap (λ ls. b.lines ++ ls) e ∙ sym (append_assoc b.lines (line ∷ []) (lines_of after));
       faultless = faultless_push trace_line_fault b.lines line b.faultless
-          (line_fault b.lines line unskipped h.low ∙ (λ i. words_fault (b.none i) (h.words i)) ∙ ap (λ c. if c then None else Some Header) (header_tests two));
+          (line_fault b.lines line unskipped h.low ∙ (λ i. words_fault (b.none i) (h.words i)) ∙ ap (λ c. if c then None else Some Header) (header_passes two));
       header = kept_more b.lines line false unskipped ∙ (λ i. b.none i ++ h.words i ∷ []);
       room = omega (arith, b.room, l);
     }

@@ -3,13 +3,13 @@ use Rattle.std.proofs.Common.{◌≡◌, ℕ, ◌^◌, ◌<◌, List, [], ◌∷
 use Rattle.std.specs.Char.{is_ascii_digit}
 use Rattle.std.specs.Fmt.{decimal}
 use Rattle.std.specs.List.{list_all, list_any, flat_map, join_with_byte}
-use Rattle.std.proofs.lemmas.Bool.{and_parts, and_from, or_from, or_right, not-true, not_from_false, eqb-false, ne_eqb}
+use Rattle.std.proofs.lemmas.Bool.{and_parts, and_from, or_from, or_right, not-true, not_from_false, ne_eqb}
 use Rattle.std.proofs.lemmas.Fmt.{decimal_is_IsNumeral, decimal_nonempty}
 use Rattle.std.proofs.lemmas.List.Folds.{list_any-append}
 use Rattle.text_lines.specs.Lines.{lines_of, is_line_feed}
 use Rattle.text_lines.specs.Words.{words_of, is_blank, is_empty}
 use Rattle.text_lines.proofs.LineLemmas.{line_ended, one_word, word_ended}
-use Rattle.text_lines.proofs.PlainLemmas.{own}
+use Rattle.text_lines.proofs.PlainLemmas.{own, not_empty}
 use Rattle.text_lines.specs.Kept.{kept, is_skipped}
 use Rattle.traces.specs.Names.{is_name, may_begin_name, may_be_in_name}
 use Rattle.trace_text.specs.TraceWritten.{line_text}
@@ -26,14 +26,11 @@ record IsWord (word : List ℕ) : Type 0 where
   no_blank : list_any is_blank word ≡ false
   no_line_feed : list_any is_line_feed word ≡ false
 
-filled : (word : List ℕ) → not (is_empty word) ≡ true → 0 < length word
-filled word h = let apart_from : (length word ≡ 0) → ⊥ = eqb-false (length word) 0 (not-true _ h) in omega (arith, apart_from)
-
 parts_of : (word : List ℕ) → is_word word ≡ true → IsWord word
 parts_of word h =
     let outer = and_parts (not (is_empty word) && not (list_any is_blank word)) (not (list_any is_line_feed word)) h in
     let inner = and_parts (not (is_empty word)) (not (list_any is_blank word)) outer.0 in
-    record { some = filled word inner.0; no_blank = not-true _ inner.1; no_line_feed = not-true _ outer.1 }
+    record { some = not_empty word inner.0; no_blank = not-true _ inner.1; no_line_feed = not-true _ outer.1 }
 
 -- bytes that may be in a name are a word
 name_bytes_are_word : (word : List ℕ) → 0 < length word → list_all may_be_in_name word ≡ true → is_word word ≡ true
@@ -81,5 +78,5 @@ written_kept (line ∷ lines) h =
     let words = words_joined line said.0 in
     ap (λ l. kept (lines_of l)) (append_assoc (join_with_byte 32 line) (10 ∷ []) (flat_map line_text lines))
     ∙ ap kept (line_ended (join_with_byte 32 line) (flat_map line_text lines) (no_line_feed_joined line said.0))
-    ∙ kept_more (join_with_byte 32 line) (lines_of (flat_map line_text lines)) (ap is_skipped words ∙ not-true _ said.1)
+    ∙ kept_more is_skipped (join_with_byte 32 line) (lines_of (flat_map line_text lines)) (ap is_skipped words ∙ not-true _ said.1)
     ∙ (λ i. words i ∷ written_kept lines parts.1 i)

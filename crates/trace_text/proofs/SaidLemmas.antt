@@ -3,7 +3,8 @@ use Rattle.std.proofs.Common.{◌≡◌, ◌⊎◌, ℕ, List, [], ◌∷◌, ta
 use Rattle.std.specs.Prelude.{Option, Some, None, if◌then◌else◌}
 use Rattle.std.specs.List.{cons_option}
 use Rattle.std.specs.Str.{bytes_eq}
-use Rattle.std.proofs.lemmas.Slice.Eq.{bytes_eq-Decides}
+use Rattle.std.proofs.lemmas.Bool.{and_parts}
+use Rattle.traces.proofs.NameLemmas.{same_bytes}
 use Rattle.trace_text.specs.Read.{saying}
 use Rattle.trace_text.specs.Statement.{Unsaid, FromInit, FromOp, Statement, Init, Final, Proc, Read, Write, Update, Before, statement_of, words_for}
 use Rattle.trace_text.specs.TraceFault.{statements_of}
@@ -27,24 +28,17 @@ chosen false x s rest h = inr h
 none_said : {A : Type 0} (s : Statement) → None ≡ Some s → A
 none_said s h = absurd (cc)
 
-pub both : (a b : Bool) → (a && b) ≡ true → (a ≡ true) × (b ≡ true)
-both true b h = (refl, h)
-both false b h = absurd (cc)
-
-is_key : (key text : List ℕ) → bytes_eq key text ≡ true → key ≡ text
-is_key key text h = (bytes_eq-Decides key text).0 h
-
 two_words : (key name : List ℕ) (s : Statement) → (if bytes_eq key (codes "proc") then Some (Proc name) else None) ≡ Some s → key ∷ name ∷ [] ≡ words_for s
 two_words key name s h = elim (chosen (bytes_eq key (codes "proc")) (Proc name) s None h) [
-  | inl (b, e) ↦ ap (λ k. k ∷ name ∷ []) (is_key key (codes "proc") b) ∙ ap words_for e
+  | inl (b, e) ↦ ap (λ k. k ∷ name ∷ []) (same_bytes key (codes "proc") b) ∙ ap words_for e
   | inr n ↦ none_said s n
 ]
 
 three_words_last : (key a d : List ℕ) (s : Statement) → (if bytes_eq key (codes "R") then Some (Read a d Unsaid) else if bytes_eq key (codes "W") then Some (Write a d) else None) ≡ Some s → key ∷ a ∷ d ∷ [] ≡ words_for s
 three_words_last key a d s h = elim (chosen (bytes_eq key (codes "R")) (Read a d Unsaid) s (if bytes_eq key (codes "W") then Some (Write a d) else None) h) [
-  | inl (b, e) ↦ ap (λ k. k ∷ a ∷ d ∷ []) (is_key key (codes "R") b) ∙ ap words_for e
+  | inl (b, e) ↦ ap (λ k. k ∷ a ∷ d ∷ []) (same_bytes key (codes "R") b) ∙ ap words_for e
   | inr n ↦ elim (chosen (bytes_eq key (codes "W")) (Write a d) s None n) [
-    | inl (b, e) ↦ ap (λ k. k ∷ a ∷ d ∷ []) (is_key key (codes "W") b) ∙ ap words_for e
+    | inl (b, e) ↦ ap (λ k. k ∷ a ∷ d ∷ []) (same_bytes key (codes "W") b) ∙ ap words_for e
     | inr m ↦ none_said s m
   ]
 ]
@@ -53,16 +47,16 @@ three_words : (key a d : List ℕ) (s : Statement) → (if bytes_eq key (codes "
     else if bytes_eq key (codes "R") then Some (Read a d Unsaid) else if bytes_eq key (codes "W") then Some (Write a d) else None) ≡ Some s → key ∷ a ∷ d ∷ [] ≡ words_for s
 three_words key a d s h = elim (chosen (bytes_eq key (codes "init")) (Init a d) s (if bytes_eq key (codes "final") then Some (Final a d)
     else if bytes_eq key (codes "R") then Some (Read a d Unsaid) else if bytes_eq key (codes "W") then Some (Write a d) else None) h) [
-      | inl (b, e) ↦ ap (λ k. k ∷ a ∷ d ∷ []) (is_key key (codes "init") b) ∙ ap words_for e
+      | inl (b, e) ↦ ap (λ k. k ∷ a ∷ d ∷ []) (same_bytes key (codes "init") b) ∙ ap words_for e
       | inr n ↦ elim (chosen (bytes_eq key (codes "final")) (Final a d) s (if bytes_eq key (codes "R") then Some (Read a d Unsaid) else if bytes_eq key (codes "W") then Some (Write a d) else None) n) [
-        | inl (b, e) ↦ ap (λ k. k ∷ a ∷ d ∷ []) (is_key key (codes "final") b) ∙ ap words_for e
+        | inl (b, e) ↦ ap (λ k. k ∷ a ∷ d ∷ []) (same_bytes key (codes "final") b) ∙ ap words_for e
         | inr m ↦ three_words_last key a d s m
       ]
     ]
 
 four_words : (key a d e : List ℕ) (s : Statement) → (if bytes_eq key (codes "U") then Some (Update a d e Unsaid) else None) ≡ Some s → key ∷ a ∷ d ∷ e ∷ [] ≡ words_for s
 four_words key a d e s h = elim (chosen (bytes_eq key (codes "U")) (Update a d e Unsaid) s None h) [
-  | inl (b, t) ↦ ap (λ k. k ∷ a ∷ d ∷ e ∷ []) (is_key key (codes "U") b) ∙ ap words_for t
+  | inl (b, t) ↦ ap (λ k. k ∷ a ∷ d ∷ e ∷ []) (same_bytes key (codes "U") b) ∙ ap words_for t
   | inr n ↦ none_said s n
 ]
 
@@ -74,23 +68,23 @@ pub record AreThree (two : Bool) (key key_text c c_text d d_text : List ℕ) : T
 
 three_tests : (two : Bool) (key key_text c c_text d d_text : List ℕ) → (two && bytes_eq key key_text && bytes_eq c c_text && bytes_eq d d_text) ≡ true → AreThree two key key_text c c_text d d_text
 three_tests two key key_text c c_text d d_text h =
-    let first = both (two && bytes_eq key key_text && bytes_eq c c_text) (bytes_eq d d_text) h in
-    let second = both (two && bytes_eq key key_text) (bytes_eq c c_text) first.0 in
-    let third = both two (bytes_eq key key_text) second.0 in
-    record { key_is = is_key key key_text third.1; c_is = is_key c c_text second.1; d_is = is_key d d_text first.1 }
+    let first = and_parts (two && bytes_eq key key_text && bytes_eq c c_text) (bytes_eq d d_text) h in
+    let second = and_parts (two && bytes_eq key key_text) (bytes_eq c c_text) first.0 in
+    let third = and_parts two (bytes_eq key key_text) second.0 in
+    record { key_is = same_bytes key key_text third.1; c_is = same_bytes c c_text second.1; d_is = same_bytes d d_text first.1 }
 
 two_tests : (two : Bool) (key key_text c c_text : List ℕ) → (two && bytes_eq key key_text && bytes_eq c c_text) ≡ true → (key ≡ key_text) × (c ≡ c_text)
 two_tests two key key_text c c_text h =
-    let second = both (two && bytes_eq key key_text) (bytes_eq c c_text) h in
-    let third = both two (bytes_eq key key_text) second.0 in
-    (is_key key key_text third.1, is_key c c_text second.1)
+    let second = and_parts (two && bytes_eq key key_text) (bytes_eq c c_text) h in
+    let third = and_parts two (bytes_eq key key_text) second.0 in
+    (same_bytes key key_text third.1, same_bytes c c_text second.1)
 
 five_words : (two : Bool) (key a b c d : List ℕ) (s : Statement) → (if two && bytes_eq key (codes "R") && bytes_eq c (codes "from") && bytes_eq d (codes "init") then Some (Read a b FromInit)
     else if two && bytes_eq key (codes "before") then Some (Before a b c d) else None) ≡ Some s → key ∷ a ∷ b ∷ c ∷ d ∷ [] ≡ words_for s
 five_words two key a b c d s h = elim (chosen (two && bytes_eq key (codes "R") && bytes_eq c (codes "from") && bytes_eq d (codes "init")) (Read a b FromInit) s (if two && bytes_eq key (codes "before") then Some (Before a b c d) else None) h) [
   | inl (t, e) ↦ (let w = three_tests two key (codes "R") c (codes "from") d (codes "init") t in (λ i. w.key_is i ∷ a ∷ b ∷ w.c_is i ∷ w.d_is i ∷ []) ∙ ap words_for e)
   | inr n ↦ elim (chosen (two && bytes_eq key (codes "before")) (Before a b c d) s None n) [
-    | inl (t, e) ↦ ap (λ k. k ∷ a ∷ b ∷ c ∷ d ∷ []) (is_key key (codes "before") (both two (bytes_eq key (codes "before")) t).1) ∙ ap words_for e
+    | inl (t, e) ↦ ap (λ k. k ∷ a ∷ b ∷ c ∷ d ∷ []) (same_bytes key (codes "before") (and_parts two (bytes_eq key (codes "before")) t).1) ∙ ap words_for e
     | inr m ↦ none_said s m
   ]
 ]

@@ -6,6 +6,8 @@ use Rattle.std.specs.Str.{bytes_eq}
 use Rattle.std.proofs.lemmas.List.Elements.{filter-append, filter_map-append}
 use Rattle.std.proofs.lemmas.List.Folds.{list_any-append}
 use Rattle.std.proofs.lemmas.Slice.Eq.{bytes_eq-Decides}
+use Rattle.text_lines.proofs.BoolLemmas.{or_last}
+use Rattle.text_lines.proofs.ListLemmas.{none_passes}
 use Rattle.trace_text.specs.declared.seen.Seen.{Seen}
 use Rattle.trace_text.specs.declared.trace_fault.TraceCause.{TraceCause}
 use Rattle.trace_text.specs.declared.trace_fault.TraceCause.TheVariants.{BadName, BadNumber, LateHeaderLine, OpOutsideProc, InitTwice, FinalTwice, ProcTwice, TooManyProcs, TooManyOps, TooManyLocations, TooManyBefore}
@@ -15,15 +17,11 @@ use Rattle.trace_text.specs.Entry.{has_numbers, number_fault}
 use Rattle.traces.specs.Names.{is_name}
 use Rattle.trace_text.specs.LineRefusal.{IsRefusedFor}
 use Rattle.traces.specs.Locations.{distinct, holds_name}
+use Rattle.traces.proofs.NameLemmas.{bytes_turned}
+use Rattle.traces.proofs.DistinctLemmas.{length_chosen}
 use Rattle.trace_text.specs.Seen.{has, early_fault, fault_behind, fault_of_operation, NotesLocation, Notes, IsSeen}
 use Rattle.trace_text.specs.Statement.{Statement, Init, Final, Proc, Read, Write, Update, Before}
 use Rattle.trace_text.specs.TraceFault.{is_proc, is_operation, is_before, is_value_line, names_of, location_named, repeats, twice_cause, limit_fault, is_location_too_many, or_else, statement_fault}
-
-or_last : (a b : Bool) → (a || b) ≡ (b || (a || false))
-or_last true true = refl
-or_last true false = refl
-or_last false true = refl
-or_last false false = refl
 
 -- some element passes, with one more element
 pub any_push : {A : Type 0} (p : A → Bool) (xs : List A) (x : A) (b c : Bool) → b ≡ (p x || c) → c ≡ list_any p xs → b ≡ list_any p (xs ++ x ∷ [])
@@ -36,18 +34,6 @@ count_by_test xs x n m false h e = h ∙ e ∙ ap length (sym (append-nil xs))
 -- how many pass, with one more element
 pub count_push : {A : Type 0} (p : A → Bool) (xs : List A) (x : A) (n m : ℕ) → n ≡ (if p x then m + 1 else m) → m ≡ length (filter p xs) → n ≡ length (filter p (xs ++ x ∷ []))
 count_push p xs x n m h e = count_by_test (filter p xs) x n m (p x) h e ∙ ap length (sym (filter-append p xs (x ∷ [])))
-
-by_turns : (a b : Bool) → (a ≡ true → b ≡ true) → (b ≡ true → a ≡ true) → a ≡ b
-by_turns true b h k = sym (h refl)
-by_turns false true h k = k refl
-by_turns false false h k = refl
-
-bytes_eq-turned : (a b : List ℕ) → bytes_eq a b ≡ bytes_eq b a
-bytes_eq-turned a b = by_turns (bytes_eq a b) (bytes_eq b a) (λ h. (bytes_eq-Decides b a).1 (sym ((bytes_eq-Decides a b).0 h))) (λ h. (bytes_eq-Decides a b).1 (sym ((bytes_eq-Decides b a).0 h)))
-
-length_chosen : (b : Bool) (name : List ℕ) (names : List (List ℕ)) → length (if b then names else name ∷ names) ≡ (if b then length names else length names + 1)
-length_chosen true name names = refl
-length_chosen false name names = omega arith
 
 counts_agree : (h e k : Bool) (most more : ℕ) → (e ≡ true → h ≡ k) → more ≡ (if not k then most + 1 else most) →
     (if h || (e || false) then more else more + 1) ≡ (if not (e || k) then (if h then most else most + 1) + 1 else (if h then most else most + 1))
@@ -64,7 +50,7 @@ counts_agree false false false most more same m = ap (λ n. n + 1) m
 pub distinct_push : (names : List (List ℕ)) (a : List ℕ) → length (distinct (names ++ a ∷ [])) ≡ (if not (holds_name names a) then length (distinct names) + 1 else length (distinct names))
 distinct_push [] a = omega arith
 distinct_push (n ∷ ns) a =
-    let turned : bytes_eq n a ≡ bytes_eq a n = bytes_eq-turned n a in
+    let turned : bytes_eq n a ≡ bytes_eq a n = bytes_turned n a in
     let same : bytes_eq n a ≡ true → holds_name ns n ≡ holds_name ns a = λ (h : bytes_eq n a ≡ true). ap (holds_name ns) ((bytes_eq-Decides n a).0 h) in
     length_chosen (holds_name (ns ++ a ∷ []) n) n (distinct (ns ++ a ∷ []))
     ∙ ap (λ b. if b then length (distinct (ns ++ a ∷ [])) else length (distinct (ns ++ a ∷ [])) + 1) (list_any-append (λ other. bytes_eq other n) ns (a ∷ []) ∙ ap (λ b. holds_name ns n || (b || false)) (sym turned))
@@ -107,10 +93,6 @@ late_fault earlier s = if list_any (repeats s) earlier then Some (twice_cause s)
 any_same : {A : Type 0} (p q : A → Bool) → ((x : A) → p x ≡ q x) → (xs : List A) → list_any p xs ≡ list_any q xs
 any_same p q h xs = λ i. list_any (λ x. h x i) xs
 
-any_never : {A : Type 0} (xs : List A) → list_any (λ (x : A). false) xs ≡ false
-any_never [] = refl
-any_never (x ∷ xs) = any_never xs
-
 init_repeats : (a d : List ℕ) (t : Statement) → repeats (Init a []) t ≡ repeats (Init a d) t
 init_repeats a d (Init b e) = refl
 init_repeats a d (Final b e) = refl
@@ -141,7 +123,7 @@ fault_at_operation ss seen a h =
     ∙ sym (or_else_chosen (nat_le 4096 (length (filter is_operation ss))) TooManyOps (if is_location_too_many ss (Some a) then Some TooManyLocations else None))
 
 no_repeats : (ss : List Statement) (cause : TraceCause) (rest : Option TraceCause) → rest ≡ (if list_any (λ (t : Statement). false) ss then Some cause else rest)
-no_repeats ss cause rest = ap (λ b. if b then Some cause else rest) (sym (any_never ss))
+no_repeats ss cause rest = ap (λ b. if b then Some cause else rest) (sym (none_passes ss))
 
 none_after : (b : Bool) (cause : TraceCause) → (if b then Some cause else None) ≡ or_else (if b then Some cause else None) None
 none_after true cause = refl

@@ -4,6 +4,7 @@ use Rattle.std.specs.Prelude.{Option, Some, None, if◌then◌else◌}
 use Rattle.std.specs.List.{Contains, filter, flat_map, list_any}
 use Rattle.std.proofs.lemmas.List.{map-append}
 use Rattle.std.proofs.lemmas.List.Elements.{Contains-append_left}
+use Rattle.std.proofs.lemmas.Bool.{false_from_ne_true}
 use Rattle.text_lines.specs.FirstFault.{IsFaultless}
 use Rattle.traces.specs.declared.operation.Op.{Op}
 use Rattle.traces.specs.declared.operation.Op.TheVariants.{Read as ReadOp, Write as WriteOp, Update as UpdateOp}
@@ -120,12 +121,8 @@ not_late false b rest other h k = absurd (cc)
 pub value_not_late : (ss : List Statement) (s : Statement) → statement_fault ss s ≡ None → is_value_line s ≡ true → list_any is_proc ss ≡ false
 value_not_late ss s h k = not_late (is_value_line s) (list_any is_proc ss) _ _ h k
 
-not_any : (b : Bool) → (b ≡ true → ⊥) → b ≡ false
-not_any true h = absurd (h refl)
-not_any false h = refl
-
 pub values_in_front : (ss front behind : List Statement) → IsFaultless statement_fault ss → ss ≡ front ++ behind → list_any is_proc front ≡ true → list_any is_value_line behind ≡ false
-values_in_front ss front behind f e p = not_any (list_any is_value_line behind) (λ (v : list_any is_value_line behind ≡ true).
+values_in_front ss front behind f e p = false_from_ne_true (list_any is_value_line behind) (λ (v : list_any is_value_line behind ≡ true).
     let found = some_passes is_value_line behind v in
     let here = placed behind found.0 found.1 in
     let parts : ss ≡ (front ++ here.front) ++ found.0 ∷ here.back = e ∙ ap (λ l. front ++ l) here.parts ∙ sym (append_assoc front here.front (found.0 ∷ here.back)) in
@@ -173,7 +170,7 @@ no_origin (UpdateOp a d e Initial) h k = cc
 no_origin (UpdateOp a d e (Operation n)) h k = cc
 
 pub no_origins : (ss : List Statement) (ps : List Process) → map (saying false) ss ≡ map Some ss → filter is_of_process ss ≡ flat_map process_statements ps → list_any (λ (p : Process). list_any has_origin p.operations) ps ≡ false
-no_origins ss ps h e = not_any (list_any (λ (p : Process). list_any has_origin p.operations) ps) (λ (v : list_any (λ (p : Process). list_any has_origin p.operations) ps ≡ true).
+no_origins ss ps h e = false_from_ne_true (list_any (λ (p : Process). list_any has_origin p.operations) ps) (λ (v : list_any (λ (p : Process). list_any has_origin p.operations) ps ≡ true).
     let p = some_passes (λ (p : Process). list_any has_origin p.operations) ps v in
     let op = some_passes has_origin p.0.operations p.2 in
     let listed : Contains (flat_map process_statements ps) (op_statement op.0) = to_flat_map process_statements ps p.0 (op_statement op.0) p.1 (tail_in (Proc p.0.name) (map op_statement p.0.operations) (op_statement op.0) (to_map op_statement p.0.operations op.0 op.1)) in

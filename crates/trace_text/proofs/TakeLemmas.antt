@@ -2,6 +2,7 @@
 use Rattle.std.proofs.Common.{◌≡◌, List, [], ◌∷◌, ◌++◌, Bool, true, false, not, ◌&&◌, refl, ap, sym, ◌∙◌, subst}
 use Rattle.std.specs.Prelude.{Option, Some, None, is_some, IsSome, if◌then◌else◌}
 use Rattle.std.specs.List.{list_any, list_all}
+use Rattle.text_lines.proofs.BoolLemmas.{never_without}
 use Rattle.trace_text.specs.declared.entry.Entry.{Entry}
 use Rattle.trace_text.specs.declared.line_refusal.LineRefusal.{LineRefusal}
 use Rattle.trace_text.specs.declared.trace_fault.TraceCause.{TraceCause}
@@ -41,14 +42,9 @@ named false true c h = absurd (cc)
 named false false true h = refl
 named false false false h = absurd (cc)
 
-inside : (a b : Bool) → (a && not b) ≡ false → a ≡ true → b ≡ true
-inside true true h k = refl
-inside true false h k = absurd (cc)
-inside false b h k = absurd (cc)
-
 -- an operation has an open process
 pub is_open : (r : TraceReader) (s : Statement) → None ≡ early_fault (is_some r.gathered.last) s → is_operation s ≡ true → IsSome r.gathered.last
-is_open r s h o = inside (is_operation s) (is_some r.gathered.last) (not_outside (is_value_line s && is_some r.gathered.last) (is_operation s && not (is_some r.gathered.last)) (list_all is_name (names_of s)) (sym h)) o
+is_open r s h o = never_without (is_operation s) (is_some r.gathered.last) (not_outside (is_value_line s && is_some r.gathered.last) (is_operation s && not (is_some r.gathered.last)) (list_all is_name (names_of s)) (sym h)) o
 
 unrepeated_late : (b : Bool) (cause : TraceCause) (rest : Option TraceCause) → (if b then Some cause else rest) ≡ None → b ≡ false
 unrepeated_late true cause rest h = absurd (cc)

@@ -22,7 +22,7 @@ use Rattle.trace_text.proofs.ClearLemmas.{statements_clear}
 use Rattle.traces.proofs.ElementLemmas.{cases_in, in_middle, from_map}
 use Rattle.trace_text.proofs.HighLemmas.{high_words, high_line}
 use Rattle.trace_text.proofs.KnownLemmas.{same_fault}
-use Rattle.trace_text.proofs.LineLemmas.{line_fault, version_is}
+use Rattle.trace_text.proofs.LineLemmas.{line_fault, version_is, header_passes}
 use Rattle.trace_text.proofs.OwnReferenceLemmas.{references_clear}
 use Rattle.trace_text.proofs.SaidLemmas.{statements_said}
 use Rattle.text_lines.proofs.KeptLemmas.{kept_append, kept_more}
@@ -30,10 +30,6 @@ use Rattle.trace_text.proofs.SpellLemmas.{said_each}
 use Rattle.trace_text.proofs.StatedLemmas.{AreStated, IsHad, stated, said_map}
 use Rattle.trace_text.proofs.ToldLemmas.{has_writable}
 use Rattle.trace_text.proofs.WritableLemmas.{entry_low}
-
-header_passes : (two : Bool) → is_header (header_line two) ≡ true
-header_passes true = refl
-header_passes false = refl
 
 header_low : (two : Bool) → high_words (header_line two) ≡ false
 header_low true = refl
@@ -69,7 +65,7 @@ module _ (text : List ℕ) (t : TraceValue) (ok : IsTrace t) (h : SpellsTrace te
   said = record { kept_lines = kept_lines; said = st.said; faultless = statements_clear t h.two h.body ok st }
 
   split : (before : List (List ℕ)) (line : List ℕ) (after : List (List ℕ)) → lines_of text ≡ before ++ line ∷ after → is_skipped (words_of line) ≡ false → header_line h.two ∷ map words_for st.ss ≡ kept before ++ words_of line ∷ kept after
-  split before line after e says = sym kept_lines ∙ ap kept e ∙ kept_append before (line ∷ after) ∙ ap (λ l. kept before ++ l) (kept_more line after says)
+  split before line after e says = sym kept_lines ∙ ap kept e ∙ kept_append is_skipped before (line ∷ after) ∙ ap (λ l. kept before ++ l) (kept_more is_skipped line after says)
 
   low : (words : List (List ℕ)) → Contains (header_line h.two ∷ map words_for st.ss) words → high_words words ≡ false
   low words c = elim (cases_in (header_line h.two) (map words_for st.ss) words c) [

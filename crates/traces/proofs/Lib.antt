@@ -1,4 +1,5 @@
 pub mod CauseLemmas
+pub mod DistinctLemmas
 pub mod ElementLemmas
 pub mod FaultlessLemmas
 pub mod JudgementLemmas
@@ -6,4 +7,5 @@ pub mod LegalLemmas
 pub mod NameByteLemmas
 pub mod NameLemmas
 pub mod OrderLemmas
+pub mod ProcessOrderLemmas
 pub mod ValueLemmas

@@ -7,6 +7,7 @@ use Rattle.std.specs.Str.{bytes_eq}
 use Rattle.std.proofs.lemmas.Bool.{and_parts, and_from, eqb-true, eq-eqb}
 use Rattle.std.proofs.lemmas.Option.{option_and_then_some, slice_get_within, slice_get-get_or}
 use Rattle.std.proofs.lemmas.Slice.Eq.{bytes_eq-Decides}
+use Rattle.text_lines.proofs.BoolLemmas.{same_truth}
 use Rattle.traces.specs.declared.operation.OpName.{OpName}
 use Rattle.traces.specs.declared.trace.Process.{Process}
 use Rattle.traces.specs.Judgement.{has_come}
@@ -20,6 +21,9 @@ same_bytes x y h = (bytes_eq-Decides x y).0 h
 pub bytes_same : (x y : List ℕ) → x ≡ y → bytes_eq x y ≡ true
 bytes_same x y e = (bytes_eq-Decides x y).1 e
 
+pub bytes_turned : (x y : List ℕ) → bytes_eq x y ≡ bytes_eq y x
+bytes_turned x y = same_truth (bytes_eq x y) (bytes_eq y x) (λ h. bytes_same y x (sym (same_bytes x y h))) (λ h. bytes_same x y (sym (same_bytes y x h)))
+
 pub same_name : (m n : OpName) → same_op m n ≡ true → m ≡ n
 same_name m n h =
     let parts = and_parts (bytes_eq m.process n.process) (eqb m.place n.place) h in
@@ -30,6 +34,9 @@ same_name m n h =
 pub name_same : (m n : OpName) → m ≡ n → same_op m n ≡ true
 name_same m n e =
     and_from (bytes_eq m.process n.process) (eqb m.place n.place) (bytes_same m.process n.process (ap (λ k. k.process) e)) (eq-eqb m.place n.place (ap (λ k. k.place) e))
+
+pub name_turned : (m n : OpName) → same_op m n ≡ same_op n m
+name_turned m n = same_truth (same_op m n) (same_op n m) (λ h. name_same n m (sym (same_name m n h))) (λ h. name_same m n (sym (same_name n m h)))
 
 pub come_in : (names : List OpName) (n : OpName) → has_come names n ≡ true → Contains names n
 come_in names n h =
@@ -55,7 +62,7 @@ place_within : {X : Type 0} (xs : List X) (k : ℕ) (x : X) → at_place xs k �
 place_within xs zero x e = absurd (cc)
 place_within xs (suc k) x e = let l = slice_get_within xs k x e in (omega arith, omega (arith, l))
 
-within_place : {X : Type 0} (xs : List X) (k : ℕ) → 1 ≤ k → k ≤ length xs → IsSome (at_place xs k)
+pub within_place : {X : Type 0} (xs : List X) (k : ℕ) → 1 ≤ k → k ≤ length xs → IsSome (at_place xs k)
 within_place xs zero low high = absurd (omega (arith, low))
 within_place [] (suc k) low high = absurd (omega (arith, high))
 within_place (x ∷ xs) (suc k) low high = ap is_some (slice_get-get_or (x ∷ xs) k x (omega (arith, high)))

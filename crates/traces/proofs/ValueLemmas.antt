@@ -7,7 +7,7 @@ use Rattle.std.proofs.Math.Seq.{drop-cons, drop-length}
 use Rattle.traces.specs.Trace.{value_of}
 
 -- the elements from a place on
-drop_front : {X : Type 0} (xs : List X) (k : ℕ) (x : X) → 0 < k → k ≤ length xs → x ≡ get_or xs (k - 1) x → drop (k - 1) xs ≡ x ∷ drop k xs
+pub drop_front : {X : Type 0} (xs : List X) (k : ℕ) (x : X) → 0 < k → k ≤ length xs → x ≡ get_or xs (k - 1) x → drop (k - 1) xs ≡ x ∷ drop k xs
 drop_front xs k x p l e =
     let s : suc (k - 1) ≡ k = omega arith in
     drop-cons xs (k - 1) x (omega arith) ∙ (λ i. sym e i ∷ drop (s i) xs)

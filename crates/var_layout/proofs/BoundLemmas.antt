@@ -1,23 +1,24 @@
 -- How many variables there are at most.
-use Rattle.std.proofs.Common.{◌≡◌, ℕ, suc, ◌+◌, ◌*◌, ◌^◌, ◌<◌, ◌≤◌, List, [], ◌∷◌, length, map, take, Bool, true, false, cond, refl, ap, sym, ◌∙◌, arith, get_or, eqb, ◌++◌}
-use Rattle.std.specs.Prelude.{slice_get, Option, Some, None, is_some, not, max, ◌≢◌, ◌==◌, ◌&&◌, ◌||◌, if◌then◌else◌}
+use Rattle.std.proofs.Common.{◌≡◌, ℕ, suc, ◌+◌, ◌*◌, ◌^◌, ◌<◌, ◌≤◌, List, [], ◌∷◌, length, map, take, Bool, true, false, refl, ap, sym, ◌∙◌, arith, get_or, eqb, ◌++◌}
+use Rattle.std.specs.Prelude.{slice_get, Option, Some, None, is_some, not, max, ◌≢◌, ◌==◌, ◌&&◌, if◌then◌else◌}
 use Rattle.std.specs.List.{All, enumerate_from, filter, flat_map, range_with_len, sum_by}
 use Rattle.std.specs.Option.{option_map_or, option_and_then}
 use Rattle.std.proofs.lemmas.Nat.{mul-le}
 use Rattle.std.proofs.lemmas.List.FromFn.{length-range_with_len, length-enumerate_from}
 use Rattle.std.proofs.lemmas.List.Sums.{sum_by-le, sum_by-take-le, sum_by_more}
 use Rattle.std.proofs.lemmas.List.Elements.{Contains-append_left, Contains-append_right}
-use Rattle.std.proofs.lemmas.Bool.{eqb-true, eqb-false}
+use Rattle.std.proofs.lemmas.Bool.{eqb-true, eqb-false, and_parts, or_from}
 use Rattle.std.proofs.lemmas.Option.{slice_get-get_or}
 use Rattle.std.specs.Str.{bytes_eq}
+use Rattle.text_lines.proofs.ListLemmas.{few_pass}
 use Rattle.traces.proofs.NameLemmas.{same_bytes}
+use Rattle.traces.proofs.DistinctLemmas.{few_named}
 use Rattle.traces.specs.declared.operation.Op.{Op}
 use Rattle.traces.specs.Operation.{location_of}
 use Rattle.traces.specs.declared.trace.Process.{Process}
 use Rattle.traces.specs.Judgement.{is_held}
 use Rattle.traces.specs.Locations.{distinct, holds_name}
 use Rattle.traces.specs.Trace.{TraceValue, IsTrace, IsOneEach, value_of, locations_of, location_count, operation_count}
-use Rattle.reducer.proofs.DistinctLemmas.{few_named}
 use Rattle.var_layout.specs.declared.candidate.Candidate.{Candidate}
 use Rattle.var_layout.specs.declared.candidate.Choice.{Choice}
 use Rattle.var_layout.specs.declared.candidate.Candidate.TheVariants.{Writer}
@@ -31,24 +32,16 @@ use Rattle.var_layout.specs.Tables.{OpTableValue, op_table, FinalTableValue, fin
 use Rattle.var_layout.proofs.ListLemmas.{sum_more}
 use Rattle.var_layout.proofs.OrderLemmas.{order_small}
 
-filter_step : {A : Type 0} (b : Bool) (x : A) (kept : List A) (n : ℕ) → length kept ≤ n → length (cond b (x ∷ kept) kept) ≤ suc n
-filter_step true x kept n h = omega (arith, h)
-filter_step false x kept n h = omega (arith, h)
-
-pub filter_few : {A : Type 0} (p : A → Bool) (xs : List A) → length (filter p xs) ≤ length xs
-filter_few p [] = omega arith
-filter_few p (x ∷ xs) = filter_step (p x) x (filter p xs) (length xs) (filter_few p xs)
-
 length_mapped : {A B : Type 0} (f : A → B) (xs : List A) → length (map f xs) ≡ length xs
 length_mapped f [] = refl
 length_mapped f (x ∷ xs) = ap suc (length_mapped f xs)
 
 pub few_writers : (t : TraceValue) (location : List ℕ) → length (writers t location) ≤ operation_count t
-few_writers t location = omega (arith, filter_few (λ i. is_some (left_at t location i)) (numbers t), length-range_with_len 0 (operation_count t))
+few_writers t location = omega (arith, few_pass (λ i. is_some (left_at t location i)) (numbers t), length-range_with_len 0 (operation_count t))
 
 few_others_of : (t : TraceValue) (i : ℕ) (o : Option Op) → length (option_map_or (λ (op : Op). others i (writers t (location_of op))) o []) ≤ operation_count t
 few_others_of t i None = omega arith
-few_others_of t i (Some op) = omega (arith, filter_few (λ x. not (x == i)) (writers t (location_of op)), few_writers t (location_of op))
+few_others_of t i (Some op) = omega (arith, few_pass (λ x. not (x == i)) (writers t (location_of op)), few_writers t (location_of op))
 
 pub few_others : (t : TraceValue) (i : ℕ) → length (other_writers t i) ≤ operation_count t
 few_others t i = few_others_of t i (op_at t i)
@@ -58,7 +51,7 @@ few_sources t r = omega (arith, few_others t r, length_mapped Writer (other_writ
 
 few_candidates_of : (t : TraceValue) (r : ℕ) (o : Option Op) → length (option_map_or (λ (op : Op). filter (is_candidate t op) (sources t r)) o []) ≤ operation_count t + 1
 few_candidates_of t r None = omega arith
-few_candidates_of t r (Some op) = omega (arith, filter_few (is_candidate t op) (sources t r), few_sources t r)
+few_candidates_of t r (Some op) = omega (arith, few_pass (is_candidate t op) (sources t r), few_sources t r)
 
 pub few_candidates : (t : TraceValue) (r : ℕ) → length (candidates t r) ≤ operation_count t + 1
 few_candidates t r = few_candidates_of t r (op_at t r)
@@ -119,15 +112,11 @@ other_bytes : (x a : List ℕ) (b : Bool) → bytes_eq x a ≡ b → a ≢ x →
 other_bytes x a true e apart = absurd (apart (sym (same_bytes x a e)))
 other_bytes x a false e apart = refl
 
-or_false : (a b : Bool) → a ≡ false → b ≡ false → (a || b) ≡ false
-or_false true b h k = h
-or_false false b h k = k
-
 -- the names of values at different locations are as many as these
 none_among : (a : List ℕ) (values : List (List ℕ × ℕ)) → All (λ (y : List ℕ × ℕ). a ≢ y.0) values → holds_name (map (λ (entry : List ℕ × ℕ). entry.0) values) a ≡ false
 none_among a [] apart = refl
 none_among a (y ∷ values) apart =
-    or_false (bytes_eq y.0 a) (holds_name (map (λ (entry : List ℕ × ℕ). entry.0) values) a) (other_bytes y.0 a (bytes_eq y.0 a) refl (apart 0 y (omega arith)))
+    or_from (bytes_eq y.0 a) (holds_name (map (λ (entry : List ℕ × ℕ). entry.0) values) a) (other_bytes y.0 a (bytes_eq y.0 a) refl (apart 0 y (omega arith)))
     (none_among a values (λ k d l. apart (suc k) d (omega arith)))
 
 one_each_counted : (values : List (List ℕ × ℕ)) → IsOneEach values → length (distinct (map (λ (entry : List ℕ × ℕ). entry.0) values)) ≡ length values
@@ -145,7 +134,7 @@ few_finals t ok =
     omega (arith, few, one_each_counted t.final_values ok.final_values, ok.few_locations)
 
 pub few_leavers : (t : TraceValue) (entry : List ℕ × ℕ) → length (final_candidates t entry) ≤ operation_count t
-few_leavers t entry = omega (arith, filter_few (λ w. is_held (left_at t entry.0 w) entry.1) (writers t entry.0), few_writers t entry.0)
+few_leavers t entry = omega (arith, few_pass (λ w. is_held (left_at t entry.0 w) entry.1) (writers t entry.0), few_writers t entry.0)
 
 at_most_max : (u : Bool) (m : ℕ) → m ≤ 160 → (if u then 0 else max 1 m) ≤ 160
 at_most_max true m h = omega arith
@@ -175,7 +164,7 @@ few_variables t ok few = in_all (order_count (operation_count t)) (all_choices t
 pub finals_fit : (t : TraceValue) (k first : ℕ) (entry : List ℕ × ℕ) → IsTrace t → operation_count t ≤ 160 → first ≡ first_final t k → first + length (final_candidates t entry) < 2 ^ 32
 finals_fit t k first entry ok few e = omega (arith, few_first_final t k ok few, few_leavers t entry, e)
 
-length_finals : (t : TraceValue) (k : ℕ) (entry : List ℕ × ℕ) → length (final_choices t k entry) ≡ length (final_candidates t entry)
+pub length_finals : (t : TraceValue) (k : ℕ) (entry : List ℕ × ℕ) → length (final_choices t k entry) ≡ length (final_candidates t entry)
 length_finals t k entry =
     let choice : ℕ × ℕ → FinalChoice = λ numbered. record { writer = numbered.1; variable = numbered.0 } in
     length_mapped choice (enumerate_from (first_final t k) (final_candidates t entry)) ∙ length-enumerate_from (first_final t k) (final_candidates t entry)
@@ -185,17 +174,13 @@ few_in_final t k entry table e few =
     let same : length table.choices ≡ length (final_candidates t entry) = ap (λ (x : FinalTableValue). length x.choices) e ∙ length_finals t k entry in
     omega (arith, same, few_leavers t entry)
 
-pub and_left : (a b : Bool) → (a && b) ≡ true → a ≡ true
-and_left true b h = refl
-and_left false b h = absurd (cc)
-
 count_plain : (u z : Bool) (n f : ℕ) → eqb n 0 ≡ z → (u ≡ true → n ≡ 0) → (if is_some (if not u && z then Some f else None) then 1 else n) ≡ (if u then 0 else max 1 n)
 count_plain true z n f e h = h refl
 count_plain false true n f e h = omega (arith, eqb-true n 0 e)
 count_plain false false n f e h = omega (arith, eqb-false n 0 e)
 
 pub none_left : (p : ℕ → Bool) (ws : List ℕ) (held : Bool) → (eqb (length ws) 0 && held) ≡ true → length (filter p ws) ≡ 0
-none_left p ws held e = omega (arith, filter_few p ws, eqb-true (length ws) 0 (and_left (eqb (length ws) 0) held e))
+none_left p ws held e = omega (arith, few_pass p ws, eqb-true (length ws) 0 (and_parts (eqb (length ws) 0) held e).0)
 
 count_in_final : (t : TraceValue) (k : ℕ) (entry : List ℕ × ℕ) (table : FinalTableValue) → table ≡ final_table_of t k entry → (if is_some table.void then 1 else length table.choices) ≡ final_count t entry
 count_in_final t k entry table e =

@@ -1,19 +1,19 @@
 -- Two operations are in conflict exactly where one of them is among the writers of the other's location.
-use Rattle.std.proofs.Common.{◌≡◌, ℕ, zero, suc, ◌+◌, ◌<◌, ◌≤◌, List, [], ◌∷◌, Bool, true, false, cond, not, eqb, refl, ap, sym, ◌∙◌, arith}
+use Rattle.std.proofs.Common.{◌≡◌, ℕ, zero, suc, ◌+◌, ◌<◌, ◌≤◌, List, [], Bool, true, false, not, refl, ap, sym, ◌∙◌, arith}
 use Rattle.std.specs.Prelude.{◌≢◌, ◌&&◌, ◌||◌, ◌==◌, if◌then◌else◌, Option, Some, None, is_some}
 use Rattle.std.specs.List.{filter, list_any, range_with_len}
 use Rattle.std.specs.Option.{option_and_then, option_map_or}
 use Rattle.std.specs.Str.{bytes_eq}
-use Rattle.std.proofs.lemmas.Bool.{cases_Bool, eq-eqb}
+use Rattle.std.proofs.lemmas.Bool.{eq-eqb}
 use Rattle.std.proofs.lemmas.Bool.Decides.{nat_tests}
-use Rattle.std.proofs.lemmas.Slice.Eq.{bytes_eq-Decides}
 use Rattle.std.proofs.lemmas.Map.Views.{any-filter_same}
 use Rattle.traces.specs.declared.operation.Op.{Op}
 use Rattle.traces.specs.declared.operation.OpName.{OpName}
 use Rattle.traces.specs.Operation.{location_of, value_left}
 use Rattle.traces.specs.Trace.{TraceValue, operation_at, operation_count}
 use Rattle.traces.specs.ValueAfter.{value_left_at}
-use Rattle.var_layout.specs.Numbers.{in_one_process, name_at, left_at, numbers, op_at, others, other_writers, writers}
+use Rattle.traces.proofs.NameLemmas.{bytes_turned}
+use Rattle.var_layout.specs.Numbers.{in_one_process, name_at, left_at, op_at, others, other_writers, writers}
 use Rattle.var_layout.specs.Split.{are_in_conflict, is_split}
 
 same_number : (w j : ℕ) → (w == j) ≡ true → w ≡ j
@@ -65,15 +65,6 @@ written_by t i j apart within (Some op) e =
     ap (λ o. list_any (λ w. w == j) (option_map_or (λ (op : Op). others i (writers t (location_of op))) o [])) e
     ∙ among_others (λ k. is_some (left_at t (location_of op) k)) (operation_count t) i j apart within
     ∙ ap is_some (left_is t (location_of op) j)
-
-bytes_turned : (xs ys : List ℕ) → bytes_eq xs ys ≡ bytes_eq ys xs
-bytes_turned xs ys = at (bytes_eq xs ys) (bytes_eq ys xs) refl refl
-  where
-    at : (a b : Bool) → bytes_eq xs ys ≡ a → bytes_eq ys xs ≡ b → a ≡ b
-    at true true e f = refl
-    at false false e f = refl
-    at true false e f = sym ((bytes_eq-Decides ys xs).1 (sym ((bytes_eq-Decides xs ys).0 e))) ∙ f
-    at false true e f = sym e ∙ (bytes_eq-Decides xs ys).1 (sym ((bytes_eq-Decides ys xs).0 f))
 
 conflict_of : (first second : Option Op) →
     are_in_conflict first second ≡ (option_map_or (λ (op : Op). is_some (option_and_then (left_by (location_of op)) second)) first false || option_map_or (λ (op : Op). is_some (option_and_then (left_by (location_of op)) first)) second false)

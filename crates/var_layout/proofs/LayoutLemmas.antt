@@ -20,7 +20,7 @@ use Rattle.var_layout.specs.ChoiceVariables.{first_choice, choices, void_choice}
 use Rattle.var_layout.specs.FinalVariables.{final_choices, finals, void_of, void_final}
 use Rattle.var_layout.specs.Numbers.{numbers, name_at, op_at, read_at, writers, others, other_writers, share_process, in_one_process}
 use Rattle.var_layout.specs.Tables.{OpTableValue, leader_of, leader_at, op_table, FinalTableValue, final_writers, final_table}
-use Rattle.var_layout.proofs.NumberLemmas.{names_counted}
+use Rattle.var_layout.proofs.NumberLemmas.{names_counted, name_here}
 
 -- a place in a list of numbers
 number_at : (n i : ℕ) → i < n → slice_get (range_with_len 0 n) i ≡ Some i
@@ -35,9 +35,6 @@ made_past f n i l = slice_get-map f (range_with_len 0 n) i ∙ ap (option_map f)
 -- past the last operation there is nothing
 name_past : (t : TraceValue) (i : ℕ) → operation_count t ≤ i → name_at t i ≡ None
 name_past t i l = slice_get_past (operation_names t) i (omega (arith, l, names_counted t))
-
-name_here : (t : TraceValue) (i : ℕ) → i < operation_count t → (n : OpName) × (name_at t i ≡ Some n)
-name_here t i l = let d : OpName = record { process = []; place = 0 } in (get_or (operation_names t) i d, slice_get-get_or (operation_names t) i d (omega (arith, l, names_counted t)))
 
 op_past : (t : TraceValue) (i : ℕ) → operation_count t ≤ i → op_at t i ≡ None
 op_past t i l = ap (option_and_then (operation_at t)) (name_past t i l)

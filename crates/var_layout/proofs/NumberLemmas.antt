@@ -1,5 +1,5 @@
 -- The number of an operation that has a name.
-use Rattle.std.proofs.Common.{◌≡◌, ◌<◌, ◌≤◌, ℕ, [], length, get_or, Bool, true, false, refl, ap, sym, ◌∙◌, arith}
+use Rattle.std.proofs.Common.{◌≡◌, ◌<◌, ◌≤◌, ℕ, [], length, get_or, true, false, refl, ap, sym, ◌∙◌, arith}
 use Rattle.std.specs.Prelude.{◌≢◌, Some, IsSome}
 use Rattle.std.specs.List.{Contains, find, slice_get}
 use Rattle.std.proofs.lemmas.List.{length-map}
@@ -11,7 +11,7 @@ use Rattle.traces.specs.declared.operation.OpName.{OpName}
 use Rattle.traces.specs.Judgement.{is_the_op}
 use Rattle.traces.specs.Operation.{same_op}
 use Rattle.traces.specs.Trace.{TraceValue, IsTrace, operation_at, operation_names, operation_count}
-use Rattle.traces.proofs.NameLemmas.{same_name, name_same, known_listed}
+use Rattle.traces.proofs.NameLemmas.{same_name, name_same, known_listed, name_turned}
 use Rattle.traces.proofs.ElementLemmas.{finds}
 use Rattle.var_layout.specs.Numbered.{NumberedOp, numbered}
 use Rattle.var_layout.specs.Numbers.{name_at, number_of}
@@ -20,19 +20,14 @@ use Rattle.var_layout.proofs.NumberingLemmas.{counted, names_of}
 pub names_counted : (t : TraceValue) → length (operation_names t) ≡ operation_count t
 names_counted t = ap length (sym (names_of t.processes)) ∙ length-map (numbered t) (λ (x : NumberedOp). x.name) ∙ counted t
 
-pub same_swapped : (m n : OpName) → same_op m n ≡ same_op n m
-same_swapped m n = at (same_op m n) (same_op n m) refl refl
-  where
-    at : (b c : Bool) → same_op m n ≡ b → same_op n m ≡ c → b ≡ c
-    at true true e f = refl
-    at false false e f = refl
-    at true false e f = sym (name_same n m (sym (same_name m n e))) ∙ f
-    at false true e f = sym e ∙ name_same m n (sym (same_name n m f))
-
 name_within : (t : TraceValue) (n d : OpName) (k : ℕ) → k < operation_count t → same_op n (get_or (operation_names t) k d) ≡ is_the_op (name_at t k) n
 name_within t n d k l =
     let within : k < length (operation_names t) = omega (arith, l, names_counted t) in
-    same_swapped n (get_or (operation_names t) k d) ∙ ap (λ o. is_the_op o n) (sym (slice_get-get_or (operation_names t) k d within))
+    name_turned n (get_or (operation_names t) k d) ∙ ap (λ o. is_the_op o n) (sym (slice_get-get_or (operation_names t) k d within))
+
+-- an operation's number has a name
+pub name_here : (t : TraceValue) (i : ℕ) → i < operation_count t → (n : OpName) × (name_at t i ≡ Some n)
+name_here t i l = let d : OpName = record { process = []; place = 0 } in (get_or (operation_names t) i d, slice_get-get_or (operation_names t) i d (omega (arith, l, names_counted t)))
 
 -- the first operation of this name
 pub number_here : (t : TraceValue) (n : OpName) (i : ℕ) → i ≤ operation_count t → ((k : ℕ) → k < i → is_the_op (name_at t k) n ≡ false) → (i < operation_count t → is_the_op (name_at t i) n ≡ true) → i ≡ number_of t n

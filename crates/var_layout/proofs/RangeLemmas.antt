@@ -17,3 +17,14 @@ range_next a n m j more last = ap (range_with_len a) more ∙ range_more a n ∙
 pub filter_range_more : (p : ℕ → Bool) (k : ℕ) (b : Bool) → p k ≡ b → filter p (range_with_len 0 (k + 1)) ≡ filter p (range_with_len 0 k) ++ cond b (k ∷ []) []
 filter_range_more p k b e =
     ap (filter p) (range_next 0 k (k + 1) k refl (omega arith)) ∙ filter-append p (range_with_len 0 k) (k ∷ []) ∙ ap (λ h. filter p (range_with_len 0 k) ++ cond h (k ∷ []) []) e
+
+-- the numbers from a on, and those after them
+pub range_parted : (a k m : ℕ) → range_with_len a (k + m) ≡ range_with_len a k ++ range_with_len (a + k) m
+range_parted a zero m =
+    let none : 0 + m ≡ m = omega arith in
+    let here : a ≡ a + 0 = omega arith in
+    λ p. range_with_len (here p) (none p)
+range_parted a (suc k) m =
+    let more : suc k + m ≡ suc (k + m) = omega arith in
+    let behind : a + 1 + k ≡ a + suc k = omega arith in
+    ap (range_with_len a) more ∙ ap (λ l. a ∷ l) (range_parted (a + 1) k m ∙ ap (λ b. range_with_len (a + 1) k ++ range_with_len b m) behind)

@@ -1,5 +1,5 @@
 -- Split variables, by the first operation of the pair.
-use Rattle.std.proofs.Common.{◌≡◌, ◌≤◌, ◌+◌, ◌-◌, ℕ, zero, suc, List, [], ◌∷◌, ◌++◌, length, map, take, Bool, true, false, cond, refl, ap, sym, ◌∙◌, arith, append-nil}
+use Rattle.std.proofs.Common.{◌≡◌, ◌≤◌, ◌+◌, ◌-◌, ℕ, List, [], ◌∷◌, ◌++◌, length, map, take, Bool, true, false, cond, refl, ap, sym, ◌∙◌, arith, append-nil}
 use Rattle.std.specs.List.{filter, flat_map, range_with_len}
 use Rattle.std.proofs.lemmas.Grind.{flat_map-append}
 use Rattle.std.proofs.lemmas.List.{map-append, take-append-le}
@@ -7,7 +7,7 @@ use Rattle.std.proofs.lemmas.List.Elements.{filter-append}
 use Rattle.traces.specs.Trace.{TraceValue, operation_count}
 use Rattle.var_layout.specs.OrderVariables.{numbers_above, order_var}
 use Rattle.var_layout.specs.Split.{is_split, splits_among}
-use Rattle.var_layout.proofs.RangeLemmas.{range_next}
+use Rattle.var_layout.proofs.RangeLemmas.{range_next, range_parted}
 
 joined : (t : TraceValue) (xs ys : List (ℕ × ℕ)) → splits_among t (xs ++ ys) ≡ splits_among t xs ++ splits_among t ys
 joined t xs ys =
@@ -54,17 +54,6 @@ one_more_row t i =
     ap (λ l. splits_among t (flat_map row l)) (range_next 0 i (i + 1) i refl here)
     ∙ ap (splits_among t) (flat_map-append row (range_with_len 0 i) (i ∷ []) ∙ ap (λ l. flat_map row (range_with_len 0 i) ++ l) (append-nil (row i)))
     ∙ joined t (flat_map row (range_with_len 0 i)) (row i)
-
--- the numbers from a on, and those after them
-range_parted : (a k m : ℕ) → range_with_len a (k + m) ≡ range_with_len a k ++ range_with_len (a + k) m
-range_parted a zero m =
-    let none : 0 + m ≡ m = omega arith in
-    let here : a ≡ a + 0 = omega arith in
-    λ p. range_with_len (here p) (none p)
-range_parted a (suc k) m =
-    let more : suc k + m ≡ suc (k + m) = omega arith in
-    let behind : a + 1 + k ≡ a + suc k = omega arith in
-    ap (range_with_len a) more ∙ ap (λ l. a ∷ l) (range_parted (a + 1) k m ∙ ap (λ b. range_with_len (a + 1) k ++ range_with_len b m) behind)
 
 -- the first of them do not depend on the rows after, where those so far are enough
 pub enough_splits : (t : TraceValue) (i most : ℕ) → i ≤ operation_count t → most ≤ length (splits_below t i) → take most (splits_below t i) ≡ take most (splits_below t (operation_count t))

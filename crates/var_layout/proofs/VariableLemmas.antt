@@ -3,7 +3,7 @@ use Rattle.std.proofs.Common.{◌≡◌, ℕ, zero, suc, ◌+◌, ◌-◌, ◌<�
 use Rattle.std.specs.Prelude.{Option, Some, None, is_some, max, not, ◌==◌, ◌&&◌, ◌≢◌, if◌then◌else◌, slice_get}
 use Rattle.std.specs.List.{Contains, enumerate_from, filter, range_with_len, sum_by}
 use Rattle.std.specs.Option.{option_and_then, option_map_or}
-use Rattle.std.proofs.lemmas.Bool.{cases_lt}
+use Rattle.std.proofs.lemmas.Bool.{cases_lt, and_parts, not-true}
 use Rattle.std.proofs.lemmas.List.Sums.{sum_by-take-le}
 use Rattle.std.proofs.lemmas.Option.{slice_get_within, get_or_from_slice_get}
 use Rattle.dimacs.specs.Literal.{is_literal_up_to}
@@ -27,7 +27,7 @@ use Rattle.var_layout.specs.OrderVariables.{order_count, order_lit}
 use Rattle.var_layout.specs.Ranges.{IsVariable, HasLiterals}
 use Rattle.var_layout.specs.Tables.{final_writers}
 use Rattle.var_layout.specs.VoidVariables.{void_variable}
-use Rattle.var_layout.proofs.BoundLemmas.{and_left, next_choice, next_final, none_left}
+use Rattle.var_layout.proofs.BoundLemmas.{next_choice, next_final, none_left}
 use Rattle.var_layout.proofs.LayoutLemmas.{read_past}
 use Rattle.var_layout.proofs.ListLemmas.{sum_more}
 use Rattle.var_layout.proofs.NumberingLemmas.{at_enumerated}
@@ -83,7 +83,7 @@ candidate_of : (t : TraceValue) (r : ℕ) (o : Option Op) (c : Candidate) → Co
 candidate_of t r None c h = absurd (none_in c h)
 candidate_of t r (Some op) c h =
     let at = from_filter (is_candidate t op) (sources t r) c h in
-    (reads_some (value_from t (location_of op) c) (value_read op) (and_left (is_read (value_from t (location_of op) c) (value_read op)) (is_allowed t (origin_of op) c) at.1), at.0)
+    (reads_some (value_from t (location_of op) c) (value_read op) (and_parts (is_read (value_from t (location_of op) c) (value_read op)) (is_allowed t (origin_of op) c) at.1).0, at.0)
 
 some_writer : (w : ℕ) (ws : List ℕ) → Contains (InitialValue ∷ map (λ x. Writer x) ws) (Writer w) → Contains ws w
 some_writer w ws h =
@@ -142,7 +142,7 @@ picked false f v e = absurd (cc)
 void_choice_over : (t : TraceValue) (r v : ℕ) → void_choice t r ≡ Some v → IsVariable t v
 void_choice_over t r v e =
     let at = picked (is_some (read_at t r) && (length (candidates t r) == 0)) (first_choice t r) v e in
-    subst (IsVariable t) at.same (first_over t r (and_left (is_some (read_at t r)) (length (candidates t r) == 0) at.test))
+    subst (IsVariable t) at.same (first_over t r (and_parts (is_some (read_at t r)) (length (candidates t r) == 0) at.test).0)
 
 -- final values
 final_within : (t : TraceValue) (k j : ℕ) (entry : List ℕ × ℕ) → slice_get t.final_values k ≡ Some entry → j < final_count t entry → IsVariable t (first_final t k + j)
@@ -202,15 +202,11 @@ pub first_final_over : (t : TraceValue) (k : ℕ) (entry : List ℕ × ℕ) → 
 first_final_over t k entry e touched =
     subst (IsVariable t) (add-zero (first_final t k)) (final_within t k 0 entry e (one_at_least (is_untouched t entry) (length (final_candidates t entry)) touched))
 
-not_true : (b : Bool) → not b ≡ true → b ≡ false
-not_true true e = absurd (cc)
-not_true false e = refl
-
 void_final_at : (t : TraceValue) (k v : ℕ) (o : Option (List ℕ × ℕ)) → slice_get t.final_values k ≡ o → option_and_then (void_of t k) o ≡ Some v → IsVariable t v
 void_final_at t k v None e h = absurd (cc)
 void_final_at t k v (Some entry) e h =
     let at = picked (not (is_untouched t entry) && (length (final_candidates t entry) == 0)) (first_final t k) v h in
-    subst (IsVariable t) at.same (first_final_over t k entry e (not_true (is_untouched t entry) (and_left (not (is_untouched t entry)) (length (final_candidates t entry) == 0) at.test)))
+    subst (IsVariable t) at.same (first_final_over t k entry e (not-true (is_untouched t entry) (and_parts (not (is_untouched t entry)) (length (final_candidates t entry) == 0) at.test).0))
 
 pub void_over : (t : TraceValue) (chooser : Chooser) (v : ℕ) → void_variable t chooser ≡ Some v → IsVariable t v
 void_over t (Read r) v e = void_choice_over t r v e

@@ -15,8 +15,8 @@ writer_within t location w c =
     let at = from_range 0 (operation_count t) w (from_filter (λ i. is_some (left_at t location i)) (numbers t) w c).0 in
     omega (arith, at.1)
 
-other : (i : ℕ) (xs : List ℕ) (w : ℕ) → Contains (others i xs) w → Contains xs w × (w ≢ i)
-other i xs w c =
+pub from_others : (i : ℕ) (xs : List ℕ) (w : ℕ) → Contains (others i xs) w → Contains xs w × (w ≢ i)
+from_others i xs w c =
     let at = from_filter (λ x. not (eqb x i)) xs w c in
     (at.0, λ e. (let clash : false ≡ true = ap not (sym (eq-eqb w i e)) ∙ at.1 in absurd (cc)))
 
@@ -25,4 +25,4 @@ other_writer t i w c = at (op_at t i) c
   where
     at : (o : Option Op) → Contains (option_map_or (λ (op : Op). others i (writers t (location_of op))) o []) w → (w < operation_count t) × (w ≢ i)
     at None d = absurd (none_in w d)
-    at (Some op) d = let found = other i (writers t (location_of op)) w d in (writer_within t (location_of op) w found.0, found.1)
+    at (Some op) d = let found = from_others i (writers t (location_of op)) w d in (writer_within t (location_of op) w found.0, found.1)

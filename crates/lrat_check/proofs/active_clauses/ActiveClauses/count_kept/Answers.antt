@@ -1,9 +1,10 @@
 use Rattle.std.proofs.Common.{◌≡◌, ◌+◌, refl, length, arith, rules}
+use Rattle.text_lines.proofs.BoolLemmas.{hidden_none}
 use Rattle.lrat_check.specs.Active.{at_start}
 use Rattle.lrat_check.specs.ClauseAt.{kept_at}
 use Rattle.lrat_check.specs.Marks.{marked_at}
 use Rattle.lrat_check.proofs.ActiveLemmas.{nothing_at}
-use Rattle.lrat_check.proofs.KeptLemmas.{up_to_none, up_to_all, hidden_none}
+use Rattle.lrat_check.proofs.KeptLemmas.{up_to_none, up_to_all}
 use Rattle.lrat_check.proofs.active_clauses.ActiveClauses.count_kept.Goals as goal
 
 pub loop-place-init : goal.loop-place-init

@@ -1,5 +1,6 @@
--- Names that are all among others are no more, without regard to how often each stands there.
+-- How many different names there are: names that are all among others are no more.
 use Rattle.std.proofs.Common.{◌≡◌, ℕ, ◌+◌, ◌≤◌, List, [], ◌∷◌, length, Bool, true, false, cond, not, ◌||◌, refl, ap, sym, ◌∙◌, arith}
+use Rattle.std.proofs.lemmas.Bool.{both_ways, or_left, or_right}
 use Rattle.std.specs.Prelude.{if◌then◌else◌}
 use Rattle.std.specs.List.{Contains, filter}
 use Rattle.std.specs.Str.{bytes_eq}
@@ -11,12 +12,8 @@ use Rattle.traces.proofs.NameLemmas.{same_bytes, bytes_same}
 abbrev without : List ℕ → List (List ℕ) → List (List ℕ)
 without a names = filter (λ y. not (bytes_eq y a)) names
 
-no_clash : {A : Type 0} (b : Bool) → b ≡ true → b ≡ false → A
-no_clash true h k = absurd (cc)
-no_clash false h k = absurd (cc)
-
 differ : (z y a : List ℕ) (b : Bool) → bytes_eq z a ≡ true → bytes_eq y a ≡ false → bytes_eq z y ≡ b → b ≡ false
-differ z y a true h k e = no_clash (bytes_eq y a) (bytes_same y a (sym (same_bytes z y e) ∙ same_bytes z a h)) k
+differ z y a true h k e = absurd (both_ways (bytes_eq y a) k (bytes_same y a (sym (same_bytes z y e) ∙ same_bytes z a h)))
 differ z y a false h k e = refl
 
 holds_by : (z y a : List ℕ) (zs : List (List ℕ)) (b : Bool) → bytes_eq z a ≡ b → bytes_eq y a ≡ false → holds_name (without a zs) y ≡ holds_name zs y → holds_name (cond (not b) (z ∷ without a zs) (without a zs)) y ≡ (bytes_eq z y || holds_name zs y)
@@ -27,7 +24,7 @@ holds_without : (zs : List (List ℕ)) (y a : List ℕ) → bytes_eq y a ≡ fal
 holds_without [] y a k = refl
 holds_without (z ∷ zs) y a k = holds_by z y a zs (bytes_eq z a) refl k (holds_without zs y a k)
 
-length_chosen : (b : Bool) (name : List ℕ) (names : List (List ℕ)) → length (if b then names else name ∷ names) ≡ (if b then length names else length names + 1)
+pub length_chosen : (b : Bool) (name : List ℕ) (names : List (List ℕ)) → length (if b then names else name ∷ names) ≡ (if b then length names else length names + 1)
 length_chosen true name names = refl
 length_chosen false name names = omega arith
 
@@ -53,16 +50,8 @@ counted_without : (ys : List (List ℕ)) (a : List ℕ) → length (distinct (wi
 counted_without [] a = omega arith
 counted_without (y ∷ ys) a = counted_by y a ys (bytes_eq y a) refl (counted_without ys a)
 
-or_right : (a b : Bool) → b ≡ true → (a || b) ≡ true
-or_right true b h = refl
-or_right false b h = h
-
-or_left : (a b : Bool) → a ≡ true → (a || b) ≡ true
-or_left true b h = refl
-or_left false b h = absurd (cc)
-
 other_name : (xs : List (List ℕ)) (x q : List ℕ) (b : Bool) → holds_name xs x ≡ false → holds_name xs q ≡ true → bytes_eq q x ≡ b → b ≡ false
-other_name xs x q true n h e = no_clash (holds_name xs x) (ap (holds_name xs) (sym (same_bytes q x e)) ∙ h) n
+other_name xs x q true n h e = absurd (both_ways (holds_name xs x) n (ap (holds_name xs) (sym (same_bytes q x e)) ∙ h))
 other_name xs x q false n h e = refl
 
 few_by : (x : List ℕ) (xs ys : List (List ℕ)) (b : Bool) → holds_name xs x ≡ b → ((zs : List (List ℕ)) → ((q : List ℕ) → holds_name xs q ≡ true → holds_name zs q ≡ true) → length (distinct xs) ≤ length (distinct zs)) →
@@ -74,7 +63,8 @@ few_by x xs ys false e more h =
     let all : length (distinct (without x ys)) + 1 ≡ length (distinct ys) = ap (λ c. length (distinct (without x ys)) + cond c 1 0) (sym there) ∙ counted_without ys x in
     omega (arith, rest, all)
 
-few_within : (xs ys : List (List ℕ)) → ((q : List ℕ) → holds_name xs q ≡ true → holds_name ys q ≡ true) → length (distinct xs) ≤ length (distinct ys)
+-- without regard to how often each stands there
+pub few_within : (xs ys : List (List ℕ)) → ((q : List ℕ) → holds_name xs q ≡ true → holds_name ys q ≡ true) → length (distinct xs) ≤ length (distinct ys)
 few_within [] ys h = omega arith
 few_within (x ∷ xs) ys h = few_by x xs ys (holds_name xs x) refl (few_within xs) h
 
