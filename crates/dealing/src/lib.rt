@@ -8,8 +8,6 @@ mod hands;
 pub mod laws;
 mod machine;
 mod refused;
-#[cfg(test)]
-mod tests;
 
 pub use event::Event;
 pub use given::Given;

@@ -1,5 +1,6 @@
 //! Lists of clauses, however they are kept: what the calls answer.
 
+use crate::expectations::{ample, expect};
 use crate::formulas::literals_of;
 use crate::traces_of_texts::{HAND_OFF, STORE_BUFFERING, reduced_of};
 use clause_blocks::formula::formula;
@@ -7,7 +8,6 @@ use clause_blocks::trace_clauses::TraceClauses;
 use dimacs::{Assignment, Clause, ClauseList, FirstFalse, Formula, ListedClause, Lit};
 use std::alloc::Global;
 use std::process::Abort;
-use std::test::Fail;
 
 /// A formula that is evaluated clause by clause, as a list that writes no `eval` of its own is.
 #[derive(Drop)]
@@ -35,38 +35,35 @@ impl ClauseList for PlainList {
     }
 }
 
-/// Asserts what a list of the two clauses of the hand-off answers.
-fn assert_answers<F: ClauseList>(rt: &impl Abort, alloc: Global, list: &F) -> Result<(), Fail> {
-    assert_eq!(rt; list.variables(), 2);
-    assert_eq!(rt; list.count(), 2);
-    list.is_formula();
-    let cases: [(&[bool], Option<usize>); 4] = [
-        (&[true, true], None),
-        (&[false, true], Some(2)),
-        (&[true, false], Some(1)),
-        (&[], Some(1)),
-    ];
-    for (values, first) in cases {
-        let assignment = Assignment::new(Vec::from_slice(alloc, values)?);
-        let found = match list.eval(&assignment) {
-            Ok(()) => None,
-            Err(FirstFalse { clause }) => Some(clause),
-        };
-        assert_eq!(rt; found, first);
+/// The number of the first clause that the truth values of the variables 1, 2 and so on make false, or 0.
+fn first_false<F: ClauseList>(rt: &impl Abort, alloc: Global, list: &F, values: &[bool]) -> usize {
+    let assignment = Assignment::new(ample(rt, Vec::from_slice(alloc, values)));
+    match list.eval(&assignment) {
+        Ok(()) => 0,
+        Err(FirstFalse { clause }) => clause,
     }
-    Ok(())
+}
+
+/// Asserts what a list of the two clauses of the hand-off answers.
+fn assert_answers<F: ClauseList>(rt: &impl Abort, alloc: Global, list: &F) {
+    list.is_formula();
+    assert!(rt; list.variables() == 2 && list.count() == 2);
+    assert!(rt; first_false(rt, alloc, list, &[true, true]) == 0);
+    assert!(rt; first_false(rt, alloc, list, &[false, true]) == 2);
+    assert!(rt; first_false(rt, alloc, list, &[true, false]) == 1);
+    assert!(rt; first_false(rt, alloc, list, &[]) == 1);
 }
 
 #[test]
-fn answers_however_it_is_kept(rt: HostRuntime) -> Result<(), Fail> {
+fn answers_however_it_is_kept(rt: HostRuntime) {
     let reduced = reduced_of(&rt, rt.alloc(), HAND_OFF);
-    assert_answers(&rt, rt.alloc(), &TraceClauses::of(rt.alloc(), &reduced)?)?;
+    let clauses = ample(&rt, TraceClauses::of(rt.alloc(), &reduced));
+    assert_answers(&rt, rt.alloc(), &clauses);
     for workers in [1, 2, 8] {
-        let formula = formula(rt.alloc(), &rt, &reduced, workers)?;
-        assert_answers(&rt, rt.alloc(), &formula)?;
-        assert_answers(&rt, rt.alloc(), &PlainList { formula })?;
+        let formula = ample(&rt, formula(rt.alloc(), &rt, &reduced, workers));
+        assert_answers(&rt, rt.alloc(), &formula);
+        assert_answers(&rt, rt.alloc(), &PlainList { formula });
     }
-    Ok(())
 }
 
 /// The clauses of store buffering. Its four operations have the order variables 1 to 6, and its two reads 7 and 8.
@@ -88,22 +85,21 @@ const STORE_BUFFERING_CLAUSES: [&[i32]; 14] = [
 ];
 
 #[test]
-fn gives_each_clause_of_a_trace_by_its_number(rt: HostRuntime) -> Result<(), Fail> {
+fn gives_each_clause_of_a_trace_by_its_number(rt: HostRuntime) {
     let reduced = reduced_of(&rt, rt.alloc(), STORE_BUFFERING);
-    let list = TraceClauses::of(rt.alloc(), &reduced)?;
-    assert_eq!(rt; list.variables(), 8);
-    assert_eq!(rt; list.count(), STORE_BUFFERING_CLAUSES.len());
+    let list = ample(&rt, TraceClauses::of(rt.alloc(), &reduced));
+    assert!(rt; list.variables() == 8 && list.count() == STORE_BUFFERING_CLAUSES.len());
     for place in 0..list.count() {
         if let Some(expected) = STORE_BUFFERING_CLAUSES.get(place) {
-            let literals = literals_of(rt.alloc(), expected)?;
-            assert!(rt; list.clause(place).as_slice() == literals.as_slice());
+            let literals = literals_of(&rt, rt.alloc(), expected);
+            let is_right = list.clause(place).as_slice() == literals.as_slice();
+            expect(&rt, is_right, place);
         }
     }
-    Ok(())
 }
 
 #[test]
-fn makes_clauses_without_memory(rt: HostRuntime) -> Result<(), Fail> {
+fn makes_clauses_without_memory(rt: HostRuntime) {
     let [first, second, third] = [
         Lit::positive(7),
         Lit::positive(9).negated(),
@@ -115,5 +111,4 @@ fn makes_clauses_without_memory(rt: HostRuntime) -> Result<(), Fail> {
     assert!(rt; made.as_slice() == [first, second, third].as_slice());
     let clause = Clause::ternary(rt.alloc(), third, second, first);
     assert!(rt; ListedClause::lent(&clause).as_slice() == [third, second, first].as_slice());
-    Ok(())
 }

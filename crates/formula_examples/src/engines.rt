@@ -1,5 +1,6 @@
 //! The engines that translate, decode and check proofs, over devices that move few bytes a call or fail at one of their calls.
 
+use crate::expectations::expect;
 use crate::traces_of_texts::HAND_OFF;
 use dimacs::{MemorySink, ShortSink};
 use std::alloc::Global;
@@ -16,123 +17,158 @@ const CONTRADICTION: &str = "p cnf 1 2\n1 0\n-1 0\n";
 
 const PROOF: &str = "3 0 1 2 0\n";
 
+const SCHEDULE: &[u8] = b"P.1\nQ.1\n";
+
+const ACCEPTED: &[u8] = b"ACCEPTED\n";
+
 /// A source of the text that hands out a byte a call, and fails at this call. The call after the last byte tells the
 /// end.
 fn failing_at(text: &str, call: usize) -> ShortSource<'_> {
     ShortSource::new(text.as_bytes(), 1).failing_at(call as u64)
 }
 
-/// Asserts what the engine that decodes answers and writes.
+/// Asserts what becomes of the clause list of the hand-off where the sink fails at this call.
+fn assert_writes<R: Threads + Sync + Abort>(rt: &R, alloc: Global, call: usize, front: &[u8]) {
+    let mut source = ShortSource::new(HAND_OFF.as_bytes(), 1);
+    let mut sink = ShortSink::new(alloc, 1).failing_at(call as u64);
+    let outcome = run_cnf(alloc, rt, &mut source, 4, &mut sink);
+    expect(rt, outcome.is_ok() == (call > CNF.len()), call);
+    expect(
+        rt,
+        outcome == Ok(Status::Yes) || outcome == Err(Fault::Device),
+        call,
+    );
+    expect(rt, sink.as_slice() == front, call);
+}
+
+/// Asserts that nothing is written of the hand-off where the source fails at this call.
+fn assert_translates_nothing<R: Threads + Sync + Abort>(rt: &R, alloc: Global, call: usize) {
+    let mut source = failing_at(HAND_OFF, call);
+    let mut output = MemorySink::new(alloc);
+    let outcome = run_cnf(alloc, rt, &mut source, 4, &mut output);
+    expect(rt, outcome == Err(Fault::Device), call);
+    expect(rt, output.as_slice().is_empty(), call);
+}
+
+/// Asserts what the engine that decodes answers and writes: the schedule, or nothing where a device fails.
 fn assert_decodes<R: Threads + Sync + Abort>(
     rt: &R,
     alloc: Global,
     mut trace: ShortSource<'_>,
     mut model: ShortSource<'_>,
-    answer: Result<Status, Fault>,
-    text: &[u8],
+    is_well: bool,
+    number: usize,
 ) {
     let mut output = MemorySink::new(alloc);
     let outcome = run_decode(alloc, rt, &mut trace, &mut model, &mut output);
-    assert_eq!(rt; outcome, answer);
-    assert_eq!(rt; output.as_slice(), text);
+    expect(rt, outcome.is_ok() == is_well, number);
+    expect(
+        rt,
+        outcome == Ok(Status::Yes) || outcome == Err(Fault::Device),
+        number,
+    );
+    expect(
+        rt,
+        output.as_slice() == if is_well { SCHEDULE } else { b"" },
+        number,
+    );
 }
 
-/// Asserts what the engine that checks proofs answers and writes.
+/// Asserts what the engine that checks proofs answers and writes: its line, or nothing where a device fails.
 fn assert_checks(
     rt: &impl Abort,
     alloc: Global,
     mut cnf: ShortSource<'_>,
     mut proof: ShortSource<'_>,
-    answer: Result<Status, Fault>,
-    text: &[u8],
+    is_well: bool,
+    number: usize,
 ) {
     let mut output = MemorySink::new(alloc);
     let outcome = run_lrat(alloc, &mut cnf, &mut proof, &mut output);
-    assert_eq!(rt; outcome, answer);
-    assert_eq!(rt; output.as_slice(), text);
+    expect(rt, outcome.is_ok() == is_well, number);
+    expect(
+        rt,
+        outcome == Ok(Status::Yes) || outcome == Err(Fault::Device),
+        number,
+    );
+    expect(
+        rt,
+        output.as_slice() == if is_well { ACCEPTED } else { b"" },
+        number,
+    );
+}
+
+/// Asserts that the sink has a front of the schedule where it fails at this call.
+fn assert_front_of_schedule<R: Threads + Sync + Abort>(
+    rt: &R,
+    alloc: Global,
+    call: usize,
+    front: &[u8],
+) {
+    let mut trace = ShortSource::new(HAND_OFF.as_bytes(), 1);
+    let mut model = ShortSource::new(MODEL.as_bytes(), 1);
+    let mut sink = ShortSink::new(alloc, 1).failing_at(call as u64);
+    let outcome = run_decode(alloc, rt, &mut trace, &mut model, &mut sink);
+    expect(rt, outcome == Err(Fault::Device), call);
+    expect(rt, sink.as_slice() == front, call);
+}
+
+/// Asserts that the sink has a front of the line of an accepted proof where it fails at this call.
+fn assert_front_of_line(rt: &impl Abort, alloc: Global, call: usize, front: &[u8]) {
+    let mut cnf = ShortSource::new(CONTRADICTION.as_bytes(), 1);
+    let mut proof = ShortSource::new(PROOF.as_bytes(), 1);
+    let mut sink = ShortSink::new(alloc, 1).failing_at(call as u64);
+    let outcome = run_lrat(alloc, &mut cnf, &mut proof, &mut sink);
+    expect(rt, outcome == Err(Fault::Device), call);
+    expect(rt, sink.as_slice() == front, call);
 }
 
 #[test]
 fn writes_a_front_of_a_formula_where_the_sink_fails(rt: HostRuntime) {
     for call in 1..=CNF.len() + 1 {
-        let mut source = ShortSource::new(HAND_OFF.as_bytes(), 1);
-        let mut sink = ShortSink::new(rt.alloc(), 1).failing_at(call as u64);
-        let outcome = run_cnf(rt.alloc(), &rt, &mut source, 4, &mut sink);
-        let answer = if call <= CNF.len() {
-            Err(Fault::Device)
-        } else {
-            Ok(Status::Yes)
-        };
-        assert_eq!(rt; outcome, answer, "at {call}");
-        assert_eq!(rt; sink.as_slice(), &CNF[..call - 1], "at {call}");
+        assert_writes(&rt, rt.alloc(), call, &CNF[..call - 1]);
     }
 }
 
 #[test]
 fn translates_nothing_where_the_source_fails(rt: HostRuntime) {
     for call in 1..=HAND_OFF.len() + 1 {
-        let mut source = failing_at(HAND_OFF, call);
-        let mut output = MemorySink::new(rt.alloc());
-        let outcome = run_cnf(rt.alloc(), &rt, &mut source, 4, &mut output);
-        assert_eq!(rt; outcome, Err(Fault::Device), "at {call}");
-        assert!(rt; output.as_slice().is_empty(), "at {call}");
+        assert_translates_nothing(&rt, rt.alloc(), call);
     }
 }
 
 #[test]
 fn decodes_nothing_where_a_source_fails(rt: HostRuntime) {
-    let [last, behind] = [HAND_OFF.len() + 1, MODEL.len() + 1];
-    for call in 1..=last + 1 {
+    let behind = MODEL.len() + 2;
+    for call in 1..=HAND_OFF.len() + 1 {
         let trace = failing_at(HAND_OFF, call);
-        let model = failing_at(MODEL, if call > last { behind + 1 } else { 1 });
-        let (answer, text) = if call > last {
-            (Ok(Status::Yes), b"P.1\nQ.1\n".as_slice())
-        } else {
-            (Err(Fault::Device), b"".as_slice())
-        };
-        assert_decodes(&rt, rt.alloc(), trace, model, answer, text);
+        assert_decodes(&rt, rt.alloc(), trace, failing_at(MODEL, 1), false, call);
     }
     for call in 1..=behind {
-        let trace = ShortSource::new(HAND_OFF.as_bytes(), 7);
+        let trace = ShortSource::new(HAND_OFF.as_bytes(), 1);
         let model = failing_at(MODEL, call);
-        assert_decodes(&rt, rt.alloc(), trace, model, Err(Fault::Device), b"");
+        assert_decodes(&rt, rt.alloc(), trace, model, call == behind, call);
     }
 }
 
 #[test]
 fn accepts_nothing_where_a_source_fails(rt: HostRuntime) {
-    let [last, behind] = [CONTRADICTION.len() + 1, PROOF.len() + 1];
-    for call in 1..=last + 1 {
+    let behind = PROOF.len() + 2;
+    for call in 1..=CONTRADICTION.len() + 1 {
         let cnf = failing_at(CONTRADICTION, call);
-        let proof = failing_at(PROOF, if call > last { behind + 1 } else { 1 });
-        let (answer, text) = if call > last {
-            (Ok(Status::Yes), b"ACCEPTED\n".as_slice())
-        } else {
-            (Err(Fault::Device), b"".as_slice())
-        };
-        assert_checks(&rt, rt.alloc(), cnf, proof, answer, text);
+        assert_checks(&rt, rt.alloc(), cnf, failing_at(PROOF, 1), false, call);
     }
     for call in 1..=behind {
-        let cnf = ShortSource::new(CONTRADICTION.as_bytes(), 7);
+        let cnf = ShortSource::new(CONTRADICTION.as_bytes(), 1);
         let proof = failing_at(PROOF, call);
-        assert_checks(&rt, rt.alloc(), cnf, proof, Err(Fault::Device), b"");
+        assert_checks(&rt, rt.alloc(), cnf, proof, call == behind, call);
     }
 }
 
 #[test]
 fn writes_fronts_of_answers_where_the_sink_fails(rt: HostRuntime) {
-    for call in 1..=8usize {
-        let mut trace = ShortSource::new(HAND_OFF.as_bytes(), 1);
-        let mut model = ShortSource::new(MODEL.as_bytes(), 1);
-        let mut sink = ShortSink::new(rt.alloc(), 1).failing_at(call as u64);
-        let outcome = run_decode(rt.alloc(), &rt, &mut trace, &mut model, &mut sink);
-        assert_eq!(rt; outcome, Err(Fault::Device), "at {call}");
-        assert_eq!(rt; sink.as_slice(), &b"P.1\nQ.1\n"[..call - 1]);
-        let mut cnf = ShortSource::new(CONTRADICTION.as_bytes(), 1);
-        let mut proof = ShortSource::new(PROOF.as_bytes(), 1);
-        let mut sink = ShortSink::new(rt.alloc(), 1).failing_at(call as u64);
-        let outcome = run_lrat(rt.alloc(), &mut cnf, &mut proof, &mut sink);
-        assert_eq!(rt; outcome, Err(Fault::Device), "at {call}");
-        assert_eq!(rt; sink.as_slice(), &b"ACCEPTED\n"[..call - 1]);
+    for call in 1..=8 {
+        assert_front_of_schedule(&rt, rt.alloc(), call, &SCHEDULE[..call - 1]);
+        assert_front_of_line(&rt, rt.alloc(), call, &ACCEPTED[..call - 1]);
     }
 }

@@ -1,5 +1,6 @@
 //! The traces that the tests share.
 
+use crate::expectations::ample;
 use reducer::reduced::{Reduced, reduce};
 use std::alloc::Global;
 use std::process::Abort;
@@ -14,11 +15,6 @@ pub const STORE_BUFFERING: &str =
 
 /// The trace of this text, reduced.
 pub fn reduced_of(rt: &impl Abort, alloc: Global, text: &str) -> Reduced {
-    let Ok(trace) = read_trace(alloc, text.as_bytes()) else {
-        panic!(rt; "the trace is refused");
-    };
-    match reduce(alloc, &trace) {
-        Ok(reduced) => reduced,
-        Err(_) => panic!(rt; "the trace is not reduced"),
-    }
+    let trace = ample(rt, read_trace(alloc, text.as_bytes()));
+    ample(rt, reduce(alloc, &trace))
 }

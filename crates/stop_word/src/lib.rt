@@ -5,8 +5,6 @@
 pub mod laws;
 mod rule;
 mod seat;
-#[cfg(test)]
-mod tests;
 mod views;
 mod word;
 

@@ -1,9 +1,9 @@
 //! What no clause says: that a mark of one seat is seen by another, and that there is an answer with ample memory.
 ghost use Rattle.std.specs.Prelude.{◌≡◌, ◌+◌, IfOk};
 
-use crate::{StopSeat, StopWord};
 use std::test::Fail;
 use std::thread::join;
+use stop_word::{StopSeat, StopWord};
 
 /// A word with two seats.
 fn two_seats(rt: &HostRuntime) -> Result<(StopWord, StopSeat, StopSeat), Fail>

@@ -1,7 +1,7 @@
 //! What no clause says: that events are taken with ample memory, and that the clauses say what was meant.
 
-use crate::{Event, Machine, Refused};
 use cube_queue::Outcome;
+use dealing::{Event, Machine, Refused};
 use std::process::Abort;
 
 /// Asserts that the machine takes the event.
@@ -20,8 +20,8 @@ fn assert_refuses(
     let Err(found) = machine.step(event) else {
         panic!(rt; "the event is taken");
     };
-    assert_eq!(rt; found, refused);
-    assert_eq!(rt; found.number(), number);
+    assert!(rt; found == refused, "{number}");
+    assert!(rt; found.number() == number, "{number}");
 }
 
 #[test]
