@@ -41,3 +41,14 @@ module _ (t : TraceValue) (n m : ℕ) (long : n ≡ length (program_order t)) (c
   -- truth values that make transitivity true make the clauses up to its end true
   pub transitivity_too : (value : ℕ → Bool) → IsModel value (take n (clauses_of t)) → IsModel value (transitivity (operation_count t)) → IsModel value (take (n + m) (clauses_of t))
   transitivity_too value order circles = subst (IsModel value) (sym take_both) (all_append (makes_some value) (program_order t) (transitivity (operation_count t)) (subst (IsModel value) take_order order) circles)
+
+-- how many there are of each family, and of all
+pub all_counted : (t : TraceValue) (order circles reads finals pairs : ℕ) → order ≡ length (program_order t) → circles ≡ length (transitivity (operation_count t)) →
+    reads ≡ length (read_clauses t) → finals ≡ length (final_clauses t) → pairs ≡ length (before_clauses t) → order + circles + (reads + (finals + pairs)) ≡ length (clauses_of t)
+all_counted t order circles reads finals pairs a b c d e =
+    let all = ap length (clause_list t) in
+    let first = length-append (program_order t) (later_clauses t) in
+    let second = length-append (transitivity (operation_count t)) (read_clauses t ++ (final_clauses t ++ before_clauses t)) in
+    let third = length-append (read_clauses t) (final_clauses t ++ before_clauses t) in
+    let fourth = length-append (final_clauses t) (before_clauses t) in
+    omega (arith, a, b, c, d, e, all, first, second, third, fourth)

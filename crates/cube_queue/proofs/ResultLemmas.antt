@@ -8,14 +8,7 @@ use Rattle.std.proofs.lemmas.List.Elements.{Contains-append_cases, Contains-appe
 use Rattle.traces.proofs.ElementLemmas.{cases_in, head_in, none_in, to_map}
 use Rattle.cube_queue.specs.declared.job.Settled.{Settled}
 use Rattle.cube_queue.specs.declared.outcome.Outcome.TheVariants.{Skipped}
-use Rattle.cube_queue.specs.Models.{IsModelResult}
-use Rattle.cube_queue.specs.Results.{AreLeaves, AreResultsOf, HasModelBelow}
-
--- some result is a model within its cube
-pub record HasModel (clauses : List (List ℤ)) (results : List Settled) : Type 0 where
-  pub found : Settled
-  pub among : Contains results found
-  pub model : IsModelResult clauses found
+use Rattle.cube_queue.specs.Results.{AreLeaves, AreResultsOf, HasModel, HasModelBelow}
 
 -- The results have these tickets in this order, and their leaves' cubes. A leaf is skipped only where a lower one has a model,
 -- and where it is said that there is a model, there is one.
@@ -32,6 +25,23 @@ none_yet clauses cubes which = record {
   cubes_are = λ settled c. absurd (none_in settled c);
   skipped = λ settled c s. absurd (none_in settled c);
   known = λ e. absurd (let wrong : false ≡ true = e in cc);
+}
+
+-- more is known of the same results
+known_on : (clauses : List (List ℤ)) (results : List Settled) (has_model now : Bool) → (has_model ≡ true → HasModel clauses results) →
+    (IsTrue now → IsTrue has_model ⊎ HasModel clauses results) → now ≡ true → HasModel clauses results
+known_on clauses results has_model now known right e = elim (right e) [
+  | inl before ↦ known before
+  | inr seen ↦ seen
+]
+
+pub looked_at : (clauses cubes : List (List ℤ)) (tickets : List ℕ) (results : List Settled) (has_model now : Bool) →
+    AreUpTo clauses cubes tickets results has_model → (IsTrue now → IsTrue has_model ⊎ HasModel clauses results) → AreUpTo clauses cubes tickets results now
+looked_at clauses cubes tickets results has_model now so right = record {
+  tickets_are = so.tickets_are;
+  cubes_are = so.cubes_are;
+  skipped = so.skipped;
+  known = known_on clauses results has_model now so.known right;
 }
 
 -- elements of the front of a rising list are below the next one
@@ -70,14 +80,11 @@ module _
     its_cube : slice_get cubes new.ticket ≡ Some new.cube
     its_cube = ap (slice_get cubes) ticket ∙ there ∙ ap Some (sym cube_is)
 
-    known_on : (now : Bool) → (IsTrue now → IsTrue has_model ⊎ IsModelResult clauses new) → now ≡ true → HasModel clauses (results ++ new ∷ [])
-    known_on now right e = elim (right e) [
-      | inl before ↦ (let h = so.known before in record { found = h.found; among = Contains-append_left results (new ∷ []) h.found h.among; model = h.model })
-      | inr seen ↦ record { found = new; among = Contains-append_right results (new ∷ []) new (head_in new []); model = seen }
-    ]
+    still_known : has_model ≡ true → HasModel clauses (results ++ new ∷ [])
+    still_known e = let before = so.known e in record { found = before.found; among = Contains-append_left results (new ∷ []) before.found before.among; model = before.model }
 
-    pub one_more : (now : Bool) → (IsTrue now → IsTrue has_model ⊎ IsModelResult clauses new) → AreUpTo clauses cubes (take (k + 1) which) (results ++ new ∷ []) now
-    one_more now right =
+    pub one_more : AreUpTo clauses cubes (take (k + 1) which) (results ++ new ∷ []) has_model
+    one_more =
         let one : k + 1 ≡ suc k = omega arith in
         record {
           tickets_are =
@@ -100,7 +107,7 @@ module _
               | inr none ↦ absurd (none_in settled none)
             ]
           ];
-          known = known_on now right;
+          known = still_known;
         }
 
 -- all are settled

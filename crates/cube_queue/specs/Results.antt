@@ -10,6 +10,12 @@ pub record AreLeaves (cubes : List (List ℤ)) (which : List ℕ) : Type 0 where
   pub rising : AllPairs (λ x y. x < y) which
   pub each : (leaf : ℕ) → Contains which leaf → leaf < length cubes
 
+-- some result is a model of the clauses and makes its cube true
+pub record HasModel (clauses : List (List ℤ)) (results : List Settled) : Type 0 where
+  pub found : Settled
+  pub among : Contains results found
+  pub model : IsModelResult clauses found
+
 -- among the results is one of a lower leaf that is a model of the clauses and makes that leaf's cube true
 pub record HasModelBelow (clauses : List (List ℤ)) (results : List Settled) (leaf : ℕ) : Type 0 where
   pub lower : Settled

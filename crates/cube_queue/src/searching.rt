@@ -3,7 +3,7 @@ ghost use Rattle.std.specs.Prelude.{◌≡◌, ◌⊎◌, ◌<◌, length, IsTru
 ghost use Rattle.std.specs.List.{slice_get};
 ghost use Rattle.cube_queue.specs.declared.outcome.Outcome.TheVariants.{Skipped};
 ghost use Rattle.cube_queue.specs.Models.{IsModelResult};
-ghost use Rattle.cube_queue.specs.Results.{AreLeaves, AreResultsOf};
+ghost use Rattle.cube_queue.specs.Results.{AreLeaves, AreResultsOf, HasModel};
 ghost use Rattle.cube_tree.specs.CubeTree.{cubes_of};
 
 use crate::gate::Gate;
@@ -68,11 +68,21 @@ fn is_model_result<L: ClauseList>(formula: &L, settled: &Settled) -> bool
     }
 }
 
-/// Whether a model is known after this result: there was one before, or the result is one.
-fn knows_model<L: ClauseList>(formula: &L, known_before: bool, settled: &Settled) -> bool
-    ensures { IsTrue result → IsTrue known_before ⊎ IsModelResult (L.formula formula.now).clauses settled.now }
+/// Whether the last of the results is a model of the formula that makes its cube true.
+fn ends_in_model<L: ClauseList>(formula: &L, results: &[Settled]) -> bool
+    ensures { IsTrue result → HasModel (L.formula formula.now).clauses results.now }
 {
-    known_before || is_model_result(formula, settled)
+    match results.last() {
+        Some(settled) => is_model_result(formula, settled),
+        None => false,
+    }
+}
+
+/// Whether there is a model among the results: one was known before the last of them, or that is one.
+fn knows_model<L: ClauseList>(formula: &L, known_before: bool, results: &[Settled]) -> bool
+    ensures { IsTrue result → IsTrue known_before ⊎ HasModel (L.formula formula.now).clauses results.now }
+{
+    known_before || ends_in_model(formula, results)
 }
 
 /// The job of a leaf, where these are the cubes of all leaves.
@@ -107,10 +117,11 @@ pub fn search<R: Threads + Sync, L: ClauseList, G: Gate>(
     let mut results = Vec::with_capacity(alloc, which.len())?;
     let mut has_model = false;
     for leaf in which {
+        // What the last leaf says is not looked at here: no leaf comes after it that could be skipped.
+        has_model = knows_model(formula, has_model, results.as_slice());
         let job = job_of(alloc, cubes.as_slice(), *leaf);
         gate.before(0, *leaf);
         let settled = settle_job(alloc, formula, guide, job, options.budget(), has_model);
-        has_model = knows_model(formula, has_model, &settled);
         results.push(settled)?;
         gate.after(0, *leaf);
     }
