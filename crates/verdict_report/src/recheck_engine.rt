@@ -40,17 +40,19 @@ pub fn run_recheck<R: Threads + Sync, T: Source, C: Source, W: Sink>(
         result }
     ensures sound { OnOk result (HandsOutUnschedulable (source_run T.handed_out T.is_at_end T.failures trace.old trace.new)) }
 {
-    let texts = read_two(alloc, trace, cert)?;
-    let count = recheck_texts(alloc, texts.0.as_slice(), texts.1.as_slice())?;
+    let (trace_text, cert_text) = read_two(alloc, trace, cert)?;
+    let count = recheck_texts(alloc, trace_text.as_slice(), cert_text)?;
     write_count(alloc, count, out)
 }
 
-/// Of how many cubes the certificate is that the second text spells, and that refutes the trace of the first.
-fn recheck_texts(alloc: Global, trace_text: &[u8], cert_text: &[u8]) -> Result<u32, Fault>
-    ensures { IsSaidOfCertificate trace_text.now cert_text.now result }
+/// Of how many cubes the certificate is that the second text spells, and that refutes the trace of the first. The second text, which
+/// may be long, is dropped as soon as it was read.
+fn recheck_texts(alloc: Global, trace_text: &[u8], cert_text: Vec<u8>) -> Result<u32, Fault>
+    ensures { IsSaidOfCertificate trace_text.now cert_text.items result }
 {
     let trace = read_trace(alloc, trace_text)?;
-    let certificate = read_cert(alloc, cert_text)?;
+    let certificate = read_cert(alloc, cert_text.as_slice())?;
+    drop(cert_text);
     let reduced = reduce(alloc, &trace)?;
     recheck_reduced(alloc, &reduced, &certificate)
 }
