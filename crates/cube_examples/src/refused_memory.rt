@@ -163,7 +163,8 @@ fn a_cube_without_memory_stays_open(rt: HostRuntime) -> Result<(), Fail> {
 }
 
 /// A certificate of store buffering, as it is written.
-const CERTIFICATE: &str = "vsc-cert 1\nsplit 3\nleaf\nleaf\nproof 0\n16 -1 0 13 14 15 0\n0 d 1 2 0\n17 0 13 14 15 0\nend\nproof 1\n16 0 1 2 11 12 3 7 15 0\nend\n";
+const CERTIFICATE: &str =
+    "vsc-cert 1\nsplit 3\nleaf\nleaf\nproof 0\n16 -1 0 13 14 15 0\n0 d 1 2 0\n17 0 13 14 15 0\nend\nproof 1\n16 0 1 2 11 12 3 7 15 0\nend\n";
 
 /// The derivation, written and read again.
 fn copied(alloc: Global, derivation: &Derivation) -> Result<Derivation, Fail> {
@@ -192,18 +193,18 @@ fn a_certificate_is_checked_and_written_again_byte_for_byte(rt: HostRuntime) -> 
         Ok(count) => assert_eq!(&rt; count, 2),
         Err(fault) => assert!(&rt; fault == Fault::OutOfMemory),
     }
-    assert!(&rt; recheck(alloc, &formula, &certificate).ok().ok_or("nothing is checked")? == 2);
+    assert!(&rt;
+        recheck(alloc, &formula, &certificate)
+            .ok()
+            .ok_or("nothing is checked")?
+            == 2
+    );
     let mut derivations = Vec::new(alloc);
     for section in certificate.sections.as_slice() {
         derivations.push(copied(alloc, &section.derivation)?)?;
     }
     let mut sink = MemorySink::new(alloc);
-    let written = write_cert(
-        alloc,
-        &certificate.tree,
-        derivations.as_slice(),
-        &mut sink,
-    );
+    let written = write_cert(alloc, &certificate.tree, derivations.as_slice(), &mut sink);
     assert!(&rt; text.starts_with(sink.as_slice()));
     match written {
         Ok(()) => assert_eq!(&rt; sink.as_slice().len(), text.len()),
