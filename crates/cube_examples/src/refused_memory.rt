@@ -3,9 +3,14 @@
 
 use crate::answers::{Says, result_of};
 use crate::texts::{STORE_BUFFERING, literals_of};
+use certificate::{read_cert, recheck, write_cert};
 use cnf_reader::read_cnf;
 use cube_queue::{OpenGate, Options, Outcome, search};
 use cube_tree::{Tree, cubes, grow, read_tree, split_leaf, write_tree};
+use dimacs::MemorySink;
+use lrat_check::derivation::Derivation;
+use lrat_check::lrat_reader::read_lrat;
+use lrat_check::lrat_writer::write_lrat;
 use reducer::reduced::reduce;
 use result_ledger::{Ledger, Verdict, split_tree_splits_a_cube};
 use solver::Guide;
@@ -154,5 +159,56 @@ fn a_cube_without_memory_stays_open(rt: HostRuntime) -> Result<(), Fail> {
         Verdict::Consistent(_, _) => false,
     };
     assert!(&rt; is_right);
+    Ok(())
+}
+
+/// A certificate of store buffering, as it is written.
+const CERTIFICATE: &str =
+    "vsc-cert 1\nsplit 3\nleaf\nleaf\nproof 0\n16 -1 0 13 14 15 0\n0 d 1 2 0\n17 0 13 14 15 0\nend\nproof 1\n16 0 1 2 11 12 3 7 15 0\nend\n";
+
+/// The derivation, written and read again.
+fn copied(alloc: Global, derivation: &Derivation) -> Result<Derivation, Fail> {
+    let text = write_lrat(alloc, derivation)?;
+    let copy = read_lrat(alloc, text.as_slice())
+        .ok()
+        .ok_or("no derivation is read")?;
+    Ok(copy)
+}
+
+#[test]
+fn a_certificate_is_checked_and_written_again_byte_for_byte(rt: HostRuntime) -> Result<(), Fail> {
+    let alloc = rt.alloc();
+    let text = CERTIFICATE.as_bytes();
+    let certificate = match read_cert(alloc, text) {
+        Ok(certificate) => certificate,
+        Err(fault) => {
+            assert!(&rt; fault == Fault::OutOfMemory);
+            read_cert(alloc, text).ok().ok_or("no certificate is read")?
+        }
+    };
+    let formula = read_cnf(alloc, STORE_BUFFERING.as_bytes())
+        .ok()
+        .ok_or("no formula is read")?;
+    match recheck(alloc, &formula, &certificate) {
+        Ok(count) => assert_eq!(&rt; count, 2),
+        Err(fault) => assert!(&rt; fault == Fault::OutOfMemory),
+    }
+    assert!(&rt;
+        recheck(alloc, &formula, &certificate)
+            .ok()
+            .ok_or("nothing is checked")?
+            == 2
+    );
+    let mut derivations = Vec::new(alloc);
+    for section in certificate.sections.as_slice() {
+        derivations.push(copied(alloc, &section.derivation)?)?;
+    }
+    let mut sink = MemorySink::new(alloc);
+    let written = write_cert(alloc, &certificate.tree, derivations.as_slice(), &mut sink);
+    assert!(&rt; text.starts_with(sink.as_slice()));
+    match written {
+        Ok(()) => assert_eq!(&rt; sink.as_slice().len(), text.len()),
+        Err(_) => return Err(Fail::from("the certificate is not written")),
+    }
     Ok(())
 }

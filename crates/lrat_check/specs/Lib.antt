@@ -4,6 +4,7 @@ pub mod ClauseAt
 pub mod Counted
 pub mod Counts
 pub mod Derivation
+pub mod HintNumbers
 pub mod Hints
 pub mod Justified
 pub mod ListFault

@@ -46,6 +46,7 @@ fn take_step<'a, F: ClauseList>(
             if active.clauses.contains(formula, *id) {
                 return Err(Refusal::At(StepFault::IdInUse, number));
             }
+            let hints = hints.to_vec(alloc)?;
             justify(
                 alloc,
                 formula,

@@ -14,7 +14,7 @@ pub mod laws;
 mod literal_counts;
 pub mod lrat_fault;
 pub mod lrat_laws;
-mod lrat_number;
+pub mod lrat_number;
 pub mod lrat_reader;
 pub mod lrat_writer;
 mod marks;

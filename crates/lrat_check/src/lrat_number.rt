@@ -3,7 +3,7 @@
 ghost use Rattle.std.specs.Prelude.{◌≡◌, ◌≤◌, ℤ, pos, nat_abs, Some, None, IsTrue, MatchOption, MatchResult};
 ghost use Rattle.dimacs.specs.Literal.{is_literal};
 ghost use Rattle.lrat_check.specs.LratFaults.{literal_fault, hint_fault, id_fault, first_fault};
-ghost use Rattle.lrat_check.specs.LratText.{is_id_number, most_id};
+ghost use Rattle.lrat_check.specs.LratText.{is_id, is_id_number, most_id};
 ghost use Rattle.text_lines.specs.Numbers.{solver_number};
 
 use crate::lrat_fault::LratCause;
@@ -12,6 +12,20 @@ use text_lines::numbers::{SolverNumber, read_solver_number};
 
 /// The largest id.
 pub const MAX_ID: u64 = 9_223_372_036_854_775_807;
+
+/// Whether the number is an id of a clause.
+pub fn is_id(number: u64) -> bool
+    ensures { result ≡ is_id number }
+{
+    0 < number && number <= MAX_ID
+}
+
+/// Whether the hint is an id or the negative of one.
+pub fn is_hint(hint: i64) -> bool
+    ensures { result ≡ is_id_number hint }
+{
+    is_id(hint.unsigned_abs())
+}
 
 /// The id that the word writes, or 0.
 pub fn read_id(word: &[u8]) -> Result<u64, LratCause>

@@ -56,7 +56,7 @@ fn read_hints(alloc: Global, line: &[u8], number: usize) -> Result<(Hints, &[u8]
     while let Some((word, after)) = cut_word(rest) {
         match read_hint(word) {
             Ok(Some(hint)) => hints.push(hint)?,
-            Ok(None) => return Ok((Hints::new(hints), after)),
+            Ok(None) => return Ok((Hints::compact(alloc, hints.as_slice())?, after)),
             Err(cause) => return Err(LratFault::At(cause, number)),
         }
         rest = after;

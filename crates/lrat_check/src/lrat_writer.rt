@@ -67,7 +67,7 @@ fn push_hints(text: &mut Vec<u8>, hints: &[i64]) -> Result<(), AllocError>
 }
 
 /// Appends the step as its line.
-fn push_step(text: &mut Vec<u8>, step: &Step) -> Result<(), AllocError>
+fn push_step(alloc: Global, text: &mut Vec<u8>, step: &Step) -> Result<(), AllocError>
     ensures { OnOk result (text.new.items ≡ text.old.items ++ step_line step.now) }
 {
     match step {
@@ -78,7 +78,7 @@ fn push_step(text: &mut Vec<u8>, step: &Step) -> Result<(), AllocError>
         } => {
             push_number(text, *id)?;
             push_literals(text, literals.as_slice())?;
-            push_hints(text, hints.as_slice())?;
+            push_hints(text, hints.to_vec(alloc)?.as_slice())?;
         }
         Step::Deletion { first, ids } => {
             push_number(text, *first)?;
@@ -96,7 +96,7 @@ pub fn write_lrat(alloc: Global, derivation: &Derivation) -> Result<Vec<u8>, All
 {
     let mut text = Vec::new(alloc);
     for step in derivation.steps() {
-        push_step(&mut text, step)?;
+        push_step(alloc, &mut text, step)?;
     }
     Ok(text)
 }

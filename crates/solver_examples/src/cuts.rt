@@ -9,37 +9,38 @@ use std::alloc::{AllocError, Global};
 use std::test::Fail;
 
 /// Whether one of these steps has the clause of this number among its hints.
-fn is_hint_of(steps: &[Step], number: u64) -> bool {
+fn is_hint_of(alloc: Global, steps: &[Step], number: u64) -> Result<bool, AllocError> {
     for step in steps {
         if let Step::Addition { hints, .. } = step {
+            let hints = hints.to_vec(alloc)?;
             for hint in hints.as_slice() {
                 if u64::try_from(*hint).unwrap_or(0) == number {
-                    return true;
+                    return Ok(true);
                 }
             }
         }
     }
-    false
+    Ok(false)
 }
 
 /// Whether each step adds a clause, and each but the last one a clause that is a hint of a later step.
-fn is_cut(derivation: &Derivation) -> bool {
+fn is_cut(alloc: Global, derivation: &Derivation) -> Result<bool, AllocError> {
     let steps = derivation.steps();
     for place in 1..steps.len() {
         let Step::Addition { id, .. } = &steps[place - 1] else {
-            return false;
+            return Ok(false);
         };
-        if !is_hint_of(&steps[place..], *id) {
-            return false;
+        if !is_hint_of(alloc, &steps[place..], *id)? {
+            return Ok(false);
         }
     }
-    true
+    Ok(true)
 }
 
 /// Whether the derivation of the answer is cut, if it has one.
 fn is_cut_answer(alloc: Global, formula: &Formula) -> Result<bool, AllocError> {
     match solve(alloc, formula, &[], Guide::none(), 100_000)? {
-        Answer::Refuted(derivation) => Ok(is_cut(&derivation)),
+        Answer::Refuted(derivation) => is_cut(alloc, &derivation),
         Answer::Model(_) => Ok(true),
         Answer::Open => Ok(false),
     }

@@ -7,8 +7,6 @@ use Rattle.clause_blocks.specs.Clauses.{clauses_of}
 use Rattle.cube_queue.specs.declared.search_fault.SearchFault.TheVariants.{Cut, NoThread}
 use Rattle.reducer.specs.declared.reduce_fault.ReduceCause.TheVariants.{StillTooLarge}
 use Rattle.reducer.specs.Reduction.{kept_trace}
-use Rattle.traces.specs.declared.operation.OpName.{OpName}
-use Rattle.traces.specs.Legal.{IsLegal}
 use Rattle.traces.specs.Trace.{TraceValue}
 use Rattle.trace_text.specs.TraceFault.{HasTraceFault}
 use Rattle.trace_verdict.specs.declared.decision.Decision.{Decision}
@@ -20,6 +18,7 @@ use Rattle.verdict_report.specs.declared.status.Status.{Status}
 use Rattle.verdict_report.specs.declared.status.Status.TheVariants.{Yes, No, Unknown}
 use Rattle.verdict_report.specs.Admitted.{Admits, IsTooLarge}
 use Rattle.verdict_report.specs.Engine.{AtOnce, InPieces, IsRunOfEngine, of_one}
+use Rattle.verdict_report.specs.RecheckEngine.{HasNoSchedule}
 use Rattle.verdict_report.specs.Runs.{SourceRun, SinkRun, HandsOut}
 
 -- the text spells an admitted trace, of which this is decided
@@ -73,4 +72,4 @@ pub record Certifies (trace : SourceRun) (cert : SinkRun) : Type 0 where
   pub spelled : SpellsCertificate written certificate
   pub count : ℕ
   pub accepted : IsRechecked (clauses_of (kept_trace value)) certificate count
-  pub none_legal : (names : List OpName) → IsLegal value names → ⊥
+  pub none_legal : HasNoSchedule value

@@ -12,15 +12,15 @@ returns-clause-run g c =
     let first : SourceRun = source_run g.T.Source.handed_out g.T.Source.is_at_end g.T.Source.failures c.args.trace.now c.read_two.new.first in
     let second : SourceRun = source_run g.C.Source.handed_out g.C.Source.is_at_end g.C.Source.failures c.args.cert.now c.read_two.new.second in
     let out : SinkRun = sink_run g.W.Sink.written g.W.Sink.failures c.args.out.now c.write_count.new.out in
-    written (of_two IsSaidOfCertificate) rechecked_line rechecked_status (first ∷ second ∷ []) out (c.in_ok-texts.texts.0.items ∷ c.in_ok-texts.texts.1.items ∷ []) (search rules) c.in_ok-count.count (search rules) c.write_count.result c.write_count.ensures
+    written (of_two IsSaidOfCertificate) rechecked_line rechecked_status (first ∷ second ∷ []) out (c.in_ok-trace_text.trace_text.items ∷ c.in_ok-trace_text.cert_text.items ∷ []) (search rules) c.in_ok-count.count (search rules) c.write_count.result c.write_count.ensures
 
-pub returns-in_err-texts-clause-run : goal.returns-in_err-texts-clause-run
-returns-in_err-texts-clause-run g c =
+pub returns-in_err-trace_text-clause-run : goal.returns-in_err-trace_text-clause-run
+returns-in_err-trace_text-clause-run g c =
     let first : SourceRun = source_run g.T.Source.handed_out g.T.Source.is_at_end g.T.Source.failures c.args.trace.now c.read_two.new.first in
     let second : SourceRun = source_run g.C.Source.handed_out g.C.Source.is_at_end g.C.Source.failures c.args.cert.now c.read_two.new.second in
     let out : SinkRun = sink_run g.W.Sink.written g.W.Sink.failures c.args.out.now c.args.out.now in
     let p = err_from_is_err_and c.from_residual.result c.from_residual.ensures.1 in
-    rw (p.1, p.2) (unread (of_two IsSaidOfCertificate) (λ a. rechecked_line a ∷ []) rechecked_status (first ∷ second ∷ []) AtOnce (out ∷ []) ((refl, refl), tt) c.in_err-texts.field-0.0 (search rules))
+    rw (p.1, p.2) (unread (of_two IsSaidOfCertificate) (λ a. rechecked_line a ∷ []) rechecked_status (first ∷ second ∷ []) AtOnce (out ∷ []) ((refl, refl), tt) c.in_err-trace_text.field-0.0 (search rules))
 
 pub returns-in_err-count-clause-run : goal.returns-in_err-count-clause-run
 returns-in_err-count-clause-run g c =
@@ -28,12 +28,12 @@ returns-in_err-count-clause-run g c =
     let second : SourceRun = source_run g.C.Source.handed_out g.C.Source.is_at_end g.C.Source.failures c.args.cert.now c.read_two.new.second in
     let out : SinkRun = sink_run g.W.Sink.written g.W.Sink.failures c.args.out.now c.args.out.now in
     let p = err_from_is_err_and c.from_residual-in_err-count.result c.from_residual-in_err-count.ensures.1 in
-    rw (p.1, p.2) (refused (of_two IsSaidOfCertificate) (λ a. rechecked_line a ∷ []) rechecked_status (first ∷ second ∷ []) AtOnce (out ∷ []) ((refl, refl), tt) (c.in_ok-texts.texts.0.items ∷ c.in_ok-texts.texts.1.items ∷ []) (search rules) (λ s. s) (λ s. s) c.in_err-count.field-0.0 (search rules))
+    rw (p.1, p.2) (refused (of_two IsSaidOfCertificate) (λ a. rechecked_line a ∷ []) rechecked_status (first ∷ second ∷ []) AtOnce (out ∷ []) ((refl, refl), tt) (c.in_ok-trace_text.trace_text.items ∷ c.in_ok-trace_text.cert_text.items ∷ []) (search rules) (λ s. s) (λ s. s) c.in_err-count.field-0.0 (search rules))
 
 pub returns-clause-sound : goal.returns-clause-sound
 returns-clause-sound g c =
     let first : SourceRun = source_run g.T.Source.handed_out g.T.Source.is_at_end g.T.Source.failures c.args.trace.now c.read_two.new.first in
     let second : SourceRun = source_run g.C.Source.handed_out g.C.Source.is_at_end g.C.Source.failures c.args.cert.now c.read_two.new.second in
-    let handed : HandOut (first ∷ second ∷ []) (c.in_ok-texts.texts.0.items ∷ c.in_ok-texts.texts.1.items ∷ []) = search rules in
-    let accepted : AreRechecked c.in_ok-texts.texts.0.items c.in_ok-texts.texts.1.items c.in_ok-count.count = search rules in
-    shown first c.in_ok-texts.texts.0.items c.in_ok-texts.texts.1.items c.in_ok-count.count handed.0.0 accepted c.write_count.result
+    let handed : HandOut (first ∷ second ∷ []) (c.in_ok-trace_text.trace_text.items ∷ c.in_ok-trace_text.cert_text.items ∷ []) = search rules in
+    let accepted : AreRechecked c.in_ok-trace_text.trace_text.items c.in_ok-trace_text.cert_text.items c.in_ok-count.count = search rules in
+    shown first c.in_ok-trace_text.trace_text.items c.in_ok-trace_text.cert_text.items c.in_ok-count.count handed.0.0 accepted c.write_count.result
