@@ -39,6 +39,9 @@ pub fn solve<L: ClauseList>(
     let clauses = formula.count();
     let guide = guide.fitting(variables, clauses);
     let mut first = Attempt::new(alloc, variables, formula, cube, guide)?;
+    if let Some(counted) = first.count_sources(guide, budget)? {
+        return Ok(counted);
+    }
     let share = first.first_turn(budget);
     if let Some(answer) = first.run(share)? {
         return Ok(answer);
