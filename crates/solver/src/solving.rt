@@ -22,7 +22,8 @@ fn variables_of<L: ClauseList>(formula: &L, cube: &[Lit]) -> u32 {
 ///
 /// At most `budget` conflicts are worked on, where a conflict is a clause all of whose literals have become false, and each of
 /// them makes one addition of the derivation. The next one makes the answer `Open`. What follows by unit propagation is found before
-/// anything is decided.
+/// anything is decided. If counting then shows that there are readers which cannot all have a source, the derivation says that in at
+/// most `budget` steps, and nothing is searched.
 ///
 /// The guide tells what the caller knows of the formula. Neither it nor the answer is believed by anybody: a model is evaluated,
 /// a derivation checked.
