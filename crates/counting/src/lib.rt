@@ -1,31 +1,31 @@
-//! Contradictions of counting, and their short derivations.
+//! Short derivations of contradictions of counting.
 //!
 //! An update leaves another value where it read one, so no two updates have their value from the same write. Where some updates
 //! have fewer possible sources than there are updates, no schedule is legal. A search that learns clauses does not find this in
 //! reasonable time; with definitions of new variables it takes about so many steps as the cube of the number of sources.
 //!
-//! - `Reads` says which clauses and variables of a formula speak of readers and their sources.
-//! - `find_shortage` looks for readers with too few sources.
+//! - `find_contradiction` looks for such updates. It, and all that it takes and answers, is of the crate `possible_sources`.
 //! - `refute` writes the derivation, if it takes no more steps than the budget has.
 //!
 //! Nobody believes any of this: a derivation is to be checked. So nothing is proved of it but that it keeps to the budget, and a
 //! look past the end of a table reads a fixed value.
 #![tactic(auto)]
 
+mod circles;
 mod codes;
-mod grid;
+mod elimination;
+mod last_writer;
 mod log;
-mod matching;
-mod reads;
 mod refutation;
 mod replay;
 mod rows;
-mod shortage;
-mod source_sets;
+mod shortages;
 mod taken;
+mod units;
 mod writer;
 
 pub use log::Free;
-pub use reads::{Choice, Reader, Reads, Update};
-pub use refutation::refute;
-pub use shortage::{Shortage, find_shortage};
+pub use possible_sources::{
+    Choice, Contradiction, KnownOrder, Order, Reader, Reads, Update, find_contradiction,
+};
+pub use refutation::{Given, refute};

@@ -1,12 +1,10 @@
 //! How many of the first readers have one of the first sources: a row for each reader.
 
 use crate::codes::{ALWAYS, NEVER};
-use crate::grid::Grid;
-use crate::reads::Reads;
 use crate::replay::Known;
-use crate::shortage::Shortage;
 use crate::taken::{Taken, has_source};
 use crate::writer::{Definition, Writer, add_ids};
+use possible_sources::{Grid, Reads, Shortage};
 use std::alloc::{AllocError, Global};
 
 /// What is said of the readers 1 to i: for sources 1 to j and a count k the literal "at least k of them have one of these sources", and

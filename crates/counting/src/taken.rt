@@ -1,12 +1,10 @@
 //! Which sources are taken by one of the first readers.
 
 use crate::codes::NEVER;
-use crate::grid::Grid;
-use crate::reads::Reads;
 use crate::replay::Known;
-use crate::shortage::Shortage;
 use crate::writer::{Definition, Writer, add_ids};
 use order_closure::tables::{at, put};
+use possible_sources::{Grid, Reads, Shortage};
 use std::alloc::{AllocError, Global};
 
 /// For each reader and source a literal that says that one of the readers up to this one has the source, and the clause that says

@@ -2,6 +2,6 @@
 #![tactic(auto)]
 
 #[cfg(test)]
-mod one_location;
+mod contradictions;
 #[cfg(test)]
-mod shortages;
+mod one_location;

@@ -1,8 +1,8 @@
-//! Formulas of traces with one location, in which each writer has a process of its own. Clauses that say that an order is transitive
-//! are left out, since no derivation of this crate cites them.
+//! Formulas of traces with one location, in which all processes have the same number of writers.
 
-use counting::{Choice, Reader, Reads, Update};
+use counting::{Choice, KnownOrder, Order, Reader, Reads, Update};
 use dimacs::{Clause, Formula, Lit};
+use order_closure::ElementSets;
 use std::alloc::{AllocError, Global};
 
 /// A writer of the location: a write, or an update, which reads too.
@@ -12,10 +12,12 @@ pub struct Writer {
     pub leaves: u32,
 }
 
-/// The writers, the value that the location holds at the start, and the one that it holds in the end, if that is known.
+/// The writers, of which so many that follow each other are of one process, the value that the location holds at the start, and the one
+/// that it holds in the end, if that is known.
 #[derive(Clone, Copy)]
 pub struct Location<'a> {
     pub writers: &'a [Writer],
+    pub in_process: u32,
     pub initial: u32,
     pub last: Option<u32>,
     pub seed: u64,
@@ -32,6 +34,10 @@ pub struct Spelling {
     random: u64,
     excluded: u64,
     clauses: Vec<Clause>,
+    /// The codes of literals that have clauses of their own, and the numbers of these clauses.
+    units: Vec<(u32, u32)>,
+    other_writers: ElementSets,
+    behind: ElementSets,
     pub reads: Reads,
 }
 
@@ -62,8 +68,13 @@ impl Spelling {
             random: location.seed.wrapping_mul(0x9E37_79B9_7F4A_7C15) | 1,
             excluded: location.excluded,
             clauses: Vec::new(alloc),
+            units: Vec::new(alloc),
+            other_writers: ElementSets::new(alloc, writers)?,
+            behind: ElementSets::new(alloc, writers)?,
             reads: Reads::new(alloc),
         };
+        spelling.add_order()?;
+        spelling.add_program_order(location.in_process)?;
         for place in 0..writers {
             let value = value_read(location, place);
             if let Some(value) = value {
@@ -74,6 +85,79 @@ impl Spelling {
             spelling.add_reader(location, None, value)?;
         }
         Ok(spelling)
+    }
+
+    /// Adds the clauses which say that the order of the writers is transitive.
+    fn add_order(&mut self) -> Result<(), AllocError> {
+        let count = self.writers;
+        for i in 0..count {
+            for j in i.saturating_add(1)..count {
+                for k in j.saturating_add(1)..count {
+                    let steps = (before(count, i, j), before(count, j, k));
+                    let all = before(count, i, k);
+                    self.add(&[steps.0.wrapping_neg(), steps.1.wrapping_neg(), all])?;
+                    self.add(&[steps.0, steps.1, all.wrapping_neg()])?;
+                }
+            }
+        }
+        Ok(())
+    }
+
+    /// Adds a clause for each two writers of one process, of which so many follow each other.
+    fn add_program_order(&mut self, in_process: u32) -> Result<(), AllocError> {
+        for i in 0..self.writers {
+            for j in 0..self.writers {
+                if i != j {
+                    self.other_writers.insert(i, j);
+                }
+                if i < j && i.checked_div(in_process) == j.checked_div(in_process) {
+                    self.behind.insert(i, j);
+                    self.add_unit(before(self.writers, i, j))?;
+                }
+            }
+        }
+        Ok(())
+    }
+
+    /// Adds the clause of this one number.
+    fn add_unit(&mut self, number: i32) -> Result<(), AllocError> {
+        let clause = self.add(&[number])?;
+        let code = number.unsigned_abs().wrapping_mul(2);
+        let code = if number < 0 { code | 1 } else { code };
+        self.units.push((code, clause))?;
+        Ok(())
+    }
+
+    /// The number of the clause that has the literal of this code alone.
+    fn unit(&self, code: u32) -> u32 {
+        let mut number = 0;
+        for (literal, clause) in &self.units {
+            if *literal == code {
+                number = *clause;
+            }
+        }
+        number
+    }
+
+    /// The numbers of the clauses that have the literals of these codes alone.
+    pub fn units(&self, codes: &[u32]) -> Result<Vec<u32>, AllocError> {
+        let mut numbers = Vec::new(self.alloc);
+        for code in codes {
+            numbers.push(self.unit(*code))?;
+        }
+        Ok(numbers)
+    }
+
+    /// What is known of the order.
+    pub fn known(&self) -> KnownOrder<'_> {
+        KnownOrder {
+            order: Order {
+                operations: self.writers,
+                first: 1,
+            },
+            writers: &self.other_writers,
+            behind: &self.behind,
+        }
     }
 
     /// Adds the clause of these numbers. Its own number.
@@ -166,13 +250,13 @@ impl Spelling {
             }
             self.add_between(place, source, made, writer)?;
         }
-        let excluded_by = self.exclude(made)?;
+        let is_excluded = self.exclude(made)?;
         self.reads.add_choice(Choice {
             source: source.unwrap_or(self.writers),
             place: source,
             variable,
             first,
-            excluded_by,
+            is_excluded,
         })
     }
 
@@ -196,16 +280,16 @@ impl Spelling {
         Ok(())
     }
 
-    /// Adds a clause which says that the choice is not made, if chance wants it. Its number, or 0.
-    fn exclude(&mut self, made: i32) -> Result<u32, AllocError> {
+    /// Adds a clause which says that the choice is not made, if chance wants it. Whether it did.
+    fn exclude(&mut self, made: i32) -> Result<bool, AllocError> {
         self.random ^= self.random << 13;
         self.random ^= self.random >> 7;
         self.random ^= self.random << 17;
-        if (self.random >> 32) % 1000 < self.excluded {
-            self.add(&[made.wrapping_neg()])
-        } else {
-            Ok(0)
+        let is_excluded = (self.random >> 32) % 1000 < self.excluded;
+        if is_excluded {
+            self.add_unit(made.wrapping_neg())?;
         }
+        Ok(is_excluded)
     }
 }
 

@@ -11,6 +11,7 @@
 mod activities;
 mod analyze;
 mod answer;
+mod attempt;
 mod candidates;
 mod cause;
 mod codes;
@@ -25,14 +26,18 @@ mod propagate;
 mod readings;
 mod reduce;
 mod restart;
+mod schedule;
 mod search;
 mod small_clauses;
 mod solving;
+mod source_count;
 mod store;
+mod told_reads;
 mod trail;
+mod units;
 mod watches;
 
 pub use answer::Answer;
 pub use guide::Guide;
-pub use readings::{Choice, Readings};
+pub use readings::{Choice, LastWriter, Readings};
 pub use solving::solve;

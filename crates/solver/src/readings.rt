@@ -20,12 +20,29 @@ pub struct Choice {
     pub first: u32,
 }
 
+/// A writer that may be the last one of its location, where the final value is known.
+#[derive(Clone, Copy)]
+pub struct LastWriter {
+    /// The variable which says that it is the last one.
+    pub variable: u32,
+    /// The element that writes.
+    pub writer: u32,
+    /// The number of the clause that says that one of the location's last writers is the last one, counted from 1.
+    pub clause: u32,
+    /// The number of the first of its own clauses.
+    pub first: u32,
+}
+
 /// What a caller of `solve` knows of the reads of an order: which elements write where others read, and which clauses say what a
 /// choice means. With y of `Guide`, let x(i,j) be `y(i,j)` for i below j, and `-y(j,i)` otherwise.
 ///
 /// A choice with the variable s and without a writer has the clauses `-s x(r,q)`, for all writers q of the reader r that it
 /// knows. One with the writer w has the clause `-s x(w,r)`, and then `-s x(q,w) x(r,q)` for all these q other than w. All go by
-/// rising q and stand one after the other.
+/// rising q and stand one after the other. The clause which says that one of a reader's choices is made stands before those of its
+/// first choice.
+///
+/// A last writer w with the variable f has the clauses `-f x(q,w)` for all other writers q of its location, by rising q. These are read
+/// as any clauses are; that they are known serves those who count sources.
 ///
 /// Nobody believes this either: what is wrong in it costs time, and never truth (see `Guide`).
 #[derive(Drop)]
@@ -37,9 +54,15 @@ pub struct Readings {
     writers: ElementSets,
     /// The choices by their variables, counted from the first one after the order's.
     choices: Vec<Option<Choice>>,
+    /// 1 for each element that has a choice.
+    reading: Vec<u8>,
+    /// 1 for each element that writes a location of others.
+    writing: Vec<u8>,
     /// For each reader and each writer the variable of the choice, or 0; after the writers the one of the choice without a
     /// writer.
     variables: Vec<u32>,
+    /// The last writers, those of one location one after the other.
+    last_writers: Vec<LastWriter>,
 }
 
 impl Readings {
@@ -52,7 +75,10 @@ impl Readings {
             base: elements.wrapping_mul(elements.wrapping_sub(1)) / 2,
             writers: ElementSets::new(alloc, elements)?,
             choices: Vec::new(alloc),
+            reading: vec![in alloc; 0; elements as usize]?,
+            writing: vec![in alloc; 0; elements as usize]?,
             variables: vec![in alloc; 0; pairs as usize]?,
+            last_writers: Vec::new(alloc),
         })
     }
 
@@ -60,6 +86,7 @@ impl Readings {
     pub fn add_writer(&mut self, element: u32, writer: u32) {
         if element != writer && writer < self.elements {
             self.writers.insert(element, writer);
+            put(self.writing.as_mut_slice(), writer, 1);
         }
     }
 
@@ -82,6 +109,13 @@ impl Readings {
         self.choices.push(Some(choice))?;
         let place = self.place_of(choice.reader, column);
         put(self.variables.as_mut_slice(), place, choice.variable);
+        put(self.reading.as_mut_slice(), choice.reader, 1);
+        Ok(())
+    }
+
+    /// Adds a last writer. Those of one location are added one after the other.
+    pub fn add_last_writer(&mut self, last: LastWriter) -> Result<(), AllocError> {
+        self.last_writers.push(last)?;
         Ok(())
     }
 
@@ -101,6 +135,16 @@ impl Readings {
     /// All choices, with gaps.
     pub fn choices(&self) -> &[Option<Choice>] {
         self.choices.as_slice()
+    }
+
+    /// The last writers, those of one location one after the other.
+    pub fn last_writers(&self) -> &[LastWriter] {
+        self.last_writers.as_slice()
+    }
+
+    /// The place of the writer among those of its location, counted from 0.
+    pub fn place_of_writer(&self, writer: u32) -> u32 {
+        self.writers.count_below(writer, writer)
     }
 
     /// For each element those others that write its location.
@@ -126,6 +170,27 @@ impl Readings {
     #[inline(always)]
     pub fn variable_without_writer(&self, reader: u32) -> u32 {
         self.variable(reader, self.elements)
+    }
+
+    /// Whether the element writes a location of others.
+    #[inline(always)]
+    pub fn writes(&self, element: u32) -> bool {
+        at(self.writing.as_slice(), element, 0) != 0
+    }
+
+    /// An element that stands for the location of this one: the first of its writers.
+    pub fn location(&self, element: u32) -> u32 {
+        let first = self.writers.first(element);
+        if self.writes(element) || first >= self.elements {
+            element.min(first)
+        } else {
+            first
+        }
+    }
+
+    /// Whether the element reads.
+    pub fn reads(&self, element: u32) -> bool {
+        at(self.reading.as_slice(), element, 0) != 0
     }
 
     /// The number after that of the choice's last clause: there are as many as writers.

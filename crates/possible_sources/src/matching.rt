@@ -45,9 +45,33 @@ impl Matching {
         Ok(matching)
     }
 
-    /// Whether the reader has no source of its own.
-    pub fn is_free(&self, reader: u32) -> bool {
-        at(self.source_of.as_slice(), reader, 1) == 0
+    /// For each reader the sources that are still possible.
+    pub fn possible(&self) -> &SourceSets {
+        &self.possible
+    }
+
+    /// The readers to which a walk comes from a reader that has no source of its own: the smallest of such sets, or no reader if all
+    /// have one. They have one source fewer than they are.
+    pub fn smallest_shortage(&mut self, alloc: Global) -> Result<Vec<u32>, AllocError> {
+        let mut smallest = Vec::new(alloc);
+        for reader in 0..self.readers {
+            if at(self.source_of.as_slice(), reader, 1) != 0 {
+                continue;
+            }
+            let _source = self.walk(reader)?;
+            if smallest.is_empty() || self.reached.len() < smallest.len() {
+                smallest.clear();
+                smallest.extend_from_slice(self.reached.as_slice())?;
+            }
+        }
+        Ok(smallest)
+    }
+
+    /// Whether one more reader that has these sources would have none of its own.
+    pub fn has_none_for(&mut self, sources: &[u32]) -> Result<bool, AllocError> {
+        self.possible.set_last(sources);
+        let found = self.walk(self.readers)?;
+        Ok(found.is_none())
     }
 
     /// The readers to which the last walk has come.
@@ -79,13 +103,13 @@ impl Matching {
 
     /// Walks from this reader to possible sources, from a source to its reader, and so on. It ends at a source without a reader, or
     /// where it has come to all that it can come to.
-    pub fn walk(&mut self, reader: u32) -> Result<Option<u32>, AllocError> {
+    fn walk(&mut self, reader: u32) -> Result<Option<u32>, AllocError> {
         for number in 0..self.possible.words() {
             put(self.unseen.as_mut_slice(), number, u64::MAX);
         }
         self.reached.clear();
         self.reached.push(reader)?;
-        for place in 0..self.readers {
+        for place in 0..=self.readers {
             if place >= size(self.reached.as_slice()) {
                 break;
             }

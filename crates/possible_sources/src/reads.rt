@@ -1,7 +1,6 @@
 //! What a formula says of readers and their sources.
 
-use crate::codes::NEVER;
-use order_closure::tables::{at, put, size};
+use order_closure::tables::{at, size};
 use std::alloc::{AllocError, Global};
 
 /// An update.
@@ -37,8 +36,8 @@ pub struct Choice {
     pub variable: u32,
     /// The number of the first of its clauses, counted from 1.
     pub first: u32,
-    /// The number of a clause `-s` of one literal, which says that it cannot be made, or 0.
-    pub excluded_by: u32,
+    /// Whether it surely cannot be made: `-s` is true.
+    pub is_excluded: bool,
 }
 
 impl Choice {
@@ -103,11 +102,14 @@ impl Reads {
         Ok(())
     }
 
-    /// The choice of this number cannot be made, as the clause of this number says, which has one literal.
-    pub fn exclude(&mut self, number: u32, clause: u32) {
-        let mut choice = self.choice(number);
-        choice.excluded_by = clause;
-        put(self.choices.as_mut_slice(), number, choice);
+    /// A copy, to which readers can be added.
+    pub fn copied(&self, alloc: Global) -> Result<Reads, AllocError> {
+        let mut copy = Reads::new(alloc);
+        copy.readers.extend_from_slice(self.readers.as_slice())?;
+        copy.choices.extend_from_slice(self.choices.as_slice())?;
+        copy.begins.extend_from_slice(self.begins.as_slice())?;
+        copy.sources = self.sources;
+        Ok(copy)
     }
 
     /// How many readers there are.
@@ -143,9 +145,9 @@ impl Reads {
         let nothing = Choice {
             source: u32::MAX,
             place: None,
-            variable: NEVER,
+            variable: 0,
             first: 0,
-            excluded_by: 0,
+            is_excluded: true,
         };
         at(self.choices.as_slice(), number, nothing)
     }

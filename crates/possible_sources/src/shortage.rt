@@ -1,7 +1,6 @@
 //! Readers with too few sources.
 
 use crate::grid::Grid;
-use crate::matching::Matching;
 use crate::reads::Reads;
 use order_closure::tables::{at, put, size};
 use std::alloc::{AllocError, Global};
@@ -17,13 +16,15 @@ pub struct Shortage {
 
 impl Shortage {
     /// These readers, with as many sources as they have.
-    fn of(alloc: Global, reads: &Reads, readers: Vec<u32>) -> Result<Shortage, AllocError> {
-        let count = size(readers.as_slice());
+    pub fn of(alloc: Global, reads: &Reads, readers: &[u32]) -> Result<Shortage, AllocError> {
+        let count = size(readers);
+        let mut its_readers = Vec::with_capacity(alloc, readers.len())?;
+        its_readers.extend_from_slice(readers)?;
         let mut places = vec![in alloc; 0; reads.sources() as usize]?;
         let mut shortage = Shortage {
             sources: 0,
             choices: Grid::new(alloc, count.wrapping_add(1), count, 0)?,
-            readers,
+            readers: its_readers,
         };
         for reader in 1..=count {
             shortage.take_choices(reads, reader, places.as_mut_slice());
@@ -36,7 +37,7 @@ impl Shortage {
         let number = self.reader(reader);
         for choice in reads.first_choice(number)..reads.first_choice(number.wrapping_add(1)) {
             let its = reads.choice(choice);
-            if its.excluded_by != 0 {
+            if its.is_excluded {
                 continue;
             }
             if at(places, its.source, 0) == 0 {
@@ -46,6 +47,17 @@ impl Shortage {
             let source = at(places, its.source, 0);
             self.choices.set(reader, source, choice.wrapping_add(1));
         }
+    }
+
+    /// A bound on the steps of the derivation: about half of the cube of the sources for pairs of readers, and the cube for counts.
+    pub fn most_steps(&self) -> u64 {
+        let sources = u64::from(self.sources);
+        let square = sources.wrapping_mul(sources);
+        let cube = square.wrapping_mul(sources);
+        (cube.wrapping_mul(3) / 2)
+            .wrapping_add(square.wrapping_mul(9))
+            .wrapping_add(sources.wrapping_mul(30))
+            .wrapping_add(10)
     }
 
     /// How many sources there are.
@@ -72,32 +84,4 @@ impl Shortage {
             Some(choice.wrapping_sub(1))
         }
     }
-}
-
-/// A copy of these numbers.
-fn copied(alloc: Global, numbers: &[u32]) -> Result<Vec<u32>, AllocError> {
-    let mut copy = Vec::with_capacity(alloc, numbers.len())?;
-    copy.extend_from_slice(numbers)?;
-    Ok(copy)
-}
-
-/// Looks for readers with one possible source fewer than there are readers: those to which a walk comes from a reader that a maximum
-/// matching leaves without a source. The smallest of such sets is taken.
-pub fn find_shortage(alloc: Global, reads: &Reads) -> Result<Option<Shortage>, AllocError> {
-    let mut matching = Matching::of(alloc, reads)?;
-    let mut smallest = Vec::new(alloc);
-    for reader in 0..reads.readers() {
-        if !matching.is_free(reader) {
-            continue;
-        }
-        let _source = matching.walk(reader)?;
-        let is_smaller = matching.reached().len() < smallest.len();
-        if smallest.is_empty() || is_smaller {
-            smallest = copied(alloc, matching.reached())?;
-        }
-    }
-    if smallest.is_empty() {
-        return Ok(None);
-    }
-    Ok(Some(Shortage::of(alloc, reads, smallest)?))
 }

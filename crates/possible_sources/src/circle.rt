@@ -1,0 +1,148 @@
+//! Updates of which none can be the first.
+
+use crate::reads::Reads;
+use crate::source_sets::SourceSets;
+use order_closure::next_element;
+use order_closure::tables::{at, put, size};
+use std::alloc::{AllocError, Global};
+
+/// Updates whose possible sources are all among them, as numbers of readers.
+#[derive(Drop)]
+pub struct Circle {
+    readers: Vec<u32>,
+}
+
+impl Circle {
+    /// The numbers of the readers.
+    pub fn readers(&self) -> &[u32] {
+        self.readers.as_slice()
+    }
+
+    /// A bound on the steps of the derivation.
+    pub fn most_steps(&self) -> u64 {
+        let count = self.readers.len() as u64;
+        count.saturating_mul(count.saturating_add(4))
+    }
+}
+
+/// For each source the reader of this operation and one more, or 0.
+fn readers_by_source(alloc: Global, reads: &Reads) -> Result<Vec<u32>, AllocError> {
+    let mut readers = vec![in alloc; 0; reads.sources() as usize]?;
+    for reader in 0..reads.readers() {
+        if let Some(update) = reads.reader(reader).update {
+            put(
+                readers.as_mut_slice(),
+                update.operation,
+                reader.wrapping_add(1),
+            );
+        }
+    }
+    Ok(readers)
+}
+
+/// Whether all possible sources of the reader are among these.
+fn has_all_within(possible: &SourceSets, reader: u32, within: &[u64]) -> bool {
+    (0..possible.words()).all(|number| possible.word(reader, number) & !at(within, number, 0) == 0)
+}
+
+/// Puts a source into a set, or takes it out.
+fn set_member(set: &mut [u64], source: u32, is_member: bool) {
+    let bit = 1 << (source & 63);
+    let word = at(set, source >> 6, 0);
+    let word = if is_member { word | bit } else { word & !bit };
+    put(set, source >> 6, word);
+}
+
+/// The updates that are left where those are taken out, one after the other, that may have a source which is none of the others: 1
+/// for these.
+fn without_outsiders(
+    alloc: Global,
+    reads: &Reads,
+    possible: &SourceSets,
+) -> Result<Vec<u8>, AllocError> {
+    let mut is_left = vec![in alloc; 0; reads.readers() as usize]?;
+    let mut sources = vec![in alloc; 0; possible.words() as usize]?;
+    for reader in 0..reads.readers() {
+        if let Some(update) = reads.reader(reader).update {
+            put(is_left.as_mut_slice(), reader, 1);
+            set_member(sources.as_mut_slice(), update.operation, true);
+        }
+    }
+    for _ in 0..reads.readers() {
+        let mut has_changed = false;
+        for reader in 0..reads.readers() {
+            let is_inside = has_all_within(possible, reader, sources.as_slice());
+            let Some(update) = reads.reader(reader).update else {
+                continue;
+            };
+            if at(is_left.as_slice(), reader, 0) == 1 && !is_inside {
+                put(is_left.as_mut_slice(), reader, 0);
+                set_member(sources.as_mut_slice(), update.operation, false);
+                has_changed = true;
+            }
+        }
+        if !has_changed {
+            break;
+        }
+    }
+    Ok(is_left)
+}
+
+/// The reader, the readers that are its possible sources, theirs, and so on.
+fn reached_from(
+    alloc: Global,
+    reads: &Reads,
+    possible: &SourceSets,
+    by_source: &[u32],
+    reader: u32,
+) -> Result<Vec<u32>, AllocError> {
+    let mut is_reached = vec![in alloc; 0; reads.readers() as usize]?;
+    let mut reached = Vec::new(alloc);
+    reached.push(reader)?;
+    put(is_reached.as_mut_slice(), reader, 1);
+    for place in 0..reads.readers() {
+        if place >= size(reached.as_slice()) {
+            break;
+        }
+        let next = at(reached.as_slice(), place, 0);
+        for number in 0..possible.words() {
+            let mut word = possible.word(next, number);
+            for _ in 0..64 {
+                let Some(source) = next_element(&mut word, number) else {
+                    break;
+                };
+                let other = at(by_source, source, 0).wrapping_sub(1);
+                if at(is_reached.as_slice(), other, 1) == 0 {
+                    put(is_reached.as_mut_slice(), other, 1);
+                    reached.push(other)?;
+                }
+            }
+        }
+    }
+    Ok(reached)
+}
+
+/// Looks for updates whose possible sources are all among them, so that none of them can be the first. The smallest set is taken of
+/// those to which one update leads.
+pub fn find_circle(
+    alloc: Global,
+    reads: &Reads,
+    possible: &SourceSets,
+) -> Result<Option<Circle>, AllocError> {
+    let is_left = without_outsiders(alloc, reads, possible)?;
+    if is_left.as_slice().iter().all(|one| *one == 0) {
+        return Ok(None);
+    }
+    let by_source = readers_by_source(alloc, reads)?;
+    let mut smallest = Vec::new(alloc);
+    for reader in 0..reads.readers() {
+        if at(is_left.as_slice(), reader, 0) == 0 {
+            continue;
+        }
+        let reached = reached_from(alloc, reads, possible, by_source.as_slice(), reader)?;
+        if smallest.is_empty() || reached.len() < smallest.len() {
+            smallest = reached;
+        }
+    }
+    Ok(Some(Circle { readers: smallest }))
+}

@@ -1,0 +1,27 @@
+//! Updates and their possible sources, and where these do not suffice.
+//!
+//! - `Reads` says which clauses and variables of a formula speak of readers and their sources.
+//! - `KnownOrder` says what surely stands before what.
+//! - `find_contradiction` looks for readers with too few sources, and for updates of which none can be the first.
+//!
+//! Nobody believes any of this: the crate `counting` writes a derivation of what is found, and that is to be checked. So nothing is
+//! proved of it, and a look past the end of a table reads a fixed value.
+#![tactic(auto)]
+
+mod circle;
+mod contradiction;
+mod ending;
+mod grid;
+mod known_order;
+mod matching;
+mod reads;
+mod shortage;
+mod source_sets;
+
+pub use circle::Circle;
+pub use contradiction::{Contradiction, Kind, find_contradiction};
+pub use ending::Ending;
+pub use grid::Grid;
+pub use known_order::{KnownOrder, Order};
+pub use reads::{Choice, Reader, Reads, Update};
+pub use shortage::Shortage;
