@@ -95,6 +95,17 @@ impl ElementSets {
         put(self.sets.as_mut_slice(), place, word & !bit(element));
     }
 
+    /// The first element of the owner's set, or 192 where it is empty.
+    pub fn first(&self, owner: u32) -> u32 {
+        for number in 0..self.words {
+            let mut word = self.word(owner, number);
+            if let Some(element) = next_element(&mut word, number) {
+                return element;
+            }
+        }
+        MOST_ELEMENTS
+    }
+
     /// How many elements the set of the owner has.
     pub fn count(&self, owner: u32) -> u32 {
         self.count_below(owner, MOST_ELEMENTS)

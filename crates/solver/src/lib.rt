@@ -11,6 +11,7 @@
 mod activities;
 mod analyze;
 mod answer;
+mod attempt;
 mod candidates;
 mod cause;
 mod codes;
@@ -25,6 +26,7 @@ mod propagate;
 mod readings;
 mod reduce;
 mod restart;
+mod schedule;
 mod search;
 mod small_clauses;
 mod solving;

@@ -37,6 +37,10 @@ pub struct Readings {
     writers: ElementSets,
     /// The choices by their variables, counted from the first one after the order's.
     choices: Vec<Option<Choice>>,
+    /// 1 for each element that has a choice.
+    reading: Vec<u8>,
+    /// 1 for each element that writes a location of others.
+    writing: Vec<u8>,
     /// For each reader and each writer the variable of the choice, or 0; after the writers the one of the choice without a
     /// writer.
     variables: Vec<u32>,
@@ -52,6 +56,8 @@ impl Readings {
             base: elements.wrapping_mul(elements.wrapping_sub(1)) / 2,
             writers: ElementSets::new(alloc, elements)?,
             choices: Vec::new(alloc),
+            reading: vec![in alloc; 0; elements as usize]?,
+            writing: vec![in alloc; 0; elements as usize]?,
             variables: vec![in alloc; 0; pairs as usize]?,
         })
     }
@@ -60,6 +66,7 @@ impl Readings {
     pub fn add_writer(&mut self, element: u32, writer: u32) {
         if element != writer && writer < self.elements {
             self.writers.insert(element, writer);
+            put(self.writing.as_mut_slice(), writer, 1);
         }
     }
 
@@ -82,6 +89,7 @@ impl Readings {
         self.choices.push(Some(choice))?;
         let place = self.place_of(choice.reader, column);
         put(self.variables.as_mut_slice(), place, choice.variable);
+        put(self.reading.as_mut_slice(), choice.reader, 1);
         Ok(())
     }
 
@@ -126,6 +134,27 @@ impl Readings {
     #[inline(always)]
     pub fn variable_without_writer(&self, reader: u32) -> u32 {
         self.variable(reader, self.elements)
+    }
+
+    /// Whether the element writes a location of others.
+    #[inline(always)]
+    pub fn writes(&self, element: u32) -> bool {
+        at(self.writing.as_slice(), element, 0) != 0
+    }
+
+    /// An element that stands for the location of this one: the first of its writers.
+    pub fn location(&self, element: u32) -> u32 {
+        let first = self.writers.first(element);
+        if self.writes(element) || first >= self.elements {
+            element.min(first)
+        } else {
+            first
+        }
+    }
+
+    /// Whether the element reads.
+    pub fn reads(&self, element: u32) -> bool {
+        at(self.reading.as_slice(), element, 0) != 0
     }
 
     /// The number after that of the choice's last clause: there are as many as writers.

@@ -13,6 +13,7 @@ use crate::ordered_trail::OrderedTrail;
 use crate::readings::Readings;
 use crate::reduce::FIRST_REDUCTION;
 use crate::restart::Restarts;
+use crate::schedule::{MOST_STATES, Schedule};
 use crate::small_clauses::{SmallClause, SmallClauses};
 use crate::store::Store;
 use crate::trail::{FALSE, OPEN, TRUE};
@@ -44,12 +45,14 @@ pub struct Search<'a> {
     pub watches: Watches,
     /// The learned clauses in the store.
     pub clauses: Vec<u32>,
-    /// A clause all of whose literals were false before anything was decided.
-    pub refuted_at_start: Option<Reason>,
+    /// A clause all of whose literals are false, which was found and has not been worked on.
+    pub conflict: Option<Reason>,
 
     // What is true, and what is decided next.
     pub trail: OrderedTrail<'a>,
     pub activities: Activities,
+    /// Where this is there, decisions go along a schedule first.
+    pub schedule: Option<Schedule>,
 
     // The conflict at hand.
     /// The learned clause.
@@ -100,9 +103,10 @@ impl<'a> Search<'a> {
             store: long,
             watches: Watches::new(alloc, literals)?,
             clauses: Vec::new(alloc),
-            refuted_at_start: None,
+            conflict: None,
             trail: OrderedTrail::new(alloc, variables, guide)?,
             activities: Activities::new(alloc, variables)?,
+            schedule: None,
             learned: Vec::new(alloc),
             hints: Vec::new(alloc),
             resolved: Vec::new(alloc),
@@ -125,10 +129,10 @@ impl<'a> Search<'a> {
         search.activities.offer_wanted();
         search.assume(units.as_slice());
         if empty != 0 {
-            search.refuted_at_start = Some(Reason::of_literals(empty, NEVER, NEVER, NEVER));
+            search.conflict = Some(Reason::of_literals(empty, NEVER, NEVER, NEVER));
         }
-        if search.refuted_at_start.is_none() {
-            search.refuted_at_start = search.propagate()?;
+        if search.conflict.is_none() {
+            search.conflict = search.propagate()?;
             search.leave_out_satisfied(small.as_slice())?;
         }
         Ok(search)
@@ -229,18 +233,27 @@ impl<'a> Search<'a> {
                     },
                 );
             } else if value == FALSE {
-                self.refuted_at_start = Some(Reason::of_literals(
-                    unit.id,
-                    unit.literal,
-                    NEVER,
-                    NEVER,
-                ));
+                self.conflict = Some(Reason::of_literals(unit.id, unit.literal, NEVER, NEVER));
             }
         }
     }
 
+    /// From now on decisions go along a schedule. What is learned of a state would have to be learned again, so nothing is dropped before
+    /// there are as many clauses as states.
+    pub fn go_along_a_schedule(&mut self) -> Result<(), AllocError> {
+        self.schedule = Some(Schedule::new(self.alloc, &self.trail)?);
+        self.next_reduction = MOST_STATES;
+        self.reduction_gap = MOST_STATES;
+        Ok(())
+    }
+
     /// The next literal to be decided, if there is a variable left.
     fn pick(&mut self) -> Option<u32> {
+        if let Some(schedule) = &mut self.schedule
+            && let Some(literal) = schedule.pick(&self.trail)
+        {
+            return Some(literal);
+        }
         for _ in 0..=self.variables {
             let variable = self.activities.take()?;
             let literal = self.trail.trail.tried_first(variable);
@@ -253,8 +266,8 @@ impl<'a> Search<'a> {
 
     /// Decides and propagates until there is a conflict, or nothing is left to decide.
     fn descend(&mut self) -> Result<Option<Reason>, AllocError> {
-        if self.refuted_at_start.is_some() {
-            return Ok(self.refuted_at_start);
+        if let Some(conflict) = self.conflict.take() {
+            return Ok(Some(conflict));
         }
         for _ in 0..=self.variables {
             if let Some(conflict) = self.propagate()? {
@@ -335,6 +348,7 @@ impl<'a> Search<'a> {
                 return Ok(Outcome::Satisfied);
             };
             if left == 0 {
+                self.conflict = Some(conflict);
                 return Ok(Outcome::Open);
             }
             left -= 1;

@@ -4,12 +4,9 @@ ghost use Rattle.std.specs.Prelude.{IfOk};
 ghost use Rattle.solver.specs.Answers.{IsWithin};
 
 use crate::answer::Answer;
+use crate::attempt::{Attempt, take_turns};
 use crate::guide::Guide;
-use crate::intake::{Intake, number_of};
-use crate::log::Log;
-use crate::search::{Outcome, Search};
-use crate::trail::TRUE;
-use dimacs::{Assignment, ClauseList, Lit};
+use dimacs::{ClauseList, Lit};
 use std::alloc::{AllocError, Global};
 
 /// The largest variable of the formula and of the cube.
@@ -19,22 +16,6 @@ fn variables_of<L: ClauseList>(formula: &L, cube: &[Lit]) -> u32 {
         variables = variables.max(literal.variable());
     }
     variables
-}
-
-/// The values of all variables where the search has come to an end without a conflict. Those of an order that is known in part are
-/// those of an order of all elements that extends it; where nothing is known of another variable, it is false.
-fn assignment_of(alloc: Global, search: &Search<'_>) -> Result<Assignment, AllocError> {
-    let ranks = search.trail.ranks(alloc)?;
-    let mut values = Vec::with_capacity(alloc, search.variables as usize)?;
-    for place in 0..search.variables {
-        let variable = place.wrapping_add(1);
-        let value = match search.trail.by_rank(ranks.as_slice(), variable) {
-            Some(value) => value,
-            None => search.trail.value(variable.wrapping_mul(2)) == TRUE,
-        };
-        values.push(value)?;
-    }
-    Ok(Assignment::new(values))
 }
 
 /// Looks for a model of the formula that makes all literals of the cube true, or for a derivation that there is none.
@@ -57,12 +38,17 @@ pub fn solve<L: ClauseList>(
     let variables = variables_of(formula, cube);
     let clauses = formula.count();
     let guide = guide.fitting(variables, clauses);
-    let intake = Intake::of(alloc, variables, formula, cube, guide)?;
-    let mut search = Search::new(alloc, variables, guide, intake)?;
-    let mut log = Log::new(alloc, number_of(clauses.saturating_add(cube.len())));
-    match search.run(&mut log, budget)? {
-        Outcome::Satisfied => Ok(Answer::Model(assignment_of(alloc, &search)?)),
-        Outcome::Refuted => Ok(Answer::Refuted(log.derivation(alloc)?)),
-        Outcome::Open => Ok(Answer::Open),
+    let mut first = Attempt::new(alloc, variables, formula, cube, guide)?;
+    let share = first.first_turn(budget);
+    if let Some(answer) = first.run(share)? {
+        return Ok(answer);
     }
+    let left = budget - share;
+    if left == 0 {
+        return Ok(Answer::Open);
+    }
+    let mut second = Attempt::new(alloc, variables, formula, cube, guide)?;
+    second.go_along_a_schedule()?;
+    let answer = take_turns(&mut second, &mut first, left)?;
+    Ok(answer)
 }

@@ -1,4 +1,5 @@
-//! The solver against formulas of which the answer is known, with the checker and the evaluator that its answers are for.
+//! The solver against formulas of which the answer is known, with the checker and the evaluator that its answers are for, and the
+//! checker beside a plain one.
 #![tactic(auto)]
 
 #[cfg(test)]
@@ -6,12 +7,24 @@ mod answers;
 #[cfg(test)]
 mod budgets;
 #[cfg(test)]
+mod checkers;
+#[cfg(test)]
 mod cuts;
+#[cfg(test)]
+mod damage;
 #[cfg(test)]
 mod formulas;
 #[cfg(test)]
 mod guides;
 #[cfg(test)]
+mod locks;
+#[cfg(test)]
+mod plain_checker;
+#[cfg(test)]
 mod plain_solver;
 #[cfg(test)]
 mod random_formulas;
+#[cfg(test)]
+mod reads;
+#[cfg(test)]
+mod traced;

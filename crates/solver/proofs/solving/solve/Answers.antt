@@ -1,8 +1,9 @@
-use Rattle.std.proofs.Common.{subst, arith}
-use Rattle.solver.specs.Outcomes.{TakesConflict}
-use Rattle.solver.proofs.AnswerLemmas.{additions_within}
+use Rattle.std.proofs.Common.{◌≤◌, ◌+◌, ◌-◌, vec_len, arith}
+use Rattle.solver.proofs.AnswerLemmas.{within_more}
 use Rattle.solver.proofs.solving.solve.Goals as goal
 
-pub returns-in-Refuted : goal.returns-in-Refuted
-returns-in-Refuted g c =
-    (subst (TakesConflict c.args.budget) c.in-Refuted.is c.in_ok-run.ensures.refuted, omega (arith, additions_within c.in_ok-derivation-in-Refuted.field-0, c.in_ok-derivation-in-Refuted.ensures, c.in_ok-run.ensures.within, c.new-log.ensures))
+pub returns : goal.returns
+returns g c =
+    let enough : vec_len c.go_along_a_schedule.new.self.log.ends + vec_len c.run.new.self.log.ends + (c.args.budget - c.first_turn-share.result) ≤ c.args.budget =
+    omega (arith, c.in_ok-second.ensures, c.go_along_a_schedule.ensures, c.in_ok-first.ensures, c.in_ok-answer.ensures.within, c.first_turn-share.ensures) in
+    within_more enough c.in_ok-answer-2.answer c.in_ok-answer-2.ensures

@@ -1,0 +1,72 @@
+//! Formulas with an order and with reads that the guide knows: those of small random traces of one location.
+
+use crate::answers::{Shown, solve_and_check};
+use crate::formulas::literals_of;
+use crate::random_formulas::Random;
+use crate::traced::{Access, Traced, formula_of_trace};
+use solver::Guide;
+use std::alloc::{AllocError, Global};
+use std::test::Fail;
+
+/// A value of which there are two.
+fn random_value(random: &mut Random) -> u16 {
+    random.next() % 2
+}
+
+/// What an operation does, at random.
+fn random_access(random: &mut Random, is_first: bool) -> Access {
+    let kind = random.next() % 5;
+    let reads = if kind < 3 {
+        Some(random_value(random))
+    } else {
+        None
+    };
+    let writes = if kind != 2 {
+        Some(random_value(random))
+    } else {
+        None
+    };
+    Access {
+        reads,
+        writes,
+        is_first,
+    }
+}
+
+/// A random trace of two processes of three operations each, with this mistake in what is known of it.
+fn random_trace(alloc: Global, random: &mut Random, mistake: u32) -> Result<Traced, AllocError> {
+    let mut accesses = Vec::new(alloc);
+    for place in 0..6u32 {
+        accesses.push(random_access(random, place == 0 || place == 3))?;
+    }
+    formula_of_trace(alloc, accesses.as_slice(), mistake)
+}
+
+/// Solves a random trace, whose guide has this mistake, in a random cube. Whether the answers agree: with a mistake an answer may show
+/// nothing, and what it shows is so.
+fn agree(alloc: Global, random: &mut Random, mistake: u32) -> Result<bool, AllocError> {
+    let trace = random_trace(alloc, random, mistake)?;
+    let cube = literals_of(alloc, &[random.literal(1, 15), random.literal(1, 15)])?;
+    let mut agree = true;
+    for literals in [&[], cube.as_slice()] {
+        let plain = solve_and_check(alloc, &trace.formula, literals, Guide::none(), 100_000)?;
+        let guided = solve_and_check(alloc, &trace.formula, literals, trace.guide(), 1000)?;
+        let shows = guided != Shown::Mistake && guided != Shown::Nothing;
+        let is_right = (plain == Shown::Model) == (guided == Shown::Model);
+        let is_wrong = shows && !is_right || plain == Shown::Mistake || plain == Shown::Nothing;
+        agree = agree && !is_wrong && (shows || mistake != 0);
+    }
+    Ok(agree)
+}
+
+#[test]
+fn solves_reads_with_right_and_wrong_guides(rt: HostRuntime) -> Result<(), Fail> {
+    let alloc = rt.alloc();
+    let mut random = Random::new(5);
+    for mistake in [0, 0, 0, 0, 0, 0, 1, 7, 100, 4_294_967_295] {
+        for _ in 0..50 {
+            assert!(rt; agree(alloc, &mut random, mistake)?, "{mistake}");
+        }
+    }
+    Ok(())
+}

@@ -1,0 +1,228 @@
+//! Formulas of traces of one location, with an order and with reads that a guide can know.
+
+use crate::formulas::{add, formula_of};
+use dimacs::{Clause, Formula};
+use solver::{Choice, Guide, Readings};
+use std::alloc::{AllocError, Global};
+
+/// What an operation reads and writes, and whether it is the first one of its process.
+#[derive(Clone, Copy)]
+pub struct Access {
+    pub reads: Option<u16>,
+    pub writes: Option<u16>,
+    pub is_first: bool,
+}
+
+/// The formula of a trace, and what is known of it.
+#[derive(Drop)]
+pub struct Traced {
+    pub formula: Formula,
+    elements: u32,
+    /// The number of the first clause that says that the order is transitive.
+    first: u32,
+    readings: Readings,
+}
+
+impl Traced {
+    /// What is known of the order and of the reads.
+    pub fn guide(&self) -> Guide<'_> {
+        Guide::with_order(self.elements, self.first).with_readings(&self.readings)
+    }
+}
+
+/// A formula while it is made, and what is known of its reads. Where the knowledge is wrong, numbers of clauses are too large by this.
+#[derive(Drop)]
+struct Made {
+    elements: u32,
+    clauses: Vec<Clause>,
+    readings: Readings,
+    variables: u32,
+    mistake: u32,
+}
+
+impl Made {
+    /// The literal that says that i stands before j.
+    fn before(&self, i: u32, j: u32) -> i32 {
+        let low = i.min(j);
+        let twice = self.elements.wrapping_mul(2).wrapping_sub(1);
+        let pairs = low.wrapping_mul(twice.wrapping_sub(low)) / 2;
+        let number = pairs.wrapping_add(i.max(j).wrapping_sub(low));
+        let variable = i32::try_from(number).unwrap_or(1);
+        if i < j {
+            variable
+        } else {
+            0i32.wrapping_sub(variable)
+        }
+    }
+
+    /// The number of the next clause.
+    fn next(&self) -> u32 {
+        let stored = u32::try_from(self.clauses.len()).unwrap_or(0);
+        stored.wrapping_add(1)
+    }
+}
+
+/// The literal that says that the variable is false.
+fn not(variable: u32) -> i32 {
+    0i32.wrapping_sub(i32::try_from(variable).unwrap_or(1))
+}
+
+/// Adds the clauses of program order.
+fn add_processes(alloc: Global, made: &mut Made, accesses: &[Access]) -> Result<(), AllocError> {
+    let mut element: u32 = 0;
+    for access in accesses {
+        if !access.is_first {
+            let literal = made.before(element.wrapping_sub(1), element);
+            add(alloc, &mut made.clauses, &[literal])?;
+        }
+        element = element.wrapping_add(1);
+    }
+    Ok(())
+}
+
+/// Adds transitivity.
+fn add_order(alloc: Global, made: &mut Made) -> Result<(), AllocError> {
+    let elements = made.elements;
+    for i in 0..elements {
+        for j in i + 1..elements {
+            for k in j + 1..elements {
+                let falling = [made.before(j, i), made.before(k, j), made.before(i, k)];
+                add(alloc, &mut made.clauses, &falling)?;
+                let rising = [made.before(i, j), made.before(j, k), made.before(k, i)];
+                add(alloc, &mut made.clauses, &rising)?;
+            }
+        }
+    }
+    Ok(())
+}
+
+/// Adds the clauses of one choice, and tells of it.
+fn add_choice(
+    alloc: Global,
+    made: &mut Made,
+    accesses: &[Access],
+    reader: u32,
+    writer: Option<u32>,
+    variable: u32,
+) -> Result<(), AllocError> {
+    let first = made.next().wrapping_add(made.mistake);
+    made.readings.add_choice(Choice {
+        variable,
+        reader,
+        writer,
+        first,
+    })?;
+    if let Some(chosen) = writer {
+        let comes_first = made.before(chosen, reader);
+        add(alloc, &mut made.clauses, &[not(variable), comes_first])?;
+    }
+    let mut other: u32 = 0;
+    for access in accesses {
+        if access.writes.is_some() && other != reader {
+            let is_after = made.before(reader, other);
+            match writer {
+                None => add(alloc, &mut made.clauses, &[not(variable), is_after])?,
+                Some(chosen) if chosen == other => {}
+                Some(chosen) => {
+                    let is_before = made.before(other, chosen);
+                    let clause = [not(variable), is_before, is_after];
+                    add(alloc, &mut made.clauses, &clause)?;
+                }
+            }
+        }
+        other = other.wrapping_add(1);
+    }
+    Ok(())
+}
+
+/// From where the reader may have the value: from the start if it is 0, and from others that write it.
+fn sources(
+    alloc: Global,
+    accesses: &[Access],
+    reader: u32,
+    value: u16,
+) -> Result<Vec<Option<u32>>, AllocError> {
+    let mut sources = Vec::new(alloc);
+    if value == 0 {
+        sources.push(None)?;
+    }
+    let mut writer: u32 = 0;
+    for access in accesses {
+        if access.writes == Some(value) && writer != reader {
+            sources.push(Some(writer))?;
+        }
+        writer = writer.wrapping_add(1);
+    }
+    Ok(sources)
+}
+
+/// Adds the clauses of a reader: that one of its choices is made, and what each of them means.
+fn add_reader(
+    alloc: Global,
+    made: &mut Made,
+    accesses: &[Access],
+    reader: u32,
+    value: u16,
+) -> Result<(), AllocError> {
+    let sources = sources(alloc, accesses, reader, value)?;
+    let mut some = Vec::new(alloc);
+    let mut variable = made.variables;
+    for _ in &sources {
+        variable = variable.wrapping_add(1);
+        some.push(i32::try_from(variable).unwrap_or(1))?;
+    }
+    add(alloc, &mut made.clauses, some.as_slice())?;
+    for source in &sources {
+        made.variables = made.variables.wrapping_add(1);
+        let variable = made.variables;
+        add_choice(alloc, made, accesses, reader, *source, variable)?;
+    }
+    Ok(())
+}
+
+/// The formula of the trace of these operations, and what is known of its reads, with this mistake in it.
+pub fn formula_of_trace(
+    alloc: Global,
+    accesses: &[Access],
+    mistake: u32,
+) -> Result<Traced, AllocError> {
+    let elements = u32::try_from(accesses.len()).unwrap_or(0);
+    let mut made = Made {
+        elements,
+        clauses: Vec::new(alloc),
+        readings: Readings::new(alloc, elements)?,
+        variables: elements.wrapping_mul(elements.wrapping_sub(1)) / 2,
+        mistake,
+    };
+    add_processes(alloc, &mut made, accesses)?;
+    let first = made.next();
+    add_order(alloc, &mut made)?;
+    let mut element: u32 = 0;
+    for access in accesses {
+        if access.writes.is_some() {
+            for other in 0..elements {
+                made.readings.add_writer(other, element);
+            }
+        }
+        element = element.wrapping_add(1);
+    }
+    let mut reader: u32 = 0;
+    for access in accesses {
+        if let Some(value) = access.reads {
+            add_reader(alloc, &mut made, accesses, reader, value)?;
+        }
+        reader = reader.wrapping_add(1);
+    }
+    let Made {
+        clauses,
+        readings,
+        variables,
+        ..
+    } = made;
+    Ok(Traced {
+        formula: formula_of(alloc, variables, clauses),
+        elements,
+        first,
+        readings,
+    })
+}
