@@ -59,6 +59,25 @@ impl<'a> Attempt<'a> {
         Ok(Attempt { alloc, search, log })
     }
 
+    /// An answer of so many additions at most, if counting shows that there are readers which cannot all have a source.
+    pub fn count_sources(
+        &mut self,
+        guide: Guide<'a>,
+        budget: u64,
+    ) -> Result<Option<Answer>, AllocError>
+        ensures log { OnOk result (vec_len self.new.log.ends ≤ vec_len self.old.log.ends) }
+        ensures answer { IfOk result (λ found. IfSome found (λ answer. IsWithin budget answer)) }
+    {
+        if budget == 0 {
+            return Ok(None);
+        }
+        let first = self.log.next_id();
+        let Some(derivation) = self.search.refute_by_counting(guide, first, budget)? else {
+            return Ok(None);
+        };
+        Ok(Some(Answer::Refuted(derivation)))
+    }
+
     /// Its decisions go along a schedule from now on.
     pub fn go_along_a_schedule(&mut self) -> Result<(), AllocError>
         ensures { vec_len self.new.log.ends ≤ vec_len self.old.log.ends }

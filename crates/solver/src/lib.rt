@@ -30,11 +30,14 @@ mod schedule;
 mod search;
 mod small_clauses;
 mod solving;
+mod source_count;
 mod store;
+mod told_reads;
 mod trail;
+mod units;
 mod watches;
 
 pub use answer::Answer;
 pub use guide::Guide;
-pub use readings::{Choice, Readings};
+pub use readings::{Choice, LastWriter, Readings};
 pub use solving::solve;

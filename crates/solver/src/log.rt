@@ -122,6 +122,15 @@ impl Log {
         })
     }
 
+    /// All additions as steps.
+    pub fn steps(&self, alloc: Global) -> Result<Vec<Step>, AllocError> {
+        let mut steps = Vec::with_capacity(alloc, self.ends.len())?;
+        for addition in 0..size(self.ends.as_slice()) {
+            steps.push(self.step(alloc, addition)?)?;
+        }
+        Ok(steps)
+    }
+
     /// The derivation of those additions on which the last one rests. Where there is no memory to mark these, it has all of them.
     pub fn derivation(&self, alloc: Global) -> Result<Derivation, AllocError>
         ensures { IfOk result (λ derivation. length derivation ≤ vec_len self.now.ends) }

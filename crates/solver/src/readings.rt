@@ -20,12 +20,29 @@ pub struct Choice {
     pub first: u32,
 }
 
+/// A writer that may be the last one of its location, where the final value is known.
+#[derive(Clone, Copy)]
+pub struct LastWriter {
+    /// The variable which says that it is the last one.
+    pub variable: u32,
+    /// The element that writes.
+    pub writer: u32,
+    /// The number of the clause that says that one of the location's last writers is the last one, counted from 1.
+    pub clause: u32,
+    /// The number of the first of its own clauses.
+    pub first: u32,
+}
+
 /// What a caller of `solve` knows of the reads of an order: which elements write where others read, and which clauses say what a
 /// choice means. With y of `Guide`, let x(i,j) be `y(i,j)` for i below j, and `-y(j,i)` otherwise.
 ///
 /// A choice with the variable s and without a writer has the clauses `-s x(r,q)`, for all writers q of the reader r that it
 /// knows. One with the writer w has the clause `-s x(w,r)`, and then `-s x(q,w) x(r,q)` for all these q other than w. All go by
-/// rising q and stand one after the other.
+/// rising q and stand one after the other. The clause which says that one of a reader's choices is made stands before those of its
+/// first choice.
+///
+/// A last writer w with the variable f has the clauses `-f x(q,w)` for all other writers q of its location, by rising q. These are read
+/// as any clauses are; that they are known serves those who count sources.
 ///
 /// Nobody believes this either: what is wrong in it costs time, and never truth (see `Guide`).
 #[derive(Drop)]
@@ -44,6 +61,8 @@ pub struct Readings {
     /// For each reader and each writer the variable of the choice, or 0; after the writers the one of the choice without a
     /// writer.
     variables: Vec<u32>,
+    /// The last writers, those of one location one after the other.
+    last_writers: Vec<LastWriter>,
 }
 
 impl Readings {
@@ -59,6 +78,7 @@ impl Readings {
             reading: vec![in alloc; 0; elements as usize]?,
             writing: vec![in alloc; 0; elements as usize]?,
             variables: vec![in alloc; 0; pairs as usize]?,
+            last_writers: Vec::new(alloc),
         })
     }
 
@@ -93,6 +113,12 @@ impl Readings {
         Ok(())
     }
 
+    /// Adds a last writer. Those of one location are added one after the other.
+    pub fn add_last_writer(&mut self, last: LastWriter) -> Result<(), AllocError> {
+        self.last_writers.push(last)?;
+        Ok(())
+    }
+
     /// The place of the choice of this reader and this writer.
     #[inline(always)]
     fn place_of(&self, reader: u32, column: u32) -> u32 {
@@ -109,6 +135,16 @@ impl Readings {
     /// All choices, with gaps.
     pub fn choices(&self) -> &[Option<Choice>] {
         self.choices.as_slice()
+    }
+
+    /// The last writers, those of one location one after the other.
+    pub fn last_writers(&self) -> &[LastWriter] {
+        self.last_writers.as_slice()
+    }
+
+    /// The place of the writer among those of its location, counted from 0.
+    pub fn place_of_writer(&self, writer: u32) -> u32 {
+        self.writers.count_below(writer, writer)
     }
 
     /// For each element those others that write its location.

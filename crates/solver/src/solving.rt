@@ -22,7 +22,8 @@ fn variables_of<L: ClauseList>(formula: &L, cube: &[Lit]) -> u32 {
 ///
 /// At most `budget` conflicts are worked on, where a conflict is a clause all of whose literals have become false, and each of
 /// them makes one addition of the derivation. The next one makes the answer `Open`. What follows by unit propagation is found before
-/// anything is decided.
+/// anything is decided. If counting then shows that there are readers which cannot all have a source, the derivation says that in at
+/// most `budget` steps, and nothing is searched.
 ///
 /// The guide tells what the caller knows of the formula. Neither it nor the answer is believed by anybody: a model is evaluated,
 /// a derivation checked.
@@ -39,6 +40,9 @@ pub fn solve<L: ClauseList>(
     let clauses = formula.count();
     let guide = guide.fitting(variables, clauses);
     let mut first = Attempt::new(alloc, variables, formula, cube, guide)?;
+    if let Some(counted) = first.count_sources(guide, budget)? {
+        return Ok(counted);
+    }
     let share = first.first_turn(budget);
     if let Some(answer) = first.run(share)? {
         return Ok(answer);

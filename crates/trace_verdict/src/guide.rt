@@ -1,8 +1,10 @@
 //! What the solver is told of a trace's clauses. Nobody believes it, and no verdict rests on it: a mistake in it costs time.
-use solver::{Choice, Guide, Readings};
+ghost use Rattle.std.specs.Prelude.{◌<◌, length};
+
+use solver::{Choice, Guide, LastWriter, Readings};
 use std::alloc::{AllocError, Global};
 use var_layout::candidate::{Candidate, Choice as ChoiceOfRead};
-use var_layout::layout::Layout;
+use var_layout::layout::{Chooser, Layout};
 
 /// The number of an operation as the solver takes it.
 fn element_of(operation: usize) -> u32 {
@@ -74,7 +76,42 @@ fn add_choices(
     Ok(next)
 }
 
-/// Who writes what others read, and where the clauses stand that say what is read: after those of transitivity, reader by reader.
+/// Adds the writers of which one leaves the k-th final value, where the first of its clauses has this number. The number after that of the
+/// last one.
+///
+/// A final value that nothing leaves has two clauses, and one that is there from the start has none. Any other has one that says that a
+/// writer is the last one, and then for each as many as there are other writers.
+fn add_last_writers(
+    readings: &mut Readings,
+    layout: &Layout,
+    k: usize,
+    first: u32,
+) -> Result<u32, AllocError>
+    requires { k < length layout.now.final_values }
+{
+    if layout.void_var(Chooser::Final(k)).is_some() {
+        return Ok(first.saturating_add(2));
+    }
+    let finals = layout.finals(k);
+    if finals.is_empty() {
+        return Ok(first);
+    }
+    let for_each = count_of(layout.final_writers(k)).saturating_sub(1);
+    let mut next = first.saturating_add(1);
+    for last in finals {
+        readings.add_last_writer(LastWriter {
+            variable: last.variable,
+            writer: element_of(last.writer),
+            clause: first,
+            first: next,
+        })?;
+        next = next.saturating_add(for_each);
+    }
+    Ok(next)
+}
+
+/// Who writes what others read, and where the clauses stand that say what is read: after those of transitivity, reader by reader. Then come
+/// those of the final values.
 pub(crate) fn readings_of(alloc: Global, layout: &Layout) -> Result<Readings, AllocError> {
     let operations = layout.operations();
     let mut readings = Readings::new(alloc, element_of(operations))?;
@@ -82,6 +119,9 @@ pub(crate) fn readings_of(alloc: Global, layout: &Layout) -> Result<Readings, Al
     for operation in 0..operations {
         add_writers(&mut readings, layout, operation);
         next = add_choices(&mut readings, layout, operation, next)?;
+    }
+    for k in 0..layout.final_values() {
+        next = add_last_writers(&mut readings, layout, k, next)?;
     }
     Ok(readings)
 }

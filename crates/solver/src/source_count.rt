@@ -1,0 +1,73 @@
+//! Readers that cannot all have a source, before anything is decided. A search that learns does not find this in reasonable time, so
+//! it is looked for, and refuted, by counting.
+
+ghost use Rattle.std.specs.Prelude.{◌≤◌, length, IfOk, IfSome};
+
+use crate::guide::Guide;
+use crate::ordered_trail::OrderedTrail;
+use crate::readings::Readings;
+use crate::search::Search;
+use crate::told_reads::told_reads;
+use crate::units::Units;
+use counting::{Free, Given, KnownOrder, Order, find_contradiction, refute};
+use lrat_check::derivation::Derivation;
+use std::alloc::AllocError;
+
+/// What is known of the order before anything is decided.
+fn known_order<'b>(
+    guide: Guide<'_>,
+    trail: &'b OrderedTrail<'_>,
+    readings: &'b Readings,
+) -> KnownOrder<'b> {
+    KnownOrder {
+        order: Order {
+            operations: guide.elements(),
+            first: guide.first(),
+        },
+        writers: readings.writers(),
+        behind: trail.order().behind(),
+    }
+}
+
+impl<'a> Search<'a> {
+    /// A derivation of so many steps at most, the first of which has this number, if there are readers that cannot all have a source.
+    pub fn refute_by_counting(
+        &mut self,
+        guide: Guide<'a>,
+        first: u32,
+        budget: u64,
+    ) -> Result<Option<Derivation>, AllocError>
+        ensures { IfOk result (λ found. IfSome found (λ derivation. length derivation ≤ budget)) }
+    {
+        let Some(readings) = guide.readings() else {
+            return Ok(None);
+        };
+        if self.conflict.is_some() {
+            return Ok(None);
+        }
+        let alloc = self.alloc;
+        let reads = told_reads(alloc, &self.trail, readings)?;
+        let known = known_order(guide, &self.trail, readings);
+        let Some(found) = find_contradiction(alloc, &reads, known)? else {
+            return Ok(None);
+        };
+        if found.most_steps() > budget {
+            return Ok(None);
+        }
+        let mut units = Units::new(alloc, self.variables, first)?;
+        let mut clauses = Vec::new(alloc);
+        for literal in found.rests_on() {
+            clauses.push(self.unit(&mut units, *literal)?)?;
+        }
+        let given = Given {
+            steps: units.log.steps(alloc)?,
+            clauses: clauses.as_slice(),
+        };
+        let free = Free {
+            clause: units.log.next_id(),
+            variable: self.variables.wrapping_add(1),
+        };
+        let known = known_order(guide, &self.trail, readings);
+        refute(alloc, given, &reads, &found, known, free, budget)
+    }
+}

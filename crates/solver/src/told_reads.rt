@@ -1,0 +1,121 @@
+//! What is told of reads to those who count sources.
+
+use crate::ordered_trail::OrderedTrail;
+use crate::readings::{Choice, LastWriter, Readings};
+use crate::trail::FALSE;
+use counting::{Choice as Source, Reader, Reads, Update};
+use order_closure::tables::at;
+use std::alloc::{AllocError, Global};
+
+/// Whether the choice of this variable cannot be made.
+fn is_excluded(trail: &OrderedTrail<'_>, variable: u32) -> bool {
+    trail.value(variable.wrapping_mul(2)) == FALSE
+}
+
+/// The place of each element among the writers of its location.
+fn places_of(alloc: Global, readings: &Readings) -> Result<Vec<u32>, AllocError> {
+    let mut places = Vec::with_capacity(alloc, readings.elements() as usize)?;
+    for element in 0..readings.elements() {
+        places.push(readings.writers().count_below(element, element))?;
+    }
+    Ok(places)
+}
+
+/// The choice as a source of its reader. The value before all writers of a location has a number above those of all elements.
+fn source_of(
+    trail: &OrderedTrail<'_>,
+    readings: &Readings,
+    places: &[u32],
+    choice: Choice,
+) -> Source {
+    let (source, place) = match choice.writer {
+        Some(writer) => (writer, Some(at(places, writer, 0))),
+        None => {
+            let location = readings.location(choice.reader);
+            (readings.elements().wrapping_add(location), None)
+        }
+    };
+    Source {
+        source,
+        place,
+        variable: choice.variable,
+        first: choice.first,
+        is_excluded: is_excluded(trail, choice.variable),
+    }
+}
+
+/// The last writer as a source of the final value.
+fn source_of_last(trail: &OrderedTrail<'_>, places: &[u32], last: LastWriter) -> Source {
+    Source {
+        source: last.writer,
+        place: Some(at(places, last.writer, 0)),
+        variable: last.variable,
+        first: last.first,
+        is_excluded: is_excluded(trail, last.variable),
+    }
+}
+
+/// Tells of the elements that read and write.
+fn tell_updates(
+    trail: &OrderedTrail<'_>,
+    readings: &Readings,
+    places: &[u32],
+    reads: &mut Reads,
+) -> Result<(), AllocError> {
+    let mut reader = readings.elements();
+    for choice in readings.choices() {
+        let Some(choice) = choice else {
+            continue;
+        };
+        if !readings.writes(choice.reader) {
+            continue;
+        }
+        if choice.reader != reader {
+            reader = choice.reader;
+            let update = Update {
+                operation: reader,
+                place: at(places, reader, 0),
+            };
+            reads.add_reader(Reader {
+                update: Some(update),
+                clause: choice.first.wrapping_sub(1),
+            })?;
+        }
+        reads.add_choice(source_of(trail, readings, places, *choice))?;
+    }
+    Ok(())
+}
+
+/// Tells of the final values.
+fn tell_finals(
+    trail: &OrderedTrail<'_>,
+    readings: &Readings,
+    places: &[u32],
+    reads: &mut Reads,
+) -> Result<(), AllocError> {
+    let mut clause: u32 = 0;
+    for last in readings.last_writers() {
+        if last.clause != clause {
+            clause = last.clause;
+            reads.add_reader(Reader {
+                update: None,
+                clause,
+            })?;
+        }
+        reads.add_choice(source_of_last(trail, places, *last))?;
+    }
+    Ok(())
+}
+
+/// The readers that need sources of their own, and which of their choices are not false.
+pub fn told_reads(
+    alloc: Global,
+    trail: &OrderedTrail<'_>,
+    readings: &Readings,
+) -> Result<Reads, AllocError> {
+    let mut reads = Reads::new(alloc);
+    let places = places_of(alloc, readings)?;
+    tell_updates(trail, readings, places.as_slice(), &mut reads)?;
+    tell_finals(trail, readings, places.as_slice(), &mut reads)?;
+    Ok(reads)
+}
