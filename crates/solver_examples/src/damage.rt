@@ -81,11 +81,10 @@ fn add_copy(
     } else {
         *id
     };
+    let numbers = hints.to_vec(alloc)?;
     let hints = if kind == 3 || kind == 4 {
-        other_hints(alloc, random, hints.as_slice())?
+        other_hints(alloc, random, numbers.as_slice())?
     } else {
-        let mut numbers = Vec::new(alloc);
-        numbers.extend_from_slice(hints.as_slice())?;
         Hints::new(numbers)
     };
     let literals = if kind == 5 {

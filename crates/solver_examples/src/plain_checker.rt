@@ -251,12 +251,12 @@ pub fn plain_check(
                     return Err(Refusal::At(StepFault::IdInUse, number));
                 }
                 let literals = numbers_of(alloc, literals.as_slice())?;
-                let hints = hints.as_slice();
+                let hints = hints.to_vec(alloc)?;
                 justify(
                     alloc,
                     clauses.as_slice(),
                     literals.as_slice(),
-                    hints,
+                    hints.as_slice(),
                     number,
                 )?;
                 if literals.is_empty() {
