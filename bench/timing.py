@@ -52,13 +52,18 @@ def peak_of(command, out):
 
 
 def processor_time(command, seconds, out):
-    """The processor time of one run that may take so many seconds, in seconds, and its exit status."""
+    """The processor time of one run that may take so many seconds, in seconds, and its exit status: 127 where there is no such
+    command."""
     child = os.fork()
     if child == 0:
-        resource.setrlimit(resource.RLIMIT_CPU, (seconds, seconds + 1))
-        os.dup2(os.open(out, os.O_WRONLY | os.O_CREAT | os.O_TRUNC), 1)
-        os.dup2(os.open(os.devnull, os.O_WRONLY), 2)
-        os.execvp(command[0], command)
+        # A fault must end the child here, and not in the rest of this program.
+        try:
+            resource.setrlimit(resource.RLIMIT_CPU, (seconds, seconds + 1))
+            os.dup2(os.open(out, os.O_WRONLY | os.O_CREAT | os.O_TRUNC), 1)
+            os.dup2(os.open(os.devnull, os.O_WRONLY), 2)
+            os.execvp(command[0], command)
+        finally:
+            os._exit(127)
     _, status, usage = os.wait4(child, 0)
     return usage.ru_utime + usage.ru_stime, os.waitstatus_to_exitcode(status)
 
