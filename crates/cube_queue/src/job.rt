@@ -49,6 +49,13 @@ impl Job {
         self.cube.as_slice()
     }
 
+    /// A copy of its cube. It takes no memory.
+    pub fn copied_cube(&self, alloc: Global) -> JobCube
+        ensures { result ≡ self.now.cube }
+    {
+        JobCube::of(alloc, self.cube.as_slice())
+    }
+
     /// The job with its outcome. It takes no memory.
     pub fn settle(self, outcome: Outcome) -> Settled
         ensures ticket { result.ticket ≡ self.ticket }
