@@ -1,7 +1,7 @@
 -- What the calls ask of the two rules, where the view of a pass is known to be that of a worker or of the one seat.
 use Rattle.std.proofs.Common.{◌≡◌, ◌≢◌, ℕ, ◌+◌, List, [], ◌∷◌, ◌++◌, length, refl, sym, subst}
-use Rattle.std.specs.Prelude.{⊤}
-use Rattle.crossbeam_channel.specs.Fifo.{Pushes, Pops, Learns, Forks, Merges}
+use Rattle.std.specs.Prelude.{⊤, Result, Ok, Err, MatchResult}
+use Rattle.crossbeam_channel.specs.Fifo.{Pushes, Pops, Learns, Forks, Merges, Held}
 use Rattle.job_board.specs.ChannelRules.{IsDealt, IsGathered, list_in, with_item, with_worker_made, worker_made, with_worker_joined, TakesAccount, GivesAccount}
 use Rattle.job_board.specs.declared.channel_view.ChannelView.{ChannelView}
 use Rattle.job_board.specs.declared.channel_view.ChannelView.TheVariants.{One, Worker, Spent}
@@ -67,3 +67,14 @@ module _ {X : Type 0} where
       Pops (IsGathered {X = X}) pass v (λ x w. (w ≡ Spent) × ((queue : List X) × GivesAccount v (x ∷ queue))) × Learns (IsGathered {X = X}) pass v (GivesAccount v)
   ends_results pass v list made joined is =
       (subst (λ (u : ChannelView X). Pops (IsGathered {X = X}) pass u (λ x w. (w ≡ Spent) × ((queue : List X) × GivesAccount u (x ∷ queue)))) (sym is) (gathered.ends pass list made joined), gathered.learns pass v)
+
+  -- whatever the last receive answers, it has shown the rule
+  pub jobs_shown : {E : Type 0} (answer : Result X E) (v w : ChannelView X) →
+      MatchResult answer (λ x. (w ≡ Spent) × ((queue : List X) × TakesAccount v (x ∷ queue))) (λ e. (w ≡ v) × Held 0 (TakesAccount v)) → (queue : List X) × TakesAccount v queue
+  jobs_shown (Ok x) v w told = (x ∷ told.1, told.2)
+  jobs_shown (Err e) v w told = (told.1, told.3)
+
+  pub results_shown : {E : Type 0} (answer : Result X E) (v w : ChannelView X) →
+      MatchResult answer (λ x. (w ≡ Spent) × ((queue : List X) × GivesAccount v (x ∷ queue))) (λ e. (w ≡ v) × Held 0 (GivesAccount v)) → (queue : List X) × GivesAccount v queue
+  results_shown (Ok x) v w told = (x ∷ told.1, told.2)
+  results_shown (Err e) v w told = (told.1, told.3)

@@ -1,5 +1,5 @@
 -- What a worker has in its hand.
-use Rattle.std.specs.Prelude.{ℕ, ◌<◌, ◌≤◌, Bool, true, false, List, [], ◌∷◌, Option, Some, None}
+use Rattle.std.specs.Prelude.{ℕ, nat_lt, Bool, true, false, not, List, [], ◌∷◌, Option, Some, None}
 use Rattle.job_board.specs.declared.hand.Hand.{Hand}
 use Rattle.job_board.specs.declared.hand.Hand.TheVariants.{Empty, Holds, Stopped, Cut}
 use Rattle.job_board.specs.Pairs.{Pair, of_job}
@@ -26,8 +26,8 @@ is_done (Stopped job) = true
 is_done Cut = true
 
 -- a job that it holds is one of these cubes; a stop ticket is past them
-abbrev pub IsWithin : ℕ → Hand → Type 0
-IsWithin cubes Empty = Unit {0}
-IsWithin cubes (Holds held) = held.ticket < cubes
-IsWithin cubes (Stopped job) = cubes ≤ job.ticket
-IsWithin cubes Cut = Unit {0}
+abbrev pub is_within : ℕ → Hand → Bool
+is_within cubes Empty = true
+is_within cubes (Holds held) = nat_lt held.ticket cubes
+is_within cubes (Stopped job) = not (nat_lt job.ticket cubes)
+is_within cubes Cut = true

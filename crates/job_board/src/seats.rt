@@ -1,11 +1,11 @@
 //! The seats at a board.
-ghost use Rattle.std.specs.Prelude.{◌≡◌, ◌<◌, ◌++◌, length};
+ghost use Rattle.std.specs.Prelude.{◌≡◌, ◌<◌, ◌++◌, true, length};
 ghost use Rattle.std.specs.List.{All};
 ghost use Rattle.crossbeam_channel.specs.Claims.{view};
 ghost use Rattle.job_board.specs.declared.channel_view.ChannelView.TheVariants.{Worker};
 ghost use Rattle.job_board.specs.ChannelRules.{list_in};
 ghost use Rattle.job_board.specs.Pairs.{of_jobs, of_results, below, Rise};
-ghost use Rattle.job_board.specs.Hands.{held_in, IsWithin};
+ghost use Rattle.job_board.specs.Hands.{held_in, is_within};
 
 use crate::channel_view::ChannelView;
 use crate::hand::Hand;
@@ -42,7 +42,7 @@ pub struct WorkerSeat {
     ghost takes: { view jobs ≡ Worker number (list_in (view jobs)) },
     ghost gives: { view results ≡ Worker number (list_in (view results)) },
     ghost answers: { of_jobs (list_in (view jobs)) ≡ of_results (list_in (view results)) ++ held_in hand },
-    ghost within: { IsWithin cubes hand },
+    ghost within: { is_within cubes hand ≡ true },
     ghost counted: { taken ≡ length (below cubes (of_jobs (list_in (view jobs)))) },
     ghost settled: { given ≡ length (below cubes (of_results (list_in (view results)))) },
     ghost no_stop: { All (λ s. s.ticket < cubes) (list_in (view results)) },

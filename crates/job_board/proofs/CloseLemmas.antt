@@ -1,0 +1,97 @@
+-- Workers' seats are joined one after the other, and what follows once all are.
+use Rattle.std.proofs.Common.{◌≡◌, ℕ, zero, suc, ◌+◌, ◌<◌, Bool, true, false, cond, nat_lt, List, [], ◌∷◌, ◌++◌, map, length, Some, refl, sym, ◌∙◌, ap, subst, ltb-true, lt-ltb, arith}
+use Rattle.std.specs.List.{All, slice_get}
+use Rattle.std.proofs.lemmas.List.{map-append, length-map}
+use Rattle.std.proofs.lemmas.List.Elements.{All-nil, All-cons, All-head, All-tail}
+use Rattle.cube_queue.specs.declared.job.Job.{Job}
+use Rattle.cube_queue.specs.declared.job.Settled.{Settled}
+use Rattle.job_board.specs.Merge.{IsMergeOf}
+use Rattle.job_board.specs.ChannelRules.{list_in, with_worker_joined, TakesAccount, GivesAccount}
+use Rattle.job_board.specs.Pairs.{of_jobs, of_results, below}
+use Rattle.job_board.specs.Seats.{taken_by, given_by}
+use Rattle.job_board.specs.Accounts.{total}
+use Rattle.job_board.specs.declared.channel_view.ChannelView.{ChannelView}
+use Rattle.job_board.specs.declared.channel_view.ChannelView.TheVariants.{One, Worker, Spent}
+use Rattle.job_board.specs.declared.seats.WorkerSeat.{WorkerSeat}
+use Rattle.crossbeam_channel.specs.Claims.{view}
+use Rattle.job_board.proofs.TotalLemmas.{total-append, total-map, merge_total}
+
+-- how many jobs a worker took, and how many results it gave, stop tickets left out
+abbrev pub taken_below : ℕ → WorkerSeat → ℕ
+taken_below cubes seat = length (below cubes (of_jobs (taken_by seat)))
+
+abbrev pub given_below : ℕ → WorkerSeat → ℕ
+given_below cubes seat = length (below cubes (of_results (given_by seat)))
+
+-- both first passes have taken in these workers' seats, and these are their counts
+pub record AreJoined (cubes workers : ℕ) (put : List Job) (got : List Settled) (seats : List WorkerSeat) (v : ChannelView Job) (w : ChannelView Settled) (taken given : ℕ) : Type 0 where
+  pub jobs_known : v ≡ One put workers (map taken_by seats)
+  pub results_known : w ≡ One got workers (map given_by seats)
+  pub taken_is : taken ≡ total (taken_below cubes) seats
+  pub given_is : given ≡ total (given_below cubes) seats
+
+pub one_joined : (cubes workers : ℕ) (put : List Job) (got : List Settled) (seats : List WorkerSeat) (seat : WorkerSeat) (v v' : ChannelView Job) (w w' : ChannelView Settled) (taken taken' given given' : ℕ) →
+    AreJoined cubes workers put got seats v w taken given → seat.cubes ≡ cubes → v' ≡ with_worker_joined v (view seat.jobs) → w' ≡ with_worker_joined w (view seat.results) →
+    taken' ≡ taken + seat.taken → given' ≡ given + seat.given → AreJoined cubes workers put got (seats ++ seat ∷ []) v' w' taken' given'
+one_joined cubes workers put got seats seat v v' w w' taken taken' given given' joined same jobs results more_taken more_given =
+    let t : seat.taken ≡ taken_below cubes seat = subst (λ (n : ℕ). seat.taken ≡ taken_below n seat) same seat.counted in
+    let g : seat.given ≡ given_below cubes seat = subst (λ (n : ℕ). seat.given ≡ given_below n seat) same seat.settled in
+    record {
+      jobs_known = jobs ∙ ap (λ (u : ChannelView Job). with_worker_joined u (view seat.jobs)) joined.jobs_known ∙ ap (λ (parts : List (List Job)). One put workers parts) (sym (map-append taken_by seats (seat ∷ [])));
+      results_known = results ∙ ap (λ (u : ChannelView Settled). with_worker_joined u (view seat.results)) joined.results_known ∙ ap (λ (parts : List (List Settled)). One got workers parts) (sym (map-append given_by seats (seat ∷ [])));
+      taken_is = omega (arith, joined.taken_is, more_taken, t, total-append (taken_below cubes) seats (seat ∷ []));
+      given_is = omega (arith, joined.given_is, more_given, g, total-append (given_below cubes) seats (seat ∷ []));
+    }
+
+-- the last look at the job channel
+pub were_dealt : (workers : ℕ) (put : List Job) (seats : List WorkerSeat) (v : ChannelView Job) → v ≡ One put workers (map taken_by seats) → length seats ≡ workers →
+    (queue : List Job) × TakesAccount v queue → (front : List Job) × (queue : List Job) × IsMergeOf (map taken_by seats) front × (put ≡ front ++ queue)
+were_dealt workers put seats v known all told =
+    let account = subst (λ (u : ChannelView Job). TakesAccount u told.0) known told.1 in
+    let part = account (length-map seats taken_by ∙ all) in
+    (part.0, (told.0, (part.1, part.2)))
+
+-- the last look at the result channel
+pub were_gathered : (workers : ℕ) (got : List Settled) (seats : List WorkerSeat) (w : ChannelView Settled) → w ≡ One got workers (map given_by seats) → length seats ≡ workers →
+    (queue : List Settled) × GivesAccount w queue → (queue : List Settled) × IsMergeOf (map given_by seats) (got ++ queue)
+were_gathered workers got seats w known all told =
+    let account = subst (λ (u : ChannelView Settled). GivesAccount u told.0) known told.1 in
+    (told.0, account (length-map seats given_by ∙ all))
+
+-- 1 at a result of a stop ticket
+past : ℕ → Settled → ℕ
+past cubes settled = cond (nat_lt settled.ticket cubes) 0 1
+
+past_low : (cubes : ℕ) (settled : Settled) → settled.ticket < cubes → past cubes settled ≡ 0
+past_low cubes settled low = ap (λ (b : Bool). cond b 0 1) (lt-ltb settled.ticket cubes low)
+
+low_past : (cubes : ℕ) (settled : Settled) (b : Bool) → nat_lt settled.ticket cubes ≡ b → cond b 0 1 ≡ 0 → settled.ticket < cubes
+low_past cubes settled true is none = ltb-true settled.ticket cubes is
+low_past cubes settled false is none = absurd (omega (arith, none))
+
+none_past : (cubes : ℕ) (results : List Settled) → All (λ (s : Settled). s.ticket < cubes) results → total (past cubes) results ≡ 0
+none_past cubes [] low = refl
+none_past cubes (s ∷ results) low =
+    omega (arith, past_low cubes s (All-head (λ (t : Settled). t.ticket < cubes) s results low), none_past cubes results (All-tail (λ (t : Settled). t.ticket < cubes) s results low))
+
+all_low : (cubes : ℕ) (results : List Settled) → total (past cubes) results ≡ 0 → All (λ (s : Settled). s.ticket < cubes) results
+all_low cubes [] none = All-nil _
+all_low cubes (s ∷ results) none =
+    let here : past cubes s ≡ 0 = omega (arith, none) in
+    let rest : total (past cubes) results ≡ 0 = omega (arith, none) in
+    All-cons (λ (t : Settled). t.ticket < cubes) s results (low_past cubes s (nat_lt s.ticket cubes) refl here) (all_low cubes results rest)
+
+seats_past : (cubes : ℕ) (seats : List WorkerSeat) → ((number : ℕ) (seat : WorkerSeat) → slice_get seats number ≡ Some seat → seat.cubes ≡ cubes) →
+    total (λ (seat : WorkerSeat). total (past cubes) (given_by seat)) seats ≡ 0
+seats_past cubes [] same = refl
+seats_past cubes (seat ∷ seats) same =
+    let low : All (λ (s : Settled). s.ticket < cubes) (given_by seat) = subst (λ (n : ℕ). All (λ (s : Settled). s.ticket < n) (given_by seat)) (same 0 seat refl) seat.no_stop in
+    omega (arith, none_past cubes (given_by seat) low, seats_past cubes seats (λ number other at. same (suc number) other at))
+
+-- no result of a stop ticket was gathered
+pub gathered_low : (cubes : ℕ) (got left : List Settled) (seats : List WorkerSeat) → IsMergeOf (map given_by seats) (got ++ left) →
+    ((number : ℕ) (seat : WorkerSeat) → slice_get seats number ≡ Some seat → seat.cubes ≡ cubes) → All (λ (s : Settled). s.ticket < cubes) got
+gathered_low cubes got left seats merge same =
+    let sum : total (past cubes) (got ++ left) ≡ total (λ (seat : WorkerSeat). total (past cubes) (given_by seat)) seats =
+    merge_total (past cubes) (map given_by seats) (got ++ left) merge ∙ total-map (λ (part : List Settled). total (past cubes) part) given_by seats in
+    all_low cubes got (omega (arith, sum, total-append (past cubes) got left, seats_past cubes seats same))

@@ -1,0 +1,76 @@
+-- What a seat keeps when its lists grow.
+use Rattle.std.proofs.Common.{◌≡◌, ℕ, ◌+◌, ◌<◌, ◌≤◌, Bool, true, false, cond, nat_lt, List, [], ◌∷◌, ◌++◌, map, length, refl, sym, ◌∙◌, ap, subst, arith}
+use Rattle.std.specs.List.{All, AllPairs, filter}
+use Rattle.std.proofs.lemmas.List.{map-append, append-nil, length-append}
+use Rattle.std.proofs.lemmas.List.Elements.{All-map, filter-append}
+use Rattle.std.proofs.lemmas.List.Quantifiers.{all_pairs_push}
+use Rattle.cube_queue.specs.declared.job.Job.{Job}
+use Rattle.cube_queue.specs.declared.job.Settled.{Settled}
+use Rattle.job_board.specs.ChannelRules.{list_in, with_item}
+use Rattle.job_board.specs.Pairs.{Pair, of_job, of_result, of_jobs, of_results, below, Rise}
+use Rattle.job_board.specs.declared.channel_view.ChannelView.{ChannelView}
+use Rattle.job_board.specs.declared.channel_view.ChannelView.TheVariants.{One, Worker, Spent}
+
+module _ {X : Type 0} where
+  -- the one seat's list, and a worker's, after an item joined it
+  pub one_more_item : (v w : ChannelView X) (list : List X) (made : ℕ) (joined : List (List X)) (x : X) → v ≡ One list made joined → w ≡ with_item v x →
+      (list_in w ≡ list_in v ++ x ∷ []) × (w ≡ One (list_in w) made joined)
+  one_more_item v w list made joined x is more =
+      let whole : w ≡ One (list ++ x ∷ []) made joined = more ∙ ap (λ (u : ChannelView X). with_item u x) is in
+      let mine : list_in w ≡ list ++ x ∷ [] = ap list_in whole in (
+        mine ∙ ap (λ (u : ChannelView X). list_in u ++ x ∷ []) (sym is),
+        whole ∙ ap (λ (xs : List X). One xs made joined) (sym mine),
+      )
+
+  pub worker_more_item : (v w : ChannelView X) (number : ℕ) (list : List X) (x : X) → v ≡ Worker number list → w ≡ with_item v x →
+      (list_in w ≡ list_in v ++ x ∷ []) × (w ≡ Worker number (list_in w))
+  worker_more_item v w number list x is more =
+      let whole : w ≡ Worker number (list ++ x ∷ []) = more ∙ ap (λ (u : ChannelView X). with_item u x) is in
+      let mine : list_in w ≡ list ++ x ∷ [] = ap list_in whole in (
+        mine ∙ ap (λ (u : ChannelView X). list_in u ++ x ∷ []) (sym is),
+        whole ∙ ap (λ (xs : List X). Worker number xs) (sym mine),
+      )
+
+below_more : (cubes : ℕ) (pairs : List Pair) (pair : Pair) → length (below cubes (pairs ++ pair ∷ [])) ≡ length (below cubes pairs) + length (cond (nat_lt pair.0 cubes) (pair ∷ []) [])
+below_more cubes pairs pair =
+    ap length (filter-append (λ (p : Pair). nat_lt p.0 cubes) pairs (pair ∷ []))
+    ∙ length-append (below cubes pairs) (cond (nat_lt pair.0 cubes) (pair ∷ []) [])
+
+one_or_none : (b : Bool) (pair : Pair) (count : ℕ) → cond b (count + 1) count ≡ count + length (cond b (pair ∷ []) [])
+one_or_none true pair count = omega arith
+one_or_none false pair count = omega arith
+
+-- a job counts where its ticket is below the number of cubes
+pub job_counted : (cubes : ℕ) (before after : List Job) (job : Job) (count : ℕ) (b : Bool) → count ≡ length (below cubes (of_jobs before)) → after ≡ before ++ job ∷ [] → nat_lt job.ticket cubes ≡ b →
+    cond b (count + 1) count ≡ length (below cubes (of_jobs after))
+job_counted cubes before after job count b so more is =
+    let here = below_more cubes (of_jobs before) (of_job job) in
+    let one : cond b (count + 1) count ≡ count + length (cond (nat_lt job.ticket cubes) (of_job job ∷ []) []) =
+    ap (λ (t : Bool). cond t (count + 1) count) (sym is) ∙ one_or_none (nat_lt job.ticket cubes) (of_job job) count in
+    let sum : cond b (count + 1) count ≡ length (below cubes (of_jobs before ++ of_job job ∷ [])) = omega (arith, here, one, so) in
+    sum ∙ ap (λ (pairs : List Pair). length (below cubes pairs)) (sym (map-append of_job before (job ∷ []))) ∙ ap (λ (jobs : List Job). length (below cubes (of_jobs jobs))) (sym more)
+
+pub result_counted : (cubes : ℕ) (before after : List Settled) (settled : Settled) (count : ℕ) (b : Bool) → count ≡ length (below cubes (of_results before)) → after ≡ before ++ settled ∷ [] → nat_lt settled.ticket cubes ≡ b →
+    cond b (count + 1) count ≡ length (below cubes (of_results after))
+result_counted cubes before after settled count b so more is =
+    let here = below_more cubes (of_results before) (of_result settled) in
+    let one : cond b (count + 1) count ≡ count + length (cond (nat_lt settled.ticket cubes) (of_result settled ∷ []) []) =
+    ap (λ (t : Bool). cond t (count + 1) count) (sym is) ∙ one_or_none (nat_lt settled.ticket cubes) (of_result settled) count in
+    let sum : cond b (count + 1) count ≡ length (below cubes (of_results before ++ of_result settled ∷ [])) = omega (arith, here, one, so) in
+    sum ∙ ap (λ (pairs : List Pair). length (below cubes pairs)) (sym (map-append of_result before (settled ∷ []))) ∙ ap (λ (results : List Settled). length (below cubes (of_results results))) (sym more)
+
+-- tickets rise where the next is above all before
+pub rises_more : (before after : List Job) (job : Job) → Rise (of_jobs before) → All (λ (earlier : Job). earlier.ticket < job.ticket) before → after ≡ before ++ job ∷ [] → Rise (of_jobs after)
+rises_more before after job rise above more =
+    let longer : Rise (of_jobs before ++ of_job job ∷ []) =
+    all_pairs_push (λ (p q : Pair). p.0 < q.0) (of_jobs before) (of_job job) rise (All-map (λ (p : Pair). p.0 < job.ticket) of_job before above) in
+    subst (λ (jobs : List Job). Rise (of_jobs jobs)) (sym more) (subst Rise (sym (map-append of_job before (job ∷ []))) longer)
+
+-- the seat rule after a take, with an empty hand before, and after a give
+pub answers_take : (before after : List Job) (given : List Settled) (job : Job) → of_jobs before ≡ of_results given ++ [] → after ≡ before ++ job ∷ [] → of_jobs after ≡ of_results given ++ of_job job ∷ []
+answers_take before after given job so more =
+    ap of_jobs more ∙ map-append of_job before (job ∷ []) ∙ ap (λ (pairs : List Pair). pairs ++ of_job job ∷ []) (so ∙ append-nil (of_results given))
+
+pub answers_give : (taken : List Job) (before after : List Settled) (settled : Settled) → of_jobs taken ≡ of_results before ++ of_result settled ∷ [] → after ≡ before ++ settled ∷ [] → of_jobs taken ≡ of_results after ++ []
+answers_give taken before after settled so more =
+    so ∙ sym (map-append of_result before (settled ∷ [])) ∙ ap of_results (sym more) ∙ sym (append-nil (of_results after))

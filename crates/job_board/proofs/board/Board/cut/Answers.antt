@@ -1,0 +1,5 @@
+use Rattle.job_board.proofs.StepLemmas.{cuts_jobs, cuts_results}
+use Rattle.job_board.proofs.board.Board.cut.Goals as goal
+
+pub another-requires-clause-rule : goal.another-requires-clause-rule
+another-requires-clause-rule c = cuts_jobs _ _ _ _ _ c.requires.jobs.1
