@@ -9,3 +9,4 @@ pub mod SeatLemmas
 pub mod AccountLemmas
 pub mod AnswerLemmas
 pub mod CloseLemmas
+pub mod OpenLemmas
