@@ -39,7 +39,7 @@ module _ {X : Type 0} (f : X → ℕ) where
       (cases_lt 0 (f y))
 
 -- 1 at this pair, and 0 at any other
-is_pair : Pair → Pair → ℕ
+abbrev is_pair : Pair → Pair → ℕ
 is_pair p q = cond (p.0 == q.0) (cond (pointwise int_eq p.1 q.1) 1 0) 0
 
 same_cube : (c d : List ℤ) → Decides (pointwise int_eq c d) (c ≡ d)
@@ -74,7 +74,7 @@ only_at : (cubes : ℕ) (h : Pair → ℕ) (q : Pair) → nat_lt q.0 cubes ≡ t
 only_at cubes h q low = ap (λ (t : Bool). cond t (h q) 0) low
 
 -- 1 where the pair has this ticket, and 0 elsewhere
-has_ticket : ℕ → Pair → ℕ
+abbrev has_ticket : ℕ → Pair → ℕ
 has_ticket k q = cond (q.0 == k) 1 0
 
 small : (a b : Bool) → cond a (cond b 1 0) 0 ≤ 1

@@ -59,7 +59,7 @@ were_gathered workers got seats w known all told =
     (told.0, account (length-map seats given_by ∙ all))
 
 -- 1 at a result of a stop ticket
-past : ℕ → Settled → ℕ
+abbrev past : ℕ → Settled → ℕ
 past cubes settled = cond (nat_lt settled.ticket cubes) 0 1
 
 past_low : (cubes : ℕ) (settled : Settled) → settled.ticket < cubes → past cubes settled ≡ 0

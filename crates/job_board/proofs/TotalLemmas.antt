@@ -32,7 +32,7 @@ total-map f g [] = refl
 total-map f g (x ∷ xs) = omega (arith, total-map f g xs)
 
 module _ {X : Type 0} (f : X → ℕ) where
-  of_part : List X → ℕ
+  abbrev of_part : List X → ℕ
   of_part part = total f part
 
   no_parts : (parts : List (List X)) → ((k : ℕ) → [] ≡ slice_index_or parts k []) → total of_part parts ≡ 0
