@@ -17,7 +17,7 @@ only cubes h p = cond (nat_lt p.0 cubes) (h p) 0
 abbrev pub one : Pair → ℕ
 one p = 1
 
-only_zero : (b : Bool) (n : ℕ) → cond b 1 0 ≡ 0 → cond b n 0 ≡ 0
+only_zero : (b : Bool) (n : ℕ) → cond {A = ℕ} b 1 0 ≡ 0 → cond {A = ℕ} b n 0 ≡ 0
 only_zero true n none = absurd (omega (arith, none))
 only_zero false n none = refl
 
@@ -26,7 +26,7 @@ pairs_zero cubes h p none = only_zero (nat_lt p.0 cubes) (h p) none
 
 one_below : (b : Bool) (p : Pair) (rest : List Pair) (sum : ℕ) → length rest ≡ sum → length (cond b (p ∷ rest) rest) ≡ cond b 1 0 + sum
 one_below true p rest sum is = omega (arith, is)
-one_below false p rest sum is = is
+one_below false p rest sum is = omega (arith, is)
 
 -- a count is a sum
 pub total_below : (cubes : ℕ) (pairs : List Pair) → length (below cubes pairs) ≡ total (only cubes one) pairs

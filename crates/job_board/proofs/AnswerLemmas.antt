@@ -1,8 +1,7 @@
 -- Lists of jobs and of results that weigh the same, however pairs are weighed: the results are those of the jobs.
-use Rattle.std.proofs.Common.{◌≡◌, ◌≢◌, ℕ, ℤ, zero, suc, ◌+◌, ◌<◌, ◌≤◌, ◌==◌, Bool, true, false, cond, nat_lt, List, [], ◌∷◌, length, slice_index_or, refl, sym, ◌∙◌, ap, subst, lt-ltb, eq-eqb, eqb-true, ⊎_elim, arith}
+use Rattle.std.proofs.Common.{◌≡◌, ◌≢◌, ℕ, ℤ, zero, suc, ◌+◌, ◌<◌, ◌≤◌, ◌==◌, Bool, true, false, cond, nat_lt, List, [], ◌∷◌, length, slice_index_or, refl, sym, ◌∙◌, ap, subst, int_eq, lt-ltb, eq-eqb, eqb-true, ⊎_elim, arith}
 use lib.Pointwise.{pointwise}
 use Rattle.std.specs.Bool.{Decides}
-use Rattle.std.specs.Cmp.{int_eq}
 use Rattle.std.specs.List.{All, AllPairs, Contains}
 use Rattle.std.proofs.lemmas.Bool.{cases_lt}
 use Rattle.std.proofs.lemmas.Bool.Decides.{Decides-int_eq}
@@ -32,10 +31,10 @@ module _ {X : Type 0} (f : X → ℕ) where
   some_weighs [] heavy = absurd (omega arith)
   some_weighs (y ∷ xs) heavy =
       ⊎_elim
-      (λ (here : 0 < f y). (y, ((0, (omega arith, refl)), here)))
+      (λ (here : 0 < f y). (y, (0, omega arith, refl), here))
       (λ (none : f y ≤ 0).
       let rest = some_weighs xs (omega (arith, heavy, none)) in
-      (rest.0, ((suc rest.1.0, (omega (arith, rest.1.1), rest.1.2)), rest.2)))
+      (rest.0, (suc rest.1.0, omega (arith, rest.1.1), rest.1.2), rest.2))
       (cases_lt 0 (f y))
 
 -- 1 at this pair, and 0 at any other
@@ -61,7 +60,7 @@ is_pair_itself : (p : Pair) → is_pair p p ≡ 1
 is_pair_itself p =
     let ticket : (p.0 == p.0) ≡ true = eq-eqb p.0 p.0 refl in
     let cube : pointwise int_eq p.1 p.1 ≡ true = (same_cube p.1 p.1).1 refl in
-    ap (λ (b : Bool). cond b (cond (pointwise int_eq p.1 p.1) 1 0) 0) ticket ∙ ap (λ (b : Bool). cond b 1 0) cube
+    ap {B = ℕ} (λ (b : Bool). cond b (cond (pointwise int_eq p.1 p.1) 1 0) 0) ticket ∙ ap {B = ℕ} (λ (b : Bool). cond b 1 0) cube
 
 -- a pair that counts is below, and the same
 only_heavy : (cubes : ℕ) (h : Pair → ℕ) (q : Pair) (b : Bool) → nat_lt q.0 cubes ≡ b → 0 < only cubes h q → (b ≡ true) × (0 < h q)
@@ -82,8 +81,8 @@ small true true = omega arith
 small true false = omega arith
 small false b = omega arith
 
-nothing_at : (a b : Bool) → b ≡ false → cond a (cond b 1 0) 0 ≡ 0
-nothing_at true b no = ap (λ (t : Bool). cond t 1 0) no
+nothing_at : (a b : Bool) → b ≡ false → cond {A = ℕ} a (cond {A = ℕ} b 1 0) 0 ≡ 0
+nothing_at true b no = ap {B = ℕ} (λ (t : Bool). cond t 1 0) no
 nothing_at false b no = refl
 
 not_at : (k j : ℕ) (b : Bool) → (j == k) ≡ b → k < j → b ≡ false
@@ -131,7 +130,7 @@ module _ {X : Type 0} (f : X → ℕ) where
   two_weigh (x ∷ xs) (suc i) (suc j) d apart low = omega (arith, two_weigh xs i j d (omega arith) (omega arith))
 
 has_it : (cubes k : ℕ) (q : Pair) → q.0 ≡ k → q.0 < cubes → only cubes (has_ticket k) q ≡ 1
-has_it cubes k q same low = only_at cubes (has_ticket k) q (lt-ltb q.0 cubes low) ∙ ap (λ (b : Bool). cond b 1 0) (eq-eqb q.0 k same)
+has_it cubes k q same low = only_at cubes (has_ticket k) q (lt-ltb q.0 cubes low) ∙ ap {B = ℕ} (λ (b : Bool). cond b 1 0) (eq-eqb q.0 k same)
 
 module _ (cubes : ℕ) (put : List Job) (got : List Settled) (same : (h : Pair → ℕ) → total (job_weight cubes h) put ≡ total (result_weight cubes h) got)
   (low : All (λ (s : Settled). s.ticket < cubes) got) (rise : Rise (of_jobs put)) where
@@ -143,7 +142,7 @@ module _ (cubes : ℕ) (put : List Job) (got : List Settled) (same : (h : Pair �
       let heavy : 0 < total (job_weight cubes (is_pair p)) put = omega (arith, contained_weighs (result_weight cubes (is_pair p)) got settled among, mine, same (is_pair p)) in
       let found = some_weighs (job_weight cubes (is_pair p)) put heavy in
       let alike = (only_heavy cubes (is_pair p) (of_job found.0) (nat_lt found.0.ticket cubes) refl found.2).1 in
-      (small, (found.0, (found.1, sym (is_pair_only p (of_job found.0) alike))))
+      (small, (found.0, found.1, sym (is_pair_only p (of_job found.0) alike)))
 
   every_job : (job : Job) → Contains put job → job.ticket < cubes → (settled : Settled) × Contains got settled × (of_result settled ≡ of_job job)
   every_job job among small =
@@ -152,7 +151,7 @@ module _ (cubes : ℕ) (put : List Job) (got : List Settled) (same : (h : Pair �
       let heavy : 0 < total (result_weight cubes (is_pair p)) got = omega (arith, contained_weighs (job_weight cubes (is_pair p)) put job among, mine, same (is_pair p)) in
       let found = some_weighs (result_weight cubes (is_pair p)) got heavy in
       let alike = (only_heavy cubes (is_pair p) (of_result found.0) (nat_lt found.0.ticket cubes) refl found.2).1 in
-      (found.0, (found.1, sym (is_pair_only p (of_result found.0) alike)))
+      (found.0, found.1, sym (is_pair_only p (of_result found.0) alike))
 
   no_result_twice : AllPairs (λ (s t : Settled). s.ticket ≢ t.ticket) got
   no_result_twice i j d apart within alike =

@@ -49,7 +49,7 @@ pub were_dealt : (workers : ℕ) (put : List Job) (seats : List WorkerSeat) (v :
 were_dealt workers put seats v known all told =
     let account = subst (λ (u : ChannelView Job). TakesAccount u told.0) known told.1 in
     let part = account (length-map seats taken_by ∙ all) in
-    (part.0, (told.0, (part.1, part.2)))
+    (part.0, told.0, part.1, part.2)
 
 -- the last look at the result channel
 pub were_gathered : (workers : ℕ) (got : List Settled) (seats : List WorkerSeat) (w : ChannelView Settled) → w ≡ One got workers (map given_by seats) → length seats ≡ workers →
@@ -63,9 +63,9 @@ abbrev past : ℕ → Settled → ℕ
 past cubes settled = cond (nat_lt settled.ticket cubes) 0 1
 
 past_low : (cubes : ℕ) (settled : Settled) → settled.ticket < cubes → past cubes settled ≡ 0
-past_low cubes settled low = ap (λ (b : Bool). cond b 0 1) (lt-ltb settled.ticket cubes low)
+past_low cubes settled low = ap {B = ℕ} (λ (b : Bool). cond b 0 1) (lt-ltb settled.ticket cubes low)
 
-low_past : (cubes : ℕ) (settled : Settled) (b : Bool) → nat_lt settled.ticket cubes ≡ b → cond b 0 1 ≡ 0 → settled.ticket < cubes
+low_past : (cubes : ℕ) (settled : Settled) (b : Bool) → nat_lt settled.ticket cubes ≡ b → cond {A = ℕ} b 0 1 ≡ 0 → settled.ticket < cubes
 low_past cubes settled true is none = ltb-true settled.ticket cubes is
 low_past cubes settled false is none = absurd (omega (arith, none))
 

@@ -71,10 +71,10 @@ module _ {X : Type 0} where
   -- whatever the last receive answers, it has shown the rule
   pub jobs_shown : {E : Type 0} (answer : Result X E) (v w : ChannelView X) →
       MatchResult answer (λ x. (w ≡ Spent) × ((queue : List X) × TakesAccount v (x ∷ queue))) (λ e. (w ≡ v) × Held 0 (TakesAccount v)) → (queue : List X) × TakesAccount v queue
-  jobs_shown (Ok x) v w told = (x ∷ told.1, told.2)
-  jobs_shown (Err e) v w told = (told.1, told.3)
+  jobs_shown (Ok x) v w told = (x ∷ told.1.0, told.1.1)
+  jobs_shown (Err e) v w told = (told.1.0, told.1.2)
 
   pub results_shown : {E : Type 0} (answer : Result X E) (v w : ChannelView X) →
       MatchResult answer (λ x. (w ≡ Spent) × ((queue : List X) × GivesAccount v (x ∷ queue))) (λ e. (w ≡ v) × Held 0 (GivesAccount v)) → (queue : List X) × GivesAccount v queue
-  results_shown (Ok x) v w told = (x ∷ told.1, told.2)
-  results_shown (Err e) v w told = (told.1, told.3)
+  results_shown (Ok x) v w told = (x ∷ told.1.0, told.1.1)
+  results_shown (Err e) v w told = (told.1.0, told.1.2)

@@ -8,7 +8,7 @@ use Rattle.job_board.specs.Accounts.{total}
 
 module _ {X : Type 0} where
   pub total-append : (f : X → ℕ) (xs ys : List X) → total f (xs ++ ys) ≡ total f xs + total f ys
-  total-append f [] ys = refl
+  total-append f [] ys = omega arith
   total-append f (x ∷ xs) ys = omega (arith, total-append f xs ys)
 
   pub total-plus : (f g : X → ℕ) (xs : List X) → total (λ x. f x + g x) xs ≡ total f xs + total g xs

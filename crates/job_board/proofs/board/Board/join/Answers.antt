@@ -2,4 +2,4 @@ use Rattle.job_board.proofs.StepLemmas.{joins_jobs, joins_results}
 use Rattle.job_board.proofs.board.Board.join.Goals as goal
 
 pub absorb-requires-clause-rule : goal.absorb-requires-clause-rule
-absorb-requires-clause-rule c = joins_jobs _ _ c.requires.jobs.1 _ c.requires.jobs.2 _ _ _ _ c.requires.jobs.3 c.args.seat.takes c.requires.jobs.4
+absorb-requires-clause-rule c = joins_jobs _ _ c.requires.jobs.1.0 _ c.requires.jobs.1.1 _ _ _ _ c.requires.jobs.1.2 c.args.seat.takes c.requires.jobs.1.3
