@@ -82,8 +82,8 @@ small true false = omega arith
 small false b = omega arith
 
 nothing_at : (a b : Bool) → b ≡ false → cond {A = ℕ} a (cond {A = ℕ} b 1 0) 0 ≡ 0
-nothing_at true b no = ap {B = ℕ} (λ (t : Bool). cond t 1 0) no
-nothing_at false b no = refl
+nothing_at true b is = ap {B = ℕ} (λ (t : Bool). cond t 1 0) is
+nothing_at false b is = refl
 
 not_at : (k j : ℕ) (b : Bool) → (j == k) ≡ b → k < j → b ≡ false
 not_at k j true is above =
