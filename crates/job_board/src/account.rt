@@ -1,7 +1,7 @@
 //! What a board's seats have done.
 
 /// How many jobs were put, taken and settled, and how many results were gathered, stop tickets left out.
-#[derive(Clone, Copy, Debug, PartialEq, Eq)]
+#[derive(Clone, Copy)]
 pub struct Account {
     /// How many jobs were put.
     pub put: u32,
