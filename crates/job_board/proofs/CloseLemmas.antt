@@ -1,7 +1,7 @@
 -- Workers' seats are joined one after the other, and what follows once all are.
 use Rattle.std.proofs.Common.{◌≡◌, ℕ, zero, suc, ◌+◌, ◌<◌, Bool, true, false, cond, nat_lt, List, [], ◌∷◌, ◌++◌, map, length, Some, refl, sym, ◌∙◌, ap, subst, ltb-true, lt-ltb, arith}
 use Rattle.std.specs.List.{All, slice_get}
-use Rattle.std.proofs.lemmas.List.{map-append, length-map}
+use Rattle.std.proofs.lemmas.List.{map-append, length-map, append-nil}
 use Rattle.std.proofs.lemmas.List.Elements.{All-nil, All-cons, All-head, All-tail}
 use Rattle.cube_queue.specs.declared.job.Job.{Job}
 use Rattle.cube_queue.specs.declared.job.Settled.{Settled}
@@ -95,3 +95,16 @@ gathered_low cubes got left seats merge same =
     let sum : total (past cubes) (got ++ left) ≡ total (λ (seat : WorkerSeat). total (past cubes) (given_by seat)) seats =
     merge_total (past cubes) (map given_by seats) (got ++ left) merge ∙ total-map (λ (part : List Settled). total (past cubes) part) given_by seats in
     all_low cubes got (omega (arith, sum, total-append (past cubes) got left, seats_past cubes seats same))
+
+-- the next seat, where these seats were joined and these are still to come
+pub next_seat : (seats before : List WorkerSeat) (seat : WorkerSeat) (rest : List WorkerSeat) → seats ≡ before ++ seat ∷ rest → slice_get seats (length before) ≡ Some seat
+next_seat seats before seat rest is = ap (λ (all : List WorkerSeat). slice_get all (length before)) is ∙ at_seam before seat rest
+  where
+    at_seam : (before : List WorkerSeat) (seat : WorkerSeat) (rest : List WorkerSeat) → slice_get (before ++ seat ∷ rest) (length before) ≡ Some seat
+    at_seam [] seat rest = refl
+    at_seam (s ∷ before) seat rest = at_seam before seat rest
+
+-- all seats were joined
+pub all_seats : (seats before rest : List WorkerSeat) → seats ≡ before ++ rest → length rest ≡ 0 → before ≡ seats
+all_seats seats before [] is none = sym (append-nil before) ∙ sym is
+all_seats seats before (s ∷ rest) is none = absurd (omega (arith, none))
