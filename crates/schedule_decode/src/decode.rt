@@ -19,9 +19,8 @@ use text_lines::fault::Fault;
 use traces::schedule::Schedule;
 use var_layout::layout::Layout;
 
-/// The schedule in which a model puts the operations, by the variables of what is kept. It is legal. Whether the assignment is a model
-/// is not looked at again: that is for who calls this, and [`decode`] is for who cannot know.
-pub fn schedule_of(
+/// The schedule in which a model puts the operations, by the variables of what is kept. It is legal.
+pub(crate) fn schedule_of(
     alloc: Global,
     reduced: &Reduced,
     layout: &Layout,
