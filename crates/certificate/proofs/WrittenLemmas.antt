@@ -1,15 +1,15 @@
 -- The canonical text of a certificate spells it.
-use Rattle.std.proofs.Common.{◌≡◌, ◌⊎◌, ℕ, zero, suc, ◌+◌, ◌^◌, ◌<◌, ◌≤◌, List, [], ◌∷◌, ◌++◌, length, map, drop, Bool, true, false, cond, eqb, leb, refl, ap, sym, ◌∙◌, subst, inl, inr, arith, append_assoc, append-nil, length-append}
+use Rattle.std.proofs.Common.{◌≡◌, ◌⊎◌, ℕ, zero, suc, ◌+◌, ◌^◌, ◌<◌, ◌≤◌, List, [], ◌∷◌, ◌++◌, length, map, drop, Bool, true, false, cond, leb, refl, ap, sym, ◌∙◌, subst, inl, inr, arith, append_assoc, append-nil, length-append}
 use Rattle.std.specs.Prelude.{Option, Some, None, pos, codes, decimal}
 use Rattle.std.specs.Char.{is_ascii_digit}
 use Rattle.std.specs.List.{list_any, list_all, flat_map}
 use Rattle.std.specs.Option.{option_and_then}
-use Rattle.std.proofs.lemmas.Bool.{and_parts, leb-true, le-leb, or_from, cases_Bool, eqb-true}
-use Rattle.std.proofs.lemmas.Bool.Decides.{nat_tests}
+use Rattle.std.proofs.lemmas.Bool.{and_parts, le-leb, or_from, cases_Bool, eqb-true}
 use Rattle.std.proofs.lemmas.Fmt.{decimal_is_IsNumeral}
 use Rattle.std.proofs.lemmas.List.Folds.{list_any-append}
 use Rattle.text_lines.specs.Lines.{lines_of, is_line_feed}
 use Rattle.text_lines.specs.Words.{words_of, is_blank}
+use Rattle.text_lines.proofs.DigitLemmas.{none_in_digits, digit_no_feed, digit_no_blank}
 use Rattle.text_lines.proofs.LineLemmas.{line_ended, word_ended, one_word}
 use Rattle.text_lines.proofs.PlainLemmas.{own, decimal_is_plain}
 use Rattle.cube_tree.specs.CubeTree.{CubeTree, IsCubeTree}
@@ -22,30 +22,9 @@ use Rattle.lrat_check.specs.declared.derivation.Step.TheVariants.{Addition, Dele
 use Rattle.lrat_check.proofs.LratWrittenLemmas as lrat
 use Rattle.certificate.specs.CertLine.{most_number, begun_by, is_header, is_end}
 use Rattle.certificate.specs.CertText.{AreSections, SpellsCertificate}
-use Rattle.certificate.specs.CertWritten.{section_text, front_text, canonical_certificate, sections_from, certificate_of, IsWritable, AreWritable}
+use Rattle.certificate.specs.CertWritten.{section_text, canonical_certificate, sections_from, certificate_of, AreWritable}
 use Rattle.certificate.specs.declared.certificate.Certificate.{Certificate}
 use Rattle.certificate.specs.declared.certificate.Section.{Section}
-
--- no digit is a line feed or a blank
-no_digit : (q : ℕ → Bool) → ((x : ℕ) → is_ascii_digit x ≡ true → q x ≡ false) → (ds : List ℕ) → list_all is_ascii_digit ds ≡ true → list_any q ds ≡ false
-no_digit q apart [] h = refl
-no_digit q apart (d ∷ ds) h =
-    let parts = and_parts (is_ascii_digit d) (list_all is_ascii_digit ds) h in
-    or_from (q d) (list_any q ds) (apart d parts.0) (no_digit q apart ds parts.1)
-
-digit_from : (x : ℕ) → is_ascii_digit x ≡ true → 48 ≤ x
-digit_from x h = leb-true 48 x (and_parts _ _ h).0
-
-no_byte : (b x : ℕ) → b < 48 → 48 ≤ x → eqb x b ≡ false
-no_byte b x l h = grind (arith, nat_tests)
-
-digit_no_feed : (x : ℕ) → is_ascii_digit x ≡ true → is_line_feed x ≡ false
-digit_no_feed x h = no_byte 10 x (omega arith) (digit_from x h)
-
-digit_no_blank : (x : ℕ) → is_ascii_digit x ≡ true → is_blank x ≡ false
-digit_no_blank x h =
-    let low = digit_from x h in
-    or_from _ _ (or_from _ _ (no_byte 32 x (omega arith) low) (no_byte 9 x (omega arith) low)) (no_byte 13 x (omega arith) low)
 
 small : (n : ℕ) → n ≤ most_number → n < 2 ^ 64
 small n h = omega (arith, h)
@@ -114,11 +93,11 @@ derivation_ends (step ∷ steps) = both_end (step_line step) (canonical_derivati
 -- the first line of a section
 begin_ended : (leaf : ℕ) (rest : List ℕ) → leaf ≤ most_number → lines_of ((codes "proof " ++ decimal leaf) ++ 10 ∷ rest) ≡ (codes "proof " ++ decimal leaf) ∷ lines_of rest
 begin_ended leaf rest h =
-    line_ended (codes "proof " ++ decimal leaf) rest (list_any-append is_line_feed (codes "proof ") (decimal leaf) ∙ no_digit is_line_feed digit_no_feed (decimal leaf) (digits leaf h))
+    line_ended (codes "proof " ++ decimal leaf) rest (list_any-append is_line_feed (codes "proof ") (decimal leaf) ∙ none_in_digits is_line_feed digit_no_feed (decimal leaf) (digits leaf h))
 
 begin_words : (leaf : ℕ) → leaf ≤ most_number → words_of (codes "proof " ++ decimal leaf) ≡ codes "proof" ∷ (decimal leaf ∷ [])
 begin_words leaf h =
-    let number = one_word (decimal leaf) (decimal_is_IsNumeral leaf (small leaf h)).0.0 (no_digit is_blank digit_no_blank (decimal leaf) (digits leaf h)) in
+    let number = one_word (decimal leaf) (decimal_is_IsNumeral leaf (small leaf h)).0.0 (none_in_digits is_blank digit_no_blank (decimal leaf) (digits leaf h)) in
     word_ended (codes "proof") 32 (decimal leaf) (omega arith) refl refl ∙ ap (λ ws. codes "proof" ∷ ws) number
 
 begin_read : (leaf : ℕ) → leaf ≤ most_number → begun_by (words_of (codes "proof " ++ decimal leaf)) ≡ Some leaf

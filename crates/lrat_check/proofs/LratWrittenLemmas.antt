@@ -24,6 +24,7 @@ use Rattle.text_lines.proofs.SolverLemmas.{read_number}
 use Rattle.text_lines.proofs.IntegerLemmas.{not_negative}
 use Rattle.text_lines.proofs.KeptLemmas.{kept_more}
 use Rattle.text_lines.proofs.DigitLemmas.{none_in_digits, digit_no_blank, digit_no_feed}
+use Rattle.lrat_check.specs.Derivation.{is_step, are_steps}
 use Rattle.lrat_check.specs.LratText.{SpellsDerivation, IsStepLine, Says, ended, is_id, is_id_number, is_lrat_step, is_skipped, kept, most_id}
 use Rattle.lrat_check.specs.LratWritten.{canonical_derivation, step_line, list_text}
 use Rattle.lrat_check.specs.declared.derivation.Step.{Step}
@@ -237,6 +238,18 @@ written_lines (step ∷ steps) h =
     let all : kept (lines_of (step_line step ++ canonical_derivation steps)) ≡ (w.number ∷ w.words) ∷ kept (lines_of (canonical_derivation steps)) =
     ap kept lines ∙ kept_more is_skipped line (lines_of (canonical_derivation steps)) (ap is_skipped words ∙ w.said) ∙ ap (λ l. l ∷ kept (lines_of (canonical_derivation steps))) words in
     subst (λ (ls : List (List (List ℕ))). AllZip IsStepLine ls (step ∷ steps)) (sym all) (w.step_is, written_lines steps parts.1)
+
+-- steps that can be written add clauses of literals
+step_adds_clause : (step : Step) → is_lrat_step step ≡ true → is_step step ≡ true
+step_adds_clause (Addition id literals hints) h =
+    (and_parts (is_clause literals) (list_all is_id_number hints) (and_parts (is_id id) (is_clause literals && list_all is_id_number hints) h).1).0
+step_adds_clause (Deletion first ids) h = refl
+
+pub steps_add_clauses : (steps : List Step) → list_all is_lrat_step steps ≡ true → are_steps steps ≡ true
+steps_add_clauses [] h = refl
+steps_add_clauses (step ∷ steps) h =
+    let parts = and_parts (is_lrat_step step) (list_all is_lrat_step steps) h in
+    and_from (is_step step) (are_steps steps) (step_adds_clause step parts.0) (steps_add_clauses steps parts.1)
 
 pub written_spells : (steps : List Step) → list_all is_lrat_step steps ≡ true → SpellsDerivation (canonical_derivation steps) steps
 written_spells steps h = record { lines_are = written_lines steps h; written = h }

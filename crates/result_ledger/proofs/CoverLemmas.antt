@@ -11,6 +11,7 @@ use Rattle.dimacs.specs.Models.{IsModel}
 use Rattle.std.specs.Prelude.{◌&&◌}
 use Rattle.std.proofs.lemmas.Bool.{and_parts, and_from}
 use Rattle.lrat_check.specs.Derivation.{are_steps}
+use Rattle.lrat_check.proofs.LratWrittenLemmas.{steps_add_clauses}
 use Rattle.lrat_check.specs.LratText.{is_id, is_id_number, is_lrat_step}
 use Rattle.lrat_check.specs.declared.derivation.Step.{Step}
 use Rattle.lrat_check.specs.declared.derivation.Step.TheVariants.{Addition, Deletion}
@@ -41,14 +42,6 @@ meets_leaf slots covers value =
     let (slot, there, same) = in_parts (λ (x : Slot). x.cube) slots meets.before meets.cube meets.after meets.parts in
     record { leaf = length meets.before; slot = slot; there = there; met = subst (λ (cube : List ℤ). makes_all value cube ≡ true) (sym same) meets.met }
 
--- steps that can be written add clauses of literals
-steps_are_clauses : (steps : List Step) → list_all is_lrat_step steps ≡ true → are_steps steps ≡ true
-steps_are_clauses [] h = refl
-steps_are_clauses (Addition id literals hints ∷ steps) h =
-    let parts = and_parts (is_lrat_step (Addition id literals hints)) (list_all is_lrat_step steps) h in
-    and_from (is_clause literals) (are_steps steps) (and_parts (is_clause literals) (list_all is_id_number hints) (and_parts (is_id id) (is_clause literals && list_all is_id_number hints) parts.0).1).0 (steps_are_clauses steps parts.1)
-steps_are_clauses (Deletion first ids ∷ steps) h = steps_are_clauses steps (and_parts (is_lrat_step (Deletion first ids)) (list_all is_lrat_step steps) h).1
-
 -- a leaf's answer that is accepted leaves no model in its cube
 proof_has_no_model : (formula : FormulaValue) (slots : List Slot) (leaf : ℕ) (slot : Slot) → is_formula formula ≡ true → list_all is_clause (cubes_in slots) ≡ true → slice_get slots leaf ≡ Some slot →
     HasProofAt formula.clauses slots leaf → (value : ℕ → Bool) → IsModel value formula.clauses → makes_all value slot.cube ≡ true → ⊥
@@ -57,7 +50,7 @@ proof_has_no_model formula slots leaf slot ok cubes_ok there h value model met =
     let same : slot ≡ h.slot = cc slots_same in
     let inside : Contains slots h.slot = at_place slots leaf h.slot h.there in
     let cube_ok : is_clause h.slot.cube ≡ true = all_pass is_clause (cubes_in slots) cubes_ok h.slot.cube (to_map (λ (x : Slot). x.cube) slots h.slot inside) in
-    no_model formula.clauses h.slot.cube h.holds.steps (formula_no_zero formula.variables formula.clauses ok) (cube_no_zero h.slot.cube cube_ok) (steps_are_clauses h.holds.steps h.holds.confirmed.written) h.holds.confirmed.accepted
+    no_model formula.clauses h.slot.cube h.holds.steps (formula_no_zero formula.variables formula.clauses ok) (cube_no_zero h.slot.cube cube_ok) (steps_add_clauses h.holds.steps h.holds.confirmed.written) h.holds.confirmed.accepted
     value model (subst (λ (x : Slot). makes_all value x.cube ≡ true) same met)
   where
     at_place : (xs : List Slot) (k : ℕ) (x : Slot) → slice_get xs k ≡ Some x → Contains xs x

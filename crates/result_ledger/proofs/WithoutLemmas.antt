@@ -2,6 +2,7 @@
 use Rattle.std.proofs.Common.{◌≡◌, ◌⊎◌, ℕ, ◌<◌, ◌+◌, zero, suc, List, [], ◌∷◌, ◌++◌, length, get_or, refl, sym, ap, inl, inr, subst, arith}
 use Rattle.std.specs.List.{Contains}
 use Rattle.std.proofs.lemmas.List.Elements.{Contains-append_cases, Contains-append_left, Contains-append_right}
+use Rattle.std.proofs.lemmas.List.Elements.{Contains-get_or}
 use Rattle.std.proofs.lemmas.List.Quantifiers.{all_pairs_push}
 use Rattle.traces.proofs.ElementLemmas.{head_in, none_in, cases_in}
 use Rattle.result_ledger.specs.Verdict.{AreWithout}
@@ -41,13 +42,7 @@ had_on Has end leaves proved so = record {
 
 listed_below : (Has : ℕ → Type 0) (end : ℕ) (leaves : List ℕ) → AreWithout Has end leaves → (k d : ℕ) → k < length leaves → get_or leaves k d < end
 listed_below Has end leaves so k d within =
-    let c : Contains leaves (get_or leaves k d) = (k, within, get_or_any leaves k (get_or leaves k d) d within) in
-    (so.each (get_or leaves k d) c).0
-  where
-    get_or_any : (xs : List ℕ) (k d e : ℕ) → k < length xs → get_or xs k d ≡ get_or xs k e
-    get_or_any [] k d e h = absurd (omega arith)
-    get_or_any (x ∷ xs) zero d e h = refl
-    get_or_any (x ∷ xs) (suc k) d e h = get_or_any xs k d e (omega arith)
+    (so.each (get_or leaves k d) (Contains-get_or leaves k d within)).0
 
 -- the next leaf does not
 pub listed_on : (Has : ℕ → Type 0) (end : ℕ) (leaves : List ℕ) → (Has end → ⊥) → AreWithout Has end leaves → AreWithout Has (end + 1) (leaves ++ end ∷ [])

@@ -1,5 +1,6 @@
 -- Operations in program order.
 use Rattle.std.proofs.Common.{◌≡◌, ◌≢◌, ◌<◌, ◌≤◌, ◌+◌, ℕ, get_or, zero, suc, List, [], ◌∷◌, length, Bool, true, false, ◌&&◌, refl, ap, sym, ◌∙◌, arith}
+use Rattle.std.proofs.Math.Bool.{and-true}
 use Rattle.std.specs.List.{list_all, range_with_len, flat_map}
 use Rattle.std.proofs.lemmas.List.Folds.{list_all-map, list_all-append, list_all_at}
 use Rattle.traces.specs.declared.operation.OpName.{OpName}
@@ -20,11 +21,7 @@ descend h a closed (suc k) e =
 
 -- where each place holds if the next does, all of a range hold exactly where the last does
 all_range : (h : ℕ → Bool) (a n : ℕ) → ((k : ℕ) → a ≤ k → h (k + 1) ≡ true → h k ≡ true) → list_all h (range_with_len a (suc n)) ≡ h (a + n)
-all_range h a zero closed = let s : a ≡ a + 0 = omega arith in and_true_right (h a) ∙ ap h s
-  where
-    and_true_right : (b : Bool) → (b && true) ≡ b
-    and_true_right true = refl
-    and_true_right false = refl
+all_range h a zero closed = let s : a ≡ a + 0 = omega arith in and-true (h a) ∙ ap h s
 all_range h a (suc n) closed =
     let s : a + 1 + n ≡ a + suc n = omega arith in
     ap (λ b. h a && b) (all_range h (a + 1) n (λ k l e. closed k (omega arith) e) ∙ ap h s) ∙ absorbed (h a) (h (a + suc n)) (descend h a closed (suc n))

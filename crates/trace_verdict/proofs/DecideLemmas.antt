@@ -41,15 +41,6 @@ expanded_legal r ok kept schedule legal expanded =
 
 -- ---- the cubes of leaves
 
-any_default : (xs : List ℕ) (k d e : ℕ) → k < length xs → get_or xs k d ≡ get_or xs k e
-any_default [] k d e h = absurd (omega arith)
-any_default (x ∷ xs) zero d e h = refl
-any_default (x ∷ xs) (suc k) d e h = any_default xs k d e (omega arith)
-
--- the element at a place is in the list
-pub at_place : (xs : List ℕ) (k : ℕ) → k < length xs → Contains xs (get_or xs k 0)
-at_place xs k within = (k, within, any_default xs k (get_or xs k 0) 0 within)
-
 -- one cube more
 pub next_cube : (slots : List Slot) (listed : List ℕ) (k : ℕ) (cubes : List (List ℤ)) (cube : List ℤ) → k < length listed → AreCubesOf slots (take k listed) cubes →
     slice_get (cubes_in slots) (get_or listed k 0) ≡ Some cube → AreCubesOf slots (take (k + 1) listed) (cubes ++ cube ∷ [])

@@ -1,5 +1,6 @@
 -- Two operations are in conflict exactly where one of them is among the writers of the other's location.
 use Rattle.std.proofs.Common.{◌≡◌, ℕ, zero, suc, ◌+◌, ◌<◌, ◌≤◌, List, [], Bool, true, false, not, refl, ap, sym, ◌∙◌, arith}
+use Rattle.std.proofs.Math.Bool.{and-true}
 use Rattle.std.specs.Prelude.{◌≢◌, ◌&&◌, ◌||◌, ◌==◌, if◌then◌else◌, Option, Some, None, is_some}
 use Rattle.std.specs.List.{filter, list_any, range_with_len}
 use Rattle.std.specs.Option.{option_and_then, option_map_or}
@@ -49,14 +50,10 @@ among_others p n i j apart within =
     any-filter_same (λ w. w == j) (λ w. not (w == i)) true (λ w e. other w (same_number w j e)) (filter p (range_with_len 0 n))
     ∙ any-filter_same (λ w. w == j) p (p j) (λ w e. ap p (same_number w j e)) (range_with_len 0 n)
     ∙ ap (λ b. p j && b) (in_range 0 n j (omega arith) (omega (arith, within)))
-    ∙ kept (p j)
+    ∙ and-true (p j)
   where
     other : (w : ℕ) → w ≡ j → not (w == i) ≡ true
     other w e = let far : w ≢ i = λ f. apart (sym f ∙ e) in grind (arith, nat_tests)
-
-    kept : (b : Bool) → (b && true) ≡ b
-    kept true = refl
-    kept false = refl
 
 written_by : (t : TraceValue) (i j : ℕ) → i ≢ j → j < operation_count t → (first : Option Op) → op_at t i ≡ first →
     list_any (λ w. w == j) (other_writers t i) ≡ option_map_or (λ (op : Op). is_some (option_and_then (left_by (location_of op)) (op_at t j))) first false

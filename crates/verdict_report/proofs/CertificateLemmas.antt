@@ -8,20 +8,10 @@ use Rattle.certificate.specs.Rechecked.{are_sections_of_clauses}
 use Rattle.certificate.specs.declared.certificate.Section.{Section}
 use Rattle.dimacs.specs.Literal.{is_clause}
 use Rattle.lrat_check.specs.Derivation.{is_step, are_steps}
+use Rattle.lrat_check.proofs.LratWrittenLemmas.{steps_add_clauses}
 use Rattle.lrat_check.specs.LratText.{is_id, is_id_number, is_lrat_step}
 use Rattle.lrat_check.specs.declared.derivation.Step.{Step}
 use Rattle.lrat_check.specs.declared.derivation.Step.TheVariants.{Addition, Deletion}
-
-step_adds_clause : (step : Step) → is_lrat_step step ≡ true → is_step step ≡ true
-step_adds_clause (Addition id literals hints) h =
-    (and_parts (is_clause literals) (list_all is_id_number hints) (and_parts (is_id id) (is_clause literals && list_all is_id_number hints) h).1).0
-step_adds_clause (Deletion first ids) h = refl
-
-steps_add_clauses : (steps : List Step) → list_all is_lrat_step steps ≡ true → are_steps steps ≡ true
-steps_add_clauses [] h = refl
-steps_add_clauses (step ∷ steps) h =
-    let parts = and_parts (is_lrat_step step) (list_all is_lrat_step steps) h in
-    and_from (is_step step) (are_steps steps) (step_adds_clause step parts.0) (steps_add_clauses steps parts.1)
 
 pub sections_add_clauses : (lines : List (List ℕ)) (sections : List Section) → AreSections lines sections → are_sections_of_clauses sections ≡ true
 sections_add_clauses lines [] h = refl
