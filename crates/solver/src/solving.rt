@@ -5,7 +5,7 @@ ghost use Rattle.derivation_log.specs.Answers.{IsWithin};
 
 use crate::schedule::suits_a_schedule;
 use crate::search::Search;
-use clause_store::{Guide, Guide, Intake, number_of};
+use clause_store::{Guide, Intake, number_of};
 use derivation_log::{Answer, Attempt, TURN, take_turns};
 use dimacs::{ClauseList, Lit};
 use std::alloc::{AllocError, Global};
