@@ -1,9 +1,9 @@
 //! The lines which say that some updates have a first one, so that it has no source.
 
-use crate::codes::NEVER;
 use crate::elimination::{Elimination, Side};
 use crate::log::Log;
 use crate::units::Units;
+use derivation_log::codes::NEVER;
 use order_closure::tables::size;
 use possible_sources::{Circle, Order, Reads};
 use std::alloc::{AllocError, Global};

@@ -1,7 +1,7 @@
 //! Operations that are left out one after the other.
 
-use crate::codes::NEVER;
 use crate::log::Log;
+use derivation_log::codes::NEVER;
 use order_closure::TripleIds;
 use order_closure::tables::{at, put, size};
 use possible_sources::{Grid, Order};

@@ -1,6 +1,6 @@
 //! The steps of a derivation as they are written.
 
-use crate::codes::{NEVER, literal_of};
+use derivation_log::codes::{NEVER, literal_of};
 use dimacs::{Clause, Lit, MAX_VARIABLE};
 use lrat_check::derivation::{Derivation, Step};
 use lrat_check::hints::Hints;

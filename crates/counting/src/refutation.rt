@@ -8,6 +8,7 @@ use crate::log::{Free, Log};
 use crate::shortages::add_shortage;
 use crate::units::Units;
 use crate::writer::Writer;
+use derivation_log::within;
 use lrat_check::derivation::{Derivation, Step};
 use possible_sources::{Contradiction, Kind, KnownOrder, Reads};
 use std::alloc::{AllocError, Global};
@@ -39,17 +40,6 @@ fn add_lines(
             add_shortage(alloc, writer, &all, units, shortage)
         }
     }
-}
-
-/// The derivation, if it has no more steps than that.
-fn within(derivation: Derivation, budget: u64) -> Option<Derivation>
-    ensures { IfSome result (λ kept. length kept ≤ budget) }
-{
-    let steps = derivation.steps().len() as u64;
-    if steps > budget {
-        return None;
-    }
-    Some(derivation)
 }
 
 /// Writes a derivation of the contradiction, if it surely takes no more steps than the budget has.

@@ -1,6 +1,7 @@
 //! The hints of a line, found by following them.
 
-use crate::codes::{ALWAYS, NEVER};
+use crate::codes::ALWAYS;
+use derivation_log::codes::NEVER;
 use std::alloc::{AllocError, Global};
 
 /// A clause of at most three literals that may be a hint.

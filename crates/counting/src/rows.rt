@@ -1,9 +1,10 @@
 //! How many of the first readers have one of the first sources: a row for each reader.
 
-use crate::codes::{ALWAYS, NEVER};
+use crate::codes::ALWAYS;
 use crate::replay::Known;
 use crate::taken::{Taken, has_source};
 use crate::writer::{Definition, Writer, add_ids};
+use derivation_log::codes::NEVER;
 use possible_sources::{Grid, Reads, Shortage};
 use std::alloc::{AllocError, Global};
 

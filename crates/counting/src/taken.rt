@@ -1,8 +1,8 @@
 //! Which sources are taken by one of the first readers.
 
-use crate::codes::NEVER;
 use crate::replay::Known;
 use crate::writer::{Definition, Writer, add_ids};
+use derivation_log::codes::NEVER;
 use order_closure::tables::{at, put};
 use possible_sources::{Grid, Reads, Shortage};
 use std::alloc::{AllocError, Global};

@@ -1,8 +1,9 @@
 //! Lines that follow, and definitions of new variables.
 
-use crate::codes::{ALWAYS, NEVER, is_tautology};
+use crate::codes::{ALWAYS, is_tautology};
 use crate::log::Log;
 use crate::replay::{Known, Replay};
+use derivation_log::codes::NEVER;
 use lrat_check::derivation::Derivation;
 use std::alloc::{AllocError, Global};
 

@@ -1,7 +1,7 @@
 //! From a conflict to a learned clause: the first unique implication point.
 
-use crate::cause::Reason;
 use crate::search::Search;
+use clause_store::Reason;
 use order_closure::tables::{at, put};
 use std::alloc::AllocError;
 

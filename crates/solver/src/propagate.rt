@@ -1,12 +1,8 @@
 //! Unit propagation.
 
-use crate::cause::{Cause, Reason};
-use crate::ordered_trail::OrderedTrail;
 use crate::search::Search;
-use crate::small_clauses::{Others, SmallClauses};
-use crate::store::{HEADER, Store};
-use crate::trail::{FALSE, OPEN, TRUE};
-use crate::watches::{Watch, Watches, watch_at};
+use assignment_trail::{FALSE, OPEN, OrderedTrail, TRUE};
+use clause_store::{Cause, HEADER, Others, Reason, SmallClauses, Store, Watch, Watches, watch_at};
 use order_closure::tables::{at, piece, put, size};
 use std::alloc::AllocError;
 

@@ -1,9 +1,8 @@
 //! Learned clauses that do not help are dropped from time to time.
 
-use crate::cause::Cause;
 use crate::search::Search;
-use crate::store::{DROPPED, HEADER, Store};
-use crate::trail::TRUE;
+use assignment_trail::TRUE;
+use clause_store::{Cause, DROPPED, HEADER, Store};
 use order_closure::tables::{at, put, size};
 use std::alloc::AllocError;
 use std::mem;

@@ -1,8 +1,7 @@
 //! Decisions along a schedule.
 
-use crate::ordered_trail::OrderedTrail;
-use crate::readings::Readings;
-use crate::trail::FALSE;
+use assignment_trail::{FALSE, OrderedTrail};
+use clause_store::Readings;
 use order_closure::tables::{at, put};
 use order_closure::{ElementSets, next_element};
 use std::alloc::{AllocError, Global};

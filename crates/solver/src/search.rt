@@ -1,37 +1,16 @@
 //! The search: it decides, propagates, and learns from each conflict.
 
-ghost use Rattle.std.specs.Prelude.{◌≤◌, ◌+◌, vec_len, OnOk, IfOk};
-ghost use Rattle.solver.specs.Outcomes.{TakesConflict};
-
-use crate::activities::Activities;
-use crate::cause::{Cause, Reason};
-use crate::codes::NEVER;
-use crate::guide::Guide;
-use crate::intake::{Intake, Unit};
-use crate::log::Log;
-use crate::ordered_trail::OrderedTrail;
-use crate::readings::Readings;
 use crate::reduce::FIRST_REDUCTION;
 use crate::restart::Restarts;
 use crate::schedule::{MOST_STATES, Schedule};
-use crate::small_clauses::{SmallClause, SmallClauses};
-use crate::store::Store;
-use crate::trail::{FALSE, OPEN, TRUE};
-use crate::watches::Watches;
+use assignment_trail::{Activities, FALSE, OPEN, OrderedTrail, TRUE};
+use clause_store::{
+    Cause, Guide, Intake, Readings, Reason, SmallClause, SmallClauses, Store, Unit, Watches,
+};
+use derivation_log::codes::NEVER;
 use order_closure::next_element;
 use order_closure::tables::{at, put, size};
 use std::alloc::{AllocError, Global};
-
-/// How a search ended.
-#[derive(Clone, Copy, PartialEq, Eq)]
-pub enum Outcome {
-    /// All variables that are decided have a value, and no clause is false.
-    Satisfied,
-    /// The empty clause was learned.
-    Refuted,
-    /// There was a conflict too many.
-    Open,
-}
 
 /// All that the search knows.
 #[derive(Drop)]
@@ -265,7 +244,7 @@ impl<'a> Search<'a> {
     }
 
     /// Decides and propagates until there is a conflict, or nothing is left to decide.
-    fn descend(&mut self) -> Result<Option<Reason>, AllocError> {
+    pub fn descend(&mut self) -> Result<Option<Reason>, AllocError> {
         if let Some(conflict) = self.conflict.take() {
             return Ok(Some(conflict));
         }
@@ -303,7 +282,7 @@ impl<'a> Search<'a> {
     }
 
     /// Goes back to where the learned clause has one literal left, and makes that true.
-    fn follow(&mut self, id: u32) -> Result<(), AllocError> {
+    pub fn follow(&mut self, id: u32) -> Result<(), AllocError> {
         let rank = self.rank_of_learned();
         let level = self.level_to_resume();
         self.trail.take_back(level, &mut self.activities);
@@ -327,39 +306,12 @@ impl<'a> Search<'a> {
     }
 
     /// A conflict has been worked on: variables age, and it may be time to restart and to drop clauses.
-    fn keep_house(&mut self) -> Result<(), AllocError> {
+    pub fn keep_house(&mut self) -> Result<(), AllocError> {
         self.conflicts = self.conflicts.wrapping_add(1);
         self.activities.age();
         if self.restarts.count() {
             self.trail.take_back(0, &mut self.activities);
         }
         self.reduce_in_time()
-    }
-
-    /// Searches until the clauses are satisfied or refuted, or there is a conflict more than the budget has. Each conflict that is
-    /// worked on makes one addition.
-    pub fn run(&mut self, log: &mut Log, budget: u64) -> Result<Outcome, AllocError>
-        ensures within { OnOk result (vec_len log.new.ends ≤ vec_len log.old.ends + budget) }
-        ensures refuted { IfOk result (λ outcome. TakesConflict budget outcome) }
-    {
-        let mut left = budget;
-        loop {
-            let Some(conflict) = self.descend()? else {
-                return Ok(Outcome::Satisfied);
-            };
-            if left == 0 {
-                self.conflict = Some(conflict);
-                return Ok(Outcome::Open);
-            }
-            left -= 1;
-            self.analyze(conflict)?;
-            let id = log.next_id();
-            log.add(self.learned.as_slice(), self.hints.as_slice())?;
-            if self.learned.is_empty() {
-                return Ok(Outcome::Refuted);
-            }
-            self.follow(id)?;
-            self.keep_house()?;
-        }
     }
 }

@@ -1,11 +1,12 @@
 //! The solver's one call.
 
-ghost use Rattle.std.specs.Prelude.{IfOk};
-ghost use Rattle.solver.specs.Answers.{IsWithin};
+ghost use Rattle.std.specs.Prelude.{◌≤◌, IfOk};
+ghost use Rattle.derivation_log.specs.Answers.{IsWithin};
 
-use crate::answer::Answer;
-use crate::attempt::{Attempt, take_turns};
-use crate::guide::Guide;
+use crate::schedule::suits_a_schedule;
+use crate::search::Search;
+use clause_store::{Guide, Intake, number_of};
+use derivation_log::{Answer, Attempt, TURN, take_turns};
 use dimacs::{ClauseList, Lit};
 use std::alloc::{AllocError, Global};
 
@@ -16,6 +17,29 @@ fn variables_of<L: ClauseList>(formula: &L, cube: &[Lit]) -> u32 {
         variables = variables.max(literal.variable());
     }
     variables
+}
+
+/// How many of these conflicts the first turn has: all, where no other search is to have a turn.
+fn first_turn(search: &Search<'_>, budget: u64) -> u64
+    ensures { result ≤ budget }
+{
+    if suits_a_schedule(&search.trail) {
+        budget.min(TURN)
+    } else {
+        budget
+    }
+}
+
+/// A search of this formula over so many variables, in the cube of these literals, that has done nothing yet.
+fn begin<'a, L: ClauseList>(
+    alloc: Global,
+    variables: u32,
+    formula: &L,
+    cube: &[Lit],
+    guide: Guide<'a>,
+) -> Result<Search<'a>, AllocError> {
+    let intake = Intake::of(alloc, variables, formula, cube, guide)?;
+    Search::new(alloc, variables, guide, intake)
 }
 
 /// Looks for a model of the formula that makes all literals of the cube true, or for a derivation that there is none.
@@ -37,13 +61,14 @@ pub fn solve<L: ClauseList>(
     ensures { IfOk result (λ answer. IsWithin budget answer) }
 {
     let variables = variables_of(formula, cube);
-    let clauses = formula.count();
-    let guide = guide.fitting(variables, clauses);
-    let mut first = Attempt::new(alloc, variables, formula, cube, guide)?;
-    if let Some(counted) = first.count_sources(guide, budget)? {
+    let guide = guide.fitting(variables, formula.count());
+    let first_id = number_of(formula.count().saturating_add(cube.len()));
+    let mut search = begin(alloc, variables, formula, cube, guide)?;
+    if let Some(counted) = search.count_sources(guide, first_id, budget)? {
         return Ok(counted);
     }
-    let share = first.first_turn(budget);
+    let share = first_turn(&search, budget);
+    let mut first = Attempt::new(alloc, search, first_id);
     if let Some(answer) = first.run(share)? {
         return Ok(answer);
     }
@@ -51,8 +76,9 @@ pub fn solve<L: ClauseList>(
     if left == 0 {
         return Ok(Answer::Open);
     }
-    let mut second = Attempt::new(alloc, variables, formula, cube, guide)?;
-    second.go_along_a_schedule()?;
+    let mut other = begin(alloc, variables, formula, cube, guide)?;
+    other.go_along_a_schedule()?;
+    let mut second = Attempt::new(alloc, other, first_id);
     let answer = take_turns(&mut second, &mut first, left)?;
     Ok(answer)
 }

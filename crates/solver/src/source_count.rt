@@ -2,14 +2,15 @@
 //! it is looked for, and refuted, by counting.
 
 ghost use Rattle.std.specs.Prelude.{◌≤◌, length, IfOk, IfSome};
+ghost use Rattle.derivation_log.specs.Answers.{IsWithin};
 
-use crate::guide::Guide;
-use crate::ordered_trail::OrderedTrail;
-use crate::readings::Readings;
 use crate::search::Search;
 use crate::told_reads::told_reads;
 use crate::units::Units;
+use assignment_trail::OrderedTrail;
+use clause_store::{Guide, Readings};
 use counting::{Free, Given, KnownOrder, Order, find_contradiction, refute};
+use derivation_log::{Answer, refuted_within};
 use lrat_check::derivation::Derivation;
 use std::alloc::AllocError;
 
@@ -31,7 +32,7 @@ fn known_order<'b>(
 
 impl<'a> Search<'a> {
     /// A derivation of so many steps at most, the first of which has this number, if there are readers that cannot all have a source.
-    pub fn refute_by_counting(
+    fn refute_by_counting(
         &mut self,
         guide: Guide<'a>,
         first: u32,
@@ -69,5 +70,24 @@ impl<'a> Search<'a> {
         };
         let known = known_order(guide, &self.trail, readings);
         refute(alloc, given, &reads, &found, known, free, budget)
+    }
+
+    /// An answer within the budget, if counting shows that there are readers which cannot all have a source. The first step of its
+    /// derivation has this number.
+    pub fn count_sources(
+        &mut self,
+        guide: Guide<'a>,
+        first: u32,
+        budget: u64,
+    ) -> Result<Option<Answer>, AllocError>
+        ensures { IfOk result (λ found. IfSome found (λ answer. IsWithin budget answer)) }
+    {
+        if budget == 0 {
+            return Ok(None);
+        }
+        let Some(derivation) = self.refute_by_counting(guide, first, budget)? else {
+            return Ok(None);
+        };
+        Ok(refuted_within(derivation, budget))
     }
 }

@@ -1,8 +1,7 @@
 //! What is told of reads to those who count sources.
 
-use crate::ordered_trail::OrderedTrail;
-use crate::readings::{Choice, LastWriter, Readings};
-use crate::trail::FALSE;
+use assignment_trail::{FALSE, OrderedTrail};
+use clause_store::{Choice, LastWriter, Readings};
 use counting::{Choice as Source, Reader, Reads, Update};
 use order_closure::tables::at;
 use std::alloc::{AllocError, Global};

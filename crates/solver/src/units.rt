@@ -1,8 +1,8 @@
 //! Clauses of one literal, which is true before anything is decided.
 
 use crate::analyze::{NEEDED, UNSEEN};
-use crate::log::Log;
 use crate::search::Search;
+use derivation_log::Log;
 use order_closure::tables::{at, put};
 use std::alloc::{AllocError, Global};
 

@@ -1,0 +1,80 @@
+//! A search with a log of its own.
+
+ghost use Rattle.std.specs.Prelude.{◌≡◌, ◌≤◌, ◌+◌, OnOk, IfOk, IfSome};
+ghost use Rattle.derivation_log.specs.Answers.{IsWithin};
+
+use crate::answer::Answer;
+use crate::learner::Learner;
+use crate::log::Log;
+use crate::searching::{Outcome, search_on};
+use std::alloc::{AllocError, Global};
+
+/// So many conflicts a turn has. All turns are of one length, so that two searches take some twice as long as the better of them
+/// at most.
+pub const TURN: u64 = 500;
+
+/// A search, and what it has learned. Its turns can end between any two conflicts.
+#[derive(Drop)]
+pub struct Attempt<S> {
+    alloc: Global,
+    search: S,
+    /// What the search has learned.
+    pub log: Log,
+}
+
+impl<S: Learner + Drop> Attempt<S> {
+    /// This search, which has learned nothing yet. Its first addition will have this number.
+    pub fn new(alloc: Global, search: S, first: u32) -> Attempt<S>
+        ensures { result.log ≡ 0 }
+    {
+        Attempt {
+            alloc,
+            search,
+            log: Log::new(alloc, first),
+        }
+    }
+
+    /// Searches on, and works on so many conflicts at most. An answer, if one was found before the next conflict.
+    pub fn run(&mut self, budget: u64) -> Result<Option<Answer>, AllocError>
+        ensures within { OnOk result (self.new.log ≤ self.old.log + budget) }
+        ensures answer { IfOk result (λ found. IfSome found (λ answer. IsWithin (self.old.log + budget) answer)) }
+    {
+        match search_on(&mut self.search, &mut self.log, budget)? {
+            Outcome::Satisfied => {
+                let model = self.search.model()?;
+                Ok(Some(Answer::Model(model)))
+            }
+            Outcome::Refuted => {
+                let derivation = self.log.derivation(self.alloc)?;
+                Ok(Some(Answer::Refuted(derivation)))
+            }
+            Outcome::Open => Ok(None),
+        }
+    }
+}
+
+/// Lets two attempts search by turns, until one of them has an answer or so many conflicts have been worked on and there is one more.
+pub fn take_turns<S: Learner + Drop>(
+    first: &mut Attempt<S>,
+    second: &mut Attempt<S>,
+    budget: u64,
+) -> Result<Answer, AllocError>
+    ensures { IfOk result (λ answer. IsWithin (first.old.log + second.old.log + budget) answer) }
+{
+    let mut left = budget;
+    loop {
+        let share = left.min(TURN);
+        if share == 0 {
+            return Ok(Answer::Open);
+        }
+        left -= share;
+        if let Some(answer) = first.run(share)? {
+            return Ok(answer);
+        }
+        let rest = left.min(TURN);
+        left -= rest;
+        if let Some(answer) = second.run(rest)? {
+            return Ok(answer);
+        }
+    }
+}

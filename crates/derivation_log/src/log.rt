@@ -1,0 +1,160 @@
+//! What the search has learned, as a derivation.
+
+ghost use Rattle.std.specs.Prelude.{◌≡◌, ◌≤◌, ◌+◌, length, IfOk, OnOk};
+
+use crate::codes::literal_of;
+use dimacs::Clause;
+use lrat_check::derivation::{Derivation, Step};
+use lrat_check::hints::Hints;
+use order_closure::tables::{at, piece, put, size};
+use std::alloc::{AllocError, Global};
+use std::marker::Model;
+
+/// Where an addition ends in the lists of literals and of hints.
+#[derive(Clone, Copy)]
+struct End {
+    literals: u32,
+    hints: u32,
+}
+
+/// The additions of a derivation, apart from the search, so that nothing but `add` makes them more. Contracts see how many there are.
+#[derive(Drop)]
+pub struct Log {
+    /// The number of the first addition.
+    first: u32,
+    literals: Vec<u32>,
+    hints: Vec<u32>,
+    ends: Vec<End>,
+}
+
+impl Model for Log {
+    ghost use Rattle.std.specs.Prelude.{ℕ, vec_len};
+
+    ghost Value = { ℕ };
+
+    ghost view = { λ log. vec_len log.ends };
+}
+
+impl Log {
+    /// No addition. The first one will have this number.
+    pub fn new(alloc: Global, first: u32) -> Log
+        ensures { result ≡ 0 }
+    {
+        Log {
+            first,
+            literals: Vec::new(alloc),
+            hints: Vec::new(alloc),
+            ends: Vec::new(alloc),
+        }
+    }
+
+    /// The number of the next addition.
+    pub fn next_id(&self) -> u32 {
+        self.first.wrapping_add(size(self.ends.as_slice()))
+    }
+
+    /// Adds the clause of these literals with these hints.
+    pub fn add(&mut self, literals: &[u32], hints: &[u32]) -> Result<(), AllocError>
+        ensures { OnOk result (self.new ≤ self.old + 1) }
+    {
+        self.literals.extend_from_slice(literals)?;
+        self.hints.extend_from_slice(hints)?;
+        let end = End {
+            literals: size(self.literals.as_slice()),
+            hints: size(self.hints.as_slice()),
+        };
+        self.ends.push(end)?;
+        Ok(())
+    }
+
+    /// Where the addition of this number, counted from 0, ends. The one before the first ends at 0.
+    fn end_before(&self, addition: u32) -> End {
+        let nothing = End {
+            literals: 0,
+            hints: 0,
+        };
+        if addition == 0 {
+            nothing
+        } else {
+            at(self.ends.as_slice(), addition.wrapping_sub(1), nothing)
+        }
+    }
+
+    /// The hints of the addition of this number.
+    fn hints_of(&self, addition: u32) -> &[u32] {
+        let from = self.end_before(addition).hints;
+        let to = self.end_before(addition.wrapping_add(1)).hints;
+        piece(self.hints.as_slice(), from, to)
+    }
+
+    /// The literals of the addition of this number.
+    fn literals_of(&self, addition: u32) -> &[u32] {
+        let from = self.end_before(addition).literals;
+        let to = self.end_before(addition.wrapping_add(1)).literals;
+        piece(self.literals.as_slice(), from, to)
+    }
+
+    /// Which additions the last one rests on: 1 for these.
+    fn needed(&self, alloc: Global) -> Result<Vec<u8>, AllocError> {
+        let count = size(self.ends.as_slice());
+        let mut needed = vec![in alloc; 0; count as usize]?;
+        put(needed.as_mut_slice(), count.wrapping_sub(1), 1);
+        for addition in (0..count).rev() {
+            if at(needed.as_slice(), addition, 0) == 0 {
+                continue;
+            }
+            for hint in self.hints_of(addition) {
+                if *hint >= self.first {
+                    put(needed.as_mut_slice(), hint.wrapping_sub(self.first), 1);
+                }
+            }
+        }
+        Ok(needed)
+    }
+
+    /// The addition of this number as a step.
+    fn step(&self, alloc: Global, addition: u32) -> Result<Step, AllocError> {
+        let codes = self.literals_of(addition);
+        let mut literals = Vec::with_capacity(alloc, codes.len())?;
+        for code in codes {
+            literals.push(literal_of(*code))?;
+        }
+        let hints = self.hints_of(addition);
+        let mut ids = Vec::with_capacity(alloc, hints.len())?;
+        for hint in hints {
+            ids.push(i64::from(*hint))?;
+        }
+        Ok(Step::Addition {
+            id: u64::from(self.first.wrapping_add(addition)),
+            literals: Clause::from_slice(alloc, literals.as_slice())?,
+            hints: Hints::new(ids),
+        })
+    }
+
+    /// All additions as steps.
+    pub fn steps(&self, alloc: Global) -> Result<Vec<Step>, AllocError> {
+        let mut steps = Vec::with_capacity(alloc, self.ends.len())?;
+        for addition in 0..size(self.ends.as_slice()) {
+            steps.push(self.step(alloc, addition)?)?;
+        }
+        Ok(steps)
+    }
+
+    /// The derivation of those additions on which the last one rests. Where there is no memory to mark these, it has all of them.
+    pub fn derivation(&self, alloc: Global) -> Result<Derivation, AllocError>
+        ensures { IfOk result (λ derivation. length derivation ≤ self.now) }
+    {
+        let needed = match self.needed(alloc) {
+            Ok(needed) => needed,
+            Err(_) => Vec::new(alloc),
+        };
+        let mut steps = Vec::new(alloc);
+        for place in 0..self.ends.len() {
+            let addition = u32::try_from(place).unwrap_or(u32::MAX);
+            if at(needed.as_slice(), addition, 1) != 0 {
+                steps.push(self.step(alloc, addition)?)?;
+            }
+        }
+        Ok(Derivation::new(steps))
+    }
+}
