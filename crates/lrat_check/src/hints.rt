@@ -1,6 +1,6 @@
 //! Hints of an addition.
 
-ghost use Rattle.std.specs.Prelude.{◌≡◌, IfOk, IfSome};
+ghost use Rattle.std.specs.Prelude.{◌≡◌, IfOk, IfSome, OnOk};
 ghost use Rattle.std.specs.List.{list_all};
 ghost use Rattle.lrat_check.specs.HintNumbers.{numbers_in};
 ghost use Rattle.lrat_check.specs.LratText.{is_id_number};
@@ -53,15 +53,16 @@ fn shorten_all(alloc: Global, numbers: &[i64]) -> Result<Option<Vec<i32>>, Alloc
     Ok(Some(short))
 }
 
-/// A copy of the numbers, in 64 bits each.
-fn lengthen_all(alloc: Global, short: &[i32]) -> Result<Vec<i64>, AllocError>
-    ensures { IfOk result (λ numbers. numbers.items ≡ short.now) }
+/// Puts a copy of these numbers, in 64 bits each, in the place of those that the list has.
+fn lengthen_all(numbers: &mut Vec<i64>, short: &[i32]) -> Result<(), AllocError>
+    ensures { OnOk result (numbers.new.items ≡ short.now) }
 {
-    let mut numbers = Vec::with_capacity(alloc, short.len())?;
+    numbers.clear();
+    numbers.reserve(short.len())?;
     for number in short {
         numbers.push(i64::from(*number))?;
     }
-    Ok(numbers)
+    Ok(())
 }
 
 impl Hints {
@@ -90,9 +91,21 @@ impl Hints {
     pub fn to_vec(&self, alloc: Global) -> Result<Vec<i64>, AllocError>
         ensures { IfOk result (λ numbers. numbers.items ≡ self.now) }
     {
+        let mut numbers = Vec::new(alloc);
+        self.copy_to(&mut numbers)?;
+        Ok(numbers)
+    }
+
+    /// Puts the hints, in order, in the place of the numbers that the list has.
+    pub fn copy_to(&self, numbers: &mut Vec<i64>) -> Result<(), AllocError>
+        ensures { OnOk result (numbers.new.items ≡ self.now) }
+    {
         match &self.numbers {
-            Numbers::Short(short) => lengthen_all(alloc, short.as_slice()),
-            Numbers::Long(long) => Vec::from_slice(alloc, long.as_slice()),
+            Numbers::Short(short) => lengthen_all(numbers, short.as_slice()),
+            Numbers::Long(long) => {
+                numbers.clear();
+                numbers.extend_from_slice(long.as_slice())
+            }
         }
     }
 
