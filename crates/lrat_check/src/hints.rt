@@ -1,6 +1,6 @@
 //! Hints of an addition.
 
-ghost use Rattle.std.specs.Prelude.{◌≡◌, IfOk, IfSome, OnOk};
+ghost use Rattle.std.specs.Prelude.{◌≡◌, length, IfOk, IfSome, OnOk};
 ghost use Rattle.std.specs.List.{list_all};
 ghost use Rattle.lrat_check.specs.HintNumbers.{numbers_in};
 ghost use Rattle.lrat_check.specs.LratText.{is_id_number};
@@ -53,15 +53,23 @@ fn shorten_all(alloc: Global, numbers: &[i64]) -> Result<Option<Vec<i32>>, Alloc
     Ok(Some(short))
 }
 
+/// Writes these numbers, in 64 bits each, over as many others.
+fn lengthen(numbers: &mut [i64], short: &[i32])
+    requires { length numbers.old ≡ length short.now }
+    ensures { numbers.new ≡ short.now }
+{
+    for i in 0..short.len() {
+        numbers[i] = i64::from(short[i]);
+    }
+}
+
 /// Puts a copy of these numbers, in 64 bits each, in the place of those that the list has.
 fn lengthen_all(numbers: &mut Vec<i64>, short: &[i32]) -> Result<(), AllocError>
     ensures { OnOk result (numbers.new.items ≡ short.now) }
 {
     numbers.clear();
-    numbers.reserve(short.len())?;
-    for number in short {
-        numbers.push(i64::from(*number))?;
-    }
+    numbers.resize(short.len(), 0)?;
+    lengthen(numbers.as_mut_slice(), short);
     Ok(())
 }
 
