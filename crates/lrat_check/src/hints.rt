@@ -6,12 +6,17 @@ ghost use Rattle.lrat_check.specs.HintNumbers.{numbers_in};
 ghost use Rattle.lrat_check.specs.LratText.{is_id_number};
 
 use crate::lrat_number::is_hint;
+use arrayvec::ArrayVec;
 use std::alloc::{AllocError, Global};
 use std::marker::Model;
 
-/// Numbers, in 32 bits each where all of them fit.
+/// So many numbers of 32 bits take no more room than a list does, and need no memory of their own.
+const FEW: usize = 4;
+
+/// Numbers, in 32 bits each where all of them fit. A few of those stand in the value itself.
 #[derive(Drop)]
 pub enum Numbers {
+    Few(ArrayVec<i32, FEW>),
     Short(Vec<i32>),
     Long(Vec<i64>),
 }
@@ -37,6 +42,19 @@ fn shorten(number: i64) -> Option<i32>
     ensures { IfSome result (λ short. short ≡ number) }
 {
     i32::try_from(number).ok()
+}
+
+/// The numbers, where they are few and each of them fits 32 bits.
+fn few_of(numbers: &[i64]) -> Option<ArrayVec<i32, FEW>>
+    ensures { IfSome result (λ few. few.items ≡ numbers.now) }
+{
+    let mut few = ArrayVec::new();
+    for number in numbers {
+        if few.try_push(shorten(*number)?).is_err() {
+            return None;
+        }
+    }
+    Some(few)
 }
 
 /// The numbers, where each of them fits 32 bits. They take no more room than they need.
@@ -87,6 +105,11 @@ impl Hints {
     pub fn compact(alloc: Global, numbers: &[i64]) -> Result<Hints, AllocError>
         ensures { IfOk result (λ hints. hints ≡ numbers.now) }
     {
+        if let Some(few) = few_of(numbers) {
+            return Ok(Hints {
+                numbers: Numbers::Few(few),
+            });
+        }
         if let Some(short) = shorten_all(alloc, numbers)? {
             return Ok(Hints {
                 numbers: Numbers::Short(short),
@@ -109,6 +132,7 @@ impl Hints {
         ensures { OnOk result (numbers.new.items ≡ self.now) }
     {
         match &self.numbers {
+            Numbers::Few(few) => lengthen_all(numbers, few.as_slice()),
             Numbers::Short(short) => lengthen_all(numbers, short.as_slice()),
             Numbers::Long(long) => {
                 numbers.clear();
@@ -122,6 +146,10 @@ impl Hints {
         ensures { result ≡ list_all is_id_number self.now }
     {
         match &self.numbers {
+            Numbers::Few(few) => few
+                .as_slice()
+                .iter()
+                .all(|number| is_hint(i64::from(*number))),
             Numbers::Short(short) => short.iter().all(|number| is_hint(i64::from(*number))),
             Numbers::Long(long) => long.iter().all(|number| is_hint(*number)),
         }
