@@ -20,7 +20,7 @@ use Rattle.certificate.specs.declared.certificate.Certificate.{Certificate}
 use Rattle.certificate.specs.declared.certificate.Section.{Section}
 use Rattle.certificate.proofs.HeaderLemmas.{IsSilentSoFar, none_yet, next_silent, found, other_first, none_first}
 use Rattle.certificate.proofs.SectionCutLemmas.{IsPassed, none_passed, next_passed, cut_at_end, cut_nowhere}
-use Rattle.certificate.proofs.SectionReadLemmas.{IsReadSoFar, at_start, turn_silent, turn_section, refused_between, refused_inside, refused_at_end, all_read}
+use Rattle.certificate.proofs.SectionReadLemmas.{IsReadSoFar, at_start, turn_silent, turn_section, refused_between, refused_inside, refused_at_end, read_up_to, all_read}
 
 either : (b : Bool) → (b ≡ true) ⊎ (b ≡ false)
 either true = inl refl
@@ -96,7 +96,7 @@ sections_from : (fuel : ℕ) (text : List ℕ) (before number : ℕ) (rest : Lis
     ((all : List Section) × AreSections (lines_of text) all) ⊎ ((cause : CertCause) × (line : ℕ) × HasSectionFaultBehind before (lines_of text) cause line)
 sections_from zero text before number rest sections below h = absurd (omega (arith, below))
 sections_from (suc fuel) text before number rest sections below h = elim (cut rest) [
-  | inl nothing ↦ inl (sections, all_read text before number rest sections h nothing)
+  | inl nothing ↦ inl (sections, all_read text before number rest sections (read_up_to text before number rest sections h) nothing)
   | inr c ↦ elim (either (is_silent c.line)) [
     | inl silent ↦ sections_from fuel text before (number + 1) c.after sections (omega (arith, below, c.shorter)) (turn_silent text before number rest sections c.line c.after h c.lines c.shorter silent)
     | inr said ↦ elim (some_or_none (begun_by (words_of c.line))) [

@@ -1,4 +1,4 @@
-use Rattle.std.proofs.Common.{◌≡◌, ◌++◌, ◌+◌, ◌∷◌, [], ◌∙◌, ℕ, List, take, drop, ap, subst, arith}
+use Rattle.std.proofs.Common.{◌++◌, ◌+◌, ◌∙◌, ℕ, List, take, drop, ap, subst, arith}
 use Rattle.std.proofs.lemmas.List.{take_all}
 use Rattle.std.specs.List.{flat_map}
 use Rattle.dimacs.specs.Sink.{AppendsFront}

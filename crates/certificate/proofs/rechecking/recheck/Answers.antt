@@ -1,4 +1,4 @@
-use Rattle.std.proofs.Common.{◌≡◌, ◌∙◌, ℕ, List, length, true, sym, ap, subst}
+use Rattle.std.proofs.Common.{◌≡◌, ◌∙◌, ℕ, List, length, true, sym, subst}
 use Rattle.std.proofs.lemmas.Option.{MatchOption-at_none}
 use Rattle.cube_tree.specs.CubeTree.{leaves}
 use Rattle.certificate.specs.Rechecked.{AreRight, AreProvedBelow, IsRechecked, are_sections_of_clauses}
