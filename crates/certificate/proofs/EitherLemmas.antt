@@ -1,12 +1,13 @@
 -- Each text spells a certificate or has a first fault: the reader's own steps, taken over any text.
-use Rattle.std.proofs.Common.{◌≡◌, ◌⊎◌, ℕ, zero, suc, ◌+◌, ◌<◌, ◌≤◌, List, [], ◌∷◌, ◌++◌, length, take, drop, Bool, true, false, refl, inl, inr, arith, length-drop}
+use Rattle.std.proofs.Common.{◌≡◌, ◌⊎◌, ℕ, zero, suc, ◌+◌, ◌<◌, ◌≤◌, List, [], ◌∷◌, ◌++◌, length, take, drop, Bool, true, false, refl, sym, ◌∙◌, inl, inr, arith, length-drop}
 use Rattle.std.specs.Prelude.{Option, Some, None, min}
 use Rattle.std.specs.List.{before_first, after_first, position_or_len}
 use Rattle.text_lines.proofs.CutLemmas.{lines_cut}
 use Rattle.text_lines.specs.Lines.{lines_of, is_line_feed}
 use Rattle.text_lines.specs.Words.{words_of}
 use Rattle.cube_tree.proofs.TextLawLemmas.{spelled_or_refused as tree_or_refused}
-use Rattle.cube_tree.specs.TreeText.{tree_lines}
+use Rattle.cube_tree.specs.CubeTree.{CubeTree}
+use Rattle.cube_tree.specs.TreeText.{SpellsTree, tree_lines}
 use Rattle.lrat_check.proofs.LratLawLemmas.{spelled_or_refused as steps_or_refused}
 use Rattle.certificate.specs.CertCause.{of_tree}
 use Rattle.certificate.specs.CertFaults.{LacksHeader, HasCertFault}
@@ -19,7 +20,7 @@ use Rattle.certificate.specs.declared.certificate.Certificate.{Certificate}
 use Rattle.certificate.specs.declared.certificate.Section.{Section}
 use Rattle.certificate.proofs.HeaderLemmas.{IsSilentSoFar, none_yet, next_silent, found, other_first, none_first}
 use Rattle.certificate.proofs.SectionCutLemmas.{IsPassed, none_passed, next_passed, cut_at_end, cut_nowhere}
-use Rattle.certificate.proofs.SectionReadLemmas.{IsReadSoFar, at_start, turn_silent, turn_section, refused_between, refused_inside, refused_at_end, all_read}
+use Rattle.certificate.proofs.SectionReadLemmas.{IsReadSoFar, at_start, turn_silent, turn_section, refused_between, refused_inside, refused_at_end, read_up_to, all_read}
 
 either : (b : Bool) → (b ≡ true) ⊎ (b ≡ false)
 either true = inl refl
@@ -95,7 +96,7 @@ sections_from : (fuel : ℕ) (text : List ℕ) (before number : ℕ) (rest : Lis
     ((all : List Section) × AreSections (lines_of text) all) ⊎ ((cause : CertCause) × (line : ℕ) × HasSectionFaultBehind before (lines_of text) cause line)
 sections_from zero text before number rest sections below h = absurd (omega (arith, below))
 sections_from (suc fuel) text before number rest sections below h = elim (cut rest) [
-  | inl nothing ↦ inl (sections, all_read text before number rest sections h nothing)
+  | inl nothing ↦ inl (sections, all_read text before number rest sections (read_up_to text before number rest sections h) nothing)
   | inr c ↦ elim (either (is_silent c.line)) [
     | inl silent ↦ sections_from fuel text before (number + 1) c.after sections (omega (arith, below, c.shorter)) (turn_silent text before number rest sections c.line c.after h c.lines c.shorter silent)
     | inr said ↦ elim (some_or_none (begun_by (words_of c.line))) [

@@ -1,5 +1,5 @@
 -- The lines up to the header, and the parts of a text after it.
-use Rattle.std.proofs.Common.{◌≡◌, ℕ, ◌+◌, ◌*◌, ◌<◌, ◌≤◌, List, [], ◌∷◌, ◌++◌, length, drop, true, false, refl, ap, sym, ◌∙◌, inl, inr, arith, append_assoc, append-nil, length-append}
+use Rattle.std.proofs.Common.{◌≡◌, ◌⊎◌, ℕ, ◌+◌, ◌*◌, ◌<◌, ◌≤◌, List, [], ◌∷◌, ◌++◌, length, drop, true, false, refl, ap, sym, ◌∙◌, subst, inl, inr, arith, append_assoc, append-nil, length-append}
 use Rattle.std.specs.List.{list_all}
 use Rattle.std.proofs.lemmas.Bool.{and_from}
 use Rattle.std.proofs.lemmas.List.{length_push}
@@ -13,9 +13,9 @@ use Rattle.cube_tree.specs.declared.tree_fault.TreeCause.{TreeCause}
 use Rattle.cube_tree.proofs.TextLemmas.{most_bytes}
 use Rattle.lrat_check.specs.LratFaults.{HasLratFault}
 use Rattle.lrat_check.specs.declared.lrat_fault.LratCause.{LratCause}
-use Rattle.certificate.specs.CertFaults.{LacksHeader, HasCertFault}
+use Rattle.certificate.specs.CertFaults.{IsNoHeader, IsSilent, LacksHeader, HasFaultInTree, HasFaultInSections, HasCertFault}
 use Rattle.certificate.specs.CertLine.{is_silent, is_header}
-use Rattle.certificate.specs.CertRead.{HasTreeFaultBehind, HasSectionFaultBehind}
+use Rattle.certificate.specs.CertRead.{BeginsWithTree, HasTreeFaultBehind, HasSectionFaultBehind}
 use Rattle.certificate.specs.CertText.{IsHeaded}
 use Rattle.certificate.specs.declared.cert_fault.CertCause.{CertCause}
 use Rattle.certificate.specs.declared.cert_fault.CertCause.TheVariants.{Header}
@@ -108,8 +108,16 @@ bad_tree text behind header OutOfMemory headed h = tt
 bad_tree text behind header (At cause line) headed h =
     inr (inl (record { behind = behind; header = header; tree_cause = h.tree_cause; place = h.place; headed = headed; fault = h.fault; told = h.told; counted = h.counted }))
 
-pub bad_section : (text behind : List ℕ) (header : ℕ) (tree : CubeTree) (bytes lines : ℕ) (fault : Fault CertCause) → IsHeaded text behind header → SpellsTree behind tree bytes → lines ≡ length (tree_lines tree) →
-    IsRefusal (HasSectionFaultBehind (header + lines) (lines_of (drop bytes behind))) fault → IsRefusal (HasCertFault text) fault
-bad_section text behind header tree bytes lines OutOfMemory headed spelled count h = tt
-bad_section text behind header tree bytes lines (At cause line) headed spelled count h =
-    inr (inr (record { behind = behind; header = header; tree = tree; bytes = bytes; place = h.place; headed = headed; spelled = spelled; fault = h.fault; counted = h.counted ∙ ap (λ (n : ℕ). (header + n) + h.place) count }))
+-- what a header and a tree begin
+pub begun_with_tree : (text behind : List ℕ) (header : ℕ) (tree : CubeTree) (bytes lines : ℕ) → IsHeaded text behind header → SpellsTree behind tree bytes → lines ≡ length (tree_lines tree) →
+    BeginsWithTree text tree (header + lines) (drop bytes behind)
+begun_with_tree text behind header tree bytes lines headed spelled count = record {
+  spelled = λ sections h. record { behind = behind; line = header; bytes = bytes; headed = headed; tree = spelled; sections = h };
+  faulty = λ cause line h.
+      inr (inr (record { behind = behind; header = header; tree = tree; bytes = bytes; place = h.place; headed = headed; spelled = spelled; fault = h.fault; counted = h.counted ∙ ap (λ (n : ℕ). (header + n) + h.place) count }));
+}
+
+pub bad_section : (text : List ℕ) (tree : CubeTree) (number : ℕ) (rest : List ℕ) (fault : Fault CertCause) → BeginsWithTree text tree number rest →
+    IsRefusal (HasSectionFaultBehind number (lines_of rest)) fault → IsRefusal (HasCertFault text) fault
+bad_section text tree number rest OutOfMemory h refusal = tt
+bad_section text tree number rest (At cause line) h refusal = h.faulty cause line refusal

@@ -1,16 +1,17 @@
 -- A certificate is accepted, or refused in one way.
-use Rattle.std.proofs.Common.{◌≡◌, ◌⊎◌, ℕ, zero, suc, ◌<◌, ℤ, List, [], ◌∷◌, ◌++◌, length, Bool, true, false, cond, refl, ap, sym, ◌∙◌, subst, inl, inr, arith, append-nil}
-use Rattle.std.specs.Prelude.{Some, None, nat_lt}
+use Rattle.std.proofs.Common.{◌≡◌, ◌⊎◌, ℕ, zero, suc, ◌+◌, ◌<◌, ◌≤◌, ℤ, List, [], ◌∷◌, ◌++◌, length, Bool, true, false, cond, refl, ap, sym, ◌∙◌, subst, inl, inr, arith, append-nil}
+use Rattle.std.specs.Prelude.{Option, Some, None, ◌==◌, nat_lt, nat_le}
 use Rattle.std.specs.List.{list_any, list_all, slice_get}
-use Rattle.std.proofs.lemmas.Bool.{true≢false, ltb-true, lt-leb}
+use Rattle.std.proofs.lemmas.Bool.{or_parts, and_parts, true≢false, false≢true, leb-true, leb-false, ltb-true, lt-leb}
+use Rattle.text_lines.specs.FirstFault.{IsFirstFault}
 use Rattle.text_lines.proofs.FaultLemmas.{none_is_some, compared, one_first}
 use Rattle.cube_tree.specs.CubeTree.{leaves, cubes_of}
 use Rattle.cube_tree.proofs.TreeLemmas.{cubes_counted}
-use Rattle.lrat_check.specs.Checked.{IsAccepted}
+use Rattle.lrat_check.specs.Checked.{IsAccepted, IsRefused}
 use Rattle.lrat_check.proofs.RefusalLemmas as lrat
-use Rattle.certificate.specs.Rechecked.{is_of, IsOnlyOf, IsProved, IsRechecked, section_fault, AreRight, IsFirstWrong, IsFirstRefused, HasRecheckFault}
+use Rattle.certificate.specs.Rechecked.{is_of, IsOnlyOf, IsProved, IsRechecked, section_fault, AreRight, IsFirstWrong, HaveSections, IsFirstMissing, AreProvedBelow, IsFirstRefused, HasRecheckFault}
 use Rattle.certificate.specs.declared.cert_fault.CertCause.{CertCause}
-use Rattle.certificate.specs.declared.cert_fault.CertCause.TheVariants.{Stranger, Double}
+use Rattle.certificate.specs.declared.cert_fault.CertCause.TheVariants.{Stranger, Double, Missing, Derivation}
 use Rattle.certificate.specs.declared.certificate.Certificate.{Certificate}
 use Rattle.certificate.specs.declared.certificate.Section.{Section}
 use Rattle.certificate.proofs.RecheckLawLemmas.{passes_at}

@@ -1,5 +1,5 @@
 -- What a reader of sections has read.
-use Rattle.std.proofs.Common.{◌≡◌, ℕ, ◌+◌, ◌<◌, ◌≤◌, List, [], ◌∷◌, ◌++◌, length, true, false, refl, ap, sym, ◌∙◌, subst, inl, inr, arith, append_assoc, append-nil, length-append}
+use Rattle.std.proofs.Common.{◌≡◌, ℕ, ◌+◌, ◌<◌, ◌≤◌, List, [], ◌∷◌, ◌++◌, length, Bool, true, false, refl, ap, sym, ◌∙◌, subst, inl, inr, arith, append_assoc, append-nil, length-append}
 use Rattle.std.specs.Prelude.{Some, None, Result, Ok, Err, IfErr}
 use Rattle.std.specs.Result.{IsErrAnd}
 use Rattle.text_lines.specs.Fault.{IsRefusal}
@@ -13,13 +13,14 @@ use Rattle.text_lines.specs.Lines.{lines_of}
 use Rattle.text_lines.specs.Words.{words_of}
 use Rattle.lrat_check.specs.LratText.{SpellsDerivation}
 use Rattle.lrat_check.specs.declared.derivation.Step.{Step}
+use Rattle.certificate.specs.CertFaults.{section_line_fault, HasSectionFault}
 use Rattle.certificate.specs.CertLine.{is_silent, begun_by}
-use Rattle.certificate.specs.CertRead.{ends, IsSectionCut, HasLratFaultBehind, HasSectionFaultBehind}
+use Rattle.certificate.specs.CertRead.{ends, AreReadUpTo, IsSectionCut, HasLratFaultBehind, HasSectionFaultBehind}
 use Rattle.certificate.specs.CertText.{AreSections}
 use Rattle.certificate.specs.declared.cert_fault.CertCause.{CertCause}
-use Rattle.certificate.specs.declared.cert_fault.CertCause.TheVariants.{BadLine}
+use Rattle.certificate.specs.declared.cert_fault.CertCause.TheVariants.{BadLine, BadLrat}
 use Rattle.certificate.specs.declared.certificate.Section.{Section}
-use Rattle.certificate.proofs.SectionLemmas.{AreClosed, AreOpen, no_lines, push_silent, push_begin, push_inside, push_end, spelled_clear, fault_in_section, fault_between, silent_first}
+use Rattle.certificate.proofs.SectionLemmas.{AreClosed, AreOpen, no_lines, push_silent, push_begin, push_inside, push_end, spelled_clear, fault_in_section, fault_between, fault_behind, silent_first}
 
 -- the lines that were read, and their sections: with the sections of the others after them they are those of the text
 pub record IsReadSoFar (text : List ℕ) (before number : ℕ) (rest : List ℕ) (sections : List Section) : Type 0 where
@@ -155,9 +156,38 @@ refused_at_end text before number rest sections line after inside from_end count
       counted = omega (arith, b.counted, section_cut.counted, ap length all, length-append b.done (lines_of inside));
     }
 
-pub all_read : (text : List ℕ) (before number : ℕ) (rest : List ℕ) (sections : List Section) → IsReadSoFar text before number rest sections → lines_of rest ≡ [] → AreSections (lines_of text) sections
+-- what was read, whatever the rest says
+pub read_up_to : (text : List ℕ) (before number : ℕ) (rest : List ℕ) (sections : List Section) → IsReadSoFar text before number rest sections → AreReadUpTo before text number rest sections
+read_up_to text before number rest sections h = record {
+  spelled = h.spelled;
+  faulty = λ cause line f. record {
+    place = length h.done + f.place;
+    fault = subst (λ (ls : List (List ℕ)). HasSectionFault ls cause (length h.done + f.place)) (sym h.parts) (fault_behind h.done (lines_of rest) cause f.place h.lines.closed h.lines.faultless f.fault);
+    counted = omega (arith, f.counted, h.counted);
+  };
+  behind = h.behind;
+}
+
+pub nothing_read : (text : List ℕ) (before : ℕ) → AreReadUpTo before text before text []
+nothing_read text before = record { spelled = λ more h. h; faulty = λ cause line f. f; behind = omega arith }
+
+pub read_on : (text : List ℕ) (before number : ℕ) (rest : List ℕ) (sections : List Section) (further : ℕ) (behind : List ℕ) (others : List Section) →
+    AreReadUpTo before text number rest sections → AreReadUpTo number rest further behind others → AreReadUpTo before text further behind (sections ++ others)
+read_on text before number rest sections further behind others h k = record {
+  spelled = λ more m. subst (λ (ss : List Section). AreSections (lines_of text) ss) (sym (append_assoc sections others more)) (h.spelled (others ++ more) (k.spelled more m));
+  faulty = λ cause line f. h.faulty cause line (k.faulty cause line f);
+  behind = omega (arith, h.behind, k.behind);
+}
+
+pub all_read : (text : List ℕ) (before number : ℕ) (rest : List ℕ) (sections : List Section) → AreReadUpTo before text number rest sections → lines_of rest ≡ [] → AreSections (lines_of text) sections
 all_read text before number rest sections h nothing =
     subst (λ (ss : List Section). AreSections (lines_of text) ss) (append-nil sections) (h.spelled [] (subst (λ (ls : List (List ℕ)). AreSections ls []) (sym nothing) refl))
+
+-- a refusal of the rest is one of the text
+pub refusal_behind : (text : List ℕ) (before number : ℕ) (rest : List ℕ) (sections : List Section) (fault : Fault CertCause) → AreReadUpTo before text number rest sections →
+    IsRefusal (HasSectionFaultBehind number (lines_of rest)) fault → IsRefusal (HasSectionFaultBehind before (lines_of text)) fault
+refusal_behind text before number rest sections OutOfMemory h refusal = tt
+refusal_behind text before number rest sections (At cause line) h refusal = h.faulty cause line refusal
 
 pub refusal_inside : (text : List ℕ) (before number : ℕ) (rest : List ℕ) (sections : List Section) (line after inside from_end : List ℕ) (count leaf : ℕ) (fault : Fault CertCause) →
     IsReadSoFar text before number rest sections → lines_of rest ≡ line ∷ lines_of after → begun_by (words_of line) ≡ Some leaf →

@@ -6,7 +6,7 @@ ghost use Rattle.cube_tree.specs.TreeText.{SpellsTree, tree_lines};
 ghost use Rattle.certificate.specs.CertFaults.{LacksHeader, HasCertFault};
 ghost use Rattle.certificate.specs.CertText.{IsHeaded, SpellsCertificate};
 ghost use Rattle.certificate.specs.CertCause.{of_tree};
-ghost use Rattle.certificate.specs.CertRead.{HasTreeFaultBehind};
+ghost use Rattle.certificate.specs.CertRead.{BeginsWithTree, HasTreeFaultBehind};
 
 use crate::cert_fault::{CertCause, CertFault};
 use crate::cert_line::{is_header_line, is_silent_line};
@@ -72,6 +72,39 @@ fn count_lines(tree: &Tree) -> usize
     2 * tree.leaves() as usize - 1
 }
 
+/// The tree of a certificate's text, what follows it, and how many lines stand before that.
+fn read_start(alloc: Global, text: &[u8]) -> Result<(Tree, Vec<u8>, usize), CertFault>
+    ensures begun { IfOk result (λ read. BeginsWithTree text.now read.0 read.2 read.1.items) }
+    ensures room { IfOk result (λ read. read.2 + length read.1.items + 2 < 2 ^ 64) }
+    ensures faulty { IfErr result (λ fault. IsRefusal (HasCertFault text.now) fault) }
+{
+    other_lines_are_behind();
+    let (behind, header) = read_header(text)?;
+    let (tree, bytes) = read_tree_behind(alloc, behind, header)?;
+    let lines = count_lines(&tree);
+    let rest = Vec::from_slice(alloc, &behind[bytes..])?;
+    Ok((tree, rest, header + lines))
+}
+
+/// The same. The text is dropped.
+fn take_start(alloc: Global, text: Vec<u8>) -> Result<(Tree, Vec<u8>, usize), CertFault>
+    ensures begun { IfOk result (λ read. BeginsWithTree text.items read.0 read.2 read.1.items) }
+    ensures room { IfOk result (λ read. read.2 + length read.1.items + 2 < 2 ^ 64) }
+    ensures faulty { IfErr result (λ fault. IsRefusal (HasCertFault text.items) fault) }
+{
+    read_start(alloc, text.as_slice())
+}
+
+/// The certificate that the text spells, as [`read_cert`] reads it. The text, which may be long, is dropped while it is read.
+pub fn take_cert(alloc: Global, text: Vec<u8>) -> Result<Certificate, CertFault>
+    ensures spelled { IfOk result (λ certificate. SpellsCertificate text.items certificate) }
+    ensures faulty { IfErr result (λ fault. IsRefusal (HasCertFault text.items) fault) }
+{
+    let (tree, rest, lines) = take_start(alloc, text)?;
+    let sections = read_sections(alloc, rest, lines)?;
+    Ok(Certificate { tree, sections })
+}
+
 /// The certificate that the text spells.
 ///
 /// Its first line that is not skipped is `vsc-cert 1`. At once after it stands a tree, and after that one section after the other: a
@@ -82,10 +115,5 @@ pub fn read_cert(alloc: Global, text: &[u8]) -> Result<Certificate, CertFault>
     ensures spelled { IfOk result (λ certificate. SpellsCertificate text.now certificate) }
     ensures faulty { IfErr result (λ fault. IsRefusal (HasCertFault text.now) fault) }
 {
-    other_lines_are_behind();
-    let (behind, header) = read_header(text)?;
-    let (tree, bytes) = read_tree_behind(alloc, behind, header)?;
-    let lines = count_lines(&tree);
-    let sections = read_sections(alloc, &behind[bytes..], header + lines)?;
-    Ok(Certificate { tree, sections })
+    take_cert(alloc, Vec::from_slice(alloc, text)?)
 }

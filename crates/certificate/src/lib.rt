@@ -14,7 +14,7 @@ mod section_text;
 pub mod text_laws;
 
 pub use cert_fault::{CertCause, CertFault};
-pub use cert_reader::read_cert;
+pub use cert_reader::{read_cert, take_cert};
 pub use cert_writer::write_cert;
 pub use certificate::{Certificate, Section, Sections};
 pub use rechecking::recheck;

@@ -1,11 +1,11 @@
 //! The reader of the sections of a certificate's text.
 
-ghost use Rattle.std.specs.Prelude.{◌<◌, ◌+◌, ◌^◌, length, IfOk, IfErr};
+ghost use Rattle.std.specs.Prelude.{◌≡◌, ◌<◌, ◌+◌, ◌-◌, ◌^◌, length, nat_le, IfOk, IfErr};
 ghost use Rattle.text_lines.specs.Fault.{IsRefusal};
 ghost use Rattle.text_lines.specs.Lines.{lines_of};
 ghost use Rattle.lrat_check.specs.LratText.{SpellsDerivation};
 ghost use Rattle.certificate.specs.CertText.{AreSections};
-ghost use Rattle.certificate.specs.CertRead.{HasLratFaultBehind, HasSectionFaultBehind};
+ghost use Rattle.certificate.specs.CertRead.{AreReadUpTo, HasLratFaultBehind, HasSectionFaultBehind};
 
 use crate::cert_fault::{CertCause, CertFault};
 use crate::cert_line::{is_silent_line, read_begin};
@@ -30,14 +30,24 @@ fn read_steps(alloc: Global, lines: &[u8], before: usize) -> Result<Derivation, 
     }
 }
 
-/// The sections that the text spells, which stands after so many lines of the certificate.
-pub(crate) fn read_sections(
+/// Whether no more of the text is left than was read.
+fn is_past_half(rest: &[u8], text: &[u8]) -> bool
+    ensures { result ≡ nat_le (length rest.now) (length text.now - length rest.now) }
+{
+    rest.len() <= text.len().saturating_sub(rest.len())
+}
+
+/// The sections of the first half of the text, which stands after so many lines of the certificate, the rest of the text, and how many
+/// lines stand before it.
+fn read_half(
     alloc: Global,
     text: &[u8],
     before: usize,
-) -> Result<Sections, CertFault>
-    requires { before + length text.now + 2 < 2 ^ 64 }
-    ensures spelled { IfOk result (λ sections. AreSections (lines_of text.now) sections) }
+) -> Result<(Vec<Section>, &[u8], usize), CertFault>
+    requires room { before + length text.now + 2 < 2 ^ 64 }
+    requires some { 0 < length text.now }
+    ensures spelled { IfOk result (λ read. AreReadUpTo before text.now read.2 read.1.now read.0.items) }
+    ensures shorter { IfOk result (λ read. length read.1.now < length text.now) }
     ensures faulty { IfErr result (λ fault. IsRefusal (HasSectionFaultBehind before (lines_of text.now)) fault) }
 {
     let mut sections = Vec::new(alloc);
@@ -59,6 +69,49 @@ pub(crate) fn read_sections(
             return Err(CertFault::At(CertCause::BadLine, number));
         };
         sections.push(Section { leaf, derivation })?;
+        rest = behind;
+        if is_past_half(rest, text) {
+            return Ok((sections, rest, number));
+        }
+    }
+    Ok((sections, rest, number))
+}
+
+/// The same, of which what was read is dropped.
+fn take_half(
+    alloc: Global,
+    text: Vec<u8>,
+    before: usize,
+) -> Result<(Vec<Section>, Vec<u8>, usize), CertFault>
+    requires room { before + length text.items + 2 < 2 ^ 64 }
+    requires some { 0 < length text.items }
+    ensures spelled { IfOk result (λ read. AreReadUpTo before text.items read.2 read.1.items read.0.items) }
+    ensures shorter { IfOk result (λ read. length read.1.items < length text.items) }
+    ensures faulty { IfErr result (λ fault. IsRefusal (HasSectionFaultBehind before (lines_of text.items)) fault) }
+{
+    let (sections, rest, number) = read_half(alloc, text.as_slice(), before)?;
+    let rest = Vec::from_slice(alloc, rest)?;
+    Ok((sections, rest, number))
+}
+
+/// The sections that the text spells, which stands after so many lines of the certificate. The text, which may be long, is dropped by
+/// halves while it is read.
+pub(crate) fn read_sections(
+    alloc: Global,
+    text: Vec<u8>,
+    before: usize,
+) -> Result<Sections, CertFault>
+    requires { before + length text.items + 2 < 2 ^ 64 }
+    ensures spelled { IfOk result (λ sections. AreSections (lines_of text.items) sections) }
+    ensures faulty { IfErr result (λ fault. IsRefusal (HasSectionFaultBehind before (lines_of text.items)) fault) }
+{
+    let mut sections = Vec::new(alloc);
+    let mut number = before;
+    let mut rest = text;
+    while !rest.is_empty() {
+        let (mut read, behind, count) = take_half(alloc, rest, number)?;
+        sections.append(&mut read)?;
+        number = count;
         rest = behind;
     }
     Ok(Sections::new(sections))

@@ -20,12 +20,13 @@ use std::alloc::Global;
 #[derive(Clone, Copy, Debug, PartialEq, Eq)]
 pub struct Accepted;
 
-/// Takes the step of this number. Whether it adds the empty clause.
+/// Takes the step of this number, whose hints go through the list `room`. Whether it adds the empty clause.
 fn take_step<'a, F: ClauseList>(
     alloc: Global,
     formula: &F,
     active: &mut CountedClauses<'a>,
     trues: &mut TrueLiterals,
+    room: &mut Vec<i64>,
     step: &'a Step,
     number: usize,
 ) -> Result<bool, Refusal>
@@ -46,14 +47,14 @@ fn take_step<'a, F: ClauseList>(
             if active.clauses.contains(formula, *id) {
                 return Err(Refusal::At(StepFault::IdInUse, number));
             }
-            let hints = hints.to_vec(alloc)?;
+            hints.copy_to(room)?;
             justify(
                 alloc,
                 formula,
                 active,
                 trues,
                 literals.as_slice(),
-                hints.as_slice(),
+                room.as_slice(),
                 number,
             )?;
             active.insert(formula, *id, literals)?;
@@ -78,9 +79,18 @@ pub fn check<F: ClauseList>(
     are_literals(cube);
     let mut active = CountedClauses::at_start(alloc, cube);
     let mut trues = TrueLiterals::new(alloc);
+    let mut room = Vec::new(alloc);
     let steps = derivation.steps();
     for i in 0..steps.len() {
-        if take_step(alloc, formula, &mut active, &mut trues, &steps[i], i + 1)? {
+        if take_step(
+            alloc,
+            formula,
+            &mut active,
+            &mut trues,
+            &mut room,
+            &steps[i],
+            i + 1,
+        )? {
             return Ok(Accepted);
         }
     }

@@ -1,17 +1,22 @@
 //! Hints of an addition.
 
-ghost use Rattle.std.specs.Prelude.{◌≡◌, IfOk, IfSome};
+ghost use Rattle.std.specs.Prelude.{◌≡◌, length, IfOk, IfSome, OnOk};
 ghost use Rattle.std.specs.List.{list_all};
 ghost use Rattle.lrat_check.specs.HintNumbers.{numbers_in};
 ghost use Rattle.lrat_check.specs.LratText.{is_id_number};
 
 use crate::lrat_number::is_hint;
+use arrayvec::ArrayVec;
 use std::alloc::{AllocError, Global};
 use std::marker::Model;
 
-/// Numbers, in 32 bits each where all of them fit.
+/// So many numbers of 32 bits take no more room than a list does, and need no memory of their own.
+const FEW: usize = 4;
+
+/// Numbers, in 32 bits each where all of them fit. A few of those stand in the value itself.
 #[derive(Drop)]
 pub enum Numbers {
+    Few(ArrayVec<i32, FEW>),
     Short(Vec<i32>),
     Long(Vec<i64>),
 }
@@ -39,6 +44,19 @@ fn shorten(number: i64) -> Option<i32>
     i32::try_from(number).ok()
 }
 
+/// The numbers, where they are few and each of them fits 32 bits.
+fn few_of(numbers: &[i64]) -> Option<ArrayVec<i32, FEW>>
+    ensures { IfSome result (λ few. few.items ≡ numbers.now) }
+{
+    let mut few = ArrayVec::new();
+    for number in numbers {
+        if few.try_push(shorten(*number)?).is_err() {
+            return None;
+        }
+    }
+    Some(few)
+}
+
 /// The numbers, where each of them fits 32 bits. They take no more room than they need.
 fn shorten_all(alloc: Global, numbers: &[i64]) -> Result<Option<Vec<i32>>, AllocError>
     ensures { IfOk result (λ found. IfSome found (λ short. short.items ≡ numbers.now)) }
@@ -53,15 +71,24 @@ fn shorten_all(alloc: Global, numbers: &[i64]) -> Result<Option<Vec<i32>>, Alloc
     Ok(Some(short))
 }
 
-/// A copy of the numbers, in 64 bits each.
-fn lengthen_all(alloc: Global, short: &[i32]) -> Result<Vec<i64>, AllocError>
-    ensures { IfOk result (λ numbers. numbers.items ≡ short.now) }
+/// Writes these numbers, in 64 bits each, over as many others.
+fn lengthen(numbers: &mut [i64], short: &[i32])
+    requires { length numbers.old ≡ length short.now }
+    ensures { numbers.new ≡ short.now }
 {
-    let mut numbers = Vec::with_capacity(alloc, short.len())?;
-    for number in short {
-        numbers.push(i64::from(*number))?;
+    for i in 0..short.len() {
+        numbers[i] = i64::from(short[i]);
     }
-    Ok(numbers)
+}
+
+/// Puts a copy of these numbers, in 64 bits each, in the place of those that the list has.
+fn lengthen_all(numbers: &mut Vec<i64>, short: &[i32]) -> Result<(), AllocError>
+    ensures { OnOk result (numbers.new.items ≡ short.now) }
+{
+    numbers.clear();
+    numbers.resize(short.len(), 0)?;
+    lengthen(numbers.as_mut_slice(), short);
+    Ok(())
 }
 
 impl Hints {
@@ -78,6 +105,11 @@ impl Hints {
     pub fn compact(alloc: Global, numbers: &[i64]) -> Result<Hints, AllocError>
         ensures { IfOk result (λ hints. hints ≡ numbers.now) }
     {
+        if let Some(few) = few_of(numbers) {
+            return Ok(Hints {
+                numbers: Numbers::Few(few),
+            });
+        }
         if let Some(short) = shorten_all(alloc, numbers)? {
             return Ok(Hints {
                 numbers: Numbers::Short(short),
@@ -90,9 +122,22 @@ impl Hints {
     pub fn to_vec(&self, alloc: Global) -> Result<Vec<i64>, AllocError>
         ensures { IfOk result (λ numbers. numbers.items ≡ self.now) }
     {
+        let mut numbers = Vec::new(alloc);
+        self.copy_to(&mut numbers)?;
+        Ok(numbers)
+    }
+
+    /// Puts the hints, in order, in the place of the numbers that the list has.
+    pub fn copy_to(&self, numbers: &mut Vec<i64>) -> Result<(), AllocError>
+        ensures { OnOk result (numbers.new.items ≡ self.now) }
+    {
         match &self.numbers {
-            Numbers::Short(short) => lengthen_all(alloc, short.as_slice()),
-            Numbers::Long(long) => Vec::from_slice(alloc, long.as_slice()),
+            Numbers::Few(few) => lengthen_all(numbers, few.as_slice()),
+            Numbers::Short(short) => lengthen_all(numbers, short.as_slice()),
+            Numbers::Long(long) => {
+                numbers.clear();
+                numbers.extend_from_slice(long.as_slice())
+            }
         }
     }
 
@@ -101,6 +146,10 @@ impl Hints {
         ensures { result ≡ list_all is_id_number self.now }
     {
         match &self.numbers {
+            Numbers::Few(few) => few
+                .as_slice()
+                .iter()
+                .all(|number| is_hint(i64::from(*number))),
             Numbers::Short(short) => short.iter().all(|number| is_hint(i64::from(*number))),
             Numbers::Long(long) => long.iter().all(|number| is_hint(*number)),
         }

@@ -23,6 +23,9 @@ use text_lines::lines::cut_line;
 use text_lines::numbers::read_solver_number;
 use text_lines::words::cut_word;
 
+/// The room for the hints of a line before it grows.
+const ROOM: usize = 16;
+
 /// The ids up to the first 0 of the line of this number, and what follows.
 fn read_ids(alloc: Global, line: &[u8], number: usize) -> Result<(Ids, &[u8]), LratFault>
     ensures { MatchResult result
@@ -51,7 +54,7 @@ fn read_hints(alloc: Global, line: &[u8], number: usize) -> Result<(Hints, &[u8]
         (λ read. BeginsWithList hint_fault is_id_number (words_of line.now) read.0 (words_of read.1.now))
         (λ fault. IsRefusalAt (λ cause. HasListFault hint_fault (words_of line.now) cause) number fault) }
 {
-    let mut hints = Vec::new(alloc);
+    let mut hints = Vec::with_capacity(alloc, ROOM)?;
     let mut rest = line;
     while let Some((word, after)) = cut_word(rest) {
         match read_hint(word) {
@@ -185,5 +188,6 @@ pub fn read_lrat(alloc: Global, text: &[u8]) -> Result<Derivation, LratFault>
         }
         rest = after;
     }
+    steps.shrink_to_fit();
     Ok(Derivation::new(steps))
 }

@@ -1,10 +1,7 @@
 //! The engine that checks certificates, from bytes to bytes.
 
-ghost use Rattle.std.specs.Prelude.{IfOk, IfErr, OnOk};
-ghost use Rattle.certificate.specs.CertFaults.{HasCertFault};
-ghost use Rattle.certificate.specs.CertText.{SpellsCertificate};
+ghost use Rattle.std.specs.Prelude.{OnOk};
 ghost use Rattle.reducer.specs.Reduced.{IsReduced};
-ghost use Rattle.text_lines.specs.Fault.{IsRefusal};
 ghost use Rattle.verdict_report.specs.Engine.{IsRunOfWriting};
 ghost use Rattle.verdict_report.specs.RecheckEngine.{HandsOutUnschedulable, IsRecheckedFor, IsRunOfRecheck, IsSaidOfCertificate, rechecked_line, rechecked_status};
 ghost use Rattle.verdict_report.specs.Runs.{source_run, sink_run};
@@ -13,7 +10,7 @@ use crate::fault::Fault;
 use crate::inputs::read_two;
 use crate::source::Source;
 use crate::status::Status;
-use certificate::{CertFault, Certificate, read_cert, recheck};
+use certificate::{Certificate, recheck, take_cert};
 use clause_blocks::trace_clauses::TraceClauses;
 use dimacs::{Sink, write_whole};
 use reducer::reduced::{Reduced, reduce};
@@ -48,20 +45,12 @@ pub fn run_recheck<R: Threads + Sync, T: Source, C: Source, W: Sink>(
     write_count(alloc, count, out)
 }
 
-/// The certificate that the text spells. The text, which may be long, is dropped.
-fn read_away(alloc: Global, text: Vec<u8>) -> Result<Certificate, CertFault>
-    ensures spelled { IfOk result (λ certificate. SpellsCertificate text.items certificate) }
-    ensures faulty { IfErr result (λ fault. IsRefusal (HasCertFault text.items) fault) }
-{
-    read_cert(alloc, text.as_slice())
-}
-
 /// Of how many cubes the certificate is that the second text spells, and that refutes the trace of the first.
 fn recheck_texts(alloc: Global, trace_text: &[u8], cert_text: Vec<u8>) -> Result<u32, Fault>
     ensures { IsSaidOfCertificate trace_text.now cert_text.items result }
 {
     let trace = read_trace(alloc, trace_text)?;
-    let certificate = read_away(alloc, cert_text)?;
+    let certificate = take_cert(alloc, cert_text)?;
     let reduced = reduce(alloc, &trace)?;
     recheck_reduced(alloc, &reduced, &certificate)
 }

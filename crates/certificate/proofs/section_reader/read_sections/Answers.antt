@@ -1,46 +1,27 @@
-use Rattle.std.proofs.Common.{◌≡◌, ◌+◌, List, ◌∙◌, sym, subst, Some}
+use Rattle.std.proofs.Common.{◌≡◌, ◌∙◌, List, ap, sym, subst, length, vec_len}
+use Rattle.std.proofs.lemmas.Bool.{eqb-true}
+use Rattle.std.proofs.lemmas.List.{nil_from_length}
 use Rattle.text_lines.specs.Fault.{IsRefusal}
 use Rattle.text_lines.specs.Lines.{lines_of}
-use Rattle.text_lines.specs.Words.{words_of}
-use Rattle.certificate.specs.CertLine.{begun_by}
-use Rattle.certificate.specs.CertRead.{HasSectionFaultBehind}
+use Rattle.certificate.specs.CertRead.{AreReadUpTo, HasSectionFaultBehind}
 use Rattle.certificate.specs.CertText.{AreSections}
 use Rattle.certificate.specs.declared.certificate.Section.{Section}
-use Rattle.certificate.proofs.SectionReadLemmas.{IsReadSoFar, turn_silent, turn_section, refused_between, refusal_inside, handed_on, refused_at_end, all_read}
+use Rattle.certificate.proofs.SectionReadLemmas.{read_on, all_read, refusal_behind, handed_on}
 use Rattle.certificate.proofs.section_reader.read_sections.Goals as goal
 
-pub loop-line-preserved-then-is_silent_line : goal.loop-line-preserved-then-is_silent_line
-loop-line-preserved-then-is_silent_line c =
-    turn_silent c.args.text.now c.args.before c.loop-line.number c.loop-line.rest.now c.loop-line.sections.items c.in-Some.line.now c.in-Some.after.now c.loop-line.invariant c.in-Some.ensures.lines c.in-Some.ensures.shorter
-    (sym c.is_silent_line.ensures ∙ c.if-is_silent_line.true)
+pub returns-in_err-read-clause-faulty : goal.returns-in_err-read-clause-faulty
+returns-in_err-read-clause-faulty c =
+    handed_on (λ fault. IsRefusal (HasSectionFaultBehind c.args.before (lines_of c.args.text.items)) fault) c.from_residual.result c.in_err-read.field-0.0 c.from_residual.ensures.1
+    (refusal_behind c.args.text.items c.args.before c.loop-alloc.number c.loop-alloc.rest.items c.loop-alloc.sections.items c.in_err-read.field-0.0 c.loop-alloc.invariant c.in_err-read.ensures.faulty)
 
-pub returns-in_default-read_begin-clause-faulty : goal.returns-in_default-read_begin-clause-faulty
-returns-in_default-read_begin-clause-faulty c =
-    refused_between c.args.text.now c.args.before c.loop-line.number c.loop-line.rest.now c.loop-line.sections.items c.in-Some.line.now c.in-Some.after.now c.loop-line.invariant c.in-Some.ensures.lines
-    (sym c.is_silent_line.ensures ∙ c.if-is_silent_line.false) (sym c.read_begin.ensures ∙ c.in_default-read_begin.is)
-
-pub returns-in_err-derivation-clause-faulty : goal.returns-in_err-derivation-clause-faulty
-returns-in_err-derivation-clause-faulty c =
-    let begins : begun_by (words_of c.in-Some.line.now) ≡ Some c.in-Some-read_begin.leaf = sym c.read_begin.ensures ∙ c.in-Some-read_begin.is in
-    handed_on (λ fault. IsRefusal (HasSectionFaultBehind c.args.before (lines_of c.args.text.now)) fault) c.from_residual.result c.in_err-derivation.field-0.0 c.from_residual.ensures.1
-    (refusal_inside c.args.text.now c.args.before c.loop-line.number c.loop-line.rest.now c.loop-line.sections.items c.in-Some.line.now c.in-Some.after.now c.cut_section-count.result.0.now c.cut_section-count.result.1.now
-    c.cut_section-count.result.2 c.in-Some-read_begin.leaf c.in_err-derivation.field-0.0 c.loop-line.invariant c.in-Some.ensures.lines begins c.cut_section-count.ensures.cut c.in_err-derivation.ensures.faulty)
-
-pub returns-in_default-cut_line-clause-faulty : goal.returns-in_default-cut_line-clause-faulty
-returns-in_default-cut_line-clause-faulty c =
-    let begins : begun_by (words_of c.in-Some.line.now) ≡ Some c.in-Some-read_begin.leaf = sym c.read_begin.ensures ∙ c.in-Some-read_begin.is in
-    refused_at_end c.args.text.now c.args.before c.loop-line.number c.loop-line.rest.now c.loop-line.sections.items c.in-Some.line.now c.in-Some.after.now c.cut_section-count.result.0.now c.cut_section-count.result.1.now
-    c.cut_section-count.result.2 c.in-Some-read_begin.leaf c.in_ok-derivation.derivation c.loop-line.invariant c.in-Some.ensures.lines begins c.cut_section-count.ensures.cut c.in_ok-derivation.ensures.spelled c.in_default-cut_line.ensures.lines
-
-pub loop-line-preserved : goal.loop-line-preserved
-loop-line-preserved c =
-    let begins : begun_by (words_of c.in-Some.line.now) ≡ Some c.in-Some-read_begin.leaf = sym c.read_begin.ensures ∙ c.in-Some-read_begin.is in
-    let turned = turn_section c.args.text.now c.args.before c.loop-line.number c.loop-line.rest.now c.loop-line.sections.items c.in-Some.line.now c.in-Some.after.now c.cut_section-count.result.0.now c.cut_section-count.result.1.now
-    c.cut_section-count.result.2 c.in-Some-read_begin.leaf c.in_ok-derivation.derivation c.in-Some-cut_line.field-0-0.now c.in-Some-cut_line.behind.now c.loop-line.invariant c.in-Some.ensures.lines c.in-Some.ensures.shorter begins
-    c.cut_section-count.ensures.cut c.cut_section-count.ensures.shorter c.in_ok-derivation.ensures.spelled c.in-Some-cut_line.ensures.lines c.in-Some-cut_line.ensures.shorter in
-    subst (λ (sections : List Section). IsReadSoFar c.args.text.now c.args.before ((c.loop-line.number + 1) + (c.cut_section-count.result.2 + 1)) c.in-Some-cut_line.behind.now sections) (sym c.in_ok-push.ensures.items) turned
+pub loop-alloc-preserved : goal.loop-alloc-preserved
+loop-alloc-preserved c =
+    subst (λ (ss : List Section). AreReadUpTo c.args.before c.args.text.items c.in_ok-read.count c.in_ok-read.behind.items ss) (sym c.in_ok-append.ensures.items)
+    (read_on c.args.text.items c.args.before c.loop-alloc.number c.loop-alloc.rest.items c.loop-alloc.sections.items c.in_ok-read.count c.in_ok-read.behind.items c.in_ok-read.read.items c.loop-alloc.invariant c.in_ok-read.ensures.spelled)
 
 pub returns-clause-spelled : goal.returns-clause-spelled
 returns-clause-spelled c =
-    subst (λ (sections : List Section). AreSections (lines_of c.args.text.now) sections) (sym c.new.ensures)
-    (all_read c.args.text.now c.args.before c.loop-line.number c.loop-line.rest.now c.loop-line.sections.items c.loop-line.invariant c.in_default.ensures.lines)
+    let empty : vec_len c.loop-alloc.rest ≡ 0 = eqb-true (vec_len c.loop-alloc.rest) 0 (sym c.is_empty.ensures ∙ c.loop-alloc-test.false) in
+    let none : length c.loop-alloc.rest.items ≡ 0 = sym c.loop-alloc.rest.ok.0 ∙ empty in
+    subst (λ (ss : List Section). AreSections (lines_of c.args.text.items) ss) (sym c.new.ensures)
+    (all_read c.args.text.items c.args.before c.loop-alloc.number c.loop-alloc.rest.items c.loop-alloc.sections.items c.loop-alloc.invariant (ap lines_of (nil_from_length c.loop-alloc.rest.items none)))
