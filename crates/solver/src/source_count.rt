@@ -7,9 +7,9 @@ use crate::guide::Guide;
 use crate::ordered_trail::OrderedTrail;
 use crate::readings::Readings;
 use crate::search::Search;
-use crate::told_reads::told_reads;
+use crate::told_reads::{possible_sources, told_reads};
 use crate::units::Units;
-use counting::{Free, Given, KnownOrder, Order, find_contradiction, refute};
+use counting::{Free, Given, KnownOrder, Order, find_contradiction, lacks_sources, refute};
 use lrat_check::derivation::Derivation;
 use std::alloc::AllocError;
 
@@ -30,6 +30,15 @@ fn known_order<'b>(
 }
 
 impl<'a> Search<'a> {
+    /// Whether there are readers that cannot all have a source. Mostly there are none, so this goes by what is at hand.
+    fn lacks_sources(&self, guide: Guide<'a>, readings: &Readings) -> Result<bool, AllocError> {
+        let Some(possible) = possible_sources(self.alloc, &self.trail, readings)? else {
+            return Ok(false);
+        };
+        let known = known_order(guide, &self.trail, readings);
+        lacks_sources(self.alloc, possible, known)
+    }
+
     /// A derivation of so many steps at most, the first of which has this number, if there are readers that cannot all have a source.
     pub fn refute_by_counting(
         &mut self,
@@ -42,7 +51,7 @@ impl<'a> Search<'a> {
         let Some(readings) = guide.readings() else {
             return Ok(None);
         };
-        if self.conflict.is_some() {
+        if self.conflict.is_some() || !self.lacks_sources(guide, readings)? {
             return Ok(None);
         }
         let alloc = self.alloc;
