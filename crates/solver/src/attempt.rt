@@ -7,7 +7,7 @@ use crate::answer::Answer;
 use crate::guide::Guide;
 use crate::intake::{Intake, number_of};
 use crate::log::Log;
-use crate::schedule::suits_a_schedule;
+use crate::schedule::{begins_with_a_schedule, suits_a_schedule};
 use crate::search::{Outcome, Search};
 use crate::trail::TRUE;
 use dimacs::{Assignment, ClauseList, Lit};
@@ -42,7 +42,8 @@ fn assignment_of(alloc: Global, search: &Search<'_>) -> Result<Assignment, Alloc
 }
 
 impl<'a> Attempt<'a> {
-    /// Nothing has been searched yet of this formula over so many variables, in the cube of these literals.
+    /// Nothing has been searched yet of this formula over so many variables, in the cube of these literals. Decisions go along a schedule
+    /// where that is the better one of two courses to begin with.
     pub fn new<L: ClauseList>(
         alloc: Global,
         variables: u32,
@@ -53,7 +54,10 @@ impl<'a> Attempt<'a> {
         ensures { IfOk result (λ attempt. vec_len attempt.log.ends ≤ 0) }
     {
         let intake = Intake::of(alloc, variables, formula, cube, guide)?;
-        let search = Search::new(alloc, variables, guide, intake)?;
+        let mut search = Search::new(alloc, variables, guide, intake)?;
+        if begins_with_a_schedule(&search.trail) {
+            search.change_course()?;
+        }
         let first = number_of(formula.count().saturating_add(cube.len()));
         let log = Log::new(alloc, first);
         Ok(Attempt { alloc, search, log })
@@ -78,11 +82,11 @@ impl<'a> Attempt<'a> {
         Ok(Some(Answer::Refuted(derivation)))
     }
 
-    /// Its decisions go along a schedule from now on.
-    pub fn go_along_a_schedule(&mut self) -> Result<(), AllocError>
+    /// Its decisions go along a schedule from now on, or no longer, if they did.
+    pub fn change_course(&mut self) -> Result<(), AllocError>
         ensures { vec_len self.new.log.ends ≤ vec_len self.old.log.ends }
     {
-        self.search.go_along_a_schedule()
+        self.search.change_course()
     }
 
     /// How many of these conflicts the first turn has: all, where no other search is to have a turn.

@@ -52,7 +52,7 @@ pub fn solve<L: ClauseList>(
         return Ok(Answer::Open);
     }
     let mut second = Attempt::new(alloc, variables, formula, cube, guide)?;
-    second.go_along_a_schedule()?;
+    second.change_course()?;
     let answer = take_turns(&mut second, &mut first, left)?;
     Ok(answer)
 }
