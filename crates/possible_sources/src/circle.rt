@@ -1,6 +1,5 @@
 //! Updates of which none can be the first.
 
-use crate::reads::Reads;
 use crate::source_sets::SourceSets;
 use order_closure::next_element;
 use order_closure::tables::{at, put, size};
@@ -26,15 +25,11 @@ impl Circle {
 }
 
 /// For each source the reader of this operation and one more, or 0.
-fn readers_by_source(alloc: Global, reads: &Reads) -> Result<Vec<u32>, AllocError> {
-    let mut readers = vec![in alloc; 0; reads.sources() as usize]?;
-    for reader in 0..reads.readers() {
-        if let Some(update) = reads.reader(reader).update {
-            put(
-                readers.as_mut_slice(),
-                update.operation,
-                reader.wrapping_add(1),
-            );
+fn readers_by_source(alloc: Global, possible: &SourceSets) -> Result<Vec<u32>, AllocError> {
+    let mut readers = vec![in alloc; 0; possible.sources() as usize]?;
+    for reader in 0..possible.readers() {
+        if let Some(update) = possible.update(reader) {
+            put(readers.as_mut_slice(), update, reader.wrapping_add(1));
         }
     }
     Ok(readers)
@@ -55,29 +50,26 @@ fn set_member(set: &mut [u64], source: u32, is_member: bool) {
 
 /// The updates that are left where those are taken out, one after the other, that may have a source which is none of the others: 1
 /// for these.
-fn without_outsiders(
-    alloc: Global,
-    reads: &Reads,
-    possible: &SourceSets,
-) -> Result<Vec<u8>, AllocError> {
-    let mut is_left = vec![in alloc; 0; reads.readers() as usize]?;
+fn without_outsiders(alloc: Global, possible: &SourceSets) -> Result<Vec<u8>, AllocError> {
+    let mut is_left = vec![in alloc; 0; possible.readers() as usize]?;
     let mut sources = vec![in alloc; 0; possible.words() as usize]?;
-    for reader in 0..reads.readers() {
-        if let Some(update) = reads.reader(reader).update {
+    for reader in 0..possible.readers() {
+        if let Some(update) = possible.update(reader) {
             put(is_left.as_mut_slice(), reader, 1);
-            set_member(sources.as_mut_slice(), update.operation, true);
+            set_member(sources.as_mut_slice(), update, true);
         }
     }
-    for _ in 0..reads.readers() {
+    for _ in 0..possible.readers() {
         let mut has_changed = false;
-        for reader in 0..reads.readers() {
-            let is_inside = has_all_within(possible, reader, sources.as_slice());
-            let Some(update) = reads.reader(reader).update else {
+        for reader in 0..possible.readers() {
+            let Some(update) = possible.update(reader) else {
                 continue;
             };
-            if at(is_left.as_slice(), reader, 0) == 1 && !is_inside {
+            if at(is_left.as_slice(), reader, 0) == 1
+                && !has_all_within(possible, reader, sources.as_slice())
+            {
                 put(is_left.as_mut_slice(), reader, 0);
-                set_member(sources.as_mut_slice(), update.operation, false);
+                set_member(sources.as_mut_slice(), update, false);
                 has_changed = true;
             }
         }
@@ -91,16 +83,15 @@ fn without_outsiders(
 /// The reader, the readers that are its possible sources, theirs, and so on.
 fn reached_from(
     alloc: Global,
-    reads: &Reads,
     possible: &SourceSets,
     by_source: &[u32],
     reader: u32,
 ) -> Result<Vec<u32>, AllocError> {
-    let mut is_reached = vec![in alloc; 0; reads.readers() as usize]?;
+    let mut is_reached = vec![in alloc; 0; possible.readers() as usize]?;
     let mut reached = Vec::new(alloc);
     reached.push(reader)?;
     put(is_reached.as_mut_slice(), reader, 1);
-    for place in 0..reads.readers() {
+    for place in 0..possible.readers() {
         if place >= size(reached.as_slice()) {
             break;
         }
@@ -124,22 +115,18 @@ fn reached_from(
 
 /// Looks for updates whose possible sources are all among them, so that none of them can be the first. The smallest set is taken of
 /// those to which one update leads.
-pub fn find_circle(
-    alloc: Global,
-    reads: &Reads,
-    possible: &SourceSets,
-) -> Result<Option<Circle>, AllocError> {
-    let is_left = without_outsiders(alloc, reads, possible)?;
+pub fn find_circle(alloc: Global, possible: &SourceSets) -> Result<Option<Circle>, AllocError> {
+    let is_left = without_outsiders(alloc, possible)?;
     if is_left.as_slice().iter().all(|one| *one == 0) {
         return Ok(None);
     }
-    let by_source = readers_by_source(alloc, reads)?;
+    let by_source = readers_by_source(alloc, possible)?;
     let mut smallest = Vec::new(alloc);
-    for reader in 0..reads.readers() {
+    for reader in 0..possible.readers() {
         if at(is_left.as_slice(), reader, 0) == 0 {
             continue;
         }
-        let reached = reached_from(alloc, reads, possible, by_source.as_slice(), reader)?;
+        let reached = reached_from(alloc, possible, by_source.as_slice(), reader)?;
         if smallest.is_empty() || reached.len() < smallest.len() {
             smallest = reached;
         }

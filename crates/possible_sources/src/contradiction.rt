@@ -1,11 +1,12 @@
 //! What is found of readers and their sources.
 
-use crate::circle::{Circle, find_circle};
-use crate::ending::{Ending, endings_of};
+use crate::circle::Circle;
+use crate::ending::Ending;
 use crate::known_order::KnownOrder;
-use crate::matching::Matching;
+use crate::lack::{Lack, find_lack};
 use crate::reads::{Reader, Reads};
 use crate::shortage::Shortage;
+use crate::source_sets::SourceSets;
 use order_closure::tables::size;
 use std::alloc::{AllocError, Global};
 
@@ -100,25 +101,28 @@ fn contradiction_of_ending(
     })
 }
 
-/// Looks for readers, with the last writer of a location among them, that have too few sources.
-fn find_ending(
+/// Readers with one source fewer than they are.
+fn contradiction_of_shortage(
     alloc: Global,
     reads: &Reads,
-    known: KnownOrder<'_>,
-    matching: &mut Matching,
-) -> Result<Option<Contradiction>, AllocError> {
-    for ending in endings_of(alloc, reads, known)? {
-        let may_be_read = ending
-            .candidates()
-            .iter()
-            .all(|candidate| *candidate < reads.sources());
-        if may_be_read && matching.has_none_for(ending.candidates())? {
-            let readers = matching.reached();
-            let found = contradiction_of_ending(alloc, reads, known, ending, readers)?;
-            return Ok(Some(found));
-        }
-    }
-    Ok(None)
+    readers: &[u32],
+) -> Result<Contradiction, AllocError> {
+    let mut rests_on = Vec::new(alloc);
+    add_excluded(&mut rests_on, reads, readers)?;
+    let kind = Kind::Shortage(Shortage::of(alloc, reads, readers)?);
+    Ok(Contradiction { kind, rests_on })
+}
+
+/// Updates of which none can be the first.
+fn contradiction_of_circle(
+    alloc: Global,
+    reads: &Reads,
+    circle: Circle,
+) -> Result<Contradiction, AllocError> {
+    let mut rests_on = Vec::new(alloc);
+    add_excluded(&mut rests_on, reads, circle.readers())?;
+    let kind = Kind::Circle(circle);
+    Ok(Contradiction { kind, rests_on })
 }
 
 /// Looks for readers that cannot all have a source: too few sources for some of them, updates of which none can be the first, and then
@@ -128,18 +132,16 @@ pub fn find_contradiction(
     reads: &Reads,
     known: KnownOrder<'_>,
 ) -> Result<Option<Contradiction>, AllocError> {
-    let mut matching = Matching::of(alloc, reads)?;
-    let mut rests_on = Vec::new(alloc);
-    let readers = matching.smallest_shortage(alloc)?;
-    if !readers.is_empty() {
-        add_excluded(&mut rests_on, reads, readers.as_slice())?;
-        let kind = Kind::Shortage(Shortage::of(alloc, reads, readers.as_slice())?);
-        return Ok(Some(Contradiction { kind, rests_on }));
-    }
-    if let Some(circle) = find_circle(alloc, reads, matching.possible())? {
-        add_excluded(&mut rests_on, reads, circle.readers())?;
-        let kind = Kind::Circle(circle);
-        return Ok(Some(Contradiction { kind, rests_on }));
-    }
-    find_ending(alloc, reads, known, &mut matching)
+    let possible = SourceSets::of(alloc, reads)?;
+    let Some(lack) = find_lack(alloc, possible, known)? else {
+        return Ok(None);
+    };
+    let found = match lack {
+        Lack::Shortage(readers) => contradiction_of_shortage(alloc, reads, readers.as_slice())?,
+        Lack::Circle(circle) => contradiction_of_circle(alloc, reads, circle)?,
+        Lack::Ending(ending, readers) => {
+            contradiction_of_ending(alloc, reads, known, ending, readers.as_slice())?
+        }
+    };
+    Ok(Some(found))
 }

@@ -1,8 +1,10 @@
 //! The last writer of a location.
 
 use crate::known_order::KnownOrder;
-use crate::reads::{Choice, Reads};
-use order_closure::tables::{at, put, size};
+use crate::reads::Choice;
+use crate::source_sets::SourceSets;
+use order_closure::next_element;
+use order_closure::tables::{at, put};
 use std::alloc::{AllocError, Global};
 
 /// The writers of a location by rising numbers, and those of them that may be the last one. No update reads from the last one, so where
@@ -27,15 +29,28 @@ impl Ending {
             writers: Vec::new(alloc),
             candidates: Vec::new(alloc),
         };
-        for operation in 0..known.order.operations {
-            if operation == writer || known.writers.has(writer, operation) {
-                ending.writers.push(operation)?;
-                if may_be_last(known, operation) {
-                    ending.candidates.push(operation)?;
-                }
+        for number in 0..known.writers.words() {
+            let mut word = known.writers.word(writer, number);
+            if writer >> 6 == number {
+                word |= 1 << (writer & 63);
+            }
+            for _ in 0..64 {
+                let Some(operation) = next_element(&mut word, number) else {
+                    break;
+                };
+                ending.add_writer(known, operation)?;
             }
         }
         Ok(ending)
+    }
+
+    /// Adds a writer, which may be the last one.
+    fn add_writer(&mut self, known: KnownOrder<'_>, writer: u32) -> Result<(), AllocError> {
+        self.writers.push(writer)?;
+        if may_be_last(known, writer) {
+            self.candidates.push(writer)?;
+        }
+        Ok(())
     }
 
     /// A bound on the steps which say that one of the candidates is the last one.
@@ -89,8 +104,12 @@ impl Ending {
 /// Marks the writer and all others of its location.
 fn mark_location(known: KnownOrder<'_>, is_done: &mut [u8], writer: u32) {
     put(is_done, writer, 1);
-    for other in 0..known.order.operations {
-        if known.writers.has(writer, other) {
+    for number in 0..known.writers.words() {
+        let mut others = known.writers.word(writer, number);
+        for _ in 0..64 {
+            let Some(other) = next_element(&mut others, number) else {
+                break;
+            };
             put(is_done, other, 1);
         }
     }
@@ -99,23 +118,24 @@ fn mark_location(known: KnownOrder<'_>, is_done: &mut [u8], writer: u32) {
 /// The endings of the locations that have an update and no final value among the readers.
 pub fn endings_of(
     alloc: Global,
-    reads: &Reads,
+    possible: &SourceSets,
     known: KnownOrder<'_>,
 ) -> Result<Vec<Ending>, AllocError> {
     let mut is_done = vec![in alloc; 0; known.order.operations as usize]?;
-    for reader in 0..reads.readers() {
-        if reads.reader(reader).update.is_none() {
-            let choice = reads.choice(reads.first_choice(reader));
-            mark_location(known, is_done.as_mut_slice(), choice.source);
+    for reader in 0..possible.readers() {
+        if possible.update(reader).is_none()
+            && let Some(writer) = possible.first(reader)
+        {
+            mark_location(known, is_done.as_mut_slice(), writer);
         }
     }
     let mut endings = Vec::new(alloc);
-    for reader in 0..reads.readers() {
-        if let Some(update) = reads.reader(reader).update
-            && at(is_done.as_slice(), update.operation, 1) == 0
+    for reader in 0..possible.readers() {
+        if let Some(update) = possible.update(reader)
+            && at(is_done.as_slice(), update, 1) == 0
         {
-            mark_location(known, is_done.as_mut_slice(), update.operation);
-            endings.push(Ending::of(alloc, known, update.operation)?)?;
+            mark_location(known, is_done.as_mut_slice(), update);
+            endings.push(Ending::of(alloc, known, update)?)?;
         }
     }
     Ok(endings)

@@ -1,6 +1,5 @@
 //! A maximum matching of readers and sources.
 
-use crate::reads::Reads;
 use crate::source_sets::SourceSets;
 use order_closure::next_element;
 use order_closure::tables::{at, put, size};
@@ -15,6 +14,8 @@ pub struct Matching {
     source_of: Vec<u32>,
     /// For each source its reader and one more, or 0.
     reader_of: Vec<u32>,
+    /// The sources that have no reader.
+    free: Vec<u64>,
     /// The sources that the walk at hand has not come to.
     unseen: Vec<u64>,
     /// For each source that it has come to the reader from which it came.
@@ -25,13 +26,14 @@ pub struct Matching {
 
 impl Matching {
     /// A maximum matching: from each reader in turn it is enlarged along an alternating path, if there is one.
-    pub fn of(alloc: Global, reads: &Reads) -> Result<Matching, AllocError> {
-        let possible = SourceSets::of(alloc, reads)?;
-        let sources = reads.sources() as usize;
+    pub fn of(alloc: Global, possible: SourceSets) -> Result<Matching, AllocError> {
+        let readers = possible.readers();
+        let sources = possible.sources() as usize;
         let mut matching = Matching {
-            readers: reads.readers(),
-            source_of: vec![in alloc; 0; reads.readers() as usize]?,
+            readers,
+            source_of: vec![in alloc; 0; readers as usize]?,
             reader_of: vec![in alloc; 0; sources]?,
+            free: vec![in alloc; u64::MAX; possible.words() as usize]?,
             unseen: vec![in alloc; 0; possible.words() as usize]?,
             came_from: vec![in alloc; 0; sources]?,
             reached: Vec::new(alloc),
@@ -86,15 +88,17 @@ impl Matching {
             let unseen = at(self.unseen.as_slice(), number, 0);
             let mut word = self.possible.word(reader, number) & unseen;
             put(self.unseen.as_mut_slice(), number, unseen & !word);
+            let mut free = word & at(self.free.as_slice(), number, 0);
+            if let Some(source) = next_element(&mut free, number) {
+                put(self.came_from.as_mut_slice(), source, reader);
+                return Ok(Some(source));
+            }
             for _ in 0..64 {
                 let Some(source) = next_element(&mut word, number) else {
                     break;
                 };
                 put(self.came_from.as_mut_slice(), source, reader);
                 let its_reader = at(self.reader_of.as_slice(), source, 0);
-                if its_reader == 0 {
-                    return Ok(Some(source));
-                }
                 self.reached.push(its_reader.wrapping_sub(1))?;
             }
         }
@@ -123,6 +127,9 @@ impl Matching {
 
     /// Gives each reader on the way that the walk has come to this source the source that comes after it.
     fn enlarge(&mut self, source: u32) {
+        let word = at(self.free.as_slice(), source >> 6, 0);
+        let bit = 1 << (source & 63);
+        put(self.free.as_mut_slice(), source >> 6, word & !bit);
         let mut source = source;
         for _ in 0..=self.readers {
             let reader = at(self.came_from.as_slice(), source, 0);

@@ -1,60 +1,114 @@
 //! Sets of sources as bits.
 
 use crate::reads::Reads;
-use order_closure::tables::{at, put};
+use order_closure::tables::{at, put, size};
 use std::alloc::{AllocError, Global};
 
 /// For each reader the sources that are still possible, and a set for one more reader, which comes after all others.
 #[derive(Drop)]
 pub struct SourceSets {
     words: u32,
-    readers: u32,
+    /// For each reader the number of its operation and one more where it is an update, or 0.
+    updates: Vec<u32>,
     bits: Vec<u64>,
 }
 
 impl SourceSets {
-    /// The sources of choices that are not excluded. The set of the one more reader is empty.
-    pub fn of(alloc: Global, reads: &Reads) -> Result<SourceSets, AllocError> {
-        let words = reads.sources().div_ceil(64);
-        let readers = reads.readers();
+    /// No reader yet. There is room for so many, with sources of smaller numbers than that.
+    pub fn new(alloc: Global, readers: u32, sources: u32) -> Result<SourceSets, AllocError> {
+        let words = sources.div_ceil(64);
         let count = readers.wrapping_add(1).wrapping_mul(words) as usize;
-        let mut sets = SourceSets {
+        Ok(SourceSets {
             words,
-            readers,
+            updates: Vec::with_capacity(alloc, readers as usize)?,
             bits: vec![in alloc; 0; count]?,
-        };
-        for reader in 0..readers {
+        })
+    }
+
+    /// The sources of choices that are not excluded.
+    pub fn of(alloc: Global, reads: &Reads) -> Result<SourceSets, AllocError> {
+        let mut sets = SourceSets::new(alloc, reads.readers(), reads.sources())?;
+        for reader in 0..reads.readers() {
+            let update = reads.reader(reader).update;
+            sets.add_reader(update.map(|update| update.operation))?;
             for number in reads.first_choice(reader)..reads.first_choice(reader.wrapping_add(1)) {
                 let choice = reads.choice(number);
                 if !choice.is_excluded {
-                    sets.insert(reader, choice.source);
+                    sets.add_source(choice.source);
                 }
             }
         }
         Ok(sets)
     }
 
-    /// Puts the source into the set of the reader.
-    fn insert(&mut self, reader: u32, source: u32) {
-        if source >> 6 < self.words {
-            let place = reader.wrapping_mul(self.words).wrapping_add(source >> 6);
+    /// Adds a reader without sources: the update with this number among all operations, or the final value of a location.
+    pub fn add_reader(&mut self, update: Option<u32>) -> Result<(), AllocError> {
+        let entry = match update {
+            Some(operation) => operation.wrapping_add(1),
+            None => 0,
+        };
+        self.updates.push(entry)?;
+        Ok(())
+    }
+
+    /// Adds a source to those of the reader that was added last.
+    #[inline(always)]
+    pub fn add_source(&mut self, source: u32) {
+        self.add_sources(source >> 6, 1 << (source & 63));
+    }
+
+    /// Adds sources to those of the reader that was added last: the word of this number of a set.
+    #[inline(always)]
+    pub fn add_sources(&mut self, number: u32, sources: u64) {
+        self.insert(self.readers().wrapping_sub(1), number, sources);
+    }
+
+    /// Adds the sources of a word to the set of the reader.
+    #[inline(always)]
+    fn insert(&mut self, reader: u32, number: u32, sources: u64) {
+        if number < self.words {
+            let place = reader.wrapping_mul(self.words).wrapping_add(number);
             let word = at(self.bits.as_slice(), place, 0);
-            put(self.bits.as_mut_slice(), place, word | (1 << (source & 63)));
+            put(self.bits.as_mut_slice(), place, word | sources);
         }
     }
 
     /// The one more reader has these sources.
     pub fn set_last(&mut self, sources: &[u32]) {
-        let begin = self.readers.wrapping_mul(self.words);
+        let last = self.readers();
         for number in 0..self.words {
-            put(self.bits.as_mut_slice(), begin.wrapping_add(number), 0);
+            let place = last.wrapping_mul(self.words).wrapping_add(number);
+            put(self.bits.as_mut_slice(), place, 0);
         }
         for source in sources {
-            self.insert(self.readers, *source);
+            self.insert(last, *source >> 6, 1 << (*source & 63));
         }
     }
 
+    /// How many readers there are, without the one more.
+    #[inline(always)]
+    pub fn readers(&self) -> u32 {
+        size(self.updates.as_slice())
+    }
+
+    /// The number of the reader's operation, if it is an update.
+    #[inline(always)]
+    pub fn update(&self, reader: u32) -> Option<u32> {
+        let entry = at(self.updates.as_slice(), reader, 0);
+        if entry == 0 {
+            None
+        } else {
+            Some(entry.wrapping_sub(1))
+        }
+    }
+
+    /// A number that is above those of all sources.
+    pub fn sources(&self) -> u32 {
+        self.words.wrapping_mul(64)
+    }
+
     /// How many words of 64 bits a set has.
+    #[inline(always)]
     pub fn words(&self) -> u32 {
         self.words
     }
@@ -64,5 +118,16 @@ impl SourceSets {
     pub fn word(&self, reader: u32, number: u32) -> u64 {
         let place = reader.wrapping_mul(self.words).wrapping_add(number);
         at(self.bits.as_slice(), place, 0)
+    }
+
+    /// The first of the reader's sources, if it has one.
+    pub fn first(&self, reader: u32) -> Option<u32> {
+        for number in 0..self.words {
+            let word = self.word(reader, number);
+            if word != 0 {
+                return Some(number.wrapping_mul(64).wrapping_add(word.trailing_zeros()));
+            }
+        }
+        None
     }
 }

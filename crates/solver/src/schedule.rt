@@ -47,9 +47,8 @@ fn states(trail: &OrderedTrail<'_>) -> u32 {
     states.saturating_mul(prefixes)
 }
 
-/// Whether a search along a schedule may be the better one: there are not too many states, and fewer than half of the elements can be
-/// the first one. Where all processes are short, a schedule says little.
-pub fn suits_a_schedule(trail: &OrderedTrail<'_>) -> bool {
+/// Whether fewer than half of the elements can be the first one. Where all processes are short, a schedule says little.
+fn has_long_processes(trail: &OrderedTrail<'_>) -> bool {
     let elements = trail.order().elements();
     let mut first: u32 = 0;
     for element in 0..elements {
@@ -57,7 +56,35 @@ pub fn suits_a_schedule(trail: &OrderedTrail<'_>) -> bool {
             first = first.wrapping_add(1);
         }
     }
-    trail.readings.is_some() && first.wrapping_mul(2) < elements && states(trail) < MOST_STATES
+    first.wrapping_mul(2) < elements
+}
+
+/// Whether more than half of the elements read and write at once.
+fn are_mostly_updates(trail: &OrderedTrail<'_>) -> bool {
+    let Some(readings) = trail.readings else {
+        return false;
+    };
+    let elements = readings.elements();
+    let mut updates: u32 = 0;
+    for element in 0..elements {
+        if readings.reads(element) && readings.writes(element) {
+            updates = updates.wrapping_add(1);
+        }
+    }
+    updates.wrapping_mul(2) > elements
+}
+
+/// Whether a search begins with decisions along a schedule. What an update reads, and so where it may come next, the last one before it
+/// alone decides: of recorded updates such a search takes a quarter of the conflicts.
+pub fn begins_with_a_schedule(trail: &OrderedTrail<'_>) -> bool {
+    are_mostly_updates(trail) && has_long_processes(trail)
+}
+
+/// Whether a search along a schedule may be the better one of two: most elements are updates, or there are not too many states.
+pub fn suits_a_schedule(trail: &OrderedTrail<'_>) -> bool {
+    trail.readings.is_some()
+        && has_long_processes(trail)
+        && (are_mostly_updates(trail) || states(trail) < MOST_STATES)
 }
 
 /// The owner of the set of elements so far.

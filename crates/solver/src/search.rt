@@ -217,12 +217,18 @@ impl<'a> Search<'a> {
         }
     }
 
-    /// From now on decisions go along a schedule. What is learned of a state would have to be learned again, so nothing is dropped before
-    /// there are as many clauses as states.
-    pub fn go_along_a_schedule(&mut self) -> Result<(), AllocError> {
-        self.schedule = Some(Schedule::new(self.alloc, &self.trail)?);
-        self.next_reduction = MOST_STATES;
-        self.reduction_gap = MOST_STATES;
+    /// From now on decisions go along a schedule, or no longer, if they did. What is learned of a state would have to be learned again,
+    /// so along a schedule nothing is dropped before there are as many clauses as states.
+    pub fn change_course(&mut self) -> Result<(), AllocError> {
+        let mut first = FIRST_REDUCTION;
+        let mut schedule = None;
+        if self.schedule.is_none() {
+            schedule = Some(Schedule::new(self.alloc, &self.trail)?);
+            first = MOST_STATES;
+        }
+        self.schedule = schedule;
+        self.next_reduction = first;
+        self.reduction_gap = first;
         Ok(())
     }
 

@@ -3,7 +3,7 @@
 ghost use Rattle.std.specs.Prelude.{◌≤◌, IfOk};
 ghost use Rattle.derivation_log.specs.Answers.{IsWithin};
 
-use crate::schedule::suits_a_schedule;
+use crate::schedule::{begins_with_a_schedule, suits_a_schedule};
 use crate::search::Search;
 use clause_store::{Guide, Intake, number_of};
 use derivation_log::{Answer, Attempt, TURN, take_turns};
@@ -30,7 +30,8 @@ fn first_turn(search: &Search<'_>, budget: u64) -> u64
     }
 }
 
-/// A search of this formula over so many variables, in the cube of these literals, that has done nothing yet.
+/// A search of this formula over so many variables, in the cube of these literals, that has done nothing yet. Its decisions go along a
+/// schedule where that is the better one of two courses to begin with.
 fn begin<'a, L: ClauseList>(
     alloc: Global,
     variables: u32,
@@ -39,7 +40,11 @@ fn begin<'a, L: ClauseList>(
     guide: Guide<'a>,
 ) -> Result<Search<'a>, AllocError> {
     let intake = Intake::of(alloc, variables, formula, cube, guide)?;
-    Search::new(alloc, variables, guide, intake)
+    let mut search = Search::new(alloc, variables, guide, intake)?;
+    if begins_with_a_schedule(&search.trail) {
+        search.change_course()?;
+    }
+    Ok(search)
 }
 
 /// Looks for a model of the formula that makes all literals of the cube true, or for a derivation that there is none.
@@ -77,7 +82,7 @@ pub fn solve<L: ClauseList>(
         return Ok(Answer::Open);
     }
     let mut other = begin(alloc, variables, formula, cube, guide)?;
-    other.go_along_a_schedule()?;
+    other.change_course()?;
     let mut second = Attempt::new(alloc, other, first_id);
     let answer = take_turns(&mut second, &mut first, left)?;
     Ok(answer)

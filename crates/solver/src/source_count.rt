@@ -5,11 +5,11 @@ ghost use Rattle.std.specs.Prelude.{◌≤◌, length, IfOk, IfSome};
 ghost use Rattle.derivation_log.specs.Answers.{IsWithin};
 
 use crate::search::Search;
-use crate::told_reads::told_reads;
+use crate::told_reads::{possible_sources, told_reads};
 use crate::units::Units;
 use assignment_trail::OrderedTrail;
 use clause_store::{Guide, Readings};
-use counting::{Free, Given, KnownOrder, Order, find_contradiction, refute};
+use counting::{Free, Given, KnownOrder, Order, find_contradiction, lacks_sources, refute};
 use derivation_log::{Answer, refuted_within};
 use lrat_check::derivation::Derivation;
 use std::alloc::AllocError;
@@ -31,6 +31,15 @@ fn known_order<'b>(
 }
 
 impl<'a> Search<'a> {
+    /// Whether there are readers that cannot all have a source. Mostly there are none, so this goes by what is at hand.
+    fn lacks_sources(&self, guide: Guide<'a>, readings: &Readings) -> Result<bool, AllocError> {
+        let Some(possible) = possible_sources(self.alloc, &self.trail, readings)? else {
+            return Ok(false);
+        };
+        let known = known_order(guide, &self.trail, readings);
+        lacks_sources(self.alloc, possible, known)
+    }
+
     /// A derivation of so many steps at most, the first of which has this number, if there are readers that cannot all have a source.
     fn refute_by_counting(
         &mut self,
@@ -43,7 +52,7 @@ impl<'a> Search<'a> {
         let Some(readings) = guide.readings() else {
             return Ok(None);
         };
-        if self.conflict.is_some() {
+        if self.conflict.is_some() || !self.lacks_sources(guide, readings)? {
             return Ok(None);
         }
         let alloc = self.alloc;

@@ -2,8 +2,8 @@
 
 use assignment_trail::{FALSE, OrderedTrail};
 use clause_store::{Choice, LastWriter, Readings};
-use counting::{Choice as Source, Reader, Reads, Update};
-use order_closure::tables::at;
+use counting::{Choice as Source, Reader, Reads, SourceSets, Update};
+use order_closure::tables::{at, size};
 use std::alloc::{AllocError, Global};
 
 /// Whether the choice of this variable cannot be made.
@@ -20,7 +20,12 @@ fn places_of(alloc: Global, readings: &Readings) -> Result<Vec<u32>, AllocError>
     Ok(places)
 }
 
-/// The choice as a source of its reader. The value before all writers of a location has a number above those of all elements.
+/// The number of the value before all writers of the reader's location. It is above those of all elements.
+fn first_value(readings: &Readings, reader: u32) -> u32 {
+    readings.elements().wrapping_add(readings.location(reader))
+}
+
+/// The choice as a source of its reader.
 fn source_of(
     trail: &OrderedTrail<'_>,
     readings: &Readings,
@@ -29,10 +34,7 @@ fn source_of(
 ) -> Source {
     let (source, place) = match choice.writer {
         Some(writer) => (writer, Some(at(places, writer, 0))),
-        None => {
-            let location = readings.location(choice.reader);
-            (readings.elements().wrapping_add(location), None)
-        }
+        None => (first_value(readings, choice.reader), None),
     };
     Source {
         source,
@@ -117,4 +119,64 @@ pub fn told_reads(
     tell_updates(trail, readings, places.as_slice(), &mut reads)?;
     tell_finals(trail, readings, places.as_slice(), &mut reads)?;
     Ok(reads)
+}
+
+/// Adds an element that reads and writes, with the sources that it may still have.
+fn add_update(
+    trail: &OrderedTrail<'_>,
+    readings: &Readings,
+    element: u32,
+    sets: &mut SourceSets,
+) -> Result<(), AllocError> {
+    sets.add_reader(Some(element))?;
+    let writers = &trail.candidates.writers;
+    for number in 0..writers.words() {
+        sets.add_sources(number, writers.word(element, number));
+    }
+    let variable = readings.variable_without_writer(element);
+    if variable != 0 && !is_excluded(trail, variable) {
+        sets.add_source(first_value(readings, element));
+    }
+    Ok(())
+}
+
+/// Adds the final values, with the last writers that are still possible.
+fn add_finals(
+    trail: &OrderedTrail<'_>,
+    readings: &Readings,
+    sets: &mut SourceSets,
+) -> Result<(), AllocError> {
+    let mut clause: u32 = 0;
+    for last in readings.last_writers() {
+        if last.clause != clause {
+            clause = last.clause;
+            sets.add_reader(None)?;
+        }
+        if !is_excluded(trail, last.variable) {
+            sets.add_source(last.writer);
+        }
+    }
+    Ok(())
+}
+
+/// The same as sets, which are for the most part at hand: the readers as `told_reads` tells of them, and their possible sources. None
+/// where no element reads and writes, since the final values of several locations have no source in common.
+pub fn possible_sources(
+    alloc: Global,
+    trail: &OrderedTrail<'_>,
+    readings: &Readings,
+) -> Result<Option<SourceSets>, AllocError> {
+    let elements = readings.elements();
+    let readers = elements.wrapping_add(size(readings.last_writers()));
+    let mut sets = SourceSets::new(alloc, readers, elements.wrapping_mul(2))?;
+    for element in 0..elements {
+        if readings.reads(element) && readings.writes(element) {
+            add_update(trail, readings, element, &mut sets)?;
+        }
+    }
+    if sets.readers() == 0 {
+        return Ok(None);
+    }
+    add_finals(trail, readings, &mut sets)?;
+    Ok(Some(sets))
 }
