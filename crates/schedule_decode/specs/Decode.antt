@@ -1,8 +1,15 @@
--- When an assignment is not decoded.
-use Rattle.std.specs.Prelude.{ℕ, ℤ, Bool, List}
-use Rattle.dimacs.specs.Models.{IsFirstFalse}
+-- When an assignment is decoded, and when it is not.
+use Rattle.std.specs.Prelude.{◌≡◌, ℕ, ℤ, Bool, List}
+use Rattle.clause_blocks.specs.Clauses.{clauses_of}
+use Rattle.dimacs.specs.Models.{IsFirstFalse, IsModel}
+use Rattle.traces.specs.Trace.{TraceValue}
 use Rattle.schedule_decode.specs.declared.decode_fault.DecodeCause.{DecodeCause}
 use Rattle.schedule_decode.specs.declared.decode_fault.DecodeCause.TheVariants.{NotAModel}
+
+-- the variables are those of the kept trace, and the truth values are a model of its clauses
+pub record IsModelOfKept (value : ℕ → Bool) (variables kept : TraceValue) : Type 0 where
+  pub same : variables ≡ kept
+  pub model : IsModel value (clauses_of kept)
 
 -- truth values are not decoded since this clause, counted from 1, is the first that they make false
 abbrev pub HasDecodeFault : (ℕ → Bool) → List (List ℤ) → DecodeCause → ℕ → Type 0

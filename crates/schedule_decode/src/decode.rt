@@ -7,7 +7,7 @@ ghost use Rattle.traces.specs.Legal.{IsLegal};
 ghost use Rattle.clause_blocks.specs.Clauses.{clauses_of, formula_of};
 ghost use Rattle.clause_blocks.specs.ModelOrder.{IsInOrderOf};
 ghost use Rattle.text_lines.specs.Fault.{IsRefusal};
-ghost use Rattle.schedule_decode.specs.Decode.{HasDecodeFault};
+ghost use Rattle.schedule_decode.specs.Decode.{HasDecodeFault, IsModelOfKept};
 
 use crate::decode_fault::{DecodeCause, DecodeFault};
 use crate::operation_names::{names_by_number, names_in_order};
@@ -19,17 +19,17 @@ use text_lines::fault::Fault;
 use traces::schedule::Schedule;
 use var_layout::layout::Layout;
 
-/// The schedule in which a model puts the operations, by the variables of what is kept. It is legal.
-pub(crate) fn schedule_of(
+/// The schedule in which the truth values put the operations, by the variables of what is kept. Where they are a model it is
+/// legal. No clause is tried: of truth values that are no model it is only said that the call returns.
+pub fn schedule_of(
     alloc: Global,
     reduced: &Reduced,
     layout: &Layout,
     assignment: &Assignment,
 ) -> Result<Schedule, AllocError>
-    requires same { layout.now ≡ reduced.now.kept }
-    requires model { IsModel (value_of assignment.now) (clauses_of reduced.now.kept) }
-    ensures ordered { IfOk result (IsInOrderOf (value_of assignment.now) reduced.now.kept) }
-    ensures legal { IfOk result (IsLegal reduced.now.kept) }
+    ensures ordered { IsModelOfKept (value_of assignment.now) layout.now reduced.now.kept →
+        IfOk result (IsInOrderOf (value_of assignment.now) reduced.now.kept) }
+    ensures legal { IsModelOfKept (value_of assignment.now) layout.now reduced.now.kept → IfOk result (IsLegal reduced.now.kept) }
 {
     let trace = reduced.kept();
     trace.is_trace();

@@ -3,7 +3,7 @@ ghost use Rattle.std.specs.Prelude.{◌≡◌, ◌<◌, ℕ, length, IfOk};
 ghost use Rattle.std.specs.List.{Contains};
 ghost use Rattle.clause_blocks.specs.Clauses.{clauses_of};
 ghost use Rattle.dimacs.specs.Assignment.{value_of};
-ghost use Rattle.dimacs.specs.Models.{IsModel};
+ghost use Rattle.schedule_decode.specs.Decode.{IsModelOfKept};
 ghost use Rattle.traces.specs.Legal.{IsLegal};
 ghost use Rattle.trace_verdict.specs.Decision.{IsDecided, AreCubesOf};
 ghost use Rattle.trace_verdict.specs.Rounds.{IsConfirmed};
@@ -16,35 +16,28 @@ use crate::refutation::Refutation;
 use crate::rounds::search_in_rounds;
 use clause_blocks::trace_clauses::TraceClauses;
 use cube_queue::{Gate, JobCube, Options, SearchFault};
-use dimacs::model_laws::never_model_and_first_false;
 use dimacs::{Assignment, ClauseList};
 use reducer::expand::expand;
 use reducer::reduced::Reduced;
 use result_ledger::{Ledger, Verdict, inconsistent_has_no_model, unknown_holds_all_models};
-use schedule_decode::decode_fault::DecodeCause;
-use schedule_decode::decode_model::decode_model;
+use schedule_decode::decode::schedule_of;
 use std::alloc::{AllocError, Global};
 use std::thread::Threads;
-use text_lines::fault::Fault;
 use traces::schedule::Schedule;
 
-/// The schedule of the whole trace in which a model puts the kept operations. It is legal.
-fn schedule_of<R: Threads + Sync>(
+/// The schedule of the whole trace in which a model puts the kept operations. It is legal. The model is not tried again.
+fn whole_schedule(
     alloc: Global,
-    rt: &R,
     reduced: &Reduced,
+    clauses: &TraceClauses,
     truth: &Assignment,
 ) -> Result<Schedule, AllocError>
-    requires { IsModel (value_of truth.now) (clauses_of reduced.now.kept) }
+    requires { IsModelOfKept (value_of truth.now) clauses.now reduced.now.kept }
     ensures { IfOk result (λ schedule. IsLegal reduced.now.whole schedule) }
 {
     let _kept = reduced.kept();
-    never_model_and_first_false();
-    match decode_model(alloc, rt, reduced, truth) {
-        Ok(kept) => expand(alloc, reduced, &kept),
-        Err(Fault::OutOfMemory) => Err(AllocError),
-        Err(Fault::At(DecodeCause::NotAModel, _)) => unreachable!(),
-    }
+    let kept = schedule_of(alloc, reduced, clauses.layout(), truth)?;
+    expand(alloc, reduced, &kept)
 }
 
 /// The cubes of these leaves, in order.
@@ -60,9 +53,8 @@ fn cubes_of_leaves(alloc: Global, ledger: &Ledger, leaves: &[u32]) -> Result<Cub
 }
 
 /// What is decided of the whole trace, by the verdict on the clauses of what is kept of it.
-fn decision_of<R: Threads + Sync>(
+fn decision_of(
     alloc: Global,
-    rt: &R,
     reduced: &Reduced,
     clauses: &TraceClauses,
     decided: Decided,
@@ -84,7 +76,7 @@ fn decision_of<R: Threads + Sync>(
     unknown_holds_all_models();
     match &verdict {
         Verdict::Consistent(_, truth) => {
-            let schedule = schedule_of(alloc, rt, reduced, truth)?;
+            let schedule = whole_schedule(alloc, reduced, clauses, truth)?;
             Ok(Decision::Consistent(schedule))
         }
         Verdict::Inconsistent(_) => {
@@ -112,5 +104,5 @@ pub fn decide<R: Threads + Sync, G: Gate>(
     let readings = readings_of(alloc, clauses.layout())?;
     let guide = guide_to_order(clauses.layout()).with_readings(&readings);
     let decided = search_in_rounds(alloc, rt, &clauses, guide, options, gate)?;
-    Ok(decision_of(alloc, rt, reduced, &clauses, decided)?)
+    Ok(decision_of(alloc, reduced, &clauses, decided)?)
 }

@@ -3,6 +3,7 @@ mod CertificateLemmas
 mod CertifiedLemmas
 mod DecodeLemmas
 mod EngineLemmas
+mod LegalTextLemmas
 mod MeaningLemmas
 mod RecheckLemmas
 mod SourceLemmas

@@ -1,15 +1,25 @@
--- Why nothing is decided of a trace.
-use Rattle.std.proofs.Common.{ℕ, List}
-use Rattle.std.specs.Prelude.{Err}
+-- Why nothing is decided of a trace, and what follows from the status where something is.
+use Rattle.std.proofs.Common.{◌≡◌, ℕ, List, [], ◌∷◌, ◌++◌, subst}
+use Rattle.std.specs.Prelude.{Result, Ok, Err}
 use Rattle.cube_queue.specs.declared.search_fault.SearchFault.{SearchFault}
 use Rattle.cube_queue.specs.declared.search_fault.SearchFault.TheVariants.{OutOfMemory as NoMemoryToSearch, Cut, NoThread}
 use Rattle.reducer.specs.declared.reduce_fault.ReduceCause.TheVariants.{StillTooLarge}
+use Rattle.schedule_text.specs.ScheduleWritten.{canonical_schedule}
 use Rattle.traces.specs.Trace.{TraceValue}
+use Rattle.trace_verdict.specs.declared.decision.Decision.{Decision}
+use Rattle.trace_verdict.specs.declared.decision.Decision.TheVariants.{Consistent, Inconsistent, Unknown as NotDecided}
+use Rattle.trace_verdict.specs.Decision.{report}
 use Rattle.verdict_report.specs.declared.fault.Fault.{Fault}
 use Rattle.verdict_report.specs.declared.fault.Fault.TheVariants.{OutOfMemory, Device, InputTooLong, Trace, Schedule, Model, Cnf, Lrat, Reduce, Decode, Check, Cert, Search}
+use Rattle.verdict_report.specs.declared.status.Status.{Status}
+use Rattle.verdict_report.specs.declared.status.Status.TheVariants.{Yes, No, Unknown}
 use Rattle.verdict_report.specs.Admitted.{Admits, IsReducedFrom}
+use Rattle.verdict_report.specs.Engine.{HandOut, IsRunOfWriting}
 use Rattle.verdict_report.specs.Fault.{fault_of_search}
-use Rattle.verdict_report.specs.VerifyEngine.{IsSaidOfTrace}
+use Rattle.verdict_report.specs.RecheckEngine.{HandsOutUnschedulable}
+use Rattle.verdict_report.specs.Runs.{SourceRun, SinkRun}
+use Rattle.verdict_report.specs.VerifyEngine.{IsDecidedFrom, IsSaidOfTrace, TellsSchedule, status_of_decision}
+use Rattle.verdict_report.proofs.LegalTextLemmas.{spells}
 
 -- the text is not reduced
 pub unreduced : (text : List ℕ) (fault : Fault) → IsReducedFrom text (Err fault) → IsSaidOfTrace text (Err fault)
@@ -32,3 +42,46 @@ pub unsearched : (text : List ℕ) (value : TraceValue) → Admits text value �
 unsearched text value admitted NoMemoryToSearch = tt
 unsearched text value admitted Cut = (value, admitted)
 unsearched text value admitted NoThread = (value, admitted)
+
+-- what follows from the status of what is decided
+module _ (trace : SourceRun) (text : List ℕ) (handed : HandOut (trace ∷ []) (text ∷ [])) (out : SinkRun) where
+  tells : (decision : Decision) → IsDecidedFrom text decision → out.now ≡ out.before ++ report decision → Yes ≡ status_of_decision decision → TellsSchedule trace out
+  tells (Consistent names) decided whole is = record {
+    text = text;
+    handed = handed.0.0;
+    value = decided.value;
+    is_trace = decided.admitted.is_trace;
+    spelled = decided.admitted.spelled;
+    schedule = canonical_schedule names;
+    whole = whole;
+    names = names;
+    told = spells decided.value names decided.admitted.is_trace decided.decided;
+    legal = decided.decided;
+  }
+  tells (Inconsistent refutation) decided whole is = absurd (let wrong : Yes ≡ No = is in cc)
+  tells (NotDecided cubes) decided whole is = absurd (let wrong : Yes ≡ Unknown = is in cc)
+
+  has_none : (decision : Decision) → IsDecidedFrom text decision → No ≡ status_of_decision decision → HandsOutUnschedulable trace
+  has_none (Consistent names) decided is = absurd (let wrong : No ≡ Yes = is in cc)
+  has_none (Inconsistent refutation) decided is = record {
+    text = text;
+    handed = handed.0.0;
+    value = decided.value;
+    is_trace = decided.admitted.is_trace;
+    spelled = decided.admitted.spelled;
+    no_schedule = decided.decided.1;
+  }
+  has_none (NotDecided cubes) decided is = absurd (let wrong : No ≡ Unknown = is in cc)
+
+  module _ (decision : Decision) (decided : IsDecidedFrom text decision) (result : Result Status Fault) (w : IsRunOfWriting (report decision) (status_of_decision decision) out result) where
+    -- of the answer that the trace is consistent
+    pub consistent : result ≡ Ok Yes → TellsSchedule trace out
+    consistent so =
+        let at : IsRunOfWriting (report decision) (status_of_decision decision) out (Ok Yes) = subst (λ (r : Result Status Fault). IsRunOfWriting (report decision) (status_of_decision decision) out r) so w in
+        tells decision decided at.1.0 at.0
+
+    -- of the answer that it is not
+    pub inconsistent : result ≡ Ok No → HandsOutUnschedulable trace
+    inconsistent so =
+        let at : IsRunOfWriting (report decision) (status_of_decision decision) out (Ok No) = subst (λ (r : Result Status Fault). IsRunOfWriting (report decision) (status_of_decision decision) out r) so w in
+        has_none decision decided at.0

@@ -1,5 +1,5 @@
 -- What the engine that decides traces answers and writes.
-use Rattle.std.specs.Prelude.{◌≡◌, ⊤, ℕ, List, [], ◌∷◌, ◌++◌, Result, Ok, Err}
+use Rattle.std.specs.Prelude.{◌≡◌, ⊤, ℕ, List, [], ◌∷◌, ◌++◌, codes, Result, Ok, Err}
 use Rattle.certificate.specs.CertText.{SpellsCertificate}
 use Rattle.certificate.specs.Rechecked.{IsRechecked}
 use Rattle.certificate.specs.declared.certificate.Certificate.{Certificate}
@@ -7,8 +7,12 @@ use Rattle.clause_blocks.specs.Clauses.{clauses_of}
 use Rattle.cube_queue.specs.declared.search_fault.SearchFault.TheVariants.{Cut, NoThread}
 use Rattle.reducer.specs.declared.reduce_fault.ReduceCause.TheVariants.{StillTooLarge}
 use Rattle.reducer.specs.Reduction.{kept_trace}
-use Rattle.traces.specs.Trace.{TraceValue}
+use Rattle.schedule_text.specs.ScheduleText.{SpellsSchedule}
+use Rattle.traces.specs.declared.operation.OpName.{OpName}
+use Rattle.traces.specs.Legal.{IsLegal}
+use Rattle.traces.specs.Trace.{TraceValue, IsTrace}
 use Rattle.trace_text.specs.TraceFault.{HasTraceFault}
+use Rattle.trace_text.specs.TraceText.{SpellsTrace}
 use Rattle.trace_verdict.specs.declared.decision.Decision.{Decision}
 use Rattle.trace_verdict.specs.declared.decision.Decision.TheVariants.{Consistent, Inconsistent, Unknown as NotDecided}
 use Rattle.trace_verdict.specs.Decision.{IsDecided, certificate_text, report}
@@ -58,6 +62,20 @@ IsRunOfVerify trace out = IsRunOfEngine AtOnce (of_one IsSaidOfTrace) texts_of_d
 -- the same where a certificate is asked for, by what the source hands out and the sinks take: the certificate's, and then the report's
 abbrev pub IsRunOfCertifiedVerify : SourceRun → SinkRun → SinkRun → Result Status Fault → Type 0
 IsRunOfCertifiedVerify trace cert out = IsRunOfEngine InPieces (of_one IsSaidOfTrace) texts_with_certificate status_of_decision (trace ∷ []) (cert ∷ out ∷ [])
+
+-- the source handed out the text of a trace, and the sink took CONSISTENT as a line and then a text that spells a legal schedule of
+-- this trace
+pub record TellsSchedule (trace : SourceRun) (out : SinkRun) : Type 0 where
+  pub text : List ℕ
+  pub handed : HandsOut trace text
+  pub value : TraceValue
+  pub is_trace : IsTrace value
+  pub spelled : SpellsTrace text value
+  pub schedule : List ℕ
+  pub whole : out.now ≡ out.before ++ (codes "CONSISTENT\n" ++ schedule)
+  pub names : List OpName
+  pub told : SpellsSchedule schedule names
+  pub legal : IsLegal value names
 
 -- the source handed out the text of a trace that has no legal schedule, and the sink took that of a certificate, which is accepted for
 -- the clauses of what is kept of the trace

@@ -9,7 +9,9 @@ ghost use Rattle.trace_text.specs.TraceFault.{HasTraceFault};
 ghost use Rattle.dimacs.specs.Models.{IsModel};
 ghost use Rattle.traces.specs.declared.operation.OpName.{OpName};
 ghost use Rattle.traces.specs.Legal.{IsLegal};
-ghost use Rattle.traces.specs.Trace.{TraceValue};
+ghost use Rattle.traces.specs.Trace.{TraceValue, IsTrace};
+ghost use Rattle.schedule_text.specs.ScheduleText.{SpellsSchedule};
+ghost use Rattle.schedule_text.specs.ScheduleWritten.{canonical_schedule};
 ghost use Rattle.reducer.specs.Reduction.{kept_trace};
 ghost use Rattle.cnf_reader.specs.CnfReading.{SpellsCnf};
 ghost use Rattle.clause_blocks.specs.Clauses.{clauses_of, formula_of};
@@ -50,6 +52,11 @@ pub fn satisfiable_exactly_where_schedulable()
 /// The text that is written of an admitted trace spells the formula of what is kept of it, as a reader of formulas takes it.
 pub fn written_text_spells()
     ensures { (text : List ℕ) (value : TraceValue) → Admits text value → SpellsCnf (cnf_of value) (formula_of (kept_trace value)) }
+{}
+
+/// The text that is written of a legal schedule of a trace spells it, as a reader of schedules takes it.
+pub fn written_schedule_spells()
+    ensures { (value : TraceValue) (names : List OpName) → IsTrace value → IsLegal value names → SpellsSchedule (canonical_schedule names) names }
 {}
 
 /// A proof that is accepted for the text that is written of an admitted trace shows that the whole trace has no legal schedule.

@@ -3,9 +3,10 @@
 ghost use Rattle.std.specs.Prelude.{◌≡◌, Ok};
 ghost use Rattle.trace_verdict.specs.Decision.{report};
 ghost use Rattle.verdict_report.specs.Engine.{IsRunOfWriting};
+ghost use Rattle.verdict_report.specs.RecheckEngine.{HandsOutUnschedulable};
 ghost use Rattle.verdict_report.specs.Runs.{source_run, sink_run};
-ghost use Rattle.verdict_report.specs.VerifyEngine.{Certifies, IsRunOfVerify, IsRunOfCertifiedVerify, IsSaidOfTrace, status_of_decision};
-ghost use Rattle.verdict_report.specs.declared.status.Status.TheVariants.{No};
+ghost use Rattle.verdict_report.specs.VerifyEngine.{Certifies, IsRunOfVerify, IsRunOfCertifiedVerify, IsSaidOfTrace, TellsSchedule, status_of_decision};
+ghost use Rattle.verdict_report.specs.declared.status.Status.TheVariants.{No, Yes};
 
 use crate::admitted::reduce_text;
 use crate::fault::Fault;
@@ -34,10 +35,14 @@ pub fn run_verify<R: Threads + Sync, T: Source, G: Gate, W: Sink>(
     gate: &G,
     out: &mut W,
 ) -> Result<Status, Fault>
-    ensures { IsRunOfVerify
+    ensures run { IsRunOfVerify
         (source_run T.handed_out T.is_at_end T.failures trace.old trace.new)
         (sink_run W.written W.failures out.old out.new)
         result }
+    ensures consistent { result ≡ Ok Yes → TellsSchedule
+        (source_run T.handed_out T.is_at_end T.failures trace.old trace.new)
+        (sink_run W.written W.failures out.old out.new) }
+    ensures inconsistent { result ≡ Ok No → HandsOutUnschedulable (source_run T.handed_out T.is_at_end T.failures trace.old trace.new) }
 {
     let text = read_one(alloc, trace)?;
     let decision = decide_text(alloc, rt, text.as_slice(), options, gate)?;
@@ -63,6 +68,9 @@ pub fn run_certified_verify<R: Threads + Sync, T: Source, G: Gate, C: Sink, W: S
         (sink_run C.written C.failures cert.old cert.new)
         (sink_run W.written W.failures out.old out.new)
         result }
+    ensures consistent { result ≡ Ok Yes → TellsSchedule
+        (source_run T.handed_out T.is_at_end T.failures trace.old trace.new)
+        (sink_run W.written W.failures out.old out.new) }
     ensures certified { result ≡ Ok No → Certifies
         (source_run T.handed_out T.is_at_end T.failures trace.old trace.new)
         (sink_run C.written C.failures cert.old cert.new) }

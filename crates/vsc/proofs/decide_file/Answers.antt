@@ -17,5 +17,5 @@ returns g c = record {
   };
   out = sink_run (λ s. s.written.bytes) (λ s. s.failures.count) c.new-output.result c.run_verify.new.out;
   writes = record { no_byte_before = c.new-output.ensures.written; no_failure_before = c.new-output.ensures.failures };
-  runs = c.run_verify.ensures;
+  runs = c.run_verify.ensures.run;
 }

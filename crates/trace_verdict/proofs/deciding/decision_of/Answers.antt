@@ -1,4 +1,4 @@
-use Rattle.std.proofs.Common.{ℕ, List, ap, rules, subst}
+use Rattle.std.proofs.Common.{ℕ, List, ap, subst}
 use Rattle.clause_blocks.specs.Clauses.{clauses_of, formula_of}
 use Rattle.result_ledger.specs.declared.verdict.Verdict.{Verdict}
 use Rattle.result_ledger.specs.Verdict.{IsVerdict}
@@ -6,19 +6,21 @@ use Rattle.trace_verdict.specs.Decision.{AreCubesOf}
 use Rattle.trace_verdict.proofs.DecideLemmas.{inconsistent, is_model, listed_within, unknown}
 use Rattle.trace_verdict.proofs.deciding.decision_of.Goals as goal
 
-pub schedule_of-requires-after_bounds : goal.schedule_of-requires-after_bounds
-schedule_of-requires-after_bounds g c =
+pub whole_schedule-requires : goal.whole_schedule-requires
+whole_schedule-requires c =
     let d = c.args.decided in
-    let model = is_model (clauses_of c.args.clauses.now) c.args.reduced.now.kept d.ledger c.in-Consistent.field-0 c.in-Consistent.truth d.verdict c.in-Consistent.is (ap clauses_of c.requires.clauses) c.requires.confirmed.verdict_is in
-    search (rules, model)
+    record {
+      same = c.requires.clauses;
+      model = is_model (clauses_of c.args.clauses.now) c.args.reduced.now.kept d.ledger c.in-Consistent.field-0 c.in-Consistent.truth d.verdict c.in-Consistent.is (ap clauses_of c.requires.clauses) c.requires.confirmed.verdict_is;
+    }
 
 pub cubes_of_leaves-requires : goal.cubes_of_leaves-requires
-cubes_of_leaves-requires g c =
+cubes_of_leaves-requires c =
     let d = c.args.decided in
     rw c.as_slice.ensures (listed_within (clauses_of c.args.clauses.now) d.ledger c.in-Unknown.leaves d.verdict c.in-Unknown.is c.requires.confirmed.verdict_is)
 
 pub returns-in_ok-derivations-in-Inconsistent : goal.returns-in_ok-derivations-in-Inconsistent
-returns-in_ok-derivations-in-Inconsistent g c =
+returns-in_ok-derivations-in-Inconsistent c =
     let d = c.args.decided in
     inconsistent c.args.reduced.now c.kept-kept.ensures.reduced (formula_of c.args.clauses.now) (ap formula_of c.requires.clauses) c.is_formula.ensures.formula
     d.tree d.ledger c.requires.confirmed.cubes_are c.has_clauses.ensures c.covers.ensures.covers
@@ -26,7 +28,7 @@ returns-in_ok-derivations-in-Inconsistent g c =
     (subst (λ (v : Verdict). IsVerdict (clauses_of c.args.clauses.now) d.ledger v) c.in-Inconsistent.is c.requires.confirmed.verdict_is)
 
 pub returns-in_ok-cubes-in-Unknown : goal.returns-in_ok-cubes-in-Unknown
-returns-in_ok-cubes-in-Unknown g c =
+returns-in_ok-cubes-in-Unknown c =
     let d = c.args.decided in
     unknown c.args.reduced.now c.kept-kept.ensures.reduced (formula_of c.args.clauses.now) (ap formula_of c.requires.clauses) c.is_formula.ensures.formula
     d.tree d.ledger c.requires.confirmed.cubes_are c.has_clauses.ensures c.covers.ensures.covers

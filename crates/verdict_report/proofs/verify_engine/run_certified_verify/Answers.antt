@@ -5,6 +5,7 @@ use Rattle.verdict_report.specs.Runs.{SourceRun, SinkRun, source_run, sink_run}
 use Rattle.verdict_report.specs.VerifyEngine.{IsSaidOfTrace, status_of_decision, texts_with_certificate}
 use Rattle.verdict_report.proofs.CertifiedLemmas.{cert_cut_off, report_written, certified}
 use Rattle.verdict_report.proofs.EngineLemmas.{unread, refused}
+use Rattle.verdict_report.proofs.VerifyLemmas.{consistent}
 use Rattle.verdict_report.proofs.verify_engine.run_certified_verify.Goals as goal
 
 pub returns-clause-run : goal.returns-clause-run
@@ -13,6 +14,12 @@ returns-clause-run g c =
     let cert : SinkRun = sink_run g.C.Sink.written g.C.Sink.failures c.args.cert.now c.write_certificate.new.sink in
     let out : SinkRun = sink_run g.W.Sink.written g.W.Sink.failures c.args.out.now c.write_report.new.out in
     report_written trace cert out c.in_ok-text.text.items (search rules) c.in_ok-decision.decision (search rules) (c.in_ok-write_certificate.ensures.whole, c.in_ok-write_certificate.ensures.well) c.write_report.result c.write_report.ensures
+
+pub returns-clause-consistent : goal.returns-clause-consistent
+returns-clause-consistent g c =
+    let trace : SourceRun = source_run g.T.Source.handed_out g.T.Source.is_at_end g.T.Source.failures c.args.trace.now c.read_one.new.source in
+    let out : SinkRun = sink_run g.W.Sink.written g.W.Sink.failures c.args.out.now c.write_report.new.out in
+    consistent trace c.in_ok-text.text.items (search rules) out c.in_ok-decision.decision (search rules) c.write_report.result c.write_report.ensures
 
 pub returns-clause-certified : goal.returns-clause-certified
 returns-clause-certified g c =
