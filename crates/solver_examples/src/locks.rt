@@ -1,14 +1,14 @@
-//! Locks whose releases are missing: the traces for which the solver has its second search.
+//! Locks whose releases are missing: the traces for which the solver searches along a schedule.
 
 use crate::answers::{Shown, solve_and_check};
 use crate::traced::{Access, Traced, formula_of_trace};
 use std::alloc::{AllocError, Global};
 use std::test::Fail;
 
-/// So many conflicts the first search has before the second one begins.
-const FIRST_TURN: u64 = 500;
+/// So many conflicts are too few, although more than half of the operations are updates, and the search along a schedule begins.
+const TOO_FEW: u64 = 300;
 
-/// So many conflicts are enough for both.
+/// So many conflicts are enough, also where it comes second.
 const BUDGET: u64 = 3000;
 
 /// Each of three processes takes a lock and gives it back four times, but so many of them do not give it back at the end.
@@ -34,7 +34,7 @@ fn lock(alloc: Global, broken: u32) -> Result<Traced, AllocError> {
 }
 
 #[test]
-fn locks_take_the_second_search(rt: HostRuntime) -> Result<(), Fail> {
+fn locks_fall_along_a_schedule(rt: HostRuntime) -> Result<(), Fail> {
     let alloc = rt.alloc();
     for broken in 0..2 {
         let trace = lock(alloc, broken)?;
@@ -42,7 +42,7 @@ fn locks_take_the_second_search(rt: HostRuntime) -> Result<(), Fail> {
         assert_eq!(rt; answer, Shown::Model);
     }
     let trace = lock(alloc, 2)?;
-    let answer = solve_and_check(alloc, &trace.formula, &[], trace.guide(), FIRST_TURN)?;
+    let answer = solve_and_check(alloc, &trace.formula, &[], trace.guide(), TOO_FEW)?;
     assert_eq!(rt; answer, Shown::Nothing);
     let answer = solve_and_check(alloc, &trace.formula, &[], trace.guide(), BUDGET)?;
     assert!(rt; matches!(answer, Shown::NoModel(_)));
