@@ -1,0 +1,131 @@
+-- Workers' seats are joined one after the other, and what follows once all are.
+use Rattle.std.proofs.Common.{◌≡◌, ℕ, suc, ◌+◌, ◌<◌, Bool, true, false, cond, nat_lt, List, [], ◌∷◌, ◌++◌, map, length, Some, refl, sym, ◌∙◌, ap, subst, ltb-true, lt-ltb, arith}
+use Rattle.std.specs.List.{All, slice_get}
+use Rattle.std.proofs.lemmas.List.{map-append, length-map, append-nil}
+use Rattle.std.proofs.lemmas.List.Elements.{All-nil, All-cons, All-head, All-tail}
+use Rattle.cube_queue.specs.declared.job.Job.{Job}
+use Rattle.cube_queue.specs.declared.job.Settled.{Settled}
+use Rattle.job_board.specs.Merge.{IsMergeOf}
+use Rattle.job_board.specs.ChannelRules.{with_worker_joined, TakesAccount, GivesAccount}
+use Rattle.job_board.specs.Pairs.{of_jobs, of_results, below}
+use Rattle.job_board.specs.Seats.{put_by, taken_by, given_by, gathered_by}
+use Rattle.job_board.specs.Accounts.{total, taken_below, given_below, AreJoined, IsAccountOf, WereDealt, WereGathered, IsBalanced, AreAnswersTo}
+use Rattle.job_board.specs.declared.channel_view.ChannelView.{ChannelView}
+use Rattle.job_board.specs.declared.channel_view.ChannelView.TheVariants.{One}
+use Rattle.job_board.specs.declared.account.Account.{Account}
+use Rattle.job_board.specs.declared.seats.DealerSeat.{DealerSeat}
+use Rattle.job_board.specs.declared.seats.WorkerSeat.{WorkerSeat}
+use Rattle.job_board.specs.declared.seats.CollectorSeat.{CollectorSeat}
+use Rattle.crossbeam_channel.specs.Claims.{view}
+use Rattle.job_board.proofs.TotalLemmas.{total-append, total-map, merge_total}
+use Rattle.job_board.proofs.AccountLemmas.{settles}
+use Rattle.job_board.proofs.AnswerLemmas.{answers}
+
+pub one_joined : (cubes workers : ℕ) (put : List Job) (got : List Settled) (seats : List WorkerSeat) (seat : WorkerSeat) (v v' : ChannelView Job) (w w' : ChannelView Settled) (taken taken' given given' : ℕ) →
+    AreJoined cubes workers put got seats v w taken given → seat.cubes ≡ cubes → v' ≡ with_worker_joined v (view seat.jobs) → w' ≡ with_worker_joined w (view seat.results) →
+    taken' ≡ taken + seat.taken → given' ≡ given + seat.given → AreJoined cubes workers put got (seats ++ seat ∷ []) v' w' taken' given'
+one_joined cubes workers put got seats seat v v' w w' taken taken' given given' joined same jobs results more_taken more_given =
+    let t : seat.taken ≡ taken_below cubes seat = subst (λ (n : ℕ). seat.taken ≡ taken_below n seat) same seat.counted in
+    let g : seat.given ≡ given_below cubes seat = subst (λ (n : ℕ). seat.given ≡ given_below n seat) same seat.settled in
+    record {
+      jobs_known = jobs ∙ ap (λ (u : ChannelView Job). with_worker_joined u (view seat.jobs)) joined.jobs_known ∙ ap (λ (parts : List (List Job)). One put workers parts) (sym (map-append taken_by seats (seat ∷ [])));
+      results_known = results ∙ ap (λ (u : ChannelView Settled). with_worker_joined u (view seat.results)) joined.results_known ∙ ap (λ (parts : List (List Settled)). One got workers parts) (sym (map-append given_by seats (seat ∷ [])));
+      taken_is = omega (arith, joined.taken_is, more_taken, t, total-append (taken_below cubes) seats (seat ∷ []));
+      given_is = omega (arith, joined.given_is, more_given, g, total-append (given_below cubes) seats (seat ∷ []));
+    }
+
+-- the last look at the job channel
+pub were_dealt : (workers : ℕ) (put : List Job) (seats : List WorkerSeat) (v : ChannelView Job) → v ≡ One put workers (map taken_by seats) → length seats ≡ workers →
+    (queue : List Job) × TakesAccount v queue → (front : List Job) × (queue : List Job) × IsMergeOf (map taken_by seats) front × (put ≡ front ++ queue)
+were_dealt workers put seats v known all told =
+    let account = subst (λ (u : ChannelView Job). TakesAccount u told.0) known told.1 in
+    let part = account (length-map seats taken_by ∙ all) in
+    (part.0, told.0, part.1, part.2)
+
+-- the last look at the result channel
+pub were_gathered : (workers : ℕ) (got : List Settled) (seats : List WorkerSeat) (w : ChannelView Settled) → w ≡ One got workers (map given_by seats) → length seats ≡ workers →
+    (queue : List Settled) × GivesAccount w queue → (queue : List Settled) × IsMergeOf (map given_by seats) (got ++ queue)
+were_gathered workers got seats w known all told =
+    let account = subst (λ (u : ChannelView Settled). GivesAccount u told.0) known told.1 in
+    (told.0, account (length-map seats given_by ∙ all))
+
+-- 1 at a result of a stop ticket
+abbrev past : ℕ → Settled → ℕ
+past cubes settled = cond (nat_lt settled.ticket cubes) 0 1
+
+past_low : (cubes : ℕ) (settled : Settled) → settled.ticket < cubes → past cubes settled ≡ 0
+past_low cubes settled low = ap {B = ℕ} (λ (b : Bool). cond b 0 1) (lt-ltb settled.ticket cubes low)
+
+low_past : (cubes : ℕ) (settled : Settled) (b : Bool) → nat_lt settled.ticket cubes ≡ b → cond {A = ℕ} b 0 1 ≡ 0 → settled.ticket < cubes
+low_past cubes settled true is none = ltb-true settled.ticket cubes is
+low_past cubes settled false is none = absurd (omega (arith, none))
+
+none_past : (cubes : ℕ) (results : List Settled) → All (λ (s : Settled). s.ticket < cubes) results → total (past cubes) results ≡ 0
+none_past cubes [] low = refl
+none_past cubes (s ∷ results) low =
+    omega (arith, past_low cubes s (All-head (λ (t : Settled). t.ticket < cubes) s results low), none_past cubes results (All-tail (λ (t : Settled). t.ticket < cubes) s results low))
+
+all_low : (cubes : ℕ) (results : List Settled) → total (past cubes) results ≡ 0 → All (λ (s : Settled). s.ticket < cubes) results
+all_low cubes [] none = All-nil _
+all_low cubes (s ∷ results) none =
+    let here : past cubes s ≡ 0 = omega (arith, none) in
+    let rest : total (past cubes) results ≡ 0 = omega (arith, none) in
+    All-cons (λ (t : Settled). t.ticket < cubes) s results (low_past cubes s (nat_lt s.ticket cubes) refl here) (all_low cubes results rest)
+
+seats_past : (cubes : ℕ) (seats : List WorkerSeat) → ((number : ℕ) (seat : WorkerSeat) → slice_get seats number ≡ Some seat → seat.cubes ≡ cubes) →
+    total (λ (seat : WorkerSeat). total (past cubes) (given_by seat)) seats ≡ 0
+seats_past cubes [] same = refl
+seats_past cubes (seat ∷ seats) same =
+    let low : All (λ (s : Settled). s.ticket < cubes) (given_by seat) = subst (λ (n : ℕ). All (λ (s : Settled). s.ticket < n) (given_by seat)) (same 0 seat refl) seat.no_stop in
+    omega (arith, none_past cubes (given_by seat) low, seats_past cubes seats (λ number other at. same (suc number) other at))
+
+-- no result of a stop ticket was gathered
+pub gathered_low : (cubes : ℕ) (got left : List Settled) (seats : List WorkerSeat) → IsMergeOf (map given_by seats) (got ++ left) →
+    ((number : ℕ) (seat : WorkerSeat) → slice_get seats number ≡ Some seat → seat.cubes ≡ cubes) → All (λ (s : Settled). s.ticket < cubes) got
+gathered_low cubes got left seats merge same =
+    let sum : total (past cubes) (got ++ left) ≡ total (λ (seat : WorkerSeat). total (past cubes) (given_by seat)) seats =
+    merge_total (past cubes) (map given_by seats) (got ++ left) merge ∙ total-map (λ (part : List Settled). total (past cubes) part) given_by seats in
+    all_low cubes got (omega (arith, sum, total-append (past cubes) got left, seats_past cubes seats same))
+
+-- the next seat, where these seats were joined and these are still to come
+pub next_seat : (seats before : List WorkerSeat) (seat : WorkerSeat) (rest : List WorkerSeat) → seats ≡ before ++ seat ∷ rest → slice_get seats (length before) ≡ Some seat
+next_seat seats before seat rest is = ap (λ (all : List WorkerSeat). slice_get all (length before)) is ∙ at_seam before seat rest
+  where
+    at_seam : (before : List WorkerSeat) (seat : WorkerSeat) (rest : List WorkerSeat) → slice_get (before ++ seat ∷ rest) (length before) ≡ Some seat
+    at_seam [] seat rest = refl
+    at_seam (s ∷ before) seat rest = at_seam before seat rest
+
+-- all seats were joined
+pub all_seats : (seats before rest : List WorkerSeat) → seats ≡ before ++ rest → length rest ≡ 0 → before ≡ seats
+all_seats seats before [] is none = sym (append-nil before) ∙ sym is
+all_seats seats before (s ∷ rest) is none = absurd (omega (arith, none))
+
+-- no seat was joined yet
+pub none_joined : (cubes workers : ℕ) (put : List Job) (got : List Settled) (v : ChannelView Job) (w : ChannelView Settled) → v ≡ One put workers [] → w ≡ One got workers [] →
+    AreJoined cubes workers put got [] v w 0 0
+none_joined cubes workers put got v w jobs results = record { jobs_known = jobs; results_known = results; taken_is = refl; given_is = refl }
+
+-- the numbers of the account, once all seats are joined
+pub account_is : (cubes workers : ℕ) (dealer : DealerSeat) (seats : List WorkerSeat) (collector : CollectorSeat) (v : ChannelView Job) (w : ChannelView Settled) (account : Account) →
+    AreJoined cubes workers (put_by dealer) (gathered_by collector) seats v w account.taken account.given → dealer.cubes ≡ cubes → collector.cubes ≡ cubes →
+    account.put ≡ dealer.put → account.gathered ≡ collector.gathered → IsAccountOf cubes dealer seats collector account
+account_is cubes workers dealer seats collector v w account joined same_dealt same_gathered put gathered =
+    record {
+      put_is = put ∙ subst (λ (n : ℕ). dealer.put ≡ length (below n (of_jobs (put_by dealer)))) same_dealt dealer.counted;
+      taken_is = joined.taken_is;
+      given_is = joined.given_is;
+      gathered_is = gathered ∙ subst (λ (n : ℕ). collector.gathered ≡ length (below n (of_results (gathered_by collector)))) same_gathered collector.counted;
+    }
+
+-- where the numbers are equal, the results are those of the jobs
+pub all_answered : (cubes : ℕ) (dealer : DealerSeat) (seats : List WorkerSeat) (collector : CollectorSeat) (account : Account) → IsAccountOf cubes dealer seats collector account →
+    WereDealt dealer seats → WereGathered collector seats → ((number : ℕ) (seat : WorkerSeat) → slice_get seats number ≡ Some seat → seat.cubes ≡ cubes) →
+    IsBalanced account → AreAnswersTo cubes (put_by dealer) (gathered_by collector)
+all_answered cubes dealer seats collector account is dealt gathered same balanced =
+    answers cubes (put_by dealer) (gathered_by collector)
+    (settles cubes (put_by dealer) dealt.0 dealt.1 (gathered_by collector) gathered.0 seats dealt.2 dealt.3 gathered.1
+    (sym is.taken_is ∙ balanced.0 ∙ is.put_is)
+    (sym is.given_is ∙ balanced.1 ∙ is.put_is)
+    (sym is.gathered_is ∙ balanced.2 ∙ is.put_is))
+    (gathered_low cubes (gathered_by collector) gathered.0 seats gathered.1 same)
+    dealer.rising

@@ -1,0 +1,12 @@
+pub mod MergeLemmas
+pub mod ViewLemmas
+pub mod PassLemmas
+pub mod JobRuleLemmas
+pub mod ResultRuleLemmas
+pub mod StepLemmas
+pub mod TotalLemmas
+pub mod SeatLemmas
+pub mod AccountLemmas
+pub mod AnswerLemmas
+pub mod CloseLemmas
+pub mod OpenLemmas

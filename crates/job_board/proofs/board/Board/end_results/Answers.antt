@@ -1,0 +1,8 @@
+use Rattle.job_board.proofs.StepLemmas.{ends_results, results_shown}
+use Rattle.job_board.proofs.board.Board.end_results.Goals as goal
+
+pub try_recv_as-last-requires-clause-rule : goal.try_recv_as-last-requires-clause-rule
+try_recv_as-last-requires-clause-rule g c = ends_results _ _ _ _ _ c.requires.knows.3
+
+pub returns : goal.returns
+returns g c = results_shown _ _ _ c.try_recv_as-last.ensures.rule

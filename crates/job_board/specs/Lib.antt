@@ -1,0 +1,6 @@
+pub mod Merge
+pub mod ChannelRules
+pub mod Pairs
+pub mod Hands
+pub mod Seats
+pub mod Accounts

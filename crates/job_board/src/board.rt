@@ -1,0 +1,22 @@
+//! The board.
+ghost use Rattle.std.specs.Prelude.{◌≡◌};
+ghost use Rattle.crossbeam_channel.specs.Ends.{sends_on, receives_on};
+
+use crate::channel_rules::{JobRule, ResultRule};
+use crate::channel_view::ChannelView;
+use crossbeam_channel::{RuledReceiver, RuledSender};
+use cube_queue::{Job, Settled};
+
+/// A channel of jobs from one dealer to the workers, and a channel of results from these to one collector. It has both ends of both, and
+/// all seats share it.
+#[derive(Drop)]
+pub struct Board {
+    pub(crate) workers: u32,
+    pub(crate) cubes: u32,
+    pub(crate) job_sender: RuledSender<Job, ChannelView<Job>, JobRule>,
+    pub(crate) job_receiver: RuledReceiver<Job, ChannelView<Job>, JobRule>,
+    pub(crate) result_sender: RuledSender<Settled, ChannelView<Settled>, ResultRule>,
+    pub(crate) result_receiver: RuledReceiver<Settled, ChannelView<Settled>, ResultRule>,
+    ghost job_ends: { receives_on job_receiver ≡ sends_on job_sender },
+    ghost result_ends: { receives_on result_receiver ≡ sends_on result_sender },
+}

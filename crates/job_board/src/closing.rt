@@ -1,0 +1,117 @@
+//! A board is closed.
+ghost use Rattle.std.specs.Prelude.{◌≡◌, ℕ, List, [], length};
+ghost use Rattle.crossbeam_channel.specs.Claims.{view, IsSeatAt};
+ghost use Rattle.crossbeam_channel.specs.Ends.{sends_on};
+ghost use Rattle.cube_queue.specs.declared.job.Job.{Job};
+ghost use Rattle.cube_queue.specs.declared.job.Settled.{Settled};
+ghost use Rattle.job_board.specs.declared.channel_view.ChannelView.TheVariants.{One};
+ghost use Rattle.job_board.specs.ChannelRules.{list_in, TakesAccount, GivesAccount, with_worker_joined};
+ghost use Rattle.job_board.specs.Seats.{put_by, gathered_by, IsDealerAt, IsWorkerAt, IsCollectorAt, AreWorkersAt};
+ghost use Rattle.job_board.specs.Accounts.{IsAccountOf, AreJoined, WereDealt, WereGathered, IsBalanced, AreAnswersTo};
+
+use crate::account::Account;
+use crate::board::Board;
+use crate::channel_rules::{LastGather, LastTake, WorkerJoined};
+use crate::counts::added;
+use crate::seats::{CollectorSeat, DealerSeat, JobPass, ResultPass, WorkerSeat};
+use std::sync::Wait;
+
+impl Board {
+    /// The account of all seats of the board, the workers' in the order of their numbers. What was put is some merge of what the workers
+    /// took, followed by what nobody took; what was gathered, followed by what nobody gathered, is some merge of what they gave. Where
+    /// the four numbers are equal, the results are those of the jobs put, each once, and of no other.
+    pub fn close<R: Wait>(
+        self,
+        rt: &R,
+        dealer: DealerSeat,
+        workers: Vec<WorkerSeat>,
+        collector: CollectorSeat,
+    ) -> Account
+        requires dealer { IsDealerAt self dealer }
+        requires workers { AreWorkersAt self workers.items }
+        requires collector { IsCollectorAt self collector }
+        ensures numbers { IsAccountOf self.cubes dealer workers.items collector result }
+        ensures dealt { WereDealt dealer workers.items }
+        ensures gathered { WereGathered collector workers.items }
+        ensures settled { IsBalanced result → AreAnswersTo self.cubes (put_by dealer) (gathered_by collector) }
+    {
+        let DealerSeat { mut jobs, put, .. } = dealer;
+        let CollectorSeat {
+            mut results,
+            gathered,
+            ..
+        } = collector;
+        let (taken, given) = self.join_all(rt, workers, &mut jobs, &mut results);
+        self.end_jobs(rt, &mut jobs);
+        self.end_results(rt, &mut results);
+        Account {
+            put,
+            taken,
+            given,
+            gathered,
+        }
+    }
+
+    /// Both first passes take in those of all workers' seats. It answers how many jobs these took and how many results they gave, stop
+    /// tickets left out.
+    fn join_all<R: Wait>(
+        &self,
+        rt: &R,
+        workers: Vec<WorkerSeat>,
+        jobs: &mut JobPass,
+        results: &mut ResultPass,
+    ) -> (u32, u32)
+        requires workers { AreWorkersAt self.now workers.items }
+        requires jobs { IsSeatAt (sends_on self.now.job_sender) jobs.old × (view jobs.old ≡ One (list_in (view jobs.old)) self.now.workers []) }
+        requires results { IsSeatAt (sends_on self.now.result_sender) results.old × (view results.old ≡ One (list_in (view results.old)) self.now.workers []) }
+        ensures jobs { IsSeatAt (sends_on self.now.job_sender) jobs.new }
+        ensures results { IsSeatAt (sends_on self.now.result_sender) results.new }
+        ensures joined { AreJoined self.now.cubes self.now.workers (list_in (view jobs.old)) (list_in (view results.old)) workers.items (view jobs.new) (view results.new) result.0 result.1 }
+    {
+        let mut taken = 0;
+        let mut given = 0;
+        for seat in workers {
+            taken = added(rt, taken, seat.taken);
+            given = added(rt, given, seat.given);
+            self.join(seat, jobs, results);
+        }
+        (taken, given)
+    }
+
+    /// Both first passes take in those of the next worker's seat.
+    fn join(&self, seat: WorkerSeat, jobs: &mut JobPass, results: &mut ResultPass)
+        requires seat { IsWorkerAt self.now seat }
+        requires jobs { IsSeatAt (sends_on self.now.job_sender) jobs.old × ((put : List Job) × (joined : List (List Job)) × (view jobs.old ≡ One put self.now.workers joined) × (seat.number ≡ length joined)) }
+        requires results { IsSeatAt (sends_on self.now.result_sender) results.old × ((got : List Settled) × (joined : List (List Settled)) × (view results.old ≡ One got self.now.workers joined) × (seat.number ≡ length joined)) }
+        ensures jobs { IsSeatAt (sends_on self.now.job_sender) jobs.new × (view jobs.new ≡ with_worker_joined (view jobs.old) (view seat.jobs)) }
+        ensures results { IsSeatAt (sends_on self.now.result_sender) results.new × (view results.new ≡ with_worker_joined (view results.old) (view seat.results)) }
+    {
+        let WorkerSeat {
+            jobs: theirs,
+            results: given,
+            ..
+        } = seat;
+        self.job_sender.absorb::<WorkerJoined>(jobs, theirs);
+        self.result_sender.absorb::<WorkerJoined>(results, given);
+    }
+
+    /// The last receive on the job channel, after which the dealer's pass is spent.
+    fn end_jobs<R: Wait>(&self, rt: &R, jobs: &mut JobPass)
+        requires jobs { IsSeatAt (sends_on self.now.job_sender) jobs.old }
+        requires knows { (put : List Job) × (made : ℕ) × (joined : List (List Job)) × (view jobs.old ≡ One put made joined) }
+        ensures { (queue : List Job) × TakesAccount (view jobs.old) queue }
+    {
+        let _last = self.job_receiver.try_recv_as::<LastTake, R>(rt, jobs);
+    }
+
+    /// The last receive on the result channel, after which the collector's pass is spent.
+    fn end_results<R: Wait>(&self, rt: &R, results: &mut ResultPass)
+        requires results { IsSeatAt (sends_on self.now.result_sender) results.old }
+        requires knows { (got : List Settled) × (made : ℕ) × (joined : List (List Settled)) × (view results.old ≡ One got made joined) }
+        ensures { (queue : List Settled) × GivesAccount (view results.old) queue }
+    {
+        let _last = self
+            .result_receiver
+            .try_recv_as::<LastGather, R>(rt, results);
+    }
+}

@@ -1,0 +1,21 @@
+//! The board: a dealer puts jobs, workers take them and give results, a collector gathers these, each in a thread of its own.
+#![tactic(auto)]
+
+mod account;
+mod board;
+mod channel_rules;
+mod channel_view;
+mod closing;
+mod counts;
+mod ended;
+mod hand;
+mod moves;
+mod opening;
+mod seats;
+
+pub use account::Account;
+pub use board::Board;
+pub use ended::Ended;
+pub use hand::{Hand, HeldJob};
+pub use opening::{MOST_CUBES, MOST_WORKERS};
+pub use seats::{CollectorSeat, DealerSeat, WorkerSeat};
