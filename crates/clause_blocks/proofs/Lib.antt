@@ -27,6 +27,7 @@ pub mod SentLemmas
 pub mod SortedLemmas
 pub mod StandLemmas
 pub mod StepLemmas
+pub mod TextLemmas
 pub mod TripleLemmas
 pub mod VariableLemmas
 pub mod VariableRangeLemmas

@@ -221,6 +221,30 @@ impl CnfWriter {
         Ok(())
     }
 
+    /// Appends the line of the clause of these three literals to a text apart. The writer stays as it is, so threads can make texts
+    /// side by side.
+    #[inline]
+    pub fn append_ternary(&self, literals: &[Lit], text: &mut Vec<u8>) -> Result<(), AllocError>
+        requires three { length literals.now ≡ 3 }
+        ensures { OnOk result (text.new.items ≡ text.old.items ++ clause_line literals.now) }
+    {
+        let mut line = [0; SHORT_LINE];
+        let end = put_ternary(literals, &self.table, &mut line, 0);
+        text.extend_from_slice(&line[..end])
+    }
+
+    /// Writes a text of lines that were made apart. The writer then keeps nothing.
+    pub fn put_text<W: Sink>(&mut self, text: &[u8], sink: &mut W) -> Result<(), Failed>
+        ensures sent { OnOk result (IsSent (W.written sink.old) (W.written sink.new) self.new (self.old ++ text.now)) }
+        ensures well { OnOk result (W.failures sink.new ≡ W.failures sink.old) }
+        ensures front { OnErr result (AppendsFront (W.written sink.old) (W.written sink.new) (self.old ++ text.now)) }
+        ensures failed { OnErr result (W.failures sink.new ≡ W.failures sink.old + 1) }
+    {
+        write_whole(sink, &self.buffer.as_slice()[..self.end])?;
+        self.end = 0;
+        write_whole(sink, text)
+    }
+
     /// Writes what the writer keeps.
     pub fn finish<W: Sink>(self, sink: &mut W) -> Result<(), Failed>
         ensures whole { OnOk result (W.written sink.new ≡ W.written sink.old ++ self) }
