@@ -1,5 +1,5 @@
 -- Texts that were made side by side.
-use Rattle.std.proofs.Common.{◌≡◌, ℕ, ℤ, List, [], ◌∷◌, ◌++◌, map, Vec, refl, sym, ap, subst, ◌∙◌}
+use Rattle.std.proofs.Common.{◌≡◌, ℕ, ℤ, List, [], ◌∷◌, ◌++◌, map, Vec, refl, sym, subst, ◌∙◌}
 use Rattle.std.specs.Prelude.{IfOk, MatchResult, Ok, Err}
 use Rattle.std.specs.List.{AllZip, Contains, flat_map}
 use Rattle.std.specs.declared.result.Result.{Result}

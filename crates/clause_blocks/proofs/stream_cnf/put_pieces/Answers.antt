@@ -1,4 +1,4 @@
-use Rattle.std.proofs.Common.{◌≡◌, ◌≤◌, ◌+◌, ◌++◌, ◌∙◌, length, refl, ap, subst, arith}
+use Rattle.std.proofs.Common.{◌≡◌, ◌≤◌, ◌++◌, ◌∙◌, length, refl, ap, subst, arith}
 use Rattle.std.specs.List.{flat_map}
 use Rattle.dimacs.specs.CnfText.{clause_line}
 use Rattle.dimacs.specs.Sink.{AppendsFront, IsSent}
