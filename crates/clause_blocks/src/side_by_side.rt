@@ -13,7 +13,10 @@ use std::alloc::{AllocError, Global};
 use std::thread::Threads;
 use var_layout::layout::Layout;
 
-/// The texts of the pieces under the numbers from `first` up to `end`, each made by a thread of its own.
+/// So many pieces a thread makes before it waits for the others: to start a thread and to wait for it costs as much as some pieces.
+pub(crate) const RUN: usize = 4;
+
+/// The texts of the pieces under the numbers from `first` up to `end`, made by threads, each of which makes neighbours.
 fn texts_between<R: Threads + Sync>(
     alloc: Global,
     rt: &R,
@@ -28,7 +31,7 @@ fn texts_between<R: Threads + Sync>(
 {
     (first..end)
         .into_par_iter()
-        .with_min_len(1)
+        .with_min_len(RUN)
         .map(
             |k: usize| -> Result<Vec<u8>, AllocError>
                 requires { (1 ≤ k) × (k ≤ operation_count layout.now) }
@@ -73,17 +76,17 @@ fn put_batch<R: Threads + Sync, W: Sink>(
     Ok(())
 }
 
-/// Writes the pieces of transitivity below the piece under this number, as many at a time as there are workers.
+/// Writes the pieces of transitivity below the piece under this number, so many at a time.
 pub(crate) fn put_side_by_side<R: Threads + Sync, W: Sink>(
     alloc: Global,
     rt: &R,
-    workers: usize,
+    count: usize,
     layout: &Layout,
     end: usize,
     writer: &mut CnfWriter,
     sink: &mut W,
 ) -> Result<(), SinkFault>
-    requires workers { 1 ≤ workers }
+    requires count { 1 ≤ count }
     requires some { 1 ≤ end }
     requires within { end ≤ operation_count layout.now + 1 }
     ensures sent { OnOk result (IsSent (W.written sink.old) (W.written sink.new) writer.new (writer.old ++ lines_between layout.now 1 end)) }
@@ -93,7 +96,7 @@ pub(crate) fn put_side_by_side<R: Threads + Sync, W: Sink>(
 {
     let mut next = 1;
     while next < end {
-        let upto = next + workers.min(end - next);
+        let upto = next + count.min(end - next);
         put_batch(alloc, rt, layout, next, upto, writer, sink)?;
         next = upto;
     }

@@ -9,7 +9,7 @@ ghost use Rattle.traces.specs.Trace.{operation_count};
 ghost use Rattle.clause_blocks.specs.Clauses.{clauses_of, formula_of, pieces};
 ghost use Rattle.clause_blocks.specs.Pieces.{clauses_in, lines_between};
 
-use crate::side_by_side::put_side_by_side;
+use crate::side_by_side::{RUN, put_side_by_side};
 use crate::trace_clauses::{Piece, TraceClauses};
 use crate::transitivity::put_transitivity_from;
 use dimacs::{CnfWriter, Failed, Sink, SinkFault};
@@ -92,7 +92,8 @@ fn put_pieces<R: Threads + Sync, W: Sink>(
     let layout = clauses.layout();
     let end = first_in_turn(layout.operations(), workers);
     put_in_turn(clauses, 0, 1, writer, sink)?;
-    put_side_by_side(alloc, rt, workers as usize, layout, end, writer, sink)?;
+    let count = workers as usize * RUN;
+    put_side_by_side(alloc, rt, count, layout, end, writer, sink)?;
     put_in_turn(clauses, end, clauses.pieces(), writer, sink)?;
     Ok(())
 }
