@@ -21,6 +21,8 @@ mod options;
 #[cfg(test)]
 mod refused_memory;
 #[cfg(test)]
+mod searches;
+#[cfg(test)]
 mod texts;
 #[cfg(test)]
 mod tree_texts;
