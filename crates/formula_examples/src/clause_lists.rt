@@ -1,6 +1,6 @@
 //! Lists of clauses, however they are kept: what the calls answer.
 
-use crate::expectations::{ample, expect};
+use expectations::{ample, expect};
 use crate::formulas::literals_of;
 use crate::traces_of_texts::{HAND_OFF, STORE_BUFFERING, reduced_of};
 use clause_blocks::formula::formula;

@@ -1,6 +1,6 @@
 //! Truth values as schedules, with the formula of a trace. `tests/examples/decode.txt` has these without it.
 
-use crate::expectations::expect;
+use expectations::expect;
 use crate::traces_of_texts::{HAND_OFF, STORE_BUFFERING, reduced_of};
 use clause_blocks::formula::formula;
 use dimacs::Assignment;

@@ -1,6 +1,6 @@
 //! Derivations: under a cube, and as they are written.
 
-use crate::expectations::ample;
+use expectations::ample;
 use crate::formulas::{formula_of, literals_of};
 use lrat_check::checker::{Accepted, check};
 use lrat_check::lrat_reader::read_lrat;

@@ -1,6 +1,6 @@
 //! The engines that translate, decode and check proofs, over devices that move few bytes a call or fail at one of their calls.
 
-use crate::expectations::expect;
+use expectations::expect;
 use crate::traces_of_texts::HAND_OFF;
 use dimacs::{MemorySink, ShortSink};
 use std::alloc::Global;

@@ -1,6 +1,6 @@
 //! Literals, clauses, formulas and their text, and truth values.
 
-use crate::expectations::{ample, expect};
+use expectations::{ample, expect};
 use dimacs::{
     Assignment, Clause, Formula, Lit, MAX_VARIABLE, ShortSink, SinkFault, are_literals, write_cnf,
 };

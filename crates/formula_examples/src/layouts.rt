@@ -1,6 +1,6 @@
 //! The variables of small traces, and their formulas as values.
 
-use crate::expectations::{ample, expect};
+use expectations::{ample, expect};
 use crate::traces_of_texts::{STORE_BUFFERING, reduced_of};
 use std::alloc::Global;
 use std::process::Abort;

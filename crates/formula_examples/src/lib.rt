@@ -12,8 +12,6 @@ mod derivations;
 #[cfg(test)]
 mod engines;
 #[cfg(test)]
-mod expectations;
-#[cfg(test)]
 mod formulas;
 #[cfg(test)]
 mod layouts;

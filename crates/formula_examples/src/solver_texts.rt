@@ -1,6 +1,6 @@
 //! The texts of formulas, as values. `tests/examples/decode.txt` has those of solvers' answers.
 
-use crate::expectations::{ample, expect};
+use expectations::{ample, expect};
 use cnf_reader::read_cnf;
 use dimacs::{MemorySink, write_cnf};
 use std::alloc::Global;

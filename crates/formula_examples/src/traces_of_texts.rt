@@ -1,6 +1,6 @@
 //! The traces that the tests share.
 
-use crate::expectations::ample;
+use expectations::ample;
 use reducer::reduced::{Reduced, reduce};
 use std::alloc::Global;
 use std::process::Abort;
