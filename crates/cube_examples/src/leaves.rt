@@ -8,26 +8,30 @@ use std::alloc::Global;
 use std::process::Abort;
 use text_lines::fault::Fault;
 
-/// The literals of the four leaves' cubes.
-const CUBES: [&[i32]; 4] = [&[3, 4], &[3, -4], &[-3, 3], &[-3, -3]];
-
-/// Asserts that these are the literals of the cube.
-fn assert_cube(rt: &impl Abort, alloc: Global, cube: &Cube, numbers: &[i32], leaf: usize) {
-    let is_right = ample(rt, are_literals(alloc, cube.as_slice(), numbers));
-    expect(rt, is_right, leaf);
+/// Asserts that the cube of this leaf has these literals, on no other variables than 3 and 4.
+fn assert_cube(rt: &impl Abort, alloc: Global, cubes: &[Cube], leaf: usize, numbers: &[i32]) {
+    match cubes.get(leaf) {
+        Some(cube) => {
+            let is_right = ample(rt, are_literals(alloc, cube.as_slice(), numbers));
+            expect(rt, is_right, leaf);
+            expect(rt, cube.has_variable(4) == (leaf < 2), leaf);
+            expect(rt, !cube.has_variable(5), leaf);
+        }
+        None => panic!(rt; "there is no leaf {leaf}"),
+    }
 }
 
 #[test]
 fn lists_cubes(rt: HostRuntime) {
     let text = b"split 3\nsplit 4\nleaf\nleaf\nsplit 3\nleaf\nleaf\n";
     let tree = tree_of(&rt, rt.alloc(), text);
-    assert!(&rt; tree.leaves() == 4);
-    let cubes = ample(&rt, cubes(rt.alloc(), &tree));
-    assert!(&rt; cubes.len() == 4);
-    for leaf in 0..4 {
-        assert_cube(&rt, rt.alloc(), &cubes[leaf], CUBES[leaf], leaf);
-    }
-    assert!(&rt; cubes[1].has_variable(4) && !cubes[1].has_variable(5));
+    let listed = ample(&rt, cubes(rt.alloc(), &tree));
+    let cubes = listed.as_slice();
+    assert!(&rt; tree.leaves() == 4 && cubes.len() == 4);
+    assert_cube(&rt, rt.alloc(), cubes, 0, &[3, 4]);
+    assert_cube(&rt, rt.alloc(), cubes, 1, &[3, -4]);
+    assert_cube(&rt, rt.alloc(), cubes, 2, &[-3, 3]);
+    assert_cube(&rt, rt.alloc(), cubes, 3, &[-3, -3]);
 }
 
 #[test]

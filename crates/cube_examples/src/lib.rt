@@ -7,8 +7,6 @@ mod answers;
 #[cfg(test)]
 mod false_answers;
 #[cfg(test)]
-mod full_trees;
-#[cfg(test)]
 mod gates;
 #[cfg(test)]
 mod large_trees;

@@ -7,22 +7,22 @@ use std::alloc::Global;
 use std::process::Abort;
 
 /// A text, how many bytes of it spell a tree of how many leaves, and what is written of this tree.
-type Read = (&'static [u8], usize, u32, &'static [u8]);
+type Read = (&'static str, usize, u32, &'static str);
 
 const READ: [Read; 4] = [
     (
-        b"split 3\nleaf\nleaf\nproof 0\n",
+        "split 3\nleaf\nleaf\nproof 0\n",
         18,
         2,
-        b"split 3\nleaf\nleaf\n",
+        "split 3\nleaf\nleaf\n",
     ),
-    (b"leaf", 4, 1, b"leaf\n"),
-    (b"leaf\n\nleaf", 5, 1, b"leaf\n"),
+    ("leaf", 4, 1, "leaf\n"),
+    ("leaf\n\nleaf", 5, 1, "leaf\n"),
     (
-        b" split\t4194304 \r\n\tleaf\nleaf \nx",
+        " split\t4194304 \r\n\tleaf\nleaf \nx",
         29,
         2,
-        b"split 4194304\nleaf\nleaf\n",
+        "split 4194304\nleaf\nleaf\n",
     ),
 ];
 
@@ -44,7 +44,8 @@ fn assert_reads(
 #[test]
 fn reads_a_tree_and_no_further(rt: HostRuntime) {
     for (text, bytes, leaves, canonical) in &READ {
-        assert_reads(&rt, rt.alloc(), text, *bytes, *leaves, canonical);
+        let [text, written] = [text.as_bytes(), canonical.as_bytes()];
+        assert_reads(&rt, rt.alloc(), text, *bytes, *leaves, written);
     }
 }
 
