@@ -1,11 +1,11 @@
 //! Lists of clauses, however they are kept: what the calls answer.
 
-use expectations::{ample, expect};
 use crate::formulas::literals_of;
 use crate::traces_of_texts::{HAND_OFF, STORE_BUFFERING, reduced_of};
 use clause_blocks::formula::formula;
 use clause_blocks::trace_clauses::TraceClauses;
 use dimacs::{Assignment, Clause, ClauseList, FirstFalse, Formula, ListedClause, Lit};
+use expectations::{ample, expect};
 use std::alloc::Global;
 use std::process::Abort;
 

@@ -1,9 +1,9 @@
 //! Truth values as schedules, with the formula of a trace. `tests/examples/decode.txt` has these without it.
 
-use expectations::expect;
 use crate::traces_of_texts::{HAND_OFF, STORE_BUFFERING, reduced_of};
 use clause_blocks::formula::formula;
 use dimacs::Assignment;
+use expectations::expect;
 use schedule_decode::decode::decode;
 use schedule_text::schedule_writer::write_schedule;
 use std::alloc::{AllocError, Global};

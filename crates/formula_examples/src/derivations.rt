@@ -1,7 +1,7 @@
 //! Derivations: under a cube, and as they are written.
 
-use expectations::ample;
 use crate::formulas::{formula_of, literals_of};
+use expectations::ample;
 use lrat_check::checker::{Accepted, check};
 use lrat_check::lrat_reader::read_lrat;
 use lrat_check::lrat_writer::write_lrat;

@@ -1,8 +1,8 @@
 //! The engines that translate, decode and check proofs, over devices that move few bytes a call or fail at one of their calls.
 
-use expectations::expect;
 use crate::traces_of_texts::HAND_OFF;
 use dimacs::{MemorySink, ShortSink};
+use expectations::expect;
 use std::alloc::Global;
 use std::process::Abort;
 use std::thread::Threads;

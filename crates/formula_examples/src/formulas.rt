@@ -1,9 +1,9 @@
 //! Literals, clauses, formulas and their text, and truth values.
 
-use expectations::{ample, expect};
 use dimacs::{
     Assignment, Clause, Formula, Lit, MAX_VARIABLE, ShortSink, SinkFault, are_literals, write_cnf,
 };
+use expectations::{ample, expect};
 use std::alloc::Global;
 use std::process::Abort;
 

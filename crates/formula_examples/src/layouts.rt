@@ -1,7 +1,7 @@
 //! The variables of small traces, and their formulas as values.
 
-use expectations::{ample, expect};
 use crate::traces_of_texts::{STORE_BUFFERING, reduced_of};
+use expectations::{ample, expect};
 use std::alloc::Global;
 use std::process::Abort;
 use var_layout::candidate::{Candidate, Choice};

@@ -1,8 +1,8 @@
 //! The texts of formulas, as values. `tests/examples/decode.txt` has those of solvers' answers.
 
-use expectations::{ample, expect};
 use cnf_reader::read_cnf;
 use dimacs::{MemorySink, write_cnf};
+use expectations::{ample, expect};
 use std::alloc::Global;
 use std::process::Abort;
 
