@@ -1,6 +1,6 @@
 //! The solver's one call.
 
-ghost use Rattle.std.specs.Prelude.{◌≤◌, IfOk};
+ghost use Rattle.std.specs.Prelude.{◌≤◌, ◌+◌, IfOk};
 ghost use Rattle.derivation_log.specs.Answers.{IsWithin};
 
 use crate::schedule::suits_a_schedule;
@@ -42,6 +42,21 @@ fn begin<'a, L: ClauseList>(
     Search::new(alloc, variables, guide, intake)
 }
 
+/// Lets another search, whose decisions go along a schedule, take turns with this one.
+fn go_on_by_turns(
+    alloc: Global,
+    mut other: Search<'_>,
+    first_id: u32,
+    first: &mut Attempt<Search<'_>>,
+    budget: u64,
+) -> Result<Answer, AllocError>
+    ensures { IfOk result (λ answer. IsWithin (first.old.log + budget) answer) }
+{
+    other.go_along_a_schedule()?;
+    let mut second = Attempt::new(alloc, other, first_id);
+    take_turns(&mut second, first, budget)
+}
+
 /// Looks for a model of the formula that makes all literals of the cube true, or for a derivation that there is none.
 ///
 /// At most `budget` conflicts are worked on, where a conflict is a clause all of whose literals have become false, and each of
@@ -76,9 +91,7 @@ pub fn solve<L: ClauseList>(
     if left == 0 {
         return Ok(Answer::Open);
     }
-    let mut other = begin(alloc, variables, formula, cube, guide)?;
-    other.go_along_a_schedule()?;
-    let mut second = Attempt::new(alloc, other, first_id);
-    let answer = take_turns(&mut second, &mut first, left)?;
+    let other = begin(alloc, variables, formula, cube, guide)?;
+    let answer = go_on_by_turns(alloc, other, first_id, &mut first, left)?;
     Ok(answer)
 }
