@@ -1,0 +1,5 @@
+//! The search that settles the leaves of a tree, by workers in threads.
+#![tactic(auto)]
+
+mod crew;
+mod site;
