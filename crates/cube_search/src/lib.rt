@@ -2,4 +2,12 @@
 #![tactic(auto)]
 
 mod crew;
+mod in_turn;
+mod joining;
+mod promised;
+mod running;
+mod settler;
+mod settling;
 mod site;
+mod starting;
+mod working;
