@@ -1,0 +1,3 @@
+pub mod CrewLemmas
+pub mod LeafLemmas
+pub mod PutLemmas

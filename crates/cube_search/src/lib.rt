@@ -2,4 +2,8 @@
 #![tactic(auto)]
 
 mod crew;
+mod gathering;
+mod leaf_jobs;
+mod opening;
+mod putting;
 mod site;
