@@ -21,27 +21,27 @@ use Rattle.cube_search.specs.declared.site.Site.{Site}
 module _
     {H F : Type 0} (clauses_of : F → List (List ℤ)) (formula_of : H → F) (site_of : H → Site) (member_of : H → Member) (formula : F) (site : Site)
   where
-    abbrev WorkedAt : H → Member → Type 0
-    WorkedAt handle after = HasWorked (clauses_of (formula_of handle)) (site_of handle) (member_of handle) after
+    abbrev WorkedFor : H → Member → Type 0
+    WorkedFor handle after = HasWorked (clauses_of (formula_of handle)) (site_of handle) (member_of handle) after
 
-    worked_here : (handle : H) (after : Member) → (site_of handle ≡ site) × (formula_of handle ≡ formula) → WorkedAt handle after → HasWorked (clauses_of formula) site (member_of handle) after
-    worked_here handle after here worked =
-        subst (λ (s : Site). HasWorked (clauses_of formula) s (member_of handle) after) here.0 (subst (λ (f : F). HasWorked (clauses_of f) (site_of handle) (member_of handle) after) here.1 worked)
+    worked_here : (handle : H) (after : Member) → site_of handle ≡ site → formula_of handle ≡ formula → WorkedFor handle after → HasWorked (clauses_of formula) site (member_of handle) after
+    worked_here handle after same_site same_formula worked =
+        subst (λ (s : Site). HasWorked (clauses_of formula) s (member_of handle) after) same_site (subst (λ (f : F). HasWorked (clauses_of f) (site_of handle) (member_of handle) after) same_formula worked)
 
-    all_worked : (handles : List H) (after : List Member) → All (λ (h : H). (site_of h ≡ site) × (formula_of h ≡ formula)) handles → length after ≡ length handles →
-        ((k : ℕ) (h : H) (m : Member) → k < length handles → WorkedAt (slice_index_or handles k h) (slice_index_or after k m)) → AllZip (HasWorked (clauses_of formula) site) (map member_of handles) after
-    all_worked [] [] here long each = tt
-    all_worked [] (m ∷ after) here long each = absurd (omega (arith, long))
-    all_worked (h ∷ handles) [] here long each = absurd (omega (arith, long))
-    all_worked (h ∷ handles) (m ∷ after) here long each = (
-      worked_here h m (All-head (λ (h : H). (site_of h ≡ site) × (formula_of h ≡ formula)) h handles here) (each 0 h m (omega arith)),
-      all_worked handles after (All-tail (λ (h : H). (site_of h ≡ site) × (formula_of h ≡ formula)) h handles here) (omega (arith, long)) (λ k d e low. each (suc k) d e (omega (arith, low))),
+    all_worked : (handles : List H) (after : List Member) → All (λ (h : H). site_of h ≡ site) handles → All (λ (h : H). formula_of h ≡ formula) handles → AllZip WorkedFor handles after →
+        AllZip (HasWorked (clauses_of formula) site) (map member_of handles) after
+    all_worked [] [] sites formulas worked = tt
+    all_worked [] (m ∷ after) sites formulas worked = elim worked [ ]
+    all_worked (h ∷ handles) [] sites formulas worked = elim worked [ ]
+    all_worked (h ∷ handles) (m ∷ after) sites formulas worked = (
+      worked_here h m (All-head (λ (k : H). site_of k ≡ site) h handles sites) (All-head (λ (k : H). formula_of k ≡ formula) h handles formulas) worked.0,
+      all_worked handles after (All-tail (λ (k : H). site_of k ≡ site) h handles sites) (All-tail (λ (k : H). formula_of k ≡ formula) h handles formulas) worked.1,
     )
 
     -- each member has worked
-    pub worked_zip : (handles : List H) (before after : List Member) → map member_of handles ≡ before → All (λ (h : H). (site_of h ≡ site) × (formula_of h ≡ formula)) handles → length after ≡ length handles →
-        ((k : ℕ) (h : H) (m : Member) → k < length handles → WorkedAt (slice_index_or handles k h) (slice_index_or after k m)) → AllZip (HasWorked (clauses_of formula) site) before after
-    worked_zip handles before after are here long each = subst (λ (l : List Member). AllZip (HasWorked (clauses_of formula) site) l after) are (all_worked handles after here long each)
+    pub worked_zip : (handles : List H) (before after : List Member) → map member_of handles ≡ before → All (λ (h : H). site_of h ≡ site) handles → All (λ (h : H). formula_of h ≡ formula) handles →
+        AllZip WorkedFor handles after → AllZip (HasWorked (clauses_of formula) site) before after
+    worked_zip handles before after are sites formulas worked = subst (λ (l : List Member). AllZip (HasWorked (clauses_of formula) site) l after) are (all_worked handles after sites formulas worked)
 
 module _ {A B : Type 0} (f : A → B) (R : A → A → Type 0) where
   -- what is at a place of one list stands beside what is there in the other

@@ -1,5 +1,6 @@
 //! The search that settles the leaves of a tree, by workers in threads.
 #![tactic(auto)]
 
+mod closing;
 mod crew;
 mod site;
