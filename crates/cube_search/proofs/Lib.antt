@@ -1,3 +1,9 @@
+pub mod AnswerLemmas
 pub mod CrewLemmas
+pub mod JobLemmas
+pub mod JoinLemmas
 pub mod LeafLemmas
+pub mod PairLemmas
+pub mod PartLemmas
 pub mod PutLemmas
+pub mod RunLemmas
