@@ -1,10 +1,15 @@
 //! The search that settles the leaves of a tree, by workers in threads.
 #![tactic(auto)]
 
+mod closing;
 mod crew;
+mod gathering;
 mod in_turn;
 mod joining;
+mod leaf_jobs;
+mod opening;
 mod promised;
+mod putting;
 mod running;
 mod settler;
 mod settling;
