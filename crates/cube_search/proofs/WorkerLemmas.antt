@@ -68,10 +68,10 @@ module _
       | inl before ↦ (let less = honest.skipped s before e in omega (arith, less, lower, falls))
       | inr last ↦ elim (cases_in settled [] s last) [
         | inl is ↦ (
-          let less = skips (ap (λ (x : Settled). x.outcome) is ∙ e) in
-          let ticket = ap (λ (x : Settled). x.ticket) is in
-          omega (arith, less, falls, ticket)
-        )
+            let less = skips (ap (λ (x : Settled). x.outcome) is ∙ e) in
+            let ticket = ap (λ (x : Settled). x.ticket) is in
+            omega (arith, less, falls, ticket)
+            )
         | inr none ↦ absurd (none_in s none)
       ]
     ]

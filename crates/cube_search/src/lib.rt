@@ -11,8 +11,11 @@ mod opening;
 mod promised;
 mod putting;
 mod running;
+mod searching;
 mod settler;
 mod settling;
 mod site;
 mod starting;
 mod working;
+
+pub use searching::search;

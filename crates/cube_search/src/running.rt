@@ -70,8 +70,6 @@ pub(crate) fn run<R: Threads + Wait + Sync, S: Settler + Sync, G: Gate + Sync>(
         move |scope| -> Result<Returned, SearchFault>
             requires { IsCrewAt site.now crew }
             ensures { IfOk result (λ returned. HasRun (S.clauses settler.entry.now) site.entry.now crew returned) }
-        {
-            run_members(alloc, rt, scope, site, settler, gate, crew)
-        },
+        { run_members(alloc, rt, scope, site, settler, gate, crew) },
     )
 }

@@ -37,9 +37,7 @@ fn start<'s, E, R: Wait + Sync, S: Settler + Sync, G: Gate + Sync>(
         move || -> Member
             requires { IsReady site.now member }
             ensures { HasWorked (S.clauses settler.entry.now) site.entry.now member result }
-        {
-            work(alloc, rt, site, settler, gate, member)
-        },
+        { work(alloc, rt, site, settler, gate, member) },
     ) {
         Ok(handle) => Ok(handle),
         Err(_refused) => Err(SearchFault::NoThread),

@@ -12,6 +12,6 @@ returns-in-Ok-clause-given g c =
     λ yes. (
       ap ticket_in given.3,
       rw given.0
-      (honest_more (g.S.Settler.clauses c.args.settler.now) c.args.stop.now.knows look.new.stop.knows mark.new.stop.knows (given_by c.args.seat.now) look.result
-      c.requires.stop.1 look.ensures.stop.2 look.ensures.lower look.ensures.skipped mark.ensures.marks mark.ensures.lower),
+          (honest_more (g.S.Settler.clauses c.args.settler.now) c.args.stop.now.knows look.new.stop.knows mark.new.stop.knows (given_by c.args.seat.now) look.result
+          c.requires.stop.1 look.ensures.stop.2 look.ensures.lower look.ensures.skipped mark.ensures.marks mark.ensures.lower),
     )
