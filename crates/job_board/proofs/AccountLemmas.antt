@@ -51,7 +51,7 @@ given_weight cubes h seat = total (result_weight cubes h) (given_by seat)
 jobs_counted : (cubes : ℕ) (jobs : List Job) → length (below cubes (of_jobs jobs)) ≡ total (job_weight cubes one) jobs
 jobs_counted cubes jobs = total_below cubes (of_jobs jobs) ∙ total-map (only cubes one) of_job jobs
 
-results_counted : (cubes : ℕ) (results : List Settled) → length (below cubes (of_results results)) ≡ total (result_weight cubes one) results
+pub results_counted : (cubes : ℕ) (results : List Settled) → length (below cubes (of_results results)) ≡ total (result_weight cubes one) results
 results_counted cubes results = total_below cubes (of_results results) ∙ total-map (only cubes one) of_result results
 
 -- by the seat rule

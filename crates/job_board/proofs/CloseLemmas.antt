@@ -17,8 +17,8 @@ use Rattle.job_board.specs.declared.seats.DealerSeat.{DealerSeat}
 use Rattle.job_board.specs.declared.seats.WorkerSeat.{WorkerSeat}
 use Rattle.job_board.specs.declared.seats.CollectorSeat.{CollectorSeat}
 use Rattle.crossbeam_channel.specs.Claims.{view}
-use Rattle.job_board.proofs.TotalLemmas.{total-append, total-map, merge_total}
-use Rattle.job_board.proofs.AccountLemmas.{settles}
+use Rattle.job_board.proofs.TotalLemmas.{total-append, total-map, total_same, merge_total}
+use Rattle.job_board.proofs.AccountLemmas.{one, result_weight, given_weight, results_counted, got_weighs, settles}
 use Rattle.job_board.proofs.AnswerLemmas.{answers}
 
 pub one_joined : (cubes workers : ℕ) (put : List Job) (got : List Settled) (seats : List WorkerSeat) (seat : WorkerSeat) (v v' : ChannelView Job) (w w' : ChannelView Settled) (taken taken' given given' : ℕ) →
@@ -79,13 +79,24 @@ seats_past cubes (seat ∷ seats) same =
     let low : All (λ (s : Settled). s.ticket < cubes) (given_by seat) = subst (λ (n : ℕ). All (λ (s : Settled). s.ticket < n) (given_by seat)) (same 0 seat refl) seat.no_stop in
     omega (arith, none_past cubes (given_by seat) low, seats_past cubes seats (λ number other at. same (suc number) other at))
 
--- no result of a stop ticket was gathered
-pub gathered_low : (cubes : ℕ) (got left : List Settled) (seats : List WorkerSeat) → IsMergeOf (map given_by seats) (got ++ left) →
-    ((number : ℕ) (seat : WorkerSeat) → slice_get seats number ≡ Some seat → seat.cubes ≡ cubes) → All (λ (s : Settled). s.ticket < cubes) got
-gathered_low cubes got left seats merge same =
+-- no result of a stop ticket was gathered, and none was left
+pub given_low : (cubes : ℕ) (got left : List Settled) (seats : List WorkerSeat) → IsMergeOf (map given_by seats) (got ++ left) →
+    ((number : ℕ) (seat : WorkerSeat) → slice_get seats number ≡ Some seat → seat.cubes ≡ cubes) →
+    All (λ (s : Settled). s.ticket < cubes) got × All (λ (s : Settled). s.ticket < cubes) left
+given_low cubes got left seats merge same =
     let sum : total (past cubes) (got ++ left) ≡ total (λ (seat : WorkerSeat). total (past cubes) (given_by seat)) seats =
-    merge_total (past cubes) (map given_by seats) (got ++ left) merge ∙ total-map (λ (part : List Settled). total (past cubes) part) given_by seats in
-    all_low cubes got (omega (arith, sum, total-append (past cubes) got left, seats_past cubes seats same))
+    merge_total (past cubes) (map given_by seats) (got ++ left) merge ∙ total-map (λ (part : List Settled). total (past cubes) part) given_by seats in (
+      all_low cubes got (omega (arith, sum, total-append (past cubes) got left, seats_past cubes seats same)),
+      all_low cubes left (omega (arith, sum, total-append (past cubes) got left, seats_past cubes seats same)),
+    )
+
+-- results that weigh nothing, each of them below, are none
+none_left : (cubes : ℕ) (left : List Settled) → All (λ (s : Settled). s.ticket < cubes) left → total (result_weight cubes one) left ≡ 0 → left ≡ []
+none_left cubes [] low none = refl
+none_left cubes (s ∷ left) low none =
+    let small : s.ticket < cubes = All-head (λ (t : Settled). t.ticket < cubes) s left low in
+    let here : result_weight cubes one s ≡ 1 = ap {B = ℕ} (λ (b : Bool). cond b 1 0) (lt-ltb s.ticket cubes small) in
+    absurd (omega (arith, none, here))
 
 -- the next seat, where these seats were joined and these are still to come
 pub next_seat : (seats before : List WorkerSeat) (seat : WorkerSeat) (rest : List WorkerSeat) → seats ≡ before ++ seat ∷ rest → slice_get seats (length before) ≡ Some seat
@@ -127,5 +138,20 @@ all_answered cubes dealer seats collector account is dealt gathered same balance
     (sym is.taken_is ∙ balanced.0 ∙ is.put_is)
     (sym is.given_is ∙ balanced.1 ∙ is.put_is)
     (sym is.gathered_is ∙ balanced.2 ∙ is.put_is))
-    (gathered_low cubes (gathered_by collector) gathered.0 seats gathered.1 same)
+    (given_low cubes (gathered_by collector) gathered.0 seats gathered.1 same).0
     dealer.rising
+
+-- where the numbers are equal, no result is left: what was gathered is some merge of what the workers gave
+pub all_gathered : (cubes : ℕ) (dealer : DealerSeat) (seats : List WorkerSeat) (collector : CollectorSeat) (account : Account) → IsAccountOf cubes dealer seats collector account →
+    WereGathered collector seats → ((number : ℕ) (seat : WorkerSeat) → slice_get seats number ≡ Some seat → seat.cubes ≡ cubes) →
+    IsBalanced account → IsMergeOf (map given_by seats) (gathered_by collector)
+all_gathered cubes dealer seats collector account is gathered same balanced =
+    let got = gathered_by collector in
+    let left = gathered.0 in
+    let merge = gathered.1 in
+    let given : total (given_weight cubes one) seats ≡ account.put =
+    sym (total_same (given_below cubes) (given_weight cubes one) (λ (seat : WorkerSeat). results_counted cubes (given_by seat)) seats) ∙ sym is.given_is ∙ balanced.1 in
+    let here : total (result_weight cubes one) got ≡ account.put = sym (results_counted cubes got) ∙ sym is.gathered_is ∙ balanced.2 in
+    let none : total (result_weight cubes one) left ≡ 0 = omega (arith, got_weighs cubes one got left seats merge, given, here) in
+    let empty : left ≡ [] = none_left cubes left (given_low cubes got left seats merge same).1 none in
+    subst (λ (results : List Settled). IsMergeOf (map given_by seats) results) (ap (λ (rest : List Settled). got ++ rest) empty ∙ append-nil got) merge

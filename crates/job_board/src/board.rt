@@ -20,3 +20,19 @@ pub struct Board {
     ghost job_ends: { receives_on job_receiver ≡ sends_on job_sender },
     ghost result_ends: { receives_on result_receiver ≡ sends_on result_sender },
 }
+
+impl Board {
+    /// How many cubes it has. Tickets from this number on are stop tickets.
+    pub fn cubes(&self) -> u32
+        ensures { result ≡ self.now.cubes }
+    {
+        self.cubes
+    }
+
+    /// How many workers' seats it has.
+    pub fn workers(&self) -> u32
+        ensures { result ≡ self.now.workers }
+    {
+        self.workers
+    }
+}

@@ -1,12 +1,13 @@
 //! A board is closed.
-ghost use Rattle.std.specs.Prelude.{◌≡◌, ℕ, List, [], length};
+ghost use Rattle.std.specs.Prelude.{◌≡◌, ℕ, List, [], length, map};
 ghost use Rattle.crossbeam_channel.specs.Claims.{view, IsSeatAt};
 ghost use Rattle.crossbeam_channel.specs.Ends.{sends_on};
 ghost use Rattle.cube_queue.specs.declared.job.Job.{Job};
 ghost use Rattle.cube_queue.specs.declared.job.Settled.{Settled};
 ghost use Rattle.job_board.specs.declared.channel_view.ChannelView.TheVariants.{One};
 ghost use Rattle.job_board.specs.ChannelRules.{list_in, TakesAccount, GivesAccount, with_worker_joined};
-ghost use Rattle.job_board.specs.Seats.{put_by, gathered_by, IsDealerAt, IsWorkerAt, IsCollectorAt, AreWorkersAt};
+ghost use Rattle.job_board.specs.Merge.{IsMergeOf};
+ghost use Rattle.job_board.specs.Seats.{put_by, given_by, gathered_by, IsDealerAt, IsWorkerAt, IsCollectorAt, AreWorkersAt};
 ghost use Rattle.job_board.specs.Accounts.{IsAccountOf, AreJoined, WereDealt, WereGathered, IsBalanced, AreAnswersTo};
 
 use crate::account::Account;
@@ -19,7 +20,8 @@ use std::sync::Wait;
 impl Board {
     /// The account of all seats of the board, the workers' in the order of their numbers. What was put is some merge of what the workers
     /// took, followed by what nobody took; what was gathered, followed by what nobody gathered, is some merge of what they gave. Where
-    /// the four numbers are equal, the results are those of the jobs put, each once, and of no other.
+    /// the four numbers are equal, the results are those of the jobs put, each once, and of no other, and nothing that a worker gave is
+    /// left: what was gathered is all of it.
     pub fn close<R: Wait>(
         self,
         rt: &R,
@@ -33,6 +35,7 @@ impl Board {
         ensures numbers { IsAccountOf self.cubes dealer workers.items collector result }
         ensures dealt { WereDealt dealer workers.items }
         ensures gathered { WereGathered collector workers.items }
+        ensures whole { IsBalanced result → IsMergeOf (map given_by workers.items) (gathered_by collector) }
         ensures settled { IsBalanced result → AreAnswersTo self.cubes (put_by dealer) (gathered_by collector) }
     {
         let DealerSeat { mut jobs, put, .. } = dealer;

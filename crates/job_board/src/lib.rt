@@ -1,4 +1,5 @@
-//! The board: a dealer puts jobs, workers take them and give results, a collector gathers these, each in a thread of its own.
+//! The board: a dealer puts jobs, workers take them and give results, and a collector gathers these. All of them share it, and each may be
+//! in a thread of its own.
 #![tactic(auto)]
 
 mod account;

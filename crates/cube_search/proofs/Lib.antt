@@ -1,0 +1,11 @@
+pub mod AnswerLemmas
+pub mod CrewLemmas
+pub mod HandleLemmas
+pub mod JobLemmas
+pub mod JoinLemmas
+pub mod LeafLemmas
+pub mod PairLemmas
+pub mod PartLemmas
+pub mod PutLemmas
+pub mod RunLemmas
+pub mod WorkerLemmas

@@ -1,0 +1,55 @@
+-- The results of an honest run.
+use Rattle.std.proofs.Common.{◌≡◌, ℕ, ◌≤◌, ℤ, List, map, None, ◌∙◌, ap, subst, arith}
+use Rattle.std.specs.List.{All, Contains}
+use Rattle.std.proofs.lemmas.Simd.{map-map}
+use Rattle.cube_queue.specs.declared.job.Settled.{Settled}
+use Rattle.cube_queue.specs.declared.outcome.Outcome.TheVariants.{Skipped}
+use Rattle.cube_queue.specs.Results.{AreResultsOf, HasModelBelow}
+use Rattle.job_board.specs.Accounts.{AreAnswersTo}
+use Rattle.job_board.specs.Hands.{ticket_in}
+use Rattle.job_board.specs.Merge.{IsMergeOf}
+use Rattle.job_board.specs.Seats.{put_by, given_by, gathered_by}
+use Rattle.stop_word.specs.declared.views.View.{View}
+use Rattle.stop_word.specs.Seats.{SeatValue, known_by}
+use Rattle.stop_word.specs.WordRule.{least_of, marks_in}
+use Rattle.cube_search.specs.Workers.{IsHonest}
+use Rattle.cube_search.specs.Crew.{seats_of, stops_of, IsHonestRun}
+use Rattle.cube_search.specs.declared.crew.Member.{Member}
+use Rattle.cube_search.specs.declared.crew.Returned.{Returned}
+use Rattle.cube_search.specs.declared.site.Site.{Site}
+use Rattle.cube_search.proofs.AnswerLemmas.{are_results, model_below}
+
+abbrev member_gave : Member → List Settled
+member_gave m = given_by m.seat
+
+abbrev member_knows : Member → View
+member_knows m = m.stop.knows
+
+module _
+    (clauses cubes : List (List ℤ)) (which : List ℕ) (site : Site) (returned : Returned) (word : ℕ)
+    (run : IsHonestRun clauses cubes which site returned) (hands : All (λ (m : Member). ticket_in m.seat.hand ≡ None) returned.members.items)
+    (answers : AreAnswersTo site.board.cubes (put_by returned.dealer) (gathered_by returned.collector))
+    (merge : IsMergeOf (map given_by (seats_of returned.members.items)) (gathered_by returned.collector))
+    (word_is : word ≡ least_of (marks_in (known_by (stops_of returned.members.items))))
+    (shown : All (λ (v : View). word ≤ v.least) (known_by (stops_of returned.members.items)))
+  where
+    all_honest : All (λ (m : Member). IsHonest clauses (member_knows m) (member_gave m)) returned.members.items
+    all_honest i d within = run.honest i d within (hands i d within)
+
+    skipped_rightly : (settled : Settled) → Contains (gathered_by returned.collector) settled → settled.outcome ≡ Skipped → HasModelBelow clauses (gathered_by returned.collector) settled.ticket
+    skipped_rightly settled among skipped =
+        let same_gave = map-map given_by (λ (m : Member). m.seat) returned.members.items in
+        let same_known = map-map (λ (s : SeatValue). s.knows) (λ (m : Member). m.stop) returned.members.items in
+        let low = (answers.each settled among).0 in
+        model_below clauses member_gave member_knows returned.members.items (gathered_by returned.collector) word
+        all_honest
+        (subst (λ (parts : List (List Settled)). IsMergeOf parts (gathered_by returned.collector)) same_gave merge)
+        (word_is ∙ ap (λ (views : List View). least_of (marks_in views)) same_known)
+        (subst (λ (views : List View). All (λ (v : View). word ≤ v.least) views) same_known shown)
+        settled among (omega (arith, low, run.cubes_are, run.few_cubes)) skipped
+
+    pub run_results : AreResultsOf clauses cubes which (gathered_by returned.collector)
+    run_results =
+        are_results cubes which run.dealt.0 (put_by returned.dealer) (gathered_by returned.collector) run.asked run.dealt.1 run.dealt.2
+        (subst (λ (n : ℕ). AreAnswersTo n (put_by returned.dealer) (gathered_by returned.collector)) run.cubes_are answers)
+        clauses skipped_rightly

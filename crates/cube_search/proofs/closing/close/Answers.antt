@@ -1,0 +1,31 @@
+use Rattle.std.proofs.Common.{◌≡◌, ◌≤◌, List, map, None, sym, ◌∙◌, ap, subst, rules}
+use Rattle.std.specs.List.{All}
+use Rattle.cube_queue.specs.declared.job.Settled.{Settled}
+use Rattle.cube_queue.specs.Results.{AreResultsOf}
+use Rattle.job_board.specs.Accounts.{IsBalanced}
+use Rattle.job_board.specs.Hands.{ticket_in}
+use Rattle.job_board.specs.Merge.{IsMergeOf}
+use Rattle.job_board.specs.Seats.{given_by, gathered_by}
+use Rattle.job_board.specs.declared.seats.WorkerSeat.{WorkerSeat}
+use Rattle.stop_word.specs.declared.views.View.{View}
+use Rattle.stop_word.specs.Seats.{SeatValue, known_by}
+use Rattle.stop_word.specs.WordRule.{least_of, marks_in, or_nothing}
+use Rattle.cube_search.specs.declared.crew.Member.{Member}
+use Rattle.cube_search.proofs.RunLemmas.{run_results}
+use Rattle.cube_search.proofs.closing.close.Goals as goal
+
+pub returns : goal.returns
+returns g c = λ clauses cubes which run.
+    let returned = c.args.returned in
+    let word = or_nothing c.close-least.result in
+    let hands : All (λ (m : Member). ticket_in m.seat.hand ≡ None) returned.members.items =
+    subst (λ (members : List Member). All (λ (m : Member). ticket_in m.seat.hand ≡ None) members) c.as_slice.ensures.value (c.hold_no_job.ensures (search rules)) in
+    let balanced : IsBalanced c.close-account.result = c.is_balanced.ensures (search rules) in
+    let seats = c.in_ok-seats.ensures.seats in
+    let stops = c.in_ok-seats.ensures.stops in
+    subst (λ (results : List Settled). AreResultsOf clauses cubes which results) (sym c.requires.results_are)
+    (run_results clauses cubes which c.args.site returned word run hands
+    (c.close-account.ensures.settled balanced)
+    (subst (λ (list : List WorkerSeat). IsMergeOf (map given_by list) (gathered_by returned.collector)) seats (c.close-account.ensures.whole balanced))
+    (c.close-least.ensures.least ∙ ap (λ (list : List SeatValue). least_of (marks_in (known_by list))) stops)
+    (subst (λ (list : List SeatValue). All (λ (v : View). word ≤ v.least) (known_by list)) stops c.close-least.ensures.shown))

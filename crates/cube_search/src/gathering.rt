@@ -1,0 +1,30 @@
+//! Results are gathered.
+ghost use Rattle.std.specs.Prelude.{◌≡◌, [], IfOk};
+ghost use Rattle.job_board.specs.Seats.{gathered_by, IsCollectorAt};
+
+use cube_queue::{SearchFault, Settled};
+use job_board::{Board, CollectorSeat};
+use std::alloc::Global;
+use std::sync::Wait;
+
+/// Gathers so many results, in the order in which they come. `Cut` where the channel ends before.
+pub(crate) fn gather_all<R: Wait>(
+    alloc: Global,
+    rt: &R,
+    board: &Board,
+    seat: &mut CollectorSeat,
+    count: usize,
+) -> Result<Vec<Settled>, SearchFault>
+    requires { IsCollectorAt board.now seat.old × (gathered_by seat.old ≡ []) }
+    ensures seat { IsCollectorAt board.now seat.new }
+    ensures results { IfOk result (λ results. results.items ≡ gathered_by seat.new) }
+{
+    let mut results = Vec::with_capacity(alloc, count)?;
+    for _ in 0..count {
+        let Ok(settled) = board.gather(rt, seat) else {
+            return Err(SearchFault::Cut);
+        };
+        results.push(settled)?;
+    }
+    Ok(results)
+}
