@@ -1,7 +1,8 @@
 //! The command line of the program, as `clap` takes it.
 
-ghost use Rattle.std.specs.Prelude.{◌≡◌, IfOk};
-ghost use Rattle.clap.specs.Words.{app_of};
+ghost use Rattle.std.specs.Prelude.{◌≡◌, IfOk, false};
+ghost use Rattle.clap.specs.Words.{App, app_of, with_subcommand};
+ghost use Rattle.clap.specs.declared.builder.command.Command.TheViews.{out-Command};
 ghost use Rattle.command_line.specs.CommandLine.{program_app, vsc_app};
 
 use crate::cnf_command::new_cnf_command;
@@ -35,15 +36,27 @@ fn bare_program<'a>(alloc: Global) -> Result<Command<'a>, AllocError>
     )
 }
 
+// The program with one more command, if both could be made. It takes Results, so that `new_program` has no exit of its own at which
+// a program would be dropped.
+fn with_command<'a>(
+    program: Result<Command<'a>, AllocError>,
+    command: Result<Command<'a>, AllocError>,
+) -> Result<Command<'a>, AllocError>
+    requires { IfOk command (λ c. (out-Command c).has_globals ≡ false) }
+    ensures { (before added : App) → IfOk program.entry (λ c. app_of c ≡ before) → IfOk command.entry (λ c. app_of c ≡ added) →
+        IfOk result (λ c. app_of c ≡ with_subcommand before added.top) }
+{
+    program?.subcommand(command?)
+}
+
 /// The program with its commands.
 pub fn new_program<'a>(alloc: Global) -> Result<Command<'a>, AllocError>
     ensures { IfOk result (λ c. app_of c ≡ vsc_app) }
 {
-    let program = bare_program(alloc)?;
-    let program = program.subcommand(new_verify_command(alloc)?)?;
-    let program = program.subcommand(new_judge_command(alloc)?)?;
-    let program = program.subcommand(new_cnf_command(alloc)?)?;
-    let program = program.subcommand(new_decode_command(alloc)?)?;
-    let program = program.subcommand(new_lrat_command(alloc)?)?;
-    program.subcommand(new_recheck_command(alloc)?)
+    let program = with_command(bare_program(alloc), new_verify_command(alloc));
+    let program = with_command(program, new_judge_command(alloc));
+    let program = with_command(program, new_cnf_command(alloc));
+    let program = with_command(program, new_decode_command(alloc));
+    let program = with_command(program, new_lrat_command(alloc));
+    with_command(program, new_recheck_command(alloc))
 }

@@ -2,7 +2,7 @@
 
 use crate::texts::{derivation_of, literals_of};
 use cube_queue::{Job, MOST_LITERALS, Outcome, Settled};
-use dimacs::Assignment;
+use dimacs::{Assignment, Lit};
 use result_ledger::Verdict;
 use std::alloc::{AllocError, Global};
 use std::process::Abort;
@@ -32,13 +32,21 @@ pub enum Expected {
 }
 
 /// The outcome that says this.
-pub fn outcome_of(rt: &impl Abort, alloc: Global, says: Says) -> Result<Outcome, AllocError> {
+fn outcome_of(rt: &impl Abort, alloc: Global, says: Says) -> Result<Outcome, AllocError> {
     Ok(match says {
         Says::Model(values) => Outcome::Model(Assignment::new(Vec::from_slice(alloc, values)?)),
         Says::Refuted(text) => Outcome::Refuted(derivation_of(rt, alloc, text)),
         Says::Open => Outcome::Open,
         Says::Skipped => Outcome::Skipped,
     })
+}
+
+/// The job of a leaf with this cube.
+fn job_of(rt: &impl Abort, alloc: Global, leaf: u32, literals: &[Lit]) -> Job {
+    if literals.len() > MOST_LITERALS {
+        panic!(rt; "a cube has no more than 20 literals");
+    }
+    Job::new(alloc, leaf, literals)
 }
 
 /// The result that says this of a cube, under a leaf's number.
@@ -50,11 +58,8 @@ pub fn result_of(
     says: Says,
 ) -> Result<Settled, AllocError> {
     let literals = literals_of(alloc, cube)?;
-    if literals.len() > MOST_LITERALS {
-        panic!(rt; "a cube has no more than 20 literals");
-    }
-    let job = Job::new(alloc, leaf, literals.as_slice());
-    Ok(job.settle(outcome_of(rt, alloc, says)?))
+    let outcome = outcome_of(rt, alloc, says)?;
+    Ok(job_of(rt, alloc, leaf, literals.as_slice()).settle(outcome))
 }
 
 /// Whether these are the values of the variables 1, 2 and so on.

@@ -1,9 +1,12 @@
 //! Answers that are wrong, or none: what they do to a verdict.
 
-use crate::answers::{Expected, Says, is_expected, result_of};
+use crate::answers::{Expected, Says, result_of};
+use crate::expectations::ample;
+use crate::searches::{assert_confirmed, enter, new_ledger};
 use crate::texts::{STORE_BUFFERING, WRITTEN_AGAIN, formula_of, tree_of};
 use result_ledger::Ledger;
-use std::test::Fail;
+use std::alloc::Global;
+use std::process::Abort;
 
 /// Clause 13 makes variable 8 true, and clause 14 makes variable 3 false, which clause 15, the first leaf's cube, does not allow.
 const FIRST: Says = Says::Refuted("16 0 13 14 15 0\n");
@@ -23,67 +26,73 @@ const WRITES_FIRST: &[bool] = &[true, false, true];
 /// The model that makes it false.
 const READS_FIRST: &[bool] = &[false, true, false];
 
+/// What is said of the two leaves of a tree, and the verdict that follows.
+type Told = (Says, Says, Expected);
+
+/// What is said of store buffering in the cubes 3 and -3.
+const OF_STORE_BUFFERING: [Told; 7] = [
+    (FIRST, SECOND, Expected::Inconsistent(2)),
+    (SECOND, SECOND, Expected::Unknown(&[0])),
+    (FIRST, FIRST, Expected::Unknown(&[1])),
+    (UNENDED, SECOND, Expected::Unknown(&[0])),
+    (Says::Model(&[true; 8]), SECOND, Expected::Unknown(&[0])),
+    (Says::Open, Says::Open, Expected::Unknown(&[0, 1])),
+    (FIRST, Says::Skipped, Expected::Unknown(&[1])),
+];
+
+/// What is said of the value that is written again in the cubes 1 and -1.
+const OF_WRITTEN_AGAIN: [Told; 4] = [
+    (
+        Says::Model(WRITES_FIRST),
+        Says::Model(READS_FIRST),
+        Expected::Consistent(0, WRITES_FIRST),
+    ),
+    (
+        FALSE,
+        Says::Model(READS_FIRST),
+        Expected::Consistent(1, READS_FIRST),
+    ),
+    (FALSE, UNENDED, Expected::Unknown(&[0, 1])),
+    (
+        Says::Model(READS_FIRST),
+        Says::Model(WRITES_FIRST),
+        Expected::Unknown(&[0, 1]),
+    ),
+];
+
+/// The ledger of the tree of this text, with what is said of the literal and of its negation. The second answer comes first.
+fn ledger_of(
+    rt: &impl Abort,
+    alloc: Global,
+    split: &[u8],
+    literal: i32,
+    first: Says,
+    second: Says,
+) -> Ledger {
+    let tree = tree_of(rt, alloc, split);
+    let mut ledger = new_ledger(rt, alloc, &tree);
+    let negation = literal.wrapping_neg();
+    let right = ample(rt, result_of(rt, alloc, 1, &[negation], second));
+    enter(rt, &mut ledger, right);
+    let left = ample(rt, result_of(rt, alloc, 0, &[literal], first));
+    enter(rt, &mut ledger, left);
+    ledger
+}
+
 #[test]
-fn no_false_answer_makes_a_false_verdict(rt: HostRuntime) -> Result<(), Fail> {
+fn no_false_answer_makes_a_false_verdict(rt: HostRuntime) {
     let alloc = rt.alloc();
-    for (text, variable, first, second, expected) in [
-        (STORE_BUFFERING, 3, FIRST, SECOND, Expected::Inconsistent(2)),
-        (STORE_BUFFERING, 3, SECOND, SECOND, Expected::Unknown(&[0])),
-        (STORE_BUFFERING, 3, FIRST, FIRST, Expected::Unknown(&[1])),
-        (STORE_BUFFERING, 3, UNENDED, SECOND, Expected::Unknown(&[0])),
-        (
-            STORE_BUFFERING,
-            3,
-            Says::Model(&[true; 8]),
-            SECOND,
-            Expected::Unknown(&[0]),
-        ),
-        (
-            STORE_BUFFERING,
-            3,
-            Says::Open,
-            Says::Open,
-            Expected::Unknown(&[0, 1]),
-        ),
-        (
-            STORE_BUFFERING,
-            3,
-            FIRST,
-            Says::Skipped,
-            Expected::Unknown(&[1]),
-        ),
-        (
-            WRITTEN_AGAIN,
-            1,
-            Says::Model(WRITES_FIRST),
-            Says::Model(READS_FIRST),
-            Expected::Consistent(0, WRITES_FIRST),
-        ),
-        (
-            WRITTEN_AGAIN,
-            1,
-            FALSE,
-            Says::Model(READS_FIRST),
-            Expected::Consistent(1, READS_FIRST),
-        ),
-        (WRITTEN_AGAIN, 1, FALSE, UNENDED, Expected::Unknown(&[0, 1])),
-        (
-            WRITTEN_AGAIN,
-            1,
-            Says::Model(READS_FIRST),
-            Says::Model(WRITES_FIRST),
-            Expected::Unknown(&[0, 1]),
-        ),
-    ] {
-        let formula = formula_of(&rt, alloc, text);
-        let split = format!(in alloc; "split {variable}\nleaf\nleaf\n")?;
-        let tree = tree_of(&rt, alloc, split.as_bytes());
-        let mut ledger = Ledger::new(alloc, &tree)?;
-        let left = result_of(&rt, alloc, 0, &[variable], first)?;
-        let right = result_of(&rt, alloc, 1, &[variable.wrapping_neg()], second)?;
-        assert!(&rt; ledger.enter(right).is_ok() && ledger.enter(left).is_ok());
-        let verdict = ledger.confirm(alloc, &rt, &formula, 1)?;
-        assert!(&rt; is_expected(&verdict, expected));
+    let formula = formula_of(&rt, alloc, STORE_BUFFERING);
+    let mut number = 0usize;
+    for (first, second, expected) in &OF_STORE_BUFFERING {
+        let ledger = ledger_of(&rt, alloc, b"split 3\nleaf\nleaf\n", 3, *first, *second);
+        assert_confirmed(&rt, alloc, &ledger, &formula, *expected, number);
+        number = number.wrapping_add(1);
     }
-    Ok(())
+    let formula = formula_of(&rt, alloc, WRITTEN_AGAIN);
+    for (first, second, expected) in &OF_WRITTEN_AGAIN {
+        let ledger = ledger_of(&rt, alloc, b"split 1\nleaf\nleaf\n", 1, *first, *second);
+        assert_confirmed(&rt, alloc, &ledger, &formula, *expected, number);
+        number = number.wrapping_add(1);
+    }
 }

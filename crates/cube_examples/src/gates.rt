@@ -1,11 +1,10 @@
 //! When a gate is called, and what is searched behind it.
 
+use crate::expectations::{ample, expect};
+use crate::searches::results_of;
 use crate::texts::{WRITTEN_AGAIN, formula_of, tree_of};
-use cube_queue::{Gate, Options, Outcome, search};
-use result_ledger::Ledger;
-use solver::Guide;
+use cube_queue::{Gate, Options, Outcome, Settled};
 use std::cell::Cell;
-use std::test::Fail;
 
 /// A gate that notes its calls, each as a digit: 2t + 1 before the job of ticket t, and 2t + 2 after it.
 #[derive(Drop)]
@@ -32,41 +31,32 @@ impl Gate for NotingGate {
     }
 }
 
+/// Whether the result is of this leaf, and says that the first leaf has a model and that others were skipped.
+fn is_of_leaf(settled: &Settled, leaf: usize) -> bool {
+    let is_said = match settled.outcome() {
+        Outcome::Model(_) => leaf == 0,
+        Outcome::Skipped => leaf > 0,
+        Outcome::Refuted(_) => false,
+        Outcome::Open => false,
+    };
+    is_said && settled.ticket() as usize == leaf
+}
+
 #[test]
-fn calls_the_gate_and_skips_after_a_model(rt: HostRuntime) -> Result<(), Fail> {
+fn calls_the_gate_and_skips_after_a_model(rt: HostRuntime) {
     let alloc = rt.alloc();
     let formula = formula_of(&rt, alloc, WRITTEN_AGAIN);
     let tree = tree_of(&rt, alloc, b"split 1\nleaf\nsplit 2\nleaf\nleaf\n");
-    let options = Options::new(1, 3, 100, 1)
-        .ok()
-        .ok_or("an option is out of its range")?;
-    let which = Ledger::new(alloc, &tree)?.unanswered(alloc)?;
+    let options = ample(&rt, Options::new(1, 3, 100, 1));
     let gate = NotingGate {
         calls: Cell::new(0),
     };
-    let results = search(
-        alloc,
-        &rt,
-        &formula,
-        Guide::none(),
-        &tree,
-        which.as_slice(),
-        &options,
-        &gate,
-    )
-    .ok()
-    .ok_or("there are no results")?;
-    assert_eq!(&rt; gate.calls.get(), 123_456);
-    assert_eq!(&rt; results.len(), 3);
-    for (leaf, settled) in results.iter().enumerate() {
-        assert!(&rt; settled.ticket() as usize == leaf);
-        let is_right = match settled.outcome() {
-            Outcome::Model(_) => leaf == 0,
-            Outcome::Skipped => leaf > 0,
-            Outcome::Refuted(_) => false,
-            Outcome::Open => false,
-        };
-        assert!(&rt; is_right);
+    let found = results_of(&rt, alloc, &formula, &tree, &options, &gate);
+    let results = ample(&rt, found);
+    assert!(&rt; gate.calls.get() == 123_456 && results.len() == 3);
+    let mut leaf = 0usize;
+    for settled in &results {
+        expect(&rt, is_of_leaf(settled, leaf), leaf);
+        leaf = leaf.wrapping_add(1);
     }
-    Ok(())
 }

@@ -1,52 +1,60 @@
 //! The texts of deep trees and of trees with many leaves.
 
-use std::alloc::{AllocError, Global};
+use crate::expectations::ample;
+use std::alloc::Global;
+use std::process::Abort;
+
+/// Appends so many lines that split on variable 1, and then so many leaves.
+pub fn push_lines(rt: &impl Abort, text: &mut Vec<u8>, splits: u32, leaves: u32) {
+    for _ in 0..splits {
+        ample(rt, text.extend_from_slice(b"split 1\n"));
+    }
+    for _ in 0..leaves {
+        ample(rt, text.extend_from_slice(b"leaf\n"));
+    }
+}
 
 /// The text of so many splits, each in the left tree of the one before, and of all their leaves.
-pub fn deep_text(alloc: Global, splits: usize) -> Result<Vec<u8>, AllocError> {
+pub fn deep_text(rt: &impl Abort, alloc: Global, splits: u32) -> Vec<u8> {
     let mut text = Vec::new(alloc);
-    for _ in 0..splits {
-        text.extend_from_slice(b"split 1\n")?;
-    }
-    text.extend_from_slice(b"leaf\n")?;
-    for _ in 0..splits {
-        text.extend_from_slice(b"leaf\n")?;
-    }
-    Ok(text)
+    push_lines(rt, &mut text, splits, splits.wrapping_add(1));
+    text
 }
 
-/// Appends the text of the full tree of this depth on variable 1, but for its last leaf.
-pub fn push_full_text(text: &mut Vec<u8>, depth: u32) -> Result<(), AllocError> {
-    if depth == 0 {
-        return Ok(());
+/// Appends the text of a full tree of this depth, which has so many leaves. As many splits stand before a leaf as its number, counted
+/// from 0, can be halved; before the first one as many as the tree is deep.
+fn push_full_text(rt: &impl Abort, text: &mut Vec<u8>, depth: u32, leaves: u32) {
+    push_lines(rt, text, depth, 1);
+    for leaf in 1..leaves {
+        push_lines(rt, text, leaf.trailing_zeros(), 1);
     }
-    text.extend_from_slice(b"split 1\n")?;
-    push_full_text(text, depth - 1)?;
-    text.extend_from_slice(b"leaf\n")?;
-    push_full_text(text, depth - 1)
 }
 
-/// The text of the full tree of this depth on variable 1.
-pub fn full_text(alloc: Global, depth: u32) -> Result<Vec<u8>, AllocError> {
+/// The text of the full tree of depth 10.
+pub fn full_text(rt: &impl Abort, alloc: Global) -> Vec<u8> {
     let mut text = Vec::new(alloc);
-    push_full_text(&mut text, depth)?;
-    text.extend_from_slice(b"leaf\n")?;
-    Ok(text)
+    push_full_text(rt, &mut text, 10, 1024);
+    text
 }
+
+/// The depths of the full trees of the crowded text, and how many leaves each has.
+const FULL_TREES: [(u32, u32); 7] = [
+    (1, 2),
+    (4, 16),
+    (5, 32),
+    (6, 64),
+    (7, 128),
+    (8, 256),
+    (9, 512),
+];
 
 /// The text of a tree of 1,024 leaves, of which the first two have 20 splits above them. The right trees of the splits on their
 /// path, from the deepest, are twelve leaves and full trees of depth 1, 4, 5, 6, 7, 8 and 9.
-pub fn crowded_text(alloc: Global) -> Result<Vec<u8>, AllocError> {
+pub fn crowded_text(rt: &impl Abort, alloc: Global) -> Vec<u8> {
     let mut text = Vec::new(alloc);
-    for _ in 0..20 {
-        text.extend_from_slice(b"split 1\n")?;
+    push_lines(rt, &mut text, 20, 14);
+    for (depth, leaves) in &FULL_TREES {
+        push_full_text(rt, &mut text, *depth, *leaves);
     }
-    for _ in 0..14 {
-        text.extend_from_slice(b"leaf\n")?;
-    }
-    for depth in [1, 4, 5, 6, 7, 8, 9] {
-        push_full_text(&mut text, depth)?;
-        text.extend_from_slice(b"leaf\n")?;
-    }
-    Ok(text)
+    text
 }

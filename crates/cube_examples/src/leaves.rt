@@ -1,84 +1,83 @@
 //! The cubes of a tree's leaves, and leaves that are split, within the limits.
 
+use crate::expectations::{ample, expect};
 use crate::large_trees::{crowded_text, deep_text, full_text};
-use crate::texts::tree_of;
-use cube_tree::{Cube, SplitCause, cubes, split_leaf, write_tree};
+use crate::texts::{are_literals, is_text, tree_of};
+use cube_tree::{Cube, SplitCause, cubes, split_leaf};
 use std::alloc::Global;
 use std::process::Abort;
-use std::test::Fail;
 use text_lines::fault::Fault;
 
-/// Asserts that these are the numbers of the cube's literals.
-fn assert_cube(rt: &impl Abort, cube: &Cube, numbers: &[i32]) {
-    let literals = cube.as_slice();
-    assert_eq!(rt; literals.len(), numbers.len());
-    for (literal, number) in literals.iter().zip(numbers) {
-        assert_eq!(rt; literal.number(), *number);
+/// Asserts that the cube of this leaf has these literals, on no other variables than 3 and 4.
+fn assert_cube(rt: &impl Abort, alloc: Global, cubes: &[Cube], leaf: usize, numbers: &[i32]) {
+    match cubes.get(leaf) {
+        Some(cube) => {
+            let is_right = ample(rt, are_literals(alloc, cube.as_slice(), numbers));
+            expect(rt, is_right, leaf);
+            expect(rt, cube.has_variable(4) == (leaf < 2), leaf);
+            expect(rt, !cube.has_variable(5), leaf);
+        }
+        None => panic!(rt; "there is no leaf {leaf}"),
     }
 }
 
-/// Asserts that a leaf of the tree of this text is not split, for this cause, and that the tree comes back as it was.
-fn assert_not_split(
-    rt: &impl Abort,
-    alloc: Global,
-    text: &[u8],
-    leaf: u32,
-    cause: SplitCause,
-) -> Result<(), Fail> {
-    let Err((tree, fault)) = split_leaf(alloc, tree_of(rt, alloc, text), leaf, 2) else {
-        panic!(rt; "the leaf is split");
-    };
-    assert!(rt; fault == Fault::At(cause, leaf as usize), "{fault}");
-    assert!(rt; write_tree(alloc, &tree)?.as_slice() == text);
-    Ok(())
-}
-
 #[test]
-fn lists_cubes(rt: HostRuntime) -> Result<(), Fail> {
-    let alloc = rt.alloc();
+fn lists_cubes(rt: HostRuntime) {
     let text = b"split 3\nsplit 4\nleaf\nleaf\nsplit 3\nleaf\nleaf\n";
-    let tree = tree_of(&rt, alloc, text);
-    let cubes = cubes(alloc, &tree)?;
-    assert_eq!(&rt; cubes.len(), 4);
-    assert_cube(&rt, &cubes[0], &[3, 4]);
-    assert_cube(&rt, &cubes[1], &[3, -4]);
-    assert_cube(&rt, &cubes[2], &[-3, 3]);
-    assert_cube(&rt, &cubes[3], &[-3, -3]);
-    assert!(&rt; cubes[1].has_variable(4) && !cubes[1].has_variable(5));
-    assert_eq!(&rt; tree.leaves(), 4);
-    Ok(())
+    let tree = tree_of(&rt, rt.alloc(), text);
+    let listed = ample(&rt, cubes(rt.alloc(), &tree));
+    let cubes = listed.as_slice();
+    assert!(&rt; tree.leaves() == 4 && cubes.len() == 4);
+    assert_cube(&rt, rt.alloc(), cubes, 0, &[3, 4]);
+    assert_cube(&rt, rt.alloc(), cubes, 1, &[3, -4]);
+    assert_cube(&rt, rt.alloc(), cubes, 2, &[-3, 3]);
+    assert_cube(&rt, rt.alloc(), cubes, 3, &[-3, -3]);
 }
 
 #[test]
-fn splits_one_leaf(rt: HostRuntime) -> Result<(), Fail> {
-    let alloc = rt.alloc();
-    let tree = tree_of(&rt, alloc, b"split 3\nleaf\nleaf\n");
-    let Ok(tree) = split_leaf(alloc, tree, 1, 5) else {
+fn splits_one_leaf(rt: HostRuntime) {
+    let tree = tree_of(&rt, rt.alloc(), b"split 3\nleaf\nleaf\n");
+    let Ok(tree) = split_leaf(rt.alloc(), tree, 1, 5) else {
         panic!(&rt; "the leaf is not split");
     };
-    let text = write_tree(alloc, &tree)?;
-    assert!(&rt; text.as_slice() == b"split 3\nleaf\nsplit 5\nleaf\nleaf\n".as_slice());
-    let Err((tree, fault)) = split_leaf(alloc, tree, 3, 5) else {
-        panic!(&rt; "a leaf that is not there is split");
+    let text = b"split 3\nleaf\nsplit 5\nleaf\nleaf\n";
+    assert!(&rt; ample(&rt, is_text(rt.alloc(), &tree, text)));
+    assert_not_split(&rt, rt.alloc(), text, 3, SplitCause::NoSuchLeaf);
+}
+
+/// Asserts that a leaf of the tree of this text is not split, for this cause, and that the tree comes back as it was.
+fn assert_not_split(rt: &impl Abort, alloc: Global, text: &[u8], leaf: u32, cause: SplitCause) {
+    let Err((tree, fault)) = split_leaf(alloc, tree_of(rt, alloc, text), leaf, 2) else {
+        panic!(rt; "leaf {leaf} is split");
     };
-    assert!(&rt; fault == Fault::At(SplitCause::NoSuchLeaf, 3), "{fault}");
-    let text = write_tree(alloc, &tree)?;
-    assert!(&rt; text.as_slice() == b"split 3\nleaf\nsplit 5\nleaf\nleaf\n".as_slice());
-    Ok(())
+    let is_told = fault == Fault::At(cause, leaf as usize);
+    expect(rt, is_told, leaf as usize);
+    let is_same = ample(rt, is_text(alloc, &tree, text));
+    expect(rt, is_same, leaf as usize);
 }
 
 #[test]
-fn tells_the_lowest_cause(rt: HostRuntime) -> Result<(), Fail> {
-    let alloc = rt.alloc();
-    let deep = deep_text(alloc, 20)?;
-    assert_not_split(&rt, alloc, deep.as_slice(), 0, SplitCause::TooDeep)?;
-    assert_not_split(&rt, alloc, deep.as_slice(), 1, SplitCause::TooDeep)?;
-    assert_not_split(&rt, alloc, deep.as_slice(), 21, SplitCause::NoSuchLeaf)?;
-    let full = full_text(alloc, 10)?;
-    assert_not_split(&rt, alloc, full.as_slice(), 1023, SplitCause::TooManyLeaves)?;
-    assert_not_split(&rt, alloc, full.as_slice(), 1024, SplitCause::NoSuchLeaf)?;
-    let crowded = crowded_text(alloc)?;
-    assert_eq!(&rt; tree_of(&rt, alloc, crowded.as_slice()).leaves(), 1024);
-    assert_not_split(&rt, alloc, crowded.as_slice(), 0, SplitCause::TooManyLeaves)?;
-    assert_not_split(&rt, alloc, crowded.as_slice(), 1024, SplitCause::NoSuchLeaf)
+fn splits_no_leaf_that_is_deep(rt: HostRuntime) {
+    let text = deep_text(&rt, rt.alloc(), 20);
+    let deep = text.as_slice();
+    assert_not_split(&rt, rt.alloc(), deep, 0, SplitCause::TooDeep);
+    assert_not_split(&rt, rt.alloc(), deep, 1, SplitCause::TooDeep);
+    assert_not_split(&rt, rt.alloc(), deep, 21, SplitCause::NoSuchLeaf);
+}
+
+#[test]
+fn splits_no_leaf_of_many(rt: HostRuntime) {
+    let text = full_text(&rt, rt.alloc());
+    let full = text.as_slice();
+    assert_not_split(&rt, rt.alloc(), full, 1023, SplitCause::TooManyLeaves);
+    assert_not_split(&rt, rt.alloc(), full, 1024, SplitCause::NoSuchLeaf);
+}
+
+#[test]
+fn tells_the_lowest_cause(rt: HostRuntime) {
+    let text = crowded_text(&rt, rt.alloc());
+    let crowded = text.as_slice();
+    assert!(&rt; tree_of(&rt, rt.alloc(), crowded).leaves() == 1024);
+    assert_not_split(&rt, rt.alloc(), crowded, 0, SplitCause::TooManyLeaves);
+    assert_not_split(&rt, rt.alloc(), crowded, 1024, SplitCause::NoSuchLeaf);
 }

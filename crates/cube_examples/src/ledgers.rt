@@ -1,14 +1,32 @@
 //! What a ledger takes, and what becomes of it where a leaf is split.
 
-use crate::answers::{Expected, Says, is_expected, result_of};
-use crate::texts::{STORE_BUFFERING, formula_of, literals_of, tree_of};
+use crate::answers::{Expected, Says, result_of};
+use crate::expectations::{ample, expect};
+use crate::searches::{assert_confirmed, enter, new_ledger};
+use crate::texts::{STORE_BUFFERING, are_literals, formula_of, tree_of};
 use cube_tree::split_leaf;
 use result_ledger::{EntryFault, Ledger, split_tree_splits_a_cube};
 use std::alloc::Global;
 use std::process::Abort;
-use std::test::Fail;
 
-/// Asserts that the result is handed back for this reason.
+/// A leaf and a cube, and why a result of these is handed back.
+type Refused = (u32, &'static [i32], EntryFault);
+
+/// What is refused where no leaf has an answer.
+const REFUSED_AT_FIRST: [Refused; 4] = [
+    (2, &[3], EntryFault::Stranger),
+    (0, &[-3], EntryFault::WrongCube),
+    (0, &[], EntryFault::WrongCube),
+    (0, &[3, 3], EntryFault::WrongCube),
+];
+
+/// What is refused where the first leaf has one.
+const REFUSED_AFTERWARDS: [Refused; 2] = [
+    (0, &[3], EntryFault::Double),
+    (0, &[-3], EntryFault::Double),
+];
+
+/// Asserts that a result is handed back for this reason.
 fn assert_refused(
     rt: &impl Abort,
     alloc: Global,
@@ -16,66 +34,77 @@ fn assert_refused(
     leaf: u32,
     cube: &[i32],
     fault: EntryFault,
-) -> Result<(), Fail> {
-    match ledger.enter(result_of(rt, alloc, leaf, cube, Says::Open)?) {
-        Ok(()) => Err(Fail::from("it is entered")),
-        Err((settled, told)) => {
-            assert!(rt; told == fault);
-            assert!(rt; settled.ticket() == leaf);
-            assert!(rt; settled.cube() == literals_of(alloc, cube)?.as_slice());
-            Ok(())
-        }
+) {
+    let settled = ample(rt, result_of(rt, alloc, leaf, cube, Says::Open));
+    let Err((settled, told)) = ledger.enter(settled) else {
+        panic!(rt; "it is entered");
+    };
+    let is_told = told == fault && settled.ticket() == leaf;
+    expect(rt, is_told, cube.len());
+    let is_same = ample(rt, are_literals(alloc, settled.cube(), cube));
+    expect(rt, is_same, cube.len());
+}
+
+/// Asserts that these leaves have no answer.
+fn assert_unanswered(rt: &impl Abort, alloc: Global, ledger: &Ledger, leaves: &[u32]) {
+    let unanswered = ample(rt, ledger.unanswered(alloc));
+    expect(rt, unanswered.as_slice() == leaves, leaves.len());
+}
+
+#[test]
+fn enters_each_leaf_once_under_its_cube(rt: HostRuntime) {
+    let alloc = rt.alloc();
+    let mut ledger = new_ledger(&rt, alloc, &tree_of(&rt, alloc, b"split 3\nleaf\nleaf\n"));
+    for (leaf, cube, fault) in &REFUSED_AT_FIRST {
+        assert_refused(&rt, alloc, &mut ledger, *leaf, cube, *fault);
     }
+    let answer = ample(&rt, result_of(&rt, alloc, 0, &[3], Says::Open));
+    enter(&rt, &mut ledger, answer);
+    for (leaf, cube, fault) in &REFUSED_AFTERWARDS {
+        assert_refused(&rt, alloc, &mut ledger, *leaf, cube, *fault);
+    }
+    assert_unanswered(&rt, alloc, &ledger, &[1]);
+    assert!(&rt; ledger.leaves() == 2);
 }
 
-#[test]
-fn enters_each_leaf_once_under_its_cube(rt: HostRuntime) -> Result<(), Fail> {
-    let alloc = rt.alloc();
-    let tree = tree_of(&rt, alloc, b"split 3\nleaf\nleaf\n");
-    let mut ledger = Ledger::new(alloc, &tree)?;
-    assert_refused(&rt, alloc, &mut ledger, 2, &[3], EntryFault::Stranger)?;
-    assert_refused(&rt, alloc, &mut ledger, 0, &[-3], EntryFault::WrongCube)?;
-    assert_refused(&rt, alloc, &mut ledger, 0, &[], EntryFault::WrongCube)?;
-    assert_refused(&rt, alloc, &mut ledger, 0, &[3, 3], EntryFault::WrongCube)?;
-    assert!(&rt;
-        ledger
-            .enter(result_of(&rt, alloc, 0, &[3], Says::Open)?)
-            .is_ok()
-    );
-    assert_refused(&rt, alloc, &mut ledger, 0, &[3], EntryFault::Double)?;
-    assert_refused(&rt, alloc, &mut ledger, 0, &[-3], EntryFault::Double)?;
-    assert!(&rt; ledger.unanswered(alloc)?.as_slice() == [1u32].as_slice());
-    assert_eq!(&rt; ledger.leaves(), 2);
-    Ok(())
-}
-
-#[test]
-fn splits_a_leaf_and_forgets_its_answer(rt: HostRuntime) -> Result<(), Fail> {
-    let alloc = rt.alloc();
-    let formula = formula_of(&rt, alloc, STORE_BUFFERING);
-    let tree = tree_of(&rt, alloc, b"split 3\nleaf\nleaf\n");
-    let mut ledger = Ledger::new(alloc, &tree)?;
-    let first = Says::Refuted("16 0 13 14 15 0\n");
-    assert!(&rt; ledger.enter(result_of(&rt, alloc, 0, &[3], first)?).is_ok());
-    assert!(&rt;
-        ledger
-            .enter(result_of(&rt, alloc, 1, &[-3], Says::Open)?)
-            .is_ok()
-    );
+/// The ledger of the cubes 3 and -3, of which the first is refuted and the second one open, with this second leaf split on variable 4.
+fn split_ledger(rt: &impl Abort, alloc: Global) -> Ledger {
+    let tree = tree_of(rt, alloc, b"split 3\nleaf\nleaf\n");
+    let mut ledger = new_ledger(rt, alloc, &tree);
+    let refuted = Says::Refuted("16 0 13 14 15 0\n");
+    let left = ample(rt, result_of(rt, alloc, 0, &[3], refuted));
+    enter(rt, &mut ledger, left);
+    let right = ample(rt, result_of(rt, alloc, 1, &[-3], Says::Open));
+    enter(rt, &mut ledger, right);
     split_tree_splits_a_cube();
     let Ok(tree) = split_leaf(alloc, tree, 1, 4) else {
-        return Err(Fail::from("the tree's leaf is not split"));
+        panic!(rt; "the tree's leaf is not split");
     };
     let Ok(ledger) = ledger.split(alloc, 1, &tree) else {
-        return Err(Fail::from("the ledger's leaf is not split"));
+        panic!(rt; "the ledger's leaf is not split");
     };
-    assert_eq!(&rt; ledger.leaves(), 3);
-    assert!(&rt; ledger.unanswered(alloc)?.as_slice() == [1u32, 2].as_slice());
-    let verdict = ledger.confirm(alloc, &rt, &formula, 1)?;
-    assert!(&rt; is_expected(&verdict, Expected::Unknown(&[1, 2])));
-    for (leaf, cube) in [(0, [3].as_slice()), (1, &[-3, 4]), (2, &[-3, -4])] {
-        assert!(&rt; leaf < ledger.leaves());
-        assert!(&rt; ledger.cube(leaf) == literals_of(alloc, cube)?.as_slice());
+    ledger
+}
+
+/// Asserts that the leaf has the cube of these numbers.
+fn assert_cube(rt: &impl Abort, alloc: Global, ledger: &Ledger, leaf: u32, numbers: &[i32]) {
+    if leaf >= ledger.leaves() {
+        panic!(rt; "there is no leaf {leaf}");
     }
-    Ok(())
+    let is_right = ample(rt, are_literals(alloc, ledger.cube(leaf), numbers));
+    expect(rt, is_right, leaf as usize);
+}
+
+#[test]
+fn splits_a_leaf_and_forgets_its_answer(rt: HostRuntime) {
+    let alloc = rt.alloc();
+    let ledger = split_ledger(&rt, alloc);
+    assert!(&rt; ledger.leaves() == 3);
+    assert_unanswered(&rt, alloc, &ledger, &[1, 2]);
+    let formula = formula_of(&rt, alloc, STORE_BUFFERING);
+    let expected = Expected::Unknown(&[1, 2]);
+    assert_confirmed(&rt, alloc, &ledger, &formula, expected, 0);
+    assert_cube(&rt, alloc, &ledger, 0, &[3]);
+    assert_cube(&rt, alloc, &ledger, 1, &[-3, 4]);
+    assert_cube(&rt, alloc, &ledger, 2, &[-3, -4]);
 }

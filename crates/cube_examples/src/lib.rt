@@ -5,9 +5,9 @@
 #[cfg(test)]
 mod answers;
 #[cfg(test)]
-mod false_answers;
+mod expectations;
 #[cfg(test)]
-mod full_trees;
+mod false_answers;
 #[cfg(test)]
 mod gates;
 #[cfg(test)]
@@ -20,6 +20,8 @@ mod ledgers;
 mod options;
 #[cfg(test)]
 mod refused_memory;
+#[cfg(test)]
+mod searches;
 #[cfg(test)]
 mod texts;
 #[cfg(test)]

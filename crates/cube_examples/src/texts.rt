@@ -1,7 +1,8 @@
 //! The formulas and trees of the tests, from their texts.
 
+use crate::expectations::ample;
 use cnf_reader::read_cnf;
-use cube_tree::{Tree, read_tree};
+use cube_tree::{Tree, read_tree, write_tree};
 use dimacs::{Formula, Lit};
 use lrat_check::derivation::Derivation;
 use lrat_check::lrat_reader::read_lrat;
@@ -20,26 +21,23 @@ pub const READS_FIRST: &str = "p cnf 2 2\n2 0\n-2 -1 0\n";
 
 /// The formula that the text spells.
 pub fn formula_of(rt: &impl Abort, alloc: Global, text: &str) -> Formula {
-    match read_cnf(alloc, text.as_bytes()) {
-        Ok(formula) => formula,
-        Err(_) => panic!(rt; "the formula is refused"),
-    }
+    ample(rt, read_cnf(alloc, text.as_bytes()))
 }
 
 /// The tree that the text spells.
 pub fn tree_of(rt: &impl Abort, alloc: Global, text: &[u8]) -> Tree {
-    match read_tree(alloc, text) {
-        Ok((tree, _)) => tree,
-        Err(_) => panic!(rt; "the tree is refused"),
-    }
+    let (tree, _) = ample(rt, read_tree(alloc, text));
+    tree
 }
 
 /// The derivation that the text spells.
 pub fn derivation_of(rt: &impl Abort, alloc: Global, text: &str) -> Derivation {
-    match read_lrat(alloc, text.as_bytes()) {
-        Ok(derivation) => derivation,
-        Err(_) => panic!(rt; "the derivation is refused"),
-    }
+    ample(rt, read_lrat(alloc, text.as_bytes()))
+}
+
+/// Whether this is the text of the tree.
+pub fn is_text(alloc: Global, tree: &Tree, text: &[u8]) -> Result<bool, AllocError> {
+    Ok(write_tree(alloc, tree)?.as_slice() == text)
 }
 
 /// The literals of these numbers.
@@ -49,4 +47,9 @@ pub fn literals_of(alloc: Global, numbers: &[i32]) -> Result<Vec<Lit>, AllocErro
         literals.push(Lit::new(*number).unwrap_or_default())?;
     }
     Ok(literals)
+}
+
+/// Whether these are the literals of these numbers.
+pub fn are_literals(alloc: Global, literals: &[Lit], numbers: &[i32]) -> Result<bool, AllocError> {
+    Ok(literals_of(alloc, numbers)?.as_slice() == literals)
 }

@@ -1,12 +1,15 @@
 //! Answers of the solver, tried by those that they are for.
 
-use dimacs::{Formula, Lit};
+use crate::expectations::ample;
+use dimacs::{Assignment, Formula, Lit};
 use lrat_check::checker::check;
+use lrat_check::derivation::Derivation;
 use solver::{Answer, Guide, solve};
 use std::alloc::{AllocError, Global};
+use std::process::Abort;
 
 /// What an answer of the solver has shown.
-#[derive(Clone, Copy, Debug, PartialEq, Eq)]
+#[derive(Clone, Copy, PartialEq, Eq)]
 pub enum Shown {
     /// A model, which has been evaluated.
     Model,
@@ -18,8 +21,26 @@ pub enum Shown {
     Mistake,
 }
 
+/// What truth values show of the formula in the cube.
+fn shown_by_model(formula: &Formula, cube: &[Lit], model: &Assignment) -> Shown {
+    if formula.eval(model).is_ok() && model.makes(cube) {
+        Shown::Model
+    } else {
+        Shown::Mistake
+    }
+}
+
+/// What a derivation shows of the formula in the cube.
+fn shown_by_steps(alloc: Global, formula: &Formula, cube: &[Lit], steps: &Derivation) -> Shown {
+    if check(alloc, formula, cube, steps).is_ok() {
+        Shown::NoModel(steps.steps().len())
+    } else {
+        Shown::Mistake
+    }
+}
+
 /// Solves the formula, and evaluates or checks the answer.
-pub fn solve_and_check(
+fn solve_and_check(
     alloc: Global,
     formula: &Formula,
     cube: &[Lit],
@@ -27,20 +48,20 @@ pub fn solve_and_check(
     budget: u64,
 ) -> Result<Shown, AllocError> {
     Ok(match solve(alloc, formula, cube, guide, budget)? {
-        Answer::Model(model) => {
-            if formula.eval(&model).is_ok() && model.makes(cube) {
-                Shown::Model
-            } else {
-                Shown::Mistake
-            }
-        }
-        Answer::Refuted(derivation) => {
-            if check(alloc, formula, cube, &derivation).is_ok() {
-                Shown::NoModel(derivation.steps().len())
-            } else {
-                Shown::Mistake
-            }
-        }
+        Answer::Model(model) => shown_by_model(formula, cube, &model),
+        Answer::Refuted(derivation) => shown_by_steps(alloc, formula, cube, &derivation),
         Answer::Open => Shown::Nothing,
     })
+}
+
+/// What an answer of the solver has shown that has memory enough.
+pub fn solved(
+    rt: &impl Abort,
+    alloc: Global,
+    formula: &Formula,
+    cube: &[Lit],
+    guide: Guide,
+    budget: u64,
+) -> Shown {
+    ample(rt, solve_and_check(alloc, formula, cube, guide, budget))
 }

@@ -1,10 +1,12 @@
 //! How many conflicts an answer takes.
 
-use crate::answers::{Shown, solve_and_check};
+use crate::answers::{Shown, solved};
+use crate::expectations::{ample, expect};
 use crate::formulas::{PIGEONHOLE, STORE_BUFFERING, listed};
+use dimacs::Formula;
 use solver::{Choice, Guide, Readings};
 use std::alloc::{AllocError, Global};
-use std::test::Fail;
+use std::process::Abort;
 
 /// What is known of the reads of store buffering: each of the two takes place before the other process writes.
 fn store_buffering_reads(alloc: Global) -> Result<Readings, AllocError> {
@@ -22,62 +24,51 @@ fn store_buffering_reads(alloc: Global) -> Result<Readings, AllocError> {
     Ok(readings)
 }
 
+/// Asserts that one conflict shows that the formula has no model, and that none shows nothing.
+fn assert_one_conflict(rt: &impl Abort, alloc: Global, formula: &Formula, guide: Guide) {
+    let nothing = solved(rt, alloc, formula, &[], guide, 0);
+    expect(rt, nothing == Shown::Nothing, 0);
+    let no_model = solved(rt, alloc, formula, &[], guide, 1);
+    expect(rt, no_model == Shown::NoModel(1), 1);
+}
+
 #[test]
-fn store_buffering_takes_one_conflict(rt: HostRuntime) -> Result<(), Fail> {
-    let alloc = rt.alloc();
-    let formula = listed(alloc, 8, &STORE_BUFFERING)?;
-    let readings = store_buffering_reads(alloc)?;
+fn store_buffering_takes_one_conflict(rt: HostRuntime) {
+    let formula = ample(&rt, listed(rt.alloc(), 8, &STORE_BUFFERING));
+    let readings = ample(&rt, store_buffering_reads(rt.alloc()));
     let with_order = Guide::with_order(4, 3);
     let with_reads = with_order.with_readings(&readings);
     for guide in [Guide::none(), with_order, with_reads] {
-        assert_eq!(rt;
-            solve_and_check(alloc, &formula, &[], guide, 0)?,
-            Shown::Nothing
-        );
-        assert_eq!(rt;
-            solve_and_check(alloc, &formula, &[], guide, 1)?,
-            Shown::NoModel(1)
-        );
+        assert_one_conflict(&rt, rt.alloc(), &formula, guide);
     }
-    Ok(())
 }
 
 #[test]
-fn a_clause_without_literals_takes_one_conflict(rt: HostRuntime) -> Result<(), Fail> {
-    let alloc = rt.alloc();
-    let formula = listed(alloc, 1, &[&[]])?;
-    assert_eq!(rt;
-        solve_and_check(alloc, &formula, &[], Guide::none(), 0)?,
-        Shown::Nothing
-    );
-    assert_eq!(rt;
-        solve_and_check(alloc, &formula, &[], Guide::none(), 1)?,
-        Shown::NoModel(1)
-    );
-    Ok(())
+fn a_clause_without_literals_takes_one_conflict(rt: HostRuntime) {
+    let formula = ample(&rt, listed(rt.alloc(), 1, &[&[]]));
+    assert_one_conflict(&rt, rt.alloc(), &formula, Guide::none());
+}
+
+/// Whether so many conflicts show that the formula has no model. Else they show nothing.
+fn is_refuted(rt: &impl Abort, alloc: Global, formula: &Formula, budget: u64) -> bool {
+    match solved(rt, alloc, formula, &[], Guide::none(), budget) {
+        Shown::NoModel(_) => true,
+        Shown::Nothing => false,
+        _ => panic!(rt; "a model is found, or an answer is refused"),
+    }
 }
 
 #[test]
-fn pigeons_take_the_same_budget_each_time(rt: HostRuntime) -> Result<(), Fail> {
-    let alloc = rt.alloc();
-    let formula = listed(alloc, 12, &PIGEONHOLE)?;
+fn pigeons_take_the_same_budget_each_time(rt: HostRuntime) {
+    let formula = ample(&rt, listed(rt.alloc(), 12, &PIGEONHOLE));
     let mut least = 0;
     for budget in 0..100u64 {
-        let answer = solve_and_check(alloc, &formula, &[], Guide::none(), budget)?;
-        let is_open = answer == Shown::Nothing;
-        if is_open {
-            assert_eq!(rt;
-                least,
-                0,
-                "{budget} conflicts are too few, and fewer were enough"
-            );
+        if is_refuted(&rt, rt.alloc(), &formula, budget) {
+            least = if least == 0 { budget } else { least };
         } else {
-            assert!(rt; matches!(answer, Shown::NoModel(_)), "{budget}");
-            if least == 0 {
-                least = budget;
-            }
+            // Fewer were not enough either.
+            expect(&rt, least == 0, budget as usize);
         }
     }
     assert!(rt; least > 1);
-    Ok(())
 }

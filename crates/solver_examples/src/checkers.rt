@@ -1,6 +1,7 @@
 //! The checker beside a plain one, on derivations of the solver and on damaged ones.
 
 use crate::damage::damaged;
+use crate::expectations::{ample, expect};
 use crate::formulas::{PIGEONHOLE, STORE_BUFFERING, listed, literals_of};
 use crate::plain_checker::plain_check;
 use crate::random_formulas::{Random, random_formula};
@@ -10,7 +11,6 @@ use lrat_check::derivation::Derivation;
 use solver::{Answer, Guide, solve};
 use std::alloc::Global;
 use std::process::Abort;
-use std::test::Fail;
 
 /// Asserts that both checkers accept the derivation, or refuse it for the same cause at the same step. Whether they accept it.
 fn assert_same(
@@ -23,7 +23,7 @@ fn assert_same(
     let plain = plain_check(alloc, formula, cube, derivation);
     let real = check(alloc, formula, cube, derivation);
     let is_accepted = real.is_ok();
-    assert_eq!(rt; plain.err(), real.err());
+    expect(rt, plain.err() == real.err(), derivation.steps().len());
     is_accepted
 }
 
@@ -36,36 +36,36 @@ fn assert_same_damaged(
     formula: &Formula,
     cube: &[Lit],
     count: u32,
-) -> Result<u32, Fail> {
+) -> u32 {
     let mut accepted: u32 = 0;
-    if let Answer::Refuted(derivation) = solve(alloc, formula, cube, Guide::none(), 100_000)? {
-        assert!(rt; assert_same(rt, alloc, formula, cube, &derivation));
+    let answer = ample(rt, solve(alloc, formula, cube, Guide::none(), 100_000));
+    if let Answer::Refuted(derivation) = answer {
+        let is_accepted = assert_same(rt, alloc, formula, cube, &derivation);
+        expect(rt, is_accepted, 0);
         for _ in 0..count {
-            let other = damaged(alloc, random, &derivation)?;
-            if assert_same(rt, alloc, formula, cube, &other) {
-                accepted = accepted.wrapping_add(1);
-            }
+            let other = ample(rt, damaged(alloc, random, &derivation));
+            let is_accepted = assert_same(rt, alloc, formula, cube, &other);
+            accepted = accepted.wrapping_add(u32::from(is_accepted));
         }
     }
-    Ok(accepted)
+    accepted
 }
 
 #[test]
-fn checkers_agree(rt: HostRuntime) -> Result<(), Fail> {
+fn checkers_agree(rt: HostRuntime) {
     let alloc = rt.alloc();
     let mut random = Random::new(7);
     for _ in 0..200 {
-        let formula = random_formula(alloc, &mut random)?;
-        let cube = literals_of(alloc, &[random.literal(1, 8), random.literal(1, 8)])?;
-        for literals in [&[], cube.as_slice()] {
-            assert_same_damaged(&rt, alloc, &mut random, &formula, literals, 10)?;
-        }
+        let formula = ample(&rt, random_formula(alloc, &mut random));
+        let numbers = [random.literal(1, 8), random.literal(1, 8)];
+        let cube = ample(&rt, literals_of(alloc, &numbers));
+        assert_same_damaged(&rt, alloc, &mut random, &formula, &[], 10);
+        assert_same_damaged(&rt, alloc, &mut random, &formula, cube.as_slice(), 10);
     }
-    let pigeons = listed(alloc, 12, &PIGEONHOLE)?;
-    let buffers = listed(alloc, 8, &STORE_BUFFERING)?;
+    let pigeons = ample(&rt, listed(alloc, 12, &PIGEONHOLE));
+    let buffers = ample(&rt, listed(alloc, 8, &STORE_BUFFERING));
     for formula in [&pigeons, &buffers] {
-        let accepted = assert_same_damaged(&rt, alloc, &mut random, formula, &[], 400)?;
+        let accepted = assert_same_damaged(&rt, alloc, &mut random, formula, &[], 400);
         assert!(rt; accepted > 0 && accepted < 400);
     }
-    Ok(())
 }

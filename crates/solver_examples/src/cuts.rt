@@ -1,12 +1,12 @@
 //! A derivation has no step on which its last one does not rest.
 
+use crate::expectations::{ample, expect};
 use crate::formulas::{PIGEONHOLE, listed};
 use crate::random_formulas::{Random, random_formula};
 use dimacs::Formula;
 use lrat_check::derivation::{Derivation, Step};
 use solver::{Answer, Guide, solve};
 use std::alloc::{AllocError, Global};
-use std::test::Fail;
 
 /// Whether one of these steps has the clause of this number among its hints.
 fn is_hint_of(alloc: Global, steps: &[Step], number: u64) -> Result<bool, AllocError> {
@@ -47,14 +47,14 @@ fn is_cut_answer(alloc: Global, formula: &Formula) -> Result<bool, AllocError> {
 }
 
 #[test]
-fn derivations_have_no_step_too_many(rt: HostRuntime) -> Result<(), Fail> {
+fn derivations_have_no_step_too_many(rt: HostRuntime) {
     let alloc = rt.alloc();
-    let pigeons = listed(alloc, 12, &PIGEONHOLE)?;
-    assert!(rt; is_cut_answer(alloc, &pigeons)?);
+    let pigeons = ample(&rt, listed(alloc, 12, &PIGEONHOLE));
+    assert!(rt; ample(&rt, is_cut_answer(alloc, &pigeons)));
     let mut random = Random::new(4);
-    for _ in 0..200 {
-        let formula = random_formula(alloc, &mut random)?;
-        assert!(rt; is_cut_answer(alloc, &formula)?);
+    for number in 0..200 {
+        let formula = ample(&rt, random_formula(alloc, &mut random));
+        let is_cut = ample(&rt, is_cut_answer(alloc, &formula));
+        expect(&rt, is_cut, number);
     }
-    Ok(())
 }

@@ -13,6 +13,8 @@ mod cuts;
 #[cfg(test)]
 mod damage;
 #[cfg(test)]
+mod expectations;
+#[cfg(test)]
 mod formulas;
 #[cfg(test)]
 mod guides;

@@ -1,9 +1,10 @@
 //! Locks whose releases are missing: the traces for which the solver searches along a schedule.
 
-use crate::answers::{Shown, solve_and_check};
+use crate::answers::{Shown, solved};
+use crate::expectations::{ample, expect};
 use crate::traced::{Access, Traced, formula_of_trace};
 use std::alloc::{AllocError, Global};
-use std::test::Fail;
+use std::process::Abort;
 
 /// So many conflicts are too few, although more than half of the operations are updates, and the search along a schedule begins.
 const TOO_FEW: u64 = 300;
@@ -33,18 +34,20 @@ fn lock(alloc: Global, broken: u32) -> Result<Traced, AllocError> {
     formula_of_trace(alloc, accesses.as_slice(), 0)
 }
 
+/// What so many conflicts show of the lock that so many processes do not give back.
+fn locked(rt: &impl Abort, alloc: Global, broken: u32, budget: u64) -> Shown {
+    let trace = ample(rt, lock(alloc, broken));
+    solved(rt, alloc, &trace.formula, &[], trace.guide(), budget)
+}
+
 #[test]
-fn locks_fall_along_a_schedule(rt: HostRuntime) -> Result<(), Fail> {
-    let alloc = rt.alloc();
-    for broken in 0..2 {
-        let trace = lock(alloc, broken)?;
-        let answer = solve_and_check(alloc, &trace.formula, &[], trace.guide(), BUDGET)?;
-        assert_eq!(rt; answer, Shown::Model);
-    }
-    let trace = lock(alloc, 2)?;
-    let answer = solve_and_check(alloc, &trace.formula, &[], trace.guide(), TOO_FEW)?;
-    assert_eq!(rt; answer, Shown::Nothing);
-    let answer = solve_and_check(alloc, &trace.formula, &[], trace.guide(), BUDGET)?;
-    assert!(rt; matches!(answer, Shown::NoModel(_)));
-    Ok(())
+fn locks_fall_along_a_schedule(rt: HostRuntime) {
+    let none = locked(&rt, rt.alloc(), 0, BUDGET);
+    expect(&rt, none == Shown::Model, 0);
+    let one = locked(&rt, rt.alloc(), 1, BUDGET);
+    expect(&rt, one == Shown::Model, 1);
+    let two = locked(&rt, rt.alloc(), 2, TOO_FEW);
+    expect(&rt, two == Shown::Nothing, 2);
+    let two = locked(&rt, rt.alloc(), 2, BUDGET);
+    expect(&rt, matches!(two, Shown::NoModel(_)), 2);
 }

@@ -1,13 +1,13 @@
 //! Random formulas, some with repeated literals, with tautologies and with clauses without literals, by themselves and in cubes.
 
-use crate::answers::{Shown, solve_and_check};
+use crate::answers::{Shown, solved};
+use crate::expectations::{ample, expect};
 use crate::formulas::{add, formula_of, literals_of};
 use crate::plain_solver::has_model;
 use dimacs::{Clause, Formula};
 use solver::Guide;
 use std::alloc::{AllocError, Global};
 use std::process::Abort;
-use std::test::Fail;
 
 /// Numbers that look random, and are the same in each run.
 #[derive(Drop)]
@@ -87,44 +87,60 @@ pub fn assert_solved(
     formula: &Formula,
     cube: &[i32],
     guide: Guide,
-) -> Result<(), Fail> {
-    let cube = literals_of(alloc, cube)?;
-    let answer = solve_and_check(alloc, formula, cube.as_slice(), guide, 100_000)?;
-    match has_model(alloc, formula, cube.as_slice())? {
-        Some(true) => assert_eq!(rt; answer, Shown::Model),
-        Some(false) => assert!(rt; matches!(answer, Shown::NoModel(_))),
-        None => assert!(rt; false, "the plain solver took too long"),
+) {
+    let literals = ample(rt, literals_of(alloc, cube));
+    let answer = solved(rt, alloc, formula, literals.as_slice(), guide, 100_000);
+    let known = ample(rt, has_model(alloc, formula, literals.as_slice()));
+    expect(rt, agrees(answer, known), cube.len());
+}
+
+/// Whether an answer shows what the plain solver has found out.
+fn agrees(answer: Shown, known: Option<bool>) -> bool {
+    match answer {
+        Shown::Model => known == Some(true),
+        Shown::NoModel(_) => known == Some(false),
+        Shown::Nothing => false,
+        Shown::Mistake => false,
     }
-    Ok(())
 }
 
 #[test]
-fn solves_random_formulas(rt: HostRuntime) -> Result<(), Fail> {
+fn solves_random_formulas(rt: HostRuntime) {
     let alloc = rt.alloc();
     let mut random = Random::new(1);
     for _ in 0..400 {
-        let formula = random_formula(alloc, &mut random)?;
-        assert_solved(&rt, alloc, &formula, &[], Guide::none())?;
+        let formula = ample(&rt, random_formula(alloc, &mut random));
+        assert_solved(&rt, alloc, &formula, &[], Guide::none());
         let cube = [random.literal(1, 8), random.literal(1, 8)];
-        assert_solved(&rt, alloc, &formula, &cube, Guide::none())?;
+        assert_solved(&rt, alloc, &formula, &cube, Guide::none());
     }
-    Ok(())
+}
+
+/// Wrong guides: how many elements the order has, and which clause is the first one of its transitivity.
+const WRONG: [(u32, u32); 7] = [(4, 1), (3, 5), (4, 20), (5, 1), (192, 1), (193, 0), (3, 0)];
+
+/// Asserts that an answer with this guide shows nothing, or what is so.
+fn assert_true(rt: &impl Abort, alloc: Global, formula: &Formula, guide: Guide, known: bool) {
+    let is_true = match solved(rt, alloc, formula, &[], guide, 1000) {
+        Shown::Model => known,
+        Shown::NoModel(_) => !known,
+        Shown::Nothing => true,
+        Shown::Mistake => true,
+    };
+    expect(rt, is_true, 0);
 }
 
 /// Whatever is wrong about a guide, what an answer shows is so.
 #[test]
-fn wrong_guides_cost_no_truth(rt: HostRuntime) -> Result<(), Fail> {
+fn wrong_guides_cost_no_truth(rt: HostRuntime) {
     let alloc = rt.alloc();
     let mut random = Random::new(2);
     for _ in 0..100 {
-        let formula = random_formula(alloc, &mut random)?;
-        let known = has_model(alloc, &formula, &[])? == Some(true);
-        for (elements, first) in [(4, 1), (3, 5), (4, 20), (5, 1), (192, 1), (193, 0), (3, 0)] {
-            let guide = Guide::with_order(elements, first);
-            let answer = solve_and_check(alloc, &formula, &[], guide, 1000)?;
-            assert!(rt; answer != Shown::Model || known);
-            assert!(rt; !matches!(answer, Shown::NoModel(_)) || !known);
+        let formula = ample(&rt, random_formula(alloc, &mut random));
+        let known = ample(&rt, has_model(alloc, &formula, &[])) == Some(true);
+        for (elements, first) in &WRONG {
+            let guide = Guide::with_order(*elements, *first);
+            assert_true(&rt, alloc, &formula, guide, known);
         }
     }
-    Ok(())
 }

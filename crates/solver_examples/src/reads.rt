@@ -1,12 +1,14 @@
 //! Formulas with an order and with reads that the guide knows: those of small random traces of one location.
 
-use crate::answers::{Shown, solve_and_check};
+use crate::answers::{Shown, solved};
+use crate::expectations::{ample, expect};
 use crate::formulas::literals_of;
 use crate::random_formulas::Random;
 use crate::traced::{Access, Traced, formula_of_trace};
+use dimacs::Lit;
 use solver::Guide;
 use std::alloc::{AllocError, Global};
-use std::test::Fail;
+use std::process::Abort;
 
 /// A value of which there are two.
 fn random_value(random: &mut Random) -> u16 {
@@ -42,31 +44,35 @@ fn random_trace(alloc: Global, random: &mut Random, mistake: u32) -> Result<Trac
     formula_of_trace(alloc, accesses.as_slice(), mistake)
 }
 
-/// Solves a random trace, whose guide has this mistake, in a random cube. Whether the answers agree: with a mistake an answer may show
-/// nothing, and what it shows is so.
-fn agree(alloc: Global, random: &mut Random, mistake: u32) -> Result<bool, AllocError> {
-    let trace = random_trace(alloc, random, mistake)?;
-    let cube = literals_of(alloc, &[random.literal(1, 15), random.literal(1, 15)])?;
-    let mut agree = true;
-    for literals in [&[], cube.as_slice()] {
-        let plain = solve_and_check(alloc, &trace.formula, literals, Guide::none(), 100_000)?;
-        let guided = solve_and_check(alloc, &trace.formula, literals, trace.guide(), 1000)?;
-        let shows = guided != Shown::Mistake && guided != Shown::Nothing;
-        let is_right = (plain == Shown::Model) == (guided == Shown::Model);
-        let is_wrong = shows && !is_right || plain == Shown::Mistake || plain == Shown::Nothing;
-        agree = agree && !is_wrong && (shows || mistake != 0);
-    }
-    Ok(agree)
+/// Whether the answers with and without the guide agree in a cube: where the guide has a mistake an answer may show nothing, and what
+/// it shows is so.
+fn agree(rt: &impl Abort, alloc: Global, trace: &Traced, cube: &[Lit], mistake: u32) -> bool {
+    let plain = solved(rt, alloc, &trace.formula, cube, Guide::none(), 100_000);
+    let guided = solved(rt, alloc, &trace.formula, cube, trace.guide(), 1000);
+    let shows = guided != Shown::Mistake && guided != Shown::Nothing;
+    let is_right = (plain == Shown::Model) == (guided == Shown::Model);
+    let is_wrong = shows && !is_right || plain == Shown::Mistake || plain == Shown::Nothing;
+    !is_wrong && (shows || mistake != 0)
+}
+
+/// Asserts that the answers for a random trace agree, by themselves and in a random cube.
+fn assert_agreed(rt: &impl Abort, alloc: Global, random: &mut Random, mistake: u32) {
+    let trace = ample(rt, random_trace(alloc, random, mistake));
+    let numbers = [random.literal(1, 15), random.literal(1, 15)];
+    let cube = ample(rt, literals_of(alloc, &numbers));
+    let is_right = agree(rt, alloc, &trace, &[], mistake);
+    expect(rt, is_right, mistake as usize);
+    let is_right = agree(rt, alloc, &trace, cube.as_slice(), mistake);
+    expect(rt, is_right, mistake as usize);
 }
 
 #[test]
-fn solves_reads_with_right_and_wrong_guides(rt: HostRuntime) -> Result<(), Fail> {
+fn solves_reads_with_right_and_wrong_guides(rt: HostRuntime) {
     let alloc = rt.alloc();
     let mut random = Random::new(5);
     for mistake in [0, 0, 0, 0, 0, 0, 1, 7, 100, 4_294_967_295] {
         for _ in 0..50 {
-            assert!(rt; agree(alloc, &mut random, mistake)?, "{mistake}");
+            assert_agreed(&rt, alloc, &mut random, mistake);
         }
     }
-    Ok(())
 }
