@@ -21,7 +21,7 @@ fn put_jobs<R: Wait>(rt: &R, board: &Board, seat: &mut DealerSeat, jobs: Vec<Job
     for job in jobs {
         match board.put(rt, seat, job) {
             Ok(()) => (),
-            Err(_back) => return false,
+            Err(_job) => return false,
         }
     }
     true
@@ -40,7 +40,7 @@ fn put_stops<R: Wait>(alloc: Global, rt: &R, board: &Board, seat: &mut DealerSea
         let stop = Job::new(alloc, cubes + worker, &[]);
         match board.put(rt, seat, stop) {
             Ok(()) => (),
-            Err(_back) => return false,
+            Err(_stop) => return false,
         }
     }
     true
