@@ -16,6 +16,7 @@ use cube_tree::{Cube, Tree, cubes};
 use dimacs::{ClauseList, Lit};
 use solver::{Answer, Guide, solve};
 use std::alloc::Global;
+use std::sync::Wait;
 use std::thread::Threads;
 
 /// What the solver says of the cube. A search that finds no memory leaves it open.
@@ -100,7 +101,7 @@ fn job_of(alloc: Global, cubes: &[Cube], leaf: u32) -> Job
 ///
 /// A worker that finds no memory in a cube leaves that cube open. After a result that is a model of the formula and makes its
 /// cube true, the cubes of higher leaves are skipped.
-pub fn search<R: Threads + Sync, L: ClauseList, G: Gate>(
+pub fn search<R: Threads + Wait + Sync, L: ClauseList + Sync, G: Gate + Sync>(
     alloc: Global,
     rt: &R,
     formula: &L,
