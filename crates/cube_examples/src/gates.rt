@@ -4,20 +4,20 @@ use crate::expectations::{ample, expect};
 use crate::searches::results_of;
 use crate::texts::{WRITTEN_AGAIN, formula_of, tree_of};
 use cube_queue::{Gate, Options, Outcome, Settled};
-use std::cell::Cell;
+use std::sync::atomic::{AtomicU64, Ordering};
 
 /// A gate that notes its calls, each as a digit: 2t + 1 before the job of ticket t, and 2t + 2 after it.
 #[derive(Drop)]
 struct NotingGate {
-    calls: Cell<u64>,
+    calls: AtomicU64,
 }
 
 impl NotingGate {
     /// Notes a call of this digit.
     fn note(&self, digit: u32) {
-        let before = self.calls.get();
-        self.calls
-            .set(before.wrapping_mul(10).wrapping_add(u64::from(digit)));
+        let before = self.calls.load(Ordering::SeqCst);
+        let after = before.wrapping_mul(10).wrapping_add(u64::from(digit));
+        self.calls.store(after, Ordering::SeqCst);
     }
 }
 
@@ -49,11 +49,11 @@ fn calls_the_gate_and_skips_after_a_model(rt: HostRuntime) {
     let tree = tree_of(&rt, alloc, b"split 1\nleaf\nsplit 2\nleaf\nleaf\n");
     let options = ample(&rt, Options::new(1, 3, 100, 1));
     let gate = NotingGate {
-        calls: Cell::new(0),
+        calls: AtomicU64::new(0),
     };
     let found = results_of(&rt, alloc, &formula, &tree, &options, &gate);
     let results = ample(&rt, found);
-    assert!(&rt; gate.calls.get() == 123_456 && results.len() == 3);
+    assert!(&rt; gate.calls.load(Ordering::SeqCst) == 123_456 && results.len() == 3);
     let mut leaf = 0usize;
     for settled in &results {
         expect(&rt, is_of_leaf(settled, leaf), leaf);

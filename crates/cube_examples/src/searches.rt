@@ -12,10 +12,11 @@ use result_ledger::Ledger;
 use solver::Guide;
 use std::alloc::Global;
 use std::process::Abort;
+use std::sync::Wait;
 use std::thread::Threads;
 
 /// The results of a search of all leaves of the tree.
-pub fn results_of<R: Threads + Sync, G: Gate>(
+pub fn results_of<R: Threads + Wait + Sync, G: Gate + Sync>(
     rt: &R,
     alloc: Global,
     formula: &Formula,

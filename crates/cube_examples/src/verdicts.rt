@@ -7,6 +7,7 @@ use crate::texts::{READS_FIRST, STORE_BUFFERING, WRITTEN_AGAIN, formula_of, tree
 use cube_queue::{OpenGate, Options};
 use std::alloc::Global;
 use std::process::Abort;
+use std::sync::Wait;
 use std::thread::Threads;
 
 /// A tree of four leaves, on the variables on which a search of store buffering splits.
@@ -42,7 +43,7 @@ const TOLD: [Told; 5] = [
 ];
 
 /// Asserts that a search in the tree of this text, with this budget, ends in this verdict.
-fn assert_reaches<R: Threads + Sync + Abort>(
+fn assert_reaches<R: Threads + Wait + Sync + Abort>(
     rt: &R,
     alloc: Global,
     clauses: &str,
