@@ -9,6 +9,7 @@ mod leaves;
 mod ledger;
 mod lrat_steps;
 mod slot;
+mod unproved;
 mod verdict;
 
 pub use derivations::Derivations;
