@@ -1,8 +1,8 @@
 //! Whether answers are right.
-ghost use Rattle.std.specs.Prelude.{◌≡◌, ◌<◌, ◌≤◌, ◌↔◌, Bool, List, length, IsTrue, IfOk, MatchOption, Some};
+ghost use Rattle.std.specs.Prelude.{◌≡◌, ◌<◌, ◌↔◌, Bool, List, length, IsTrue, IfOk, MatchOption, Some};
 ghost use Rattle.cube_queue.specs.declared.outcome.Outcome.TheVariants.{Model, Refuted};
 ghost use Rattle.lrat_check.specs.declared.derivation.Step.{Step};
-ghost use Rattle.result_ledger.specs.Verdict.{IsProofIn, IsModelAnswer, IsProofAnswer, HasModelAt, HasProofAt, HaveNoModelBefore, AreWithout};
+ghost use Rattle.result_ledger.specs.Verdict.{IsProofIn, IsModelAnswer, IsProofAnswer, HasModelAt, HaveNoModelBefore};
 
 use crate::slot::Slot;
 use cube_queue::{Outcome, is_model_in};
@@ -76,7 +76,11 @@ fn model_of<'a, L: ClauseList>(formula: &L, slot: &'a Slot) -> Option<&'a Assign
 }
 
 /// Whether the slot's answer is such a derivation for its cube.
-fn is_proved<L: ClauseList>(alloc: Global, formula: &L, slot: &Slot) -> Result<bool, AllocError>
+pub(crate) fn is_proved<L: ClauseList>(
+    alloc: Global,
+    formula: &L,
+    slot: &Slot,
+) -> Result<bool, AllocError>
     ensures { IfOk result (λ proved. IsTrue proved ↔ IsProofAnswer (L.formula formula.now).clauses slot.now) }
 {
     let Some(derivation) = said_derivation(&slot.outcome) else {
@@ -111,24 +115,4 @@ pub(crate) fn first_model<'a, L: ClauseList>(
         }
     }
     None
-}
-
-/// The leaves without a derivation that is accepted, rising.
-pub(crate) fn without_proof<L: ClauseList>(
-    alloc: Global,
-    formula: &L,
-    slots: &[Slot],
-) -> Result<Vec<u32>, AllocError>
-    requires { length slots.now ≤ 1024 }
-    ensures { IfOk result (λ leaves. AreWithout (HasProofAt (L.formula formula.now).clauses slots.now) (length slots.now) leaves.items) }
-{
-    let mut leaves = Vec::new(alloc);
-    for leaf in 0..slots.len() {
-        let proved = is_proved(alloc, formula, &slots[leaf])?;
-        if proved {
-            continue;
-        }
-        leaves.push(leaf as u32)?;
-    }
-    Ok(leaves)
 }

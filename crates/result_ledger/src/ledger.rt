@@ -7,11 +7,12 @@ ghost use Rattle.result_ledger.specs.Ledger.{empty_slot, cubes_in, derivations_i
 ghost use Rattle.cube_queue.specs.Results.{AreLeaves};
 ghost use Rattle.result_ledger.specs.Verdict.{IsVerdict, AreWithout};
 
-use crate::confirming::{first_model, without_proof};
+use crate::confirming::first_model;
 use crate::derivations::{Derivations, take_derivations};
 use crate::entry_fault::EntryFault;
 use crate::leaves::Leaves;
 use crate::slot::Slot;
+use crate::unproved::without_proof;
 use crate::verdict::Verdict;
 use cube_queue::{JobCube, MOST_LITERALS, Settled};
 use cube_tree::laws::a_cube_for_each_leaf;
@@ -223,8 +224,9 @@ impl Ledger {
     }
 
     /// The verdict that follows from the answers. Each model is tried on the formula, and each derivation is checked: no
-    /// answer is believed.
-    pub fn confirm<R: Threads + Sync, L: ClauseList>(
+    /// answer is believed. So many workers, from 1 to 8, check the derivations side by side, each in a thread of its own where one can
+    /// be made; one worker needs none. The verdict is the same for any number of them.
+    pub fn confirm<R: Threads + Sync, L: ClauseList + Sync>(
         &self,
         alloc: Global,
         rt: &R,
@@ -242,7 +244,7 @@ impl Ledger {
                 Ok(Verdict::Consistent(found.leaf as u32, truth))
             }
             None => {
-                let leaves = without_proof(alloc, formula, slots)?;
+                let leaves = without_proof(alloc, rt, formula, slots, workers)?;
                 if leaves.is_empty() {
                     return Ok(Verdict::Inconsistent(slots.len() as u32));
                 }

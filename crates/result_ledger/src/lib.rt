@@ -8,6 +8,7 @@ mod laws;
 mod leaves;
 mod ledger;
 mod slot;
+mod unproved;
 mod verdict;
 
 pub use derivations::Derivations;

@@ -2,6 +2,7 @@ use Rattle.std.proofs.Common.{◌≡◌, Bool, List, length, sym, ◌∙◌, ap,
 use Rattle.std.proofs.lemmas.Bool.{eqb-true}
 use Rattle.result_ledger.specs.declared.slot.Slot.{Slot}
 use Rattle.result_ledger.specs.Verdict.{HasModelAt, HasProofAt, HaveNoModelBefore, AreWithout}
+use Rattle.result_ledger.proofs.WithoutLemmas.{all_before}
 use Rattle.result_ledger.proofs.VerdictLemmas.{all_proved, some_without, not_none}
 use Rattle.result_ledger.proofs.ledger.Ledger.confirm.Goals as goal
 
@@ -20,7 +21,10 @@ returns-then-is_empty g c =
     let slots_are : c.as_slice-slots.result.now ≡ c.args.self.now = c.as_slice-slots.ensures.value ∙ c.self.view_is in
     let none : HaveNoModelBefore clauses c.args.self.now (length c.args.self.now) = subst (λ (slots : List Slot). HaveNoModelBefore clauses slots (length slots)) slots_are c.in-None.ensures in
     let left : AreWithout (HasProofAt clauses c.args.self.now) (length c.args.self.now) c.in_ok-leaves-in-None.leaves.items =
-    subst (λ (slots : List Slot). AreWithout (HasProofAt clauses slots) (length slots) c.in_ok-leaves-in-None.leaves.items) slots_are c.in_ok-leaves-in-None.ensures in
+    subst
+    (λ (slots : List Slot). AreWithout (HasProofAt clauses slots) (length slots) c.in_ok-leaves-in-None.leaves.items)
+    slots_are
+    (all_before (HasProofAt clauses c.as_slice-slots.result.now) (length c.as_slice-slots.result.now) c.in_ok-leaves-in-None.leaves.items c.in_ok-leaves-in-None.ensures) in
     let count = c.in_ok-leaves-in-None.leaves.ok.0 in
     let empty : c.in_ok-leaves-in-None.leaves.len ≡ 0 = eqb-true c.in_ok-leaves-in-None.leaves.len 0 (sym c.is_empty.ensures ∙ c.if-is_empty.true) in
     all_proved clauses c.args.self.now c.in_ok-leaves-in-None.leaves.items _ none left (sym count ∙ empty) (ap length slots_are)
@@ -31,6 +35,9 @@ returns-else-is_empty g c =
     let slots_are : c.as_slice-slots.result.now ≡ c.args.self.now = c.as_slice-slots.ensures.value ∙ c.self.view_is in
     let none : HaveNoModelBefore clauses c.args.self.now (length c.args.self.now) = subst (λ (slots : List Slot). HaveNoModelBefore clauses slots (length slots)) slots_are c.in-None.ensures in
     let left : AreWithout (HasProofAt clauses c.args.self.now) (length c.args.self.now) c.in_ok-leaves-in-None.leaves.items =
-    subst (λ (slots : List Slot). AreWithout (HasProofAt clauses slots) (length slots) c.in_ok-leaves-in-None.leaves.items) slots_are c.in_ok-leaves-in-None.ensures in
+    subst
+    (λ (slots : List Slot). AreWithout (HasProofAt clauses slots) (length slots) c.in_ok-leaves-in-None.leaves.items)
+    slots_are
+    (all_before (HasProofAt clauses c.as_slice-slots.result.now) (length c.as_slice-slots.result.now) c.in_ok-leaves-in-None.leaves.items c.in_ok-leaves-in-None.ensures) in
     let not_empty = sym c.is_empty.ensures ∙ c.if-is_empty.false in
     rw c.new.ensures (some_without clauses c.args.self.now c.in_ok-leaves-in-None.leaves.items none left (not_none c.in_ok-leaves-in-None.leaves.items c.in_ok-leaves-in-None.leaves.len c.in_ok-leaves-in-None.leaves.ok.0 not_empty))

@@ -1,0 +1,119 @@
+//! Which leaves have no derivation that is accepted.
+ghost use Rattle.std.specs.Prelude.{◌≡◌, ℕ, ◌+◌, ◌<◌, ◌≤◌, length, slice_index_or, IfOk};
+ghost use Rattle.result_ledger.specs.Verdict.{HasProofAt};
+ghost use Rattle.result_ledger.specs.Pieces.{AreWithoutBetween, piece_start};
+
+use crate::confirming::is_proved;
+use crate::slot::Slot;
+use dimacs::ClauseList;
+use std::alloc::{AllocError, Global};
+use std::thread::{Threads, map_indices};
+
+/// The leaves without a derivation that is accepted, rising, of those from the one number on and before the other.
+fn without_proof_between<L: ClauseList>(
+    alloc: Global,
+    formula: &L,
+    slots: &[Slot],
+    from: usize,
+    end: usize,
+) -> Result<Vec<u32>, AllocError>
+    requires few { length slots.now ≤ 1024 }
+    requires within { (from ≤ end) × (end ≤ length slots.now) }
+    ensures { IfOk result (λ leaves. AreWithoutBetween (HasProofAt (L.formula formula.now).clauses slots.now) from end leaves.items) }
+{
+    let mut leaves = Vec::new(alloc);
+    for leaf in from..end {
+        let proved = is_proved(alloc, formula, &slots[leaf])?;
+        if proved {
+            continue;
+        }
+        leaves.push(leaf as u32)?;
+    }
+    Ok(leaves)
+}
+
+/// Where a piece begins, where pieces are of this size and there are so many leaves.
+fn start_of(size: usize, count: usize, piece: usize) -> usize
+    requires { (size ≤ 1024) × (piece ≤ 8) }
+    ensures { result ≡ piece_start size count piece }
+{
+    (piece * size).min(count)
+}
+
+/// The leaves of a piece without a derivation that is accepted, rising.
+fn without_proof_in<L: ClauseList>(
+    alloc: Global,
+    formula: &L,
+    slots: &[Slot],
+    size: usize,
+    piece: usize,
+) -> Result<Vec<u32>, AllocError>
+    requires few { length slots.now ≤ 1024 }
+    requires piece { (size ≤ 1024) × (piece < 8) }
+    ensures { IfOk result (λ leaves. AreWithoutBetween (HasProofAt (L.formula formula.now).clauses slots.now) (piece_start size (length slots.now) piece) (piece_start size (length slots.now) (piece + 1)) leaves.items) }
+{
+    let from = start_of(size, slots.len(), piece);
+    let end = start_of(size, slots.len(), piece + 1);
+    without_proof_between(alloc, formula, slots, from, end)
+}
+
+/// The leaves of all pieces, where these are those of each piece, in order.
+fn joined<L: ClauseList>(
+    alloc: Global,
+    _formula: &L,
+    _slots: &[Slot],
+    _size: usize,
+    pieces: Vec<Result<Vec<u32>, AllocError>>,
+) -> Result<Vec<u32>, AllocError>
+    requires { (k : ℕ) (d : _) → k < length pieces.items → IfOk (slice_index_or pieces.items k d) (λ leaves. AreWithoutBetween (HasProofAt (L.formula _formula.now).clauses _slots.now) (piece_start _size (length _slots.now) k) (piece_start _size (length _slots.now) (k + 1)) leaves.items) }
+    ensures { IfOk result (λ leaves. AreWithoutBetween (HasProofAt (L.formula _formula.now).clauses _slots.now) 0 (piece_start _size (length _slots.now) (length pieces.items)) leaves.items) }
+{
+    let mut all = Vec::new(alloc);
+    for piece in pieces {
+        let mut leaves = piece?;
+        all.append(&mut leaves)?;
+    }
+    Ok(all)
+}
+
+/// The leaves without a derivation that is accepted, rising. There are as many pieces as workers, each in a thread of its own where one
+/// can be made.
+fn without_proof_in_pieces<R: Threads + Sync, L: ClauseList + Sync>(
+    alloc: Global,
+    rt: &R,
+    formula: &L,
+    slots: &[Slot],
+    workers: u32,
+) -> Result<Vec<u32>, AllocError>
+    requires few { length slots.now ≤ 1024 }
+    requires workers { (1 ≤ workers) × (workers ≤ 8) }
+    ensures { IfOk result (λ leaves. AreWithoutBetween (HasProofAt (L.formula formula.now).clauses slots.now) 0 (length slots.now) leaves.items) }
+{
+    let count = workers as usize;
+    let size = slots.len().div_ceil(count);
+    let in_piece = move |piece: usize| -> Result<Vec<u32>, AllocError>
+        requires { (piece < 8) × (size ≤ 1024) × (length slots.now ≤ 1024) }
+        ensures { IfOk result (λ leaves. AreWithoutBetween (HasProofAt (L.formula formula.entry.now).clauses slots.entry.now) (piece_start size (length slots.entry.now) piece) (piece_start size (length slots.entry.now) (piece + 1)) leaves.items) }
+    { without_proof_in(alloc, formula, slots, size, piece) };
+    let pieces = map_indices(rt, alloc, count, &in_piece)?;
+    joined(alloc, formula, slots, size, pieces)
+}
+
+/// The leaves without a derivation that is accepted, rising, looked for by so many workers.
+pub(crate) fn without_proof<R: Threads + Sync, L: ClauseList + Sync>(
+    alloc: Global,
+    rt: &R,
+    formula: &L,
+    slots: &[Slot],
+    workers: u32,
+) -> Result<Vec<u32>, AllocError>
+    requires few { length slots.now ≤ 1024 }
+    requires workers { (1 ≤ workers) × (workers ≤ 8) }
+    ensures { IfOk result (λ leaves. AreWithoutBetween (HasProofAt (L.formula formula.now).clauses slots.now) 0 (length slots.now) leaves.items) }
+{
+    if workers == 1 {
+        without_proof_between(alloc, formula, slots, 0, slots.len())
+    } else {
+        without_proof_in_pieces(alloc, rt, formula, slots, workers)
+    }
+}
