@@ -1,5 +1,6 @@
 //! The engine that judges, over devices that move a byte a call and fail at one of their calls.
 
+use crate::expectations::expect;
 use dimacs::{MemorySink, ShortSink};
 use std::alloc::Global;
 use std::process::Abort;
@@ -28,8 +29,8 @@ fn assert_runs(
 ) {
     let mut output = MemorySink::new(alloc);
     let outcome = run_judge(alloc, &mut trace, &mut schedule, &mut output);
-    assert_eq!(rt; outcome, answer);
-    assert_eq!(rt; output.as_slice(), line);
+    assert!(rt; outcome == answer);
+    assert!(rt; output.as_slice() == line);
 }
 
 #[test]
@@ -70,39 +71,54 @@ fn reads_both_texts_before_it_judges_one(rt: HostRuntime) {
     );
 }
 
+/// Asserts what is answered and written where the sink fails at this call: this front of the line.
+fn assert_front_of_line(
+    rt: &impl Abort,
+    alloc: Global,
+    schedule: &str,
+    call: usize,
+    answer: Result<Status, Fault>,
+    front: &[u8],
+) {
+    let mut trace = ShortSource::new(HAND_OFF.as_bytes(), 7);
+    let mut names = ShortSource::new(schedule.as_bytes(), 7);
+    let mut output = ShortSink::new(alloc, 1).failing_at(call as u64);
+    let outcome = run_judge(alloc, &mut trace, &mut names, &mut output);
+    expect(rt, outcome == answer, call);
+    expect(rt, output.as_slice() == front, call);
+}
+
+/// Asserts what is answered and written where the sink fails at each of its calls, and behind the last one.
+fn assert_fronts(rt: &impl Abort, alloc: Global, schedule: &str, status: Status, line: &[u8]) {
+    for call in 1..=line.len() {
+        let answer = Err(Fault::Device);
+        assert_front_of_line(rt, alloc, schedule, call, answer, &line[..call - 1]);
+    }
+    let behind = line.len().wrapping_add(1);
+    assert_front_of_line(rt, alloc, schedule, behind, Ok(status), line);
+}
+
 #[test]
 fn tells_each_failure_of_the_sink(rt: HostRuntime) {
-    for (schedule, line, status) in [
-        (SCHEDULE, b"LEGAL\n".as_slice(), Status::Yes),
-        (
-            "Q.1\n",
-            b"ILLEGAL 4 WrongRead at 1\n".as_slice(),
-            Status::No,
-        ),
-    ] {
-        for call in 1..=line.len() + 1 {
-            let mut trace = ShortSource::new(HAND_OFF.as_bytes(), 7);
-            let mut names = ShortSource::new(schedule.as_bytes(), 7);
-            let mut output = ShortSink::new(rt.alloc(), 1).failing_at(call as u64);
-            let outcome = run_judge(rt.alloc(), &mut trace, &mut names, &mut output);
-            let answer = if call <= line.len() {
-                Err(Fault::Device)
-            } else {
-                Ok(status)
-            };
-            assert_eq!(rt; outcome, answer, "at {call}");
-            assert_eq!(rt; output.as_slice(), &line[..call - 1], "at {call}");
-        }
-    }
+    assert_fronts(&rt, rt.alloc(), SCHEDULE, Status::Yes, b"LEGAL\n");
+    let line = b"ILLEGAL 4 WrongRead at 1\n";
+    assert_fronts(&rt, rt.alloc(), "Q.1\n", Status::No, line);
+}
+
+/// The line of a fault.
+const REFUSAL: &[u8] = b"refused: device\n";
+
+/// Asserts that the sink has this front of the line of a fault where it fails at this call.
+fn assert_front_of_refusal(rt: &impl Abort, alloc: Global, call: usize, front: &[u8]) {
+    let mut error = ShortSink::new(alloc, 1).failing_at(call as u64);
+    let told = write_fault(alloc, &Fault::Device, &mut error);
+    expect(rt, told.is_ok() == (call > REFUSAL.len()), call);
+    expect(rt, error.as_slice() == front, call);
 }
 
 #[test]
 fn writes_a_front_of_the_line_of_a_fault(rt: HostRuntime) {
-    let line = b"refused: device\n".as_slice();
-    for call in 1..=line.len() + 1 {
-        let mut error = ShortSink::new(rt.alloc(), 1).failing_at(call as u64);
-        let told = write_fault(rt.alloc(), &Fault::Device, &mut error);
-        assert_eq!(&rt; told.is_ok(), call > line.len(), "at {call}");
-        assert_eq!(&rt; error.as_slice(), &line[..call - 1], "at {call}");
+    for call in 1..=REFUSAL.len() + 1 {
+        assert_front_of_refusal(&rt, rt.alloc(), call, &REFUSAL[..call - 1]);
     }
 }

@@ -9,6 +9,8 @@ mod devices;
 #[cfg(test)]
 mod exit_statuses;
 #[cfg(test)]
+mod expectations;
+#[cfg(test)]
 mod failing_devices;
 #[cfg(test)]
 mod lines_and_words;
