@@ -7,5 +7,6 @@ pub mod LeafLemmas
 pub mod PairLemmas
 pub mod PartLemmas
 pub mod PutLemmas
+pub mod ResultLemmas
 pub mod RunLemmas
 pub mod WorkerLemmas

@@ -100,7 +100,7 @@ module _ (r : ReducedValue) (ok : IsReduced r) (f : FormulaValue) (f_is : f ≡ 
   slots_cover = subst Covers (sym same) covers
 
   pub inconsistent : (count : ℕ) (derivations : List (List Step)) → IsCubeTree tree → derivations ≡ derivations_in slots → IsVerdict f.clauses slots (Inconsistent count) →
-    list_all (λ steps. list_all is_lrat_step steps) derivations ≡ true → IsDecided r.whole (IsInconsistent (record { tree = tree; derivations = derivations }))
+      list_all (λ steps. list_all is_lrat_step steps) derivations ≡ true → IsDecided r.whole (IsInconsistent (record { tree = tree; derivations = derivations }))
   inconsistent count derivations is_tree are h written =
       let by_leaf : AllZip (IsProofIn f.clauses) (cubes_in slots) (derivations_in slots) = proofs_by_leaf f.clauses slots count h in
       let here : AllZip (IsProofIn f.clauses) (cubes_of tree) derivations = subst (λ (ds : List (List Step)). AllZip (IsProofIn f.clauses) (cubes_of tree) ds) (sym are) (subst (λ (cs : List (List ℤ)). AllZip (IsProofIn f.clauses) cs (derivations_in slots)) same by_leaf) in (

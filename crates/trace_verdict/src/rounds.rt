@@ -9,7 +9,8 @@ ghost use Rattle.trace_verdict.specs.Rounds.{KeepAnswers, IsAfterRound, IsConfir
 use crate::decided::Decided;
 use crate::splitting::split_all;
 use clause_blocks::trace_clauses::TraceClauses;
-use cube_queue::{Gate, MOST_LITERALS, Options, SearchFault, Settled, search};
+use cube_queue::{Gate, MOST_LITERALS, Options, SearchFault, Settled};
+use cube_search::search;
 use cube_tree::{Tree, grow};
 use result_ledger::{Ledger, Verdict};
 use solver::Guide;
