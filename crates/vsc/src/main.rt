@@ -20,6 +20,7 @@ mod stream_sink;
 
 use command_line::{Line, LineFault, SearchNumbers, read_line};
 use cube_queue::{Gate, OpenGate, Options};
+use dimacs::SinkFault;
 use file_sink::FileSink;
 use file_source::FileSource;
 use progress::Progress;
@@ -229,6 +230,15 @@ fn run_engine(
     }
 }
 
+/// Tells the fault on standard error, or that there is no memory for its line.
+fn tell_fault(rt: &HostRuntime, fault: &Fault) {
+    let mut error = StreamSink::new(rt.stderr());
+    // Where standard error is closed too, the exit status alone tells.
+    if let Err(SinkFault::OutOfMemory) = write_fault(rt.alloc(), fault, &mut error) {
+        let _ = write_fault(rt.alloc(), &Fault::OutOfMemory, &mut error);
+    }
+}
+
 /// Does what the command line asks for.
 fn run_line(rt: &HostRuntime, threads: &(impl Threads + Wait + Sync), line: Line<'_>) -> u8
     requires { IsWithinRanges line }
@@ -237,9 +247,7 @@ fn run_line(rt: &HostRuntime, threads: &(impl Threads + Wait + Sync), line: Line
 {
     let outcome = run_engine(rt, threads, line);
     if let Err(fault) = &outcome {
-        let mut error = StreamSink::new(rt.stderr());
-        // Where standard error is closed too, the exit status alone tells.
-        let _ = write_fault(rt.alloc(), fault, &mut error);
+        tell_fault(rt, fault);
     }
     exit_status(&outcome)
 }
