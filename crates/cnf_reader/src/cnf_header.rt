@@ -1,7 +1,6 @@
 //! The header of a formula's text.
 
 ghost use Rattle.std.specs.Prelude.{◌≡◌, ◌≤◌, None, Some, MatchResult, MatchOption};
-ghost use Rattle.std.specs.Str.{bytes_eq};
 ghost use Rattle.text_lines.specs.Words.{words_of};
 ghost use Rattle.cnf_reader.specs.CnfReading.{header_of, header_of_counts, header_cause, begins_header};
 ghost use Rattle.dimacs.specs.Literal.{most_variable};
@@ -10,7 +9,7 @@ ghost use Rattle.text_lines.specs.Numbers.{digits_up_to};
 use crate::cnf_fault::CnfCause;
 use dimacs::MAX_VARIABLE;
 use text_lines::numbers::read_digits;
-use text_lines::words::cut_word;
+use text_lines::words::{cut_word, is_word};
 
 /// The most clauses that a header announces.
 const MAX_CLAUSES: u32 = 16_777_216;
@@ -22,13 +21,6 @@ pub(crate) struct Counts {
     pub variables: u32,
     /// The clauses.
     pub clauses: u32,
-}
-
-/// Whether the word is this text.
-fn is_word(word: &[u8], text: &str) -> bool
-    ensures { result ≡ bytes_eq word.now text.now }
-{
-    word == text.as_bytes()
 }
 
 /// The counts that two words write.

@@ -260,6 +260,19 @@ impl Spelling {
         })
     }
 
+    /// Appends the number of the literal that says that one writer stands before another, if there are both.
+    fn push_before(
+        &self,
+        numbers: &mut Vec<i32>,
+        first: Option<u32>,
+        second: Option<u32>,
+    ) -> Result<(), AllocError> {
+        if let (Some(first), Some(second)) = (first, second) {
+            numbers.push(before(self.writers, first, second))?;
+        }
+        Ok(())
+    }
+
     /// Adds the clause which says that the writer does not come between the source and the reader, where the choice is made.
     fn add_between(
         &mut self,
@@ -270,12 +283,8 @@ impl Spelling {
     ) -> Result<(), AllocError> {
         let mut numbers = Vec::new(self.alloc);
         numbers.push(made.wrapping_neg())?;
-        if let Some(source) = source {
-            numbers.push(before(self.writers, writer, source))?;
-        }
-        if let Some(reader) = place {
-            numbers.push(before(self.writers, reader, writer))?;
-        }
+        self.push_before(&mut numbers, Some(writer), source)?;
+        self.push_before(&mut numbers, place, Some(writer))?;
         let _number = self.add(numbers.as_slice())?;
         Ok(())
     }

@@ -1,7 +1,6 @@
 //! The line of a node in a tree's text.
 
 ghost use Rattle.std.specs.Prelude.{◌≡◌, ◌++◌, OnOk};
-ghost use Rattle.std.specs.Str.{bytes_eq};
 ghost use Rattle.text_lines.specs.Words.{words_of};
 ghost use Rattle.cube_tree.specs.TreeFault.{node_of, variable_of};
 ghost use Rattle.cube_tree.specs.NodeText.{node_text};
@@ -11,14 +10,7 @@ use dimacs::MAX_VARIABLE;
 use itoa::Buffer;
 use std::alloc::AllocError;
 use text_lines::numbers::read_plain;
-use text_lines::words::cut_word;
-
-/// Whether the word is this text.
-fn is_word(word: &[u8], text: &str) -> bool
-    ensures { result ≡ bytes_eq word.now text.now }
-{
-    word == text.as_bytes()
-}
+use text_lines::words::{cut_word, is_word};
 
 /// The variable that the word writes.
 fn read_variable(word: &[u8]) -> Option<u32>

@@ -1,15 +1,20 @@
 //! Truth values as schedules, with the formula of a trace. `tests/examples/decode.txt` has these without it.
 
-use crate::expectations::expect;
+ghost use Rattle.std.specs.Prelude.{◌≡◌};
+ghost use Rattle.clause_blocks.specs.Clauses.{formula_of};
+
+use crate::expectations::{ample, expect};
 use crate::traces_of_texts::{HAND_OFF, STORE_BUFFERING, reduced_of};
 use clause_blocks::formula::formula;
-use dimacs::Assignment;
+use dimacs::{Assignment, Formula};
+use reducer::reduced::Reduced;
 use schedule_decode::decode::decode;
+use schedule_decode::decode_fault::DecodeFault;
 use schedule_text::schedule_writer::write_schedule;
 use std::alloc::{AllocError, Global};
 use std::process::Abort;
-use std::test::Fail;
 use std::thread::Threads;
+use traces::schedule::Schedule;
 
 /// A process writes the initial value again, and another one reads it.
 const WRITTEN_AGAIN: &str = "vsc 1\ninit x 0\nproc P\nW x 0\nproc Q\nR x 0\n";
@@ -40,28 +45,47 @@ const TOLD: [Told; 9] = [
     (STORE_BUFFERING, &[true; 8], "2 NotAModel at 14"),
 ];
 
-/// Whether this becomes of these truth values.
-fn is_told<R: Threads + Sync + Abort>(
-    rt: &R,
+/// The formula of the trace.
+fn formula_of_trace<R: Threads + Sync + Abort>(rt: &R, alloc: Global, reduced: &Reduced) -> Formula
+    ensures { result ≡ formula_of reduced.now.kept }
+{
+    match formula(alloc, rt, reduced, 1) {
+        Ok(formula) => formula,
+        Err(_) => panic!(rt; "there is no memory"),
+    }
+}
+
+/// Whether this schedule was found, or this fault.
+fn is_told(
     alloc: Global,
-    trace: &str,
-    values: &[bool],
+    decoded: Result<Schedule, DecodeFault>,
     answer: &str,
 ) -> Result<bool, AllocError> {
-    let reduced = reduced_of(rt, alloc, trace);
-    let assignment = Assignment::new(Vec::from_slice(alloc, values)?);
-    let formula = formula(alloc, rt, &reduced, 1)?;
-    match decode(alloc, &reduced, &formula, &assignment) {
+    match decoded {
         Ok(schedule) => Ok(write_schedule(alloc, &schedule)?.as_slice() == answer.as_bytes()),
         Err(fault) => Ok(fault.to_string(alloc)?.as_str() == answer),
     }
 }
 
+/// Asserts that this becomes of these truth values.
+fn assert_told<R: Threads + Sync + Abort>(
+    rt: &R,
+    alloc: Global,
+    trace: &str,
+    values: &[bool],
+    answer: &str,
+) {
+    let reduced = reduced_of(rt, alloc, trace);
+    let formula = formula_of_trace(rt, alloc, &reduced);
+    let assignment = Assignment::new(ample(rt, Vec::from_slice(alloc, values)));
+    let decoded = decode(alloc, &reduced, &formula, &assignment);
+    let is_right = ample(rt, is_told(alloc, decoded, answer));
+    expect(rt, is_right, answer.len());
+}
+
 #[test]
-fn decodes_models_and_refuses_what_is_none(rt: HostRuntime) -> Result<(), Fail> {
+fn decodes_models_and_refuses_what_is_none(rt: HostRuntime) {
     for (trace, values, answer) in &TOLD {
-        let is_right = is_told(&rt, rt.alloc(), trace, values, answer)?;
-        expect(&rt, is_right, answer.len());
+        assert_told(&rt, rt.alloc(), trace, values, answer);
     }
-    Ok(())
 }

@@ -115,15 +115,20 @@ fn keeps_literals(rt: HostRuntime) {
     assert!(rt; !last.is_positive() && last.negated() == Lit::positive(MAX_VARIABLE));
 }
 
+/// Whether these are the literals of the clause.
+fn is_of(clause: Clause, literals: &[Lit]) -> bool {
+    clause.as_slice() == literals
+}
+
 #[test]
 fn keeps_literals_in_clauses(rt: HostRuntime) {
     let alloc = rt.alloc();
     let [first, second] = [Lit::positive(7), Lit::positive(9).negated()];
     let last = Lit::positive(MAX_VARIABLE).negated();
     are_literals(&[first, second, last]);
-    assert!(rt; Clause::unit(alloc, first).as_slice() == [first].as_slice());
-    assert!(rt; Clause::binary(alloc, first, second).as_slice() == [first, second].as_slice());
+    assert!(rt; is_of(Clause::unit(alloc, first), &[first]));
+    assert!(rt; is_of(Clause::binary(alloc, first, second), &[first, second]));
     let clause = Clause::ternary(alloc, first, second, last);
-    assert!(rt; clause.as_slice() == [first, second, last].as_slice());
     assert!(rt; clause.is_over(MAX_VARIABLE) && !clause.is_over(9));
+    assert!(rt; is_of(clause, &[first, second, last]));
 }
