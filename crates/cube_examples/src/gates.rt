@@ -1,24 +1,27 @@
 //! When a gate is called, and what is searched behind it.
 
 use crate::texts::{WRITTEN_AGAIN, formula_of, tree_of};
-use cube_queue::{Gate, Options, Outcome, search};
+use cube_queue::{Gate, Options, Outcome};
+use cube_search::search;
 use result_ledger::Ledger;
 use solver::Guide;
-use std::cell::Cell;
+use std::sync::atomic::{AtomicU64, Ordering};
 use std::test::Fail;
 
 /// A gate that notes its calls, each as a digit: 2t + 1 before the job of ticket t, and 2t + 2 after it.
 #[derive(Drop)]
 struct NotingGate {
-    calls: Cell<u64>,
+    calls: AtomicU64,
 }
 
 impl NotingGate {
     /// Notes a call of this digit.
     fn note(&self, digit: u32) {
-        let before = self.calls.get();
-        self.calls
-            .set(before.wrapping_mul(10).wrapping_add(u64::from(digit)));
+        let before = self.calls.load(Ordering::SeqCst);
+        self.calls.store(
+            before.wrapping_mul(10).wrapping_add(u64::from(digit)),
+            Ordering::SeqCst,
+        );
     }
 }
 
@@ -42,7 +45,7 @@ fn calls_the_gate_and_skips_after_a_model(rt: HostRuntime) -> Result<(), Fail> {
         .ok_or("an option is out of its range")?;
     let which = Ledger::new(alloc, &tree)?.unanswered(alloc)?;
     let gate = NotingGate {
-        calls: Cell::new(0),
+        calls: AtomicU64::new(0),
     };
     let results = search(
         alloc,
@@ -56,7 +59,7 @@ fn calls_the_gate_and_skips_after_a_model(rt: HostRuntime) -> Result<(), Fail> {
     )
     .ok()
     .ok_or("there are no results")?;
-    assert_eq!(&rt; gate.calls.get(), 123_456);
+    assert_eq!(&rt; gate.calls.load(Ordering::SeqCst), 123_456);
     assert_eq!(&rt; results.len(), 3);
     for (leaf, settled) in results.iter().enumerate() {
         assert!(&rt; settled.ticket() as usize == leaf);

@@ -2,7 +2,8 @@
 
 use crate::answers::{Expected, is_expected};
 use crate::texts::{READS_FIRST, STORE_BUFFERING, WRITTEN_AGAIN, formula_of, tree_of};
-use cube_queue::{OpenGate, Options, search};
+use cube_queue::{OpenGate, Options};
+use cube_search::search;
 use result_ledger::Ledger;
 use solver::Guide;
 use std::test::Fail;

@@ -1,4 +1,4 @@
-//! Cubes as jobs: what is handed to a worker, what comes back, and the search that settles the leaves of a tree.
+//! Cubes as jobs: what is handed to a worker, and what comes back.
 #![tactic(auto)]
 
 mod gate;
@@ -8,7 +8,6 @@ mod models;
 pub mod options;
 mod outcome;
 mod search_fault;
-mod searching;
 
 pub use gate::{Gate, OpenGate};
 pub use job::{Job, Settled};
@@ -17,4 +16,3 @@ pub use models::is_model_in;
 pub use options::{BadOption, Options};
 pub use outcome::Outcome;
 pub use search_fault::SearchFault;
-pub use searching::search;

@@ -1,9 +1,12 @@
 pub mod AnswerLemmas
 pub mod CrewLemmas
+pub mod HandleLemmas
 pub mod JobLemmas
 pub mod JoinLemmas
 pub mod LeafLemmas
 pub mod PairLemmas
 pub mod PartLemmas
 pub mod PutLemmas
+pub mod ResultLemmas
 pub mod RunLemmas
+pub mod WorkerLemmas

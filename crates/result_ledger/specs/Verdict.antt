@@ -1,19 +1,20 @@
 -- The verdict on a formula, by what was answered for each leaf of a tree.
 use Rattle.std.specs.Prelude.{◌≡◌, ◌≢◌, ◌⊎◌, ℕ, ◌<◌, ℤ, Bool, IsTrue, List, [], length, Some}
-use Rattle.std.specs.List.{AllPairs, Contains, list_all, slice_get}
+use Rattle.std.specs.List.{AllPairs, Contains, slice_get}
 use Rattle.dimacs.specs.Assignment.{value_of}
 use Rattle.lrat_check.specs.declared.derivation.Step.{Step}
 use Rattle.lrat_check.specs.Checked.{IsAccepted}
-use Rattle.lrat_check.specs.LratText.{is_lrat_step}
+use Rattle.lrat_check.specs.Derivation.{are_steps}
 use Rattle.cube_queue.specs.declared.outcome.Outcome.TheVariants.{Model, Refuted}
 use Rattle.cube_queue.specs.Models.{IsModelIn}
 use Rattle.result_ledger.specs.declared.slot.Slot.{Slot}
 use Rattle.result_ledger.specs.declared.verdict.Verdict.{Verdict}
 use Rattle.result_ledger.specs.declared.verdict.Verdict.TheVariants.{Consistent, Inconsistent, Unknown}
 
--- the steps can be written as LRAT, and are accepted as a derivation of the empty clause from the clauses and the cube
+-- the steps add clauses, as those of each derivation do, and are accepted as a derivation of the empty clause from the clauses and the
+-- cube
 pub record IsProofIn (clauses : List (List ℤ)) (cube : List ℤ) (steps : List Step) : Type 0 where
-  pub written : IsTrue (list_all is_lrat_step steps)
+  pub additions : IsTrue (are_steps steps)
   pub accepted : IsAccepted clauses cube steps
 
 -- the answer is a model, with these truth values, that makes the cube true

@@ -4,7 +4,6 @@ ghost use Rattle.cube_queue.specs.declared.outcome.Outcome.TheVariants.{Model, R
 ghost use Rattle.lrat_check.specs.declared.derivation.Step.{Step};
 ghost use Rattle.result_ledger.specs.Verdict.{IsProofIn, IsModelAnswer, IsProofAnswer, HasModelAt, HaveNoModelBefore};
 
-use crate::lrat_steps::are_lrat_steps;
 use crate::slot::Slot;
 use cube_queue::{Outcome, is_model_in};
 use dimacs::{Assignment, ClauseList, Lit};
@@ -44,7 +43,7 @@ fn said_derivation(outcome: &Option<Outcome>) -> Option<&Derivation>
     }
 }
 
-/// Whether the derivation can be written and is accepted for the cube.
+/// Whether the derivation is accepted for the cube.
 fn is_proof_in<L: ClauseList>(
     alloc: Global,
     formula: &L,
@@ -54,9 +53,9 @@ fn is_proof_in<L: ClauseList>(
     ensures { IfOk result (λ proved. IsTrue proved ↔ IsProofIn (L.formula formula.now).clauses cube.now derivation.now) }
 {
     never_accepted_and_refused();
-    let steps = derivation.steps();
+    let _additions = derivation.steps();
     match check(alloc, formula, cube, derivation) {
-        Ok(_) => Ok(are_lrat_steps(steps)),
+        Ok(_) => Ok(true),
         Err(Refusal::At(_, _)) => Ok(false),
         Err(Refusal::OutOfMemory) => Err(AllocError),
     }

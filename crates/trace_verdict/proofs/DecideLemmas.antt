@@ -1,10 +1,9 @@
 -- From the verdict on the formula of a kept trace to what is decided of the whole trace.
-use Rattle.std.proofs.Common.{◌≡◌, ℕ, zero, suc, ◌+◌, ◌<◌, ◌≤◌, ℤ, Bool, true, List, [], ◌∷◌, ◌++◌, length, map, take, get_or, Some, refl, sym, ◌∙◌, ap, subst, arith}
+use Rattle.std.proofs.Common.{◌≡◌, ℕ, suc, ◌+◌, ◌<◌, ◌≤◌, ℤ, Bool, true, List, [], ◌∷◌, ◌++◌, length, map, take, get_or, Some, sym, ◌∙◌, ap, subst, arith}
 use Rattle.std.proofs.Math.Seq.{take-suc}
 use Rattle.std.proofs.lemmas.List.{map-append, take_all}
 use Rattle.std.specs.List.{AllZip, list_all, Contains, slice_get}
-use Rattle.std.proofs.lemmas.Option.{slice_get_within, slice_get_read}
-use Rattle.traces.proofs.ElementLemmas.{to_map, from_map}
+use Rattle.traces.proofs.ElementLemmas.{in_middle, to_map, from_map}
 use Rattle.traces.specs.declared.operation.OpName.{OpName}
 use Rattle.traces.specs.Legal.{IsLegal}
 use Rattle.reducer.specs.Reduced.{ReducedValue, IsReduced}
@@ -22,6 +21,8 @@ use Rattle.dimacs.specs.Assignment.{makes_all, value_of}
 use Rattle.dimacs.specs.Formula.{FormulaValue, is_formula}
 use Rattle.dimacs.specs.Literal.{is_clause}
 use Rattle.dimacs.specs.Models.{IsModel}
+use Rattle.lrat_check.specs.Checked.{IsAccepted}
+use Rattle.lrat_check.specs.LratText.{is_lrat_step}
 use Rattle.lrat_check.specs.declared.derivation.Step.{Step}
 use Rattle.result_ledger.specs.declared.slot.Slot.{Slot}
 use Rattle.result_ledger.specs.declared.verdict.Verdict.{Verdict}
@@ -77,6 +78,19 @@ model_of_schedule t ok names legal =
     let made = schedule_values (kept_trace t) (reduced t names) (kept_is_trace t ok) (reduction_legal t names ok legal) in
     (made.0, made.1)
 
+-- each derivation is accepted for its cube
+all_accepted : (clauses cubes : List (List ℤ)) (derivations : List (List Step)) → AllZip (IsProofIn clauses) cubes derivations → AllZip (IsAccepted clauses) cubes derivations
+all_accepted clauses [] [] h = tt
+all_accepted clauses [] (steps ∷ derivations) h = absurd h
+all_accepted clauses (cube ∷ cubes) [] h = absurd h
+all_accepted clauses (cube ∷ cubes) (steps ∷ derivations) h = (h.0.accepted, all_accepted clauses cubes derivations h.1)
+
+-- where nothing more is known, all models are in the cubes of the tree
+pub nothing_known : (value : TraceValue) (tree : CubeTree) → Covers (cubes_of tree) → IsDecided value (IsUnknown (cubes_of tree))
+nothing_known value tree covers truth model =
+    let meets = covers truth in
+    (meets.cube, subst (λ (cs : List (List ℤ)). Contains cs meets.cube) (sym meets.parts) (in_middle meets.before meets.cube meets.after), meets.met)
+
 module _ (r : ReducedValue) (ok : IsReduced r) (f : FormulaValue) (f_is : f ≡ formula_of r.kept) (fine : is_formula f ≡ true)
     (tree : CubeTree) (slots : List Slot) (same : cubes_in slots ≡ cubes_of tree) (clean : list_all is_clause (cubes_in slots) ≡ true) (covers : Covers (cubes_of tree)) where
   clauses_are : f.clauses ≡ clauses_of (kept_trace r.whole)
@@ -85,11 +99,12 @@ module _ (r : ReducedValue) (ok : IsReduced r) (f : FormulaValue) (f_is : f ≡ 
   slots_cover : Covers (cubes_in slots)
   slots_cover = subst Covers (sym same) covers
 
-  pub inconsistent : (count : ℕ) (derivations : List (List Step)) → IsCubeTree tree → derivations ≡ derivations_in slots → IsVerdict f.clauses slots (Inconsistent count) → IsDecided r.whole (IsInconsistent (record { tree = tree; derivations = derivations }))
-  inconsistent count derivations is_tree are h =
+  pub inconsistent : (count : ℕ) (derivations : List (List Step)) → IsCubeTree tree → derivations ≡ derivations_in slots → IsVerdict f.clauses slots (Inconsistent count) →
+      list_all (λ steps. list_all is_lrat_step steps) derivations ≡ true → IsDecided r.whole (IsInconsistent (record { tree = tree; derivations = derivations }))
+  inconsistent count derivations is_tree are h written =
       let by_leaf : AllZip (IsProofIn f.clauses) (cubes_in slots) (derivations_in slots) = proofs_by_leaf f.clauses slots count h in
       let here : AllZip (IsProofIn f.clauses) (cubes_of tree) derivations = subst (λ (ds : List (List Step)). AllZip (IsProofIn f.clauses) (cubes_of tree) ds) (sym are) (subst (λ (cs : List (List ℤ)). AllZip (IsProofIn f.clauses) cs (derivations_in slots)) same by_leaf) in (
-        record { is_tree = is_tree; proofs = subst (λ (cs : List (List ℤ)). AllZip (IsProofIn cs) (cubes_of tree) derivations) clauses_are here },
+        record { is_tree = is_tree; proofs = subst (λ (cs : List (List ℤ)). AllZip (IsAccepted cs) (cubes_of tree) derivations) clauses_are (all_accepted f.clauses (cubes_of tree) derivations here); written = written },
         λ names legal.
             let model = model_of_schedule r.whole ok.is_trace names legal in
             no_model_anywhere f slots count fine clean slots_cover h model.0 (subst (λ (cs : List (List ℤ)). IsModel model.0 cs) (sym clauses_are) model.1),

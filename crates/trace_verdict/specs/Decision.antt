@@ -1,6 +1,6 @@
 -- What is decided of a trace.
 use Rattle.std.specs.Prelude.{◌≡◌, ℕ, ℤ, Bool, IsTrue, List, [], ◌++◌, length, map, Some, codes, decimal}
-use Rattle.std.specs.List.{AllZip, Contains, flat_map, slice_get}
+use Rattle.std.specs.List.{AllZip, Contains, flat_map, list_all, slice_get}
 use Rattle.dimacs.specs.Assignment.{makes_all}
 use Rattle.dimacs.specs.CnfText.{clause_line}
 use Rattle.dimacs.specs.Models.{IsModel}
@@ -15,15 +15,17 @@ use Rattle.certificate.specs.declared.certificate.Certificate.{Certificate}
 use Rattle.cube_tree.specs.CubeTree.{cubes_of, leaves, IsCubeTree}
 use Rattle.result_ledger.specs.declared.slot.Slot.{Slot}
 use Rattle.result_ledger.specs.Ledger.{cubes_in}
-use Rattle.result_ledger.specs.Verdict.{IsProofIn}
+use Rattle.lrat_check.specs.Checked.{IsAccepted}
+use Rattle.lrat_check.specs.LratText.{is_lrat_step}
 use Rattle.trace_verdict.specs.declared.decision.Decision.{Decision}
 use Rattle.trace_verdict.specs.declared.decision.Decision.TheVariants.{Consistent, Inconsistent, Unknown}
 use Rattle.trace_verdict.specs.declared.refutation.Refutation.{Refutation}
 
--- it is a tree and, for the cube of each of its leaves, in their order, a derivation that can be written and is accepted
+-- it is a tree and, for the cube of each of its leaves, in their order, a derivation that is accepted; and all of them can be written as LRAT
 pub record IsRefutation (clauses : List (List ℤ)) (refutation : Refutation) : Type 0 where
   pub is_tree : IsCubeTree refutation.tree
-  pub proofs : AllZip (IsProofIn clauses) (cubes_of refutation.tree) refutation.derivations
+  pub proofs : AllZip (IsAccepted clauses) (cubes_of refutation.tree) refutation.derivations
+  pub written : IsTrue (list_all (λ steps. list_all is_lrat_step steps) refutation.derivations)
 
 -- each model of the clauses makes all literals of one of the cubes true
 abbrev pub HoldModels : List (List ℤ) → List (List ℤ) → Type 0

@@ -2,6 +2,7 @@
 ghost use Rattle.std.specs.Prelude.{◌≡◌, ◌<◌, ℕ, length, IfOk};
 ghost use Rattle.std.specs.List.{Contains};
 ghost use Rattle.clause_blocks.specs.Clauses.{clauses_of};
+ghost use Rattle.cube_tree.specs.CubeTree.{cubes_of};
 ghost use Rattle.dimacs.specs.Assignment.{value_of};
 ghost use Rattle.schedule_decode.specs.Decode.{IsModelOfKept};
 ghost use Rattle.traces.specs.Legal.{IsLegal};
@@ -12,16 +13,19 @@ use crate::cubes::Cubes;
 use crate::decided::Decided;
 use crate::decision::Decision;
 use crate::guide::{guide_to_order, readings_of};
+use crate::lrat_steps::can_be_written;
 use crate::refutation::Refutation;
 use crate::rounds::search_in_rounds;
 use clause_blocks::trace_clauses::TraceClauses;
 use cube_queue::{Gate, JobCube, Options, SearchFault};
+use cube_tree::{Tree, cubes};
 use dimacs::{Assignment, ClauseList};
 use reducer::expand::expand;
 use reducer::reduced::Reduced;
 use result_ledger::{Ledger, Verdict, inconsistent_has_no_model, unknown_holds_all_models};
 use schedule_decode::decode::schedule_of;
 use std::alloc::{AllocError, Global};
+use std::sync::Wait;
 use std::thread::Threads;
 use traces::schedule::Schedule;
 
@@ -52,7 +56,20 @@ fn cubes_of_leaves(alloc: Global, ledger: &Ledger, leaves: &[u32]) -> Result<Cub
     Ok(Cubes::new(cubes))
 }
 
-/// What is decided of the whole trace, by the verdict on the clauses of what is kept of it.
+/// The cubes of all leaves, in order.
+fn all_cubes(alloc: Global, tree: &Tree) -> Result<Cubes, AllocError>
+    ensures { IfOk result (λ cubes. cubes ≡ cubes_of tree.now) }
+{
+    let leaves = cubes(alloc, tree)?;
+    let mut all = Vec::with_capacity(alloc, leaves.len())?;
+    for leaf in leaves.as_slice() {
+        all.push(JobCube::of(alloc, leaf.as_slice()))?;
+    }
+    Ok(Cubes::new(all))
+}
+
+/// What is decided of the whole trace, by the verdict on the clauses of what is kept of it. Derivations that cannot be written as LRAT
+/// decide nothing, since nobody could check them again.
 fn decision_of(
     alloc: Global,
     reduced: &Reduced,
@@ -81,7 +98,12 @@ fn decision_of(
         }
         Verdict::Inconsistent(_) => {
             let derivations = ledger.into_derivations(alloc)?;
-            Ok(Decision::Inconsistent(Refutation { tree, derivations }))
+            if can_be_written(derivations.as_slice()) {
+                Ok(Decision::Inconsistent(Refutation { tree, derivations }))
+            } else {
+                let cubes = all_cubes(alloc, &tree)?;
+                Ok(Decision::Unknown(cubes))
+            }
         }
         Verdict::Unknown(leaves) => {
             let cubes = cubes_of_leaves(alloc, &ledger, leaves.as_slice())?;
@@ -91,7 +113,7 @@ fn decision_of(
 }
 
 /// Decides whether the whole trace has a legal schedule, as far as the options let the search go.
-pub fn decide<R: Threads + Sync, G: Gate>(
+pub fn decide<R: Threads + Wait + Sync, G: Gate + Sync>(
     alloc: Global,
     rt: &R,
     reduced: &Reduced,

@@ -9,11 +9,13 @@ ghost use Rattle.trace_verdict.specs.Rounds.{KeepAnswers, IsAfterRound, IsConfir
 use crate::decided::Decided;
 use crate::splitting::split_all;
 use clause_blocks::trace_clauses::TraceClauses;
-use cube_queue::{Gate, MOST_LITERALS, Options, SearchFault, Settled, search};
+use cube_queue::{Gate, MOST_LITERALS, Options, SearchFault, Settled};
+use cube_search::search;
 use cube_tree::{Tree, grow};
 use result_ledger::{Ledger, Verdict};
 use solver::Guide;
 use std::alloc::{AllocError, Global};
+use std::sync::Wait;
 use std::thread::Threads;
 
 /// Enters the result. One that the ledger refuses is dropped, and its leaf stays as it was.
@@ -46,7 +48,7 @@ fn open_leaves(alloc: Global, _tree: &Tree, ledger: &Ledger) -> Result<Vec<u32>,
 }
 
 /// Searches the leaves that have no answer, and confirms what was answered for all of them. What was answered before stays.
-fn search_open<R: Threads + Sync, G: Gate>(
+fn search_open<R: Threads + Wait + Sync, G: Gate + Sync>(
     alloc: Global,
     rt: &R,
     clauses: &TraceClauses,
@@ -82,7 +84,7 @@ fn search_open<R: Threads + Sync, G: Gate>(
 }
 
 /// One more round, where the verdict is open: the open leaves are split, and the new leaves are searched.
-fn search_again<R: Threads + Sync, G: Gate>(
+fn search_again<R: Threads + Wait + Sync, G: Gate + Sync>(
     alloc: Global,
     rt: &R,
     clauses: &TraceClauses,
@@ -121,7 +123,7 @@ fn search_again<R: Threads + Sync, G: Gate>(
 }
 
 /// Searches in rounds, at most as many as the options say.
-pub(crate) fn search_in_rounds<R: Threads + Sync, G: Gate>(
+pub(crate) fn search_in_rounds<R: Threads + Wait + Sync, G: Gate + Sync>(
     alloc: Global,
     rt: &R,
     clauses: &TraceClauses,

@@ -16,6 +16,7 @@ use crate::status::Status;
 use cube_queue::{Gate, Options};
 use dimacs::{Sink, write_whole};
 use std::alloc::Global;
+use std::sync::Wait;
 use std::thread::Threads;
 use trace_verdict::laws::certificate_is_accepted;
 use trace_verdict::{Decision, decide, report_of, write_certificate};
@@ -27,7 +28,7 @@ use trace_verdict::{Decision, decide, report_of, write_certificate};
 /// The first refusal stands: of a source that fails, an input past the limit, the trace's text, a trace of which more than
 /// 160 operations are kept, the search, lack of memory, or the sink. Before the last a prefix of the report may have been
 /// written, and before the others nothing.
-pub fn run_verify<R: Threads + Sync, T: Source, G: Gate, W: Sink>(
+pub fn run_verify<R: Threads + Wait + Sync, T: Source, G: Gate + Sync, W: Sink>(
     alloc: Global,
     rt: &R,
     trace: &mut T,
@@ -54,7 +55,7 @@ pub fn run_verify<R: Threads + Sync, T: Source, G: Gate, W: Sink>(
 ///
 /// Where memory runs out or a sink fails while the certificate or the report is written, a prefix of the two may have been written, the
 /// certificate first. Before the other refusals, which are those of `run_verify`, nothing was.
-pub fn run_certified_verify<R: Threads + Sync, T: Source, G: Gate, C: Sink, W: Sink>(
+pub fn run_certified_verify<R: Threads + Wait + Sync, T: Source, G: Gate + Sync, C: Sink, W: Sink>(
     alloc: Global,
     rt: &R,
     trace: &mut T,
@@ -83,7 +84,7 @@ pub fn run_certified_verify<R: Threads + Sync, T: Source, G: Gate, C: Sink, W: S
 }
 
 /// What is decided of the trace that the text spells.
-fn decide_text<R: Threads + Sync, G: Gate>(
+fn decide_text<R: Threads + Wait + Sync, G: Gate + Sync>(
     alloc: Global,
     rt: &R,
     text: &[u8],

@@ -27,6 +27,7 @@ use std::alloc::{AllocError, Global};
 use std::env;
 use std::io::ErrorKind;
 use std::process::ExitCode;
+use std::sync::Wait;
 use std::thread::Threads;
 use stream_sink::StreamSink;
 use verdict_report::{
@@ -125,9 +126,9 @@ fn options_of(numbers: SearchNumbers) -> Options
 
 /// Decides whether the trace in the file at this path has a legal schedule, with the gate, and writes the report to the standard
 /// output.
-fn decide_file<G: Gate>(
+fn decide_file<G: Gate + Sync>(
     rt: &HostRuntime,
-    threads: &(impl Threads + Sync),
+    threads: &(impl Threads + Wait + Sync),
     trace: &str,
     options: &Options,
     gate: &G,
@@ -141,9 +142,9 @@ fn decide_file<G: Gate>(
 
 /// The same, where a certificate is asked for. Its file is made or emptied before the trace is opened, and `Device` is answered where
 /// that is not possible.
-fn certify_file<G: Gate>(
+fn certify_file<G: Gate + Sync>(
     rt: &HostRuntime,
-    threads: &(impl Threads + Sync),
+    threads: &(impl Threads + Wait + Sync),
     trace: &str,
     cert: &str,
     options: &Options,
@@ -169,9 +170,9 @@ fn certify_file<G: Gate>(
 
 /// Decides whether the trace in the file at this path has a legal schedule, with the gate, and writes the certificate to a file where
 /// one is asked for.
-fn decide_gated<G: Gate>(
+fn decide_gated<G: Gate + Sync>(
     rt: &HostRuntime,
-    threads: &(impl Threads + Sync),
+    threads: &(impl Threads + Wait + Sync),
     trace: &str,
     cert: Option<&str>,
     options: &Options,
@@ -189,7 +190,7 @@ fn decide_gated<G: Gate>(
 /// asked for.
 fn verify_file(
     rt: &HostRuntime,
-    threads: &(impl Threads + Sync),
+    threads: &(impl Threads + Wait + Sync),
     trace: &str,
     cert: Option<&str>,
     options: &Options,
@@ -207,7 +208,7 @@ fn verify_file(
 /// Runs the engine that the command line asks for.
 fn run_engine(
     rt: &HostRuntime,
-    threads: &(impl Threads + Sync),
+    threads: &(impl Threads + Wait + Sync),
     line: Line<'_>,
 ) -> Result<Status, Fault>
     requires { IsWithinRanges line }
@@ -229,7 +230,7 @@ fn run_engine(
 }
 
 /// Does what the command line asks for.
-fn run_line(rt: &HostRuntime, threads: &(impl Threads + Sync), line: Line<'_>) -> u8
+fn run_line(rt: &HostRuntime, threads: &(impl Threads + Wait + Sync), line: Line<'_>) -> u8
     requires { IsWithinRanges line }
     ensures ends { EndsWith line.entry result }
     ensures known { IsExitStatus result }
@@ -275,7 +276,7 @@ fn words_of<'t>(alloc: Global, texts: &'t Vec<String>) -> Result<Vec<&'t str>, A
 }
 
 /// Does what the arguments ask for, and gives the exit status.
-fn run(rt: &HostRuntime, threads: &(impl Threads + Sync)) -> u8
+fn run(rt: &HostRuntime, threads: &(impl Threads + Wait + Sync)) -> u8
     ensures { IsExitStatus result }
 {
     let alloc = rt.alloc();

@@ -1,13 +1,14 @@
 use Rattle.std.proofs.Common.{◌≡◌, ◌∙◌, List, ℤ, Some, get_or, take, sym, subst, arith}
 use Rattle.std.specs.List.{slice_get}
 use Rattle.cube_tree.specs.CubeTree.{cubes_of}
-use Rattle.cube_queue.proofs.ResultLemmas.{looked_at, one_more, all_settled, is_leaf}
-use Rattle.cube_queue.proofs.searching.search.Goals as goal
+use Rattle.cube_search.proofs.LeafLemmas.{leaf_low}
+use Rattle.cube_search.proofs.ResultLemmas.{looked_at, one_more, all_settled}
+use Rattle.cube_search.proofs.in_turn.search_in_turn.Goals as goal
 
 pub job_of-job-requires : goal.job_of-job-requires
 job_of-job-requires g c =
     let cubes_are : c.as_slice-in-loop-leaf.result.now ≡ cubes_of c.args.tree.now = c.as_slice-in-loop-leaf.ensures.value ∙ c.in_ok-cubes.ensures in
-    rw cubes_are (is_leaf (cubes_of c.args.tree.now) c.args.which.now c.loop-leaf.leaf-index c.requires (omega arith))
+    rw cubes_are (leaf_low (cubes_of c.args.tree.now) c.args.which.now c.loop-leaf.leaf-index c.requires (omega arith))
 
 pub loop-leaf-preserved : goal.loop-leaf-preserved
 loop-leaf-preserved g c =

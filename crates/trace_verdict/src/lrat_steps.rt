@@ -1,9 +1,9 @@
-//! Whether steps can be written as LRAT.
+//! Whether derivations can be written as LRAT.
 ghost use Rattle.std.specs.Prelude.{◌≡◌};
 ghost use Rattle.std.specs.List.{list_all};
 ghost use Rattle.lrat_check.specs.LratText.{is_id, is_lrat_step};
 
-use lrat_check::derivation::Step;
+use lrat_check::derivation::{Derivation, Step};
 use lrat_check::lrat_number::{MAX_ID, is_id};
 
 /// Whether all of the numbers are ids.
@@ -32,8 +32,17 @@ fn is_lrat_step(step: &Step) -> bool
 }
 
 /// Whether each of the steps can be written.
-pub(crate) fn are_lrat_steps(steps: &[Step]) -> bool
+fn are_lrat_steps(steps: &[Step]) -> bool
     ensures { result ≡ list_all is_lrat_step steps.now }
 {
     steps.iter().all(|step| is_lrat_step(step))
+}
+
+/// Whether each step of each derivation can be written.
+pub(crate) fn can_be_written(derivations: &[Derivation]) -> bool
+    ensures { result ≡ list_all (λ steps. list_all is_lrat_step steps) derivations.now }
+{
+    derivations
+        .iter()
+        .all(|derivation| are_lrat_steps(derivation.steps()))
 }

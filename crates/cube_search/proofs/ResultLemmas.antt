@@ -3,9 +3,9 @@ use Rattle.std.proofs.Common.{◌≡◌, ◌≢◌, ◌⊎◌, ℕ, zero, suc, �
 use Rattle.std.specs.Prelude.{IsTrue}
 use Rattle.std.specs.List.{AllPairs, Contains, slice_get}
 use Rattle.std.proofs.Math.Seq.{take-suc}
-use Rattle.std.proofs.lemmas.List.{map-append, take_all, get_or_default}
-use Rattle.std.proofs.lemmas.List.Elements.{Contains-append_cases, Contains-append_left, Contains-append_right}
-use Rattle.traces.proofs.ElementLemmas.{cases_in, head_in, none_in, to_map}
+use Rattle.std.proofs.lemmas.List.{map-append, take_all}
+use Rattle.std.proofs.lemmas.List.Elements.{Contains-append_cases, Contains-append_left}
+use Rattle.traces.proofs.ElementLemmas.{cases_in, none_in, to_map}
 use Rattle.cube_queue.specs.declared.job.Settled.{Settled}
 use Rattle.cube_queue.specs.declared.outcome.Outcome.TheVariants.{Skipped}
 use Rattle.cube_queue.specs.Results.{AreLeaves, AreResultsOf, HasModel, HasModelBelow}
@@ -121,7 +121,3 @@ all_settled clauses cubes which k results has_model asked whole so =
       once = subst (λ (ts : List ℕ). AllPairs (λ x y. x ≢ y) ts) (sym tickets) (λ i j d below within same. absurd (let less = asked.rising i j d below within in omega (arith, same, less)));
       skipped = so.skipped;
     }
-
--- a leaf that is asked for is one of the tree's
-pub is_leaf : (cubes : List (List ℤ)) (which : List ℕ) (k : ℕ) → AreLeaves cubes which → k < length which → get_or which k 0 < length cubes
-is_leaf cubes which k asked below = asked.each (get_or which k 0) (k, below, get_or_default which k (get_or which k 0) 0 below)

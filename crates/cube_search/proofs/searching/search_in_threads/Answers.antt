@@ -1,0 +1,43 @@
+use Rattle.std.proofs.Common.{◌≡◌, ◌<◌, ℤ, List, length, get_or, sym, ◌∙◌, ap, subst, arith}
+use Rattle.cube_queue.specs.declared.job.Job.{Job}
+use Rattle.cube_tree.specs.CubeTree.{cubes_of}
+use Rattle.cube_search.specs.Crew.{AreJobsOf}
+use Rattle.cube_search.proofs.JobLemmas.{jobs_rise, jobs_low}
+use Rattle.cube_search.proofs.JoinLemmas.{all_returned, honest_run}
+use Rattle.cube_search.proofs.LeafLemmas.{leaf_low}
+use Rattle.cube_search.proofs.searching.search_in_threads.Goals as goal
+
+pub open-requires-clause-cubes : goal.open-requires-clause-cubes
+open-requires-clause-cubes g c =
+    let all : c.len.result ≡ length (cubes_of c.args.tree.now) = c.len.ensures ∙ c.in_ok-cubes.cubes.ok.0 ∙ ap length c.in_ok-cubes.ensures.cubes in
+    let first : get_or c.args.which.now 0 0 < length (cubes_of c.args.tree.now) = leaf_low (cubes_of c.args.tree.now) c.args.which.now 0 c.requires.leaves (omega (arith, c.requires.some)) in
+    (omega (arith, all, first), omega (arith, c.len.ensures, c.in_ok-cubes.cubes.ok.0, c.in_ok-cubes.ensures.few))
+
+pub open-requires-clause-rising : goal.open-requires-clause-rising
+open-requires-clause-rising g c =
+    let cubes_are : c.as_slice.result.now ≡ cubes_of c.args.tree.now = c.as_slice.ensures.value ∙ c.in_ok-cubes.ensures.cubes in
+    jobs_rise (cubes_of c.args.tree.now) c.args.which.now c.in_ok-jobs.jobs.items c.requires.leaves (subst (λ (cubes : List (List ℤ)). AreJobsOf cubes c.args.which.now c.in_ok-jobs.jobs.items) cubes_are c.in_ok-jobs.ensures)
+
+pub open-requires-clause-low : goal.open-requires-clause-low
+open-requires-clause-low g c =
+    let cubes_are : c.as_slice.result.now ≡ cubes_of c.args.tree.now = c.as_slice.ensures.value ∙ c.in_ok-cubes.ensures.cubes in
+    let all : c.len.result ≡ length (cubes_of c.args.tree.now) = c.len.ensures ∙ c.in_ok-cubes.cubes.ok.0 ∙ ap length c.in_ok-cubes.ensures.cubes in
+    rw all
+    (jobs_low (cubes_of c.args.tree.now) c.args.which.now c.in_ok-jobs.jobs.items c.requires.leaves (subst (λ (cubes : List (List ℤ)). AreJobsOf cubes c.args.which.now c.in_ok-jobs.jobs.items) cubes_are c.in_ok-jobs.ensures))
+
+pub close-requires : goal.close-requires
+close-requires g c =
+    all_returned (g.L.ClauseList.formula c.args.settler.now.formula.now).clauses c.in_ok-site.site c.in_ok-site.crew c.in_ok-returned.returned c.in_ok-site.ensures.crew c.in_ok-returned.ensures
+
+pub returns : goal.returns
+returns g c =
+    let clauses = (g.L.ClauseList.formula c.args.settler.now.formula.now).clauses in
+    let cubes_are : c.as_slice.result.now ≡ cubes_of c.args.tree.now = c.as_slice.ensures.value ∙ c.in_ok-cubes.ensures.cubes in
+    let all : c.len.result ≡ length (cubes_of c.args.tree.now) = c.len.ensures ∙ c.in_ok-cubes.cubes.ok.0 ∙ ap length c.in_ok-cubes.ensures.cubes in
+    let jobs : AreJobsOf (cubes_of c.args.tree.now) c.args.which.now c.in_ok-jobs.jobs.items =
+    subst (λ (cubes : List (List ℤ)). AreJobsOf cubes c.args.which.now c.in_ok-jobs.jobs.items) cubes_are c.in_ok-jobs.ensures in
+    let dealt : AreJobsOf (cubes_of c.args.tree.now) c.args.which.now c.in_ok-site.crew.jobs.items =
+    subst (λ (l : List Job). AreJobsOf (cubes_of c.args.tree.now) c.args.which.now l) (sym c.in_ok-site.ensures.jobs) jobs in
+    c.close.ensures clauses (cubes_of c.args.tree.now) c.args.which.now
+    (honest_run clauses c.in_ok-site.site (cubes_of c.args.tree.now) c.args.which.now c.in_ok-site.crew c.in_ok-returned.returned
+    c.requires.leaves dealt (c.in_ok-site.ensures.cubes ∙ all) c.in_ok-site.ensures.crew c.in_ok-returned.ensures)

@@ -1,0 +1,67 @@
+//! The workers' threads are started.
+ghost use Rattle.std.specs.Prelude.{◌≡◌, IfOk, map};
+ghost use Rattle.std.specs.List.{All};
+ghost use Rattle.cube_search.specs.Workers.{IsReady, HasWorked};
+
+use crate::crew::Member;
+use crate::promised::MemberOf;
+use crate::settler::Settler;
+use crate::site::Site;
+use crate::working::work;
+use cube_queue::{Gate, SearchFault};
+use std::alloc::Global;
+use std::snapshot::Snapshot;
+use std::sync::Wait;
+use std::thread::{PromisedHandle, Scope};
+
+/// Starts a thread in which this member works.
+fn start<'s, E, R: Wait + Sync, S: Settler + Sync, G: Gate + Sync>(
+    alloc: Global,
+    rt: &'s R,
+    scope: &Scope<'s, E>,
+    site: &'s Site,
+    settler: &'s S,
+    gate: &'s G,
+    member: Member,
+) -> Result<PromisedHandle<Member, MemberOf<S>>, SearchFault>
+    requires ready { IsReady site.now member }
+    ensures { IfOk result (λ handle. (handle.promise.site.value ≡ site.entry.now) × (handle.promise.settler.value ≡ settler.entry.now) × (handle.promise.member.value ≡ member)) }
+{
+    let promise = MemberOf {
+        site: Snapshot::of(site),
+        settler: Snapshot::of(settler),
+        member: Snapshot::of(&member),
+    };
+    match scope.spawn_with(
+        promise,
+        move || -> Member
+            requires { IsReady site.now member }
+            ensures { HasWorked (S.clauses settler.entry.now) site.entry.now member result }
+        { work(alloc, rt, site, settler, gate, member) },
+    ) {
+        Ok(handle) => Ok(handle),
+        Err(_refused) => Err(SearchFault::NoThread),
+    }
+}
+
+/// Starts a thread for each of these members. The first that cannot be started ends it, and those started before it work on.
+pub(crate) fn start_all<'s, E, R: Wait + Sync, S: Settler + Sync, G: Gate + Sync>(
+    alloc: Global,
+    rt: &'s R,
+    scope: &Scope<'s, E>,
+    site: &'s Site,
+    settler: &'s S,
+    gate: &'s G,
+    members: Vec<Member>,
+) -> Result<Vec<PromisedHandle<Member, MemberOf<S>>>, SearchFault>
+    requires { All (IsReady site.now) members.items }
+    ensures members { IfOk result (λ handles. map (λ handle. handle.promise.member.value) handles.items ≡ members.items) }
+    ensures site { IfOk result (λ handles. All (λ handle. handle.promise.site.value ≡ site.entry.now) handles.items) }
+    ensures settler { IfOk result (λ handles. All (λ handle. handle.promise.settler.value ≡ settler.entry.now) handles.items) }
+{
+    let mut handles = Vec::with_capacity(alloc, members.len())?;
+    for member in members {
+        handles.push(start(alloc, rt, scope, site, settler, gate, member)?)?;
+    }
+    Ok(handles)
+}
