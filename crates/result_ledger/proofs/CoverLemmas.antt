@@ -8,13 +8,7 @@ use Rattle.dimacs.specs.Assignment.{makes_all}
 use Rattle.dimacs.specs.Formula.{FormulaValue, is_formula}
 use Rattle.dimacs.specs.Literal.{is_clause}
 use Rattle.dimacs.specs.Models.{IsModel}
-use Rattle.std.specs.Prelude.{◌&&◌}
-use Rattle.std.proofs.lemmas.Bool.{and_parts, and_from}
-use Rattle.lrat_check.specs.Derivation.{are_steps}
 use Rattle.lrat_check.proofs.LratWrittenLemmas.{steps_add_clauses}
-use Rattle.lrat_check.specs.LratText.{is_id, is_id_number, is_lrat_step}
-use Rattle.lrat_check.specs.declared.derivation.Step.{Step}
-use Rattle.lrat_check.specs.declared.derivation.Step.TheVariants.{Addition, Deletion}
 use Rattle.lrat_check.proofs.SoundLemmas.{no_model, formula_no_zero, cube_no_zero}
 use Rattle.result_ledger.specs.declared.slot.Slot.{Slot}
 use Rattle.result_ledger.specs.declared.verdict.Verdict.TheVariants.{Inconsistent, Unknown}

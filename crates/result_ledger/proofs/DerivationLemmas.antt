@@ -1,9 +1,8 @@
 -- The derivations that are answers.
 use Rattle.std.proofs.Common.{◌≡◌, ℕ, suc, ◌<◌, ℤ, List, [], ◌∷◌, ◌++◌, length, refl, sym, ◌∙◌, ap, subst, arith}
-use Rattle.std.specs.Prelude.{Option, Some, None, filter_map, option_to_list}
-use Rattle.std.specs.List.{AllZip, cons_option, slice_get}
+use Rattle.std.specs.Prelude.{Option, Some, None, option_to_list}
+use Rattle.std.specs.List.{AllZip, cons_option}
 use Rattle.std.proofs.lemmas.List.Elements.{filter_map-append}
-use Rattle.cube_queue.specs.declared.outcome.Outcome.TheVariants.{Refuted}
 use Rattle.lrat_check.specs.declared.derivation.Step.{Step}
 use Rattle.result_ledger.specs.declared.slot.Slot.{Slot}
 use Rattle.result_ledger.specs.declared.verdict.Verdict.TheVariants.{Inconsistent}

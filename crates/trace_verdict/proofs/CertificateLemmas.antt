@@ -1,5 +1,5 @@
 -- The certificate of a trace without a legal schedule.
-use Rattle.std.proofs.Common.{◌≡◌, ◌≤◌, ℤ, Bool, true, List, [], ◌∷◌, length, sym, ◌∙◌, refl, subst, arith}
+use Rattle.std.proofs.Common.{◌≡◌, ◌≤◌, ℤ, true, List, [], ◌∷◌, length, refl, arith}
 use Rattle.std.specs.List.{AllZip, list_all}
 use Rattle.std.proofs.lemmas.Bool.{and_from}
 use Rattle.certificate.proofs.RecheckLawLemmas.{proofs_accepted}

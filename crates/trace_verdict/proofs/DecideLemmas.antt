@@ -1,9 +1,8 @@
 -- From the verdict on the formula of a kept trace to what is decided of the whole trace.
-use Rattle.std.proofs.Common.{◌≡◌, ℕ, zero, suc, ◌+◌, ◌<◌, ◌≤◌, ℤ, Bool, true, List, [], ◌∷◌, ◌++◌, length, map, take, get_or, Some, refl, sym, ◌∙◌, ap, subst, arith}
+use Rattle.std.proofs.Common.{◌≡◌, ℕ, suc, ◌+◌, ◌<◌, ◌≤◌, ℤ, Bool, true, List, [], ◌∷◌, ◌++◌, length, map, take, get_or, Some, sym, ◌∙◌, ap, subst, arith}
 use Rattle.std.proofs.Math.Seq.{take-suc}
 use Rattle.std.proofs.lemmas.List.{map-append, take_all}
 use Rattle.std.specs.List.{AllZip, list_all, Contains, slice_get}
-use Rattle.std.proofs.lemmas.Option.{slice_get_within, slice_get_read}
 use Rattle.traces.proofs.ElementLemmas.{to_map, from_map}
 use Rattle.traces.specs.declared.operation.OpName.{OpName}
 use Rattle.traces.specs.Legal.{IsLegal}

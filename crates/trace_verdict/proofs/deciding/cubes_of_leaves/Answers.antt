@@ -1,6 +1,5 @@
 use Rattle.std.proofs.Common.{get_or, arith}
 use Rattle.std.proofs.lemmas.List.Elements.{Contains-get_or}
-use Rattle.trace_verdict.proofs.DecideLemmas.{next_cube, all_cubes}
 use Rattle.trace_verdict.proofs.deciding.cubes_of_leaves.Goals as goal
 
 pub cube-requires : goal.cube-requires
