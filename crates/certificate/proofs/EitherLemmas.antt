@@ -1,13 +1,12 @@
 -- Each text spells a certificate or has a first fault: the reader's own steps, taken over any text.
-use Rattle.std.proofs.Common.{◌≡◌, ◌⊎◌, ℕ, zero, suc, ◌+◌, ◌<◌, ◌≤◌, List, [], ◌∷◌, ◌++◌, length, take, drop, Bool, true, false, refl, sym, ◌∙◌, inl, inr, arith, length-drop}
+use Rattle.std.proofs.Common.{◌≡◌, ◌⊎◌, ℕ, zero, suc, ◌+◌, ◌<◌, ◌≤◌, List, [], ◌∷◌, ◌++◌, length, take, drop, Bool, true, false, refl, inl, inr, arith, length-drop}
 use Rattle.std.specs.Prelude.{Option, Some, None, min}
 use Rattle.std.specs.List.{before_first, after_first, position_or_len}
 use Rattle.text_lines.proofs.CutLemmas.{lines_cut}
 use Rattle.text_lines.specs.Lines.{lines_of, is_line_feed}
 use Rattle.text_lines.specs.Words.{words_of}
 use Rattle.cube_tree.proofs.TextLawLemmas.{spelled_or_refused as tree_or_refused}
-use Rattle.cube_tree.specs.CubeTree.{CubeTree}
-use Rattle.cube_tree.specs.TreeText.{SpellsTree, tree_lines}
+use Rattle.cube_tree.specs.TreeText.{tree_lines}
 use Rattle.lrat_check.proofs.LratLawLemmas.{spelled_or_refused as steps_or_refused}
 use Rattle.certificate.specs.CertCause.{of_tree}
 use Rattle.certificate.specs.CertFaults.{LacksHeader, HasCertFault}

@@ -1,5 +1,5 @@
 -- The lines up to the header, and the parts of a text after it.
-use Rattle.std.proofs.Common.{◌≡◌, ◌⊎◌, ℕ, ◌+◌, ◌*◌, ◌<◌, ◌≤◌, List, [], ◌∷◌, ◌++◌, length, drop, true, false, refl, ap, sym, ◌∙◌, subst, inl, inr, arith, append_assoc, append-nil, length-append}
+use Rattle.std.proofs.Common.{◌≡◌, ℕ, ◌+◌, ◌*◌, ◌<◌, ◌≤◌, List, [], ◌∷◌, ◌++◌, length, drop, true, false, refl, ap, sym, ◌∙◌, inl, inr, arith, append_assoc, append-nil, length-append}
 use Rattle.std.specs.List.{list_all}
 use Rattle.std.proofs.lemmas.Bool.{and_from}
 use Rattle.std.proofs.lemmas.List.{length_push}
@@ -13,7 +13,7 @@ use Rattle.cube_tree.specs.declared.tree_fault.TreeCause.{TreeCause}
 use Rattle.cube_tree.proofs.TextLemmas.{most_bytes}
 use Rattle.lrat_check.specs.LratFaults.{HasLratFault}
 use Rattle.lrat_check.specs.declared.lrat_fault.LratCause.{LratCause}
-use Rattle.certificate.specs.CertFaults.{IsNoHeader, IsSilent, LacksHeader, HasFaultInTree, HasFaultInSections, HasCertFault}
+use Rattle.certificate.specs.CertFaults.{LacksHeader, HasCertFault}
 use Rattle.certificate.specs.CertLine.{is_silent, is_header}
 use Rattle.certificate.specs.CertRead.{BeginsWithTree, HasTreeFaultBehind, HasSectionFaultBehind}
 use Rattle.certificate.specs.CertText.{IsHeaded}

@@ -1,16 +1,13 @@
 -- The laws of certificates.
-use Rattle.std.proofs.Common.{◌≡◌, ◌⊎◌, ℕ, zero, suc, ◌+◌, ◌<◌, ◌≤◌, ℤ, List, [], ◌∷◌, ◌++◌, length, map, Bool, true, false, cond, refl, ap, sym, ◌∙◌, subst, inl, inr, arith}
-use Rattle.std.specs.Prelude.{Option, Some, None, pos, neg_ℤ, ◌==◌, ◌&&◌, nat_lt, nat_le}
+use Rattle.std.proofs.Common.{◌≡◌, ℕ, zero, suc, ◌+◌, ◌<◌, ◌≤◌, ℤ, List, [], ◌∷◌, ◌++◌, length, map, Bool, true, false, refl, ap, sym, ◌∙◌, subst, arith}
+use Rattle.std.specs.Prelude.{Some, pos, neg_ℤ, ◌&&◌, nat_lt}
 use Rattle.std.specs.List.{list_any, list_all, slice_get, AllZip}
-use Rattle.std.proofs.lemmas.Bool.{and_parts, and_from, or_from, true≢false, false≢true, eqb-true, eq-eqb, ne_eqb, leb-true, leb-false, lt-ltb, ltb-true, le-leb}
-use Rattle.std.proofs.lemmas.List.Folds.{list_all-append, list_all-map}
+use Rattle.std.proofs.lemmas.Bool.{and_parts, and_from, or_from, false≢true, ne_eqb, lt-ltb}
+use Rattle.std.proofs.lemmas.List.Folds.{list_all-append}
 use Rattle.std.proofs.lemmas.Option.{slice_get_within}
-use Rattle.text_lines.specs.FirstFault.{IsFirstFault}
-use Rattle.text_lines.proofs.FaultLemmas.{none_is_some, compared, one_first}
 use Rattle.cube_tree.specs.CubeTree.{CubeTree, leaf, split, leaves, is_variable, splits_variables, cubes_of}
 use Rattle.cube_tree.proofs.CoverLemmas.{tree_covers}
 use Rattle.cube_tree.proofs.TreeLemmas.{cubes_counted}
-use Rattle.dimacs.specs.Assignment.{makes_all}
 use Rattle.dimacs.specs.Formula.{FormulaValue, is_formula}
 use Rattle.dimacs.specs.Literal.{is_literal, is_clause}
 use Rattle.dimacs.specs.Models.{IsModel}
@@ -19,7 +16,7 @@ use Rattle.lrat_check.specs.Derivation.{are_steps}
 use Rattle.lrat_check.specs.declared.derivation.Step.{Step}
 use Rattle.lrat_check.proofs.SoundLemmas.{no_model, formula_no_zero, cube_no_zero}
 use Rattle.certificate.specs.CertWritten.{sections_from, certificate_of}
-use Rattle.certificate.specs.Rechecked.{is_of, IsOnlyOf, IsProved, IsRechecked, are_sections_of_clauses}
+use Rattle.certificate.specs.Rechecked.{is_of, IsProved, IsRechecked, are_sections_of_clauses}
 use Rattle.certificate.specs.declared.certificate.Certificate.{Certificate}
 use Rattle.certificate.specs.declared.certificate.Section.{Section}
 

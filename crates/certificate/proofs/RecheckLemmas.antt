@@ -1,26 +1,21 @@
 -- Sections and their leaves.
-use Rattle.std.proofs.Common.{◌≡◌, ◌⊎◌, ℕ, zero, suc, ◌+◌, ◌<◌, ◌≤◌, ℤ, List, [], ◌∷◌, ◌++◌, length, take, drop, get_or, Bool, true, false, cond, eqb, leb, ltb, refl, ap, sym, ◌∙◌, subst, inl, inr, arith, append_assoc, append-nil, length-append, take-append-drop}
-use Rattle.std.specs.Prelude.{Option, Some, None, ◌==◌, ◌||◌, nat_lt, nat_le}
-use Rattle.std.specs.List.{list_any, list_all, slice_get, Contains, AllZip}
+use Rattle.std.proofs.Common.{◌≡◌, ◌⊎◌, ℕ, zero, suc, ◌+◌, ◌<◌, ℤ, List, [], ◌∷◌, ◌++◌, length, take, drop, get_or, Bool, true, false, cond, refl, ap, sym, ◌∙◌, subst, inl, inr, arith, append_assoc, take-append-drop}
+use Rattle.std.specs.Prelude.{Some, None, ◌==◌, ◌||◌, nat_lt, nat_le}
+use Rattle.std.specs.List.{list_any, list_all, slice_get}
 use Rattle.std.proofs.Math.Seq.{take-suc, drop-cons}
-use Rattle.std.proofs.lemmas.Bool.{or_parts, or_from, and_parts, and_from, cond-true, cond-false, true≢false, false≢true, eqb-true, eq-eqb, eqb-false, ne_eqb, leb-true, leb-false, lt-ltb, ltb-true, lt-leb, le-leb}
+use Rattle.std.proofs.lemmas.Bool.{or_from, and_from, true≢false, eqb-true, eq-eqb, leb-false, lt-ltb}
 use Rattle.std.proofs.lemmas.List.{length-take}
 use Rattle.std.proofs.lemmas.List.Folds.{list_any-append}
-use Rattle.std.proofs.lemmas.Option.{none-some, slice_get_within, slice_get_read}
-use Rattle.text_lines.specs.FirstFault.{IsFaultless, IsFirstFault}
-use Rattle.text_lines.proofs.FaultLemmas.{faultless_push, faultless_nil, none_is_some, compared, one_first}
-use Rattle.cube_tree.specs.CubeTree.{CubeTree, leaves, cubes_of}
-use Rattle.cube_tree.proofs.TreeLemmas.{cubes_counted}
+use Rattle.std.proofs.lemmas.Option.{slice_get_within}
+use Rattle.text_lines.proofs.FaultLemmas.{faultless_push, faultless_nil, none_is_some}
+use Rattle.cube_tree.specs.CubeTree.{leaves, cubes_of}
 use Rattle.lrat_check.specs.Checked.{IsAccepted, IsRefused}
-use Rattle.lrat_check.specs.declared.derivation.Step.{Step}
 use Rattle.lrat_check.specs.declared.refusal.StepFault.{StepFault}
-use Rattle.lrat_check.proofs.RefusalLemmas.{never_both}
-use Rattle.certificate.specs.Rechecked.{is_of, IsOnlyOf, IsFirstOf, IsProved, IsRechecked, section_fault, AreRight, IsFirstWrong, HaveSections, IsFirstMissing, AreProvedBelow, IsFirstRefused, HasRecheckFault}
+use Rattle.certificate.specs.Rechecked.{is_of, IsOnlyOf, IsFirstOf, IsProved, IsRechecked, section_fault, AreRight, IsFirstWrong, HaveSections, AreProvedBelow, IsFirstRefused}
 use Rattle.certificate.specs.declared.cert_fault.CertCause.{CertCause}
-use Rattle.certificate.specs.declared.cert_fault.CertCause.TheVariants.{Stranger, Double, Missing, Derivation}
+use Rattle.certificate.specs.declared.cert_fault.CertCause.TheVariants.{Stranger, Double}
 use Rattle.certificate.specs.declared.certificate.Certificate.{Certificate}
 use Rattle.certificate.specs.declared.certificate.Section.{Section}
-use Rattle.certificate.proofs.SectionLemmas.{picked}
 
 pub add_one : (n : ℕ) → n + 1 ≡ suc n
 add_one n = omega arith

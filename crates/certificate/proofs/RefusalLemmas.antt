@@ -1,17 +1,16 @@
 -- A certificate is accepted, or refused in one way.
-use Rattle.std.proofs.Common.{◌≡◌, ◌⊎◌, ℕ, zero, suc, ◌+◌, ◌<◌, ◌≤◌, ℤ, List, [], ◌∷◌, ◌++◌, length, Bool, true, false, cond, refl, ap, sym, ◌∙◌, subst, inl, inr, arith, append-nil}
-use Rattle.std.specs.Prelude.{Option, Some, None, ◌==◌, nat_lt, nat_le}
+use Rattle.std.proofs.Common.{◌≡◌, ℕ, zero, suc, ◌<◌, ℤ, List, [], ◌∷◌, ◌++◌, length, Bool, true, false, cond, refl, ap, sym, ◌∙◌, subst, inl, inr, arith, append-nil}
+use Rattle.std.specs.Prelude.{Some, None, nat_lt}
 use Rattle.std.specs.List.{list_any, list_all, slice_get}
-use Rattle.std.proofs.lemmas.Bool.{or_parts, and_parts, true≢false, false≢true, leb-true, leb-false, ltb-true, lt-leb}
-use Rattle.text_lines.specs.FirstFault.{IsFirstFault}
+use Rattle.std.proofs.lemmas.Bool.{cases_order, true≢false, ltb-true, lt-leb}
 use Rattle.text_lines.proofs.FaultLemmas.{none_is_some, compared, one_first}
 use Rattle.cube_tree.specs.CubeTree.{leaves, cubes_of}
 use Rattle.cube_tree.proofs.TreeLemmas.{cubes_counted}
-use Rattle.lrat_check.specs.Checked.{IsAccepted, IsRefused}
+use Rattle.lrat_check.specs.Checked.{IsAccepted}
 use Rattle.lrat_check.proofs.RefusalLemmas as lrat
-use Rattle.certificate.specs.Rechecked.{is_of, IsOnlyOf, IsProved, IsRechecked, section_fault, AreRight, IsFirstWrong, HaveSections, IsFirstMissing, AreProvedBelow, IsFirstRefused, HasRecheckFault}
+use Rattle.certificate.specs.Rechecked.{is_of, IsOnlyOf, IsProved, IsRechecked, section_fault, AreRight, IsFirstWrong, IsFirstRefused, HasRecheckFault}
 use Rattle.certificate.specs.declared.cert_fault.CertCause.{CertCause}
-use Rattle.certificate.specs.declared.cert_fault.CertCause.TheVariants.{Stranger, Double, Missing, Derivation}
+use Rattle.certificate.specs.declared.cert_fault.CertCause.TheVariants.{Stranger, Double}
 use Rattle.certificate.specs.declared.certificate.Certificate.{Certificate}
 use Rattle.certificate.specs.declared.certificate.Section.{Section}
 use Rattle.certificate.proofs.RecheckLawLemmas.{passes_at}
@@ -77,17 +76,6 @@ never_both clauses certificate count cause leaf h (inr (inr (told, right, every,
 wrong_right : (count : ℕ) (sections : List Section) (cause : CertCause) (leaf : ℕ) → IsFirstWrong count sections cause leaf → AreRight count sections → ⊥
 wrong_right count sections cause leaf f right = none_is_some cause (sym (right f.fault.before f.fault.item f.fault.after f.fault.parts) ∙ f.fault.faulty)
 
--- which of two numbers is less
-order : (a b : ℕ) → (a < b) ⊎ ((b < a) ⊎ (a ≡ b))
-order zero zero = inr (inr refl)
-order zero (suc b) = inl (omega arith)
-order (suc a) zero = inr (inl (omega arith))
-order (suc a) (suc b) = elim (order a b) [
-  | inl h ↦ inl (omega (arith, h))
-  | inr (inl h) ↦ inr (inl (omega (arith, h)))
-  | inr (inr h) ↦ inr (inr (ap suc h))
-]
-
 same_item : {A : Type 0} (b c : List A) (x y : A) (a d : List A) → length b ≡ length c → b ++ x ∷ a ≡ c ++ y ∷ d → x ≡ y
 same_item [] [] x y a d l e = cc
 same_item [] (z ∷ c) x y a d l e = absurd (omega (arith, l))
@@ -105,19 +93,19 @@ one_refused clauses certificate c d j k (inr (inl (told, right, f))) (inl g) = a
 one_refused clauses certificate c d j k (inr (inr (told, right, every, f))) (inl g) = absurd (wrong_right (leaves certificate.tree) certificate.sections d k g right)
 one_refused clauses certificate c d j k (inr (inl (told, right, f))) (inr (inl (tells, true_right, g))) = (
   told ∙ sym tells,
-  elim (order j k) [
-    | inl h ↦ absurd (true≢false (sym (g.lowest j h) ∙ f.missing))
-    | inr (inl h) ↦ absurd (true≢false (sym (f.lowest k h) ∙ g.missing))
-    | inr (inr e) ↦ e
+  elim (cases_order j k) [
+    | inl e ↦ e
+    | inr (inl h) ↦ absurd (true≢false (sym (g.lowest j h) ∙ f.missing))
+    | inr (inr h) ↦ absurd (true≢false (sym (f.lowest k h) ∙ g.missing))
   ],
 )
 one_refused clauses certificate c d j k (inr (inl (told, right, f))) (inr (inr (tells, true_right, every, g))) = absurd (true≢false (sym (every j f.within) ∙ f.missing))
 one_refused clauses certificate c d j k (inr (inr (told, right, every, f))) (inr (inl (tells, true_right, g))) = absurd (true≢false (sym (every k g.within) ∙ g.missing))
 one_refused clauses certificate c d j k (inr (inr (told, right, every, f))) (inr (inr (tells, true_right, all, g))) = (
   told ∙ sym tells,
-  elim (order j k) [
-    | inl h ↦ absurd (refused_proved clauses (cubes_of certificate.tree) certificate.sections j f (λ cube there. g.lowest j cube h there))
-    | inr (inl h) ↦ absurd (refused_proved clauses (cubes_of certificate.tree) certificate.sections k g (λ cube there. f.lowest k cube h there))
-    | inr (inr e) ↦ e
+  elim (cases_order j k) [
+    | inl e ↦ e
+    | inr (inl h) ↦ absurd (refused_proved clauses (cubes_of certificate.tree) certificate.sections j f (λ cube there. g.lowest j cube h there))
+    | inr (inr h) ↦ absurd (refused_proved clauses (cubes_of certificate.tree) certificate.sections k g (λ cube there. f.lowest k cube h there))
   ],
 )

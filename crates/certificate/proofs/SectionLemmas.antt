@@ -4,15 +4,14 @@ use Rattle.std.specs.Prelude.{Option, Some, None, is_some, ◌==◌, codes, slic
 use Rattle.std.specs.List.{list_any, list_all}
 use Rattle.std.specs.Option.{option_map}
 use Rattle.std.specs.Str.{bytes_eq}
-use Rattle.std.proofs.lemmas.Bool.{or_parts, or_from, and_parts, and_from, cond-true, cond-false, true≢false, false≢true}
+use Rattle.std.proofs.lemmas.Bool.{or_parts, and_from, cond-true, cond-false, true≢false}
 use Rattle.std.proofs.lemmas.Slice.Eq.{bytes_eq-Decides}
-use Rattle.std.proofs.lemmas.List.Folds.{list_any-append}
 use Rattle.text_lines.specs.FirstFault.{IsFaultless}
 use Rattle.text_lines.specs.Lines.{lines_of}
 use Rattle.text_lines.specs.Numbers.{plain_number_up_to}
 use Rattle.text_lines.specs.Words.{words_of}
-use Rattle.text_lines.proofs.FaultLemmas.{faultless_push, faultless_nil, none_is_some, either}
-use Rattle.lrat_check.specs.LratFaults.{line_fault, HasLratFault}
+use Rattle.text_lines.proofs.FaultLemmas.{faultless_push, faultless_nil, either}
+use Rattle.lrat_check.specs.LratFaults.{line_fault}
 use Rattle.lrat_check.specs.LratText.{is_skipped, SpellsDerivation}
 use Rattle.lrat_check.specs.declared.lrat_fault.LratCause.{LratCause}
 use Rattle.lrat_check.specs.declared.derivation.Step.{Step}
@@ -20,7 +19,7 @@ use Rattle.lrat_check.proofs.LratLawLemmas.{never_both}
 use Rattle.certificate.specs.CertFaults.{is_open_behind, fault_inside, fault_outside, section_line_fault, HasSectionFault}
 use Rattle.certificate.specs.CertLine.{most_number, is_silent, begun_by, is_end}
 use Rattle.certificate.specs.CertRead.{ends}
-use Rattle.certificate.specs.CertText.{AreSections, BeginWithSection}
+use Rattle.certificate.specs.CertText.{AreSections}
 use Rattle.certificate.specs.declared.cert_fault.CertCause.{CertCause}
 use Rattle.certificate.specs.declared.cert_fault.CertCause.TheVariants.{BadLine, BadLrat}
 use Rattle.certificate.specs.declared.certificate.Section.{Section}

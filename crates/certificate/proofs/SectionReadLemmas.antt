@@ -1,5 +1,5 @@
 -- What a reader of sections has read.
-use Rattle.std.proofs.Common.{◌≡◌, ℕ, ◌+◌, ◌<◌, ◌≤◌, List, [], ◌∷◌, ◌++◌, length, Bool, true, false, refl, ap, sym, ◌∙◌, subst, inl, inr, arith, append_assoc, append-nil, length-append}
+use Rattle.std.proofs.Common.{◌≡◌, ℕ, ◌+◌, ◌<◌, ◌≤◌, List, [], ◌∷◌, ◌++◌, length, true, false, refl, ap, sym, ◌∙◌, subst, inl, inr, arith, append_assoc, append-nil, length-append}
 use Rattle.std.specs.Prelude.{Some, None, Result, Ok, Err, IfErr}
 use Rattle.std.specs.Result.{IsErrAnd}
 use Rattle.text_lines.specs.Fault.{IsRefusal}
@@ -13,12 +13,12 @@ use Rattle.text_lines.specs.Lines.{lines_of}
 use Rattle.text_lines.specs.Words.{words_of}
 use Rattle.lrat_check.specs.LratText.{SpellsDerivation}
 use Rattle.lrat_check.specs.declared.derivation.Step.{Step}
-use Rattle.certificate.specs.CertFaults.{section_line_fault, HasSectionFault}
+use Rattle.certificate.specs.CertFaults.{HasSectionFault}
 use Rattle.certificate.specs.CertLine.{is_silent, begun_by}
 use Rattle.certificate.specs.CertRead.{ends, AreReadUpTo, IsSectionCut, HasLratFaultBehind, HasSectionFaultBehind}
 use Rattle.certificate.specs.CertText.{AreSections}
 use Rattle.certificate.specs.declared.cert_fault.CertCause.{CertCause}
-use Rattle.certificate.specs.declared.cert_fault.CertCause.TheVariants.{BadLine, BadLrat}
+use Rattle.certificate.specs.declared.cert_fault.CertCause.TheVariants.{BadLine}
 use Rattle.certificate.specs.declared.certificate.Section.{Section}
 use Rattle.certificate.proofs.SectionLemmas.{AreClosed, AreOpen, no_lines, push_silent, push_begin, push_inside, push_end, spelled_clear, fault_in_section, fault_between, fault_behind, silent_first}
 

@@ -1,6 +1,6 @@
 -- The laws of a certificate's text.
-use Rattle.std.proofs.Common.{◌≡◌, ◌⊎◌, ℕ, ◌+◌, ◌-◌, List, [], ◌∷◌, ◌++◌, length, map, take, drop, Bool, true, false, cond, refl, ap, sym, ◌∙◌, subst, inl, inr, arith, append_assoc, append-nil, length-append}
-use Rattle.std.specs.Prelude.{Option, Some, None, is_some, IsTrue, slice_get, min, codes, ◌==◌, ◌&&◌, slice_index}
+use Rattle.std.proofs.Common.{◌≡◌, ℕ, ◌+◌, List, [], ◌∷◌, ◌++◌, length, map, take, drop, Bool, true, false, cond, refl, ap, sym, ◌∙◌, subst, inl, inr, append_assoc, append-nil}
+use Rattle.std.specs.Prelude.{Option, Some, None, is_some, IsTrue, slice_get, min, codes, ◌==◌, slice_index}
 use Rattle.std.specs.List.{list_any, list_all}
 use Rattle.std.specs.Str.{bytes_eq}
 use Rattle.std.proofs.lemmas.Bool.{and_parts, or_parts, or_from, true≢false, false≢true, cases_Bool}
@@ -21,7 +21,7 @@ use Rattle.lrat_check.specs.declared.lrat_fault.LratCause.TheVariants.{BadNumber
 use Rattle.lrat_check.specs.declared.derivation.Step.{Step}
 use Rattle.lrat_check.proofs.LratLawLemmas as lrat
 use Rattle.certificate.specs.CertCause.{of_tree}
-use Rattle.certificate.specs.CertFaults.{is_open_behind, section_line_fault, IsNoHeader, IsSilent, LacksHeader, HasFaultInTree, HasFaultInSections, HasSectionFault, HasCertFault}
+use Rattle.certificate.specs.CertFaults.{is_open_behind, section_line_fault, LacksHeader, HasSectionFault, HasCertFault}
 use Rattle.certificate.specs.CertLine.{is_silent, is_header, begun_by, is_end}
 use Rattle.certificate.specs.CertRead.{ends}
 use Rattle.certificate.specs.CertText.{IsHeaded, BeginWithSection, AreSections, SpellsCertificate}
@@ -29,7 +29,7 @@ use Rattle.certificate.specs.declared.cert_fault.CertCause.{CertCause}
 use Rattle.certificate.specs.declared.certificate.Certificate.{Certificate}
 use Rattle.certificate.specs.declared.certificate.Section.{Section}
 use Rattle.certificate.proofs.LineCutLemmas.{front_lines}
-use Rattle.certificate.proofs.SectionLemmas.{picked, AreClosed, AreOpen, no_lines, push_silent, push_begin, push_inside, push_end, spelled_clear, silent_line, faultless_join, open_append}
+use Rattle.certificate.proofs.SectionLemmas.{AreClosed, AreOpen, no_lines, push_silent, push_begin, push_inside, push_end, spelled_clear, silent_line, faultless_join, open_append}
 
 -- all of these say nothing, so this one does
 silent_at : (before : List (List ℕ)) (line : List ℕ) (after : List (List ℕ)) → list_all is_silent (before ++ line ∷ after) ≡ true → is_silent line ≡ true

@@ -1,5 +1,5 @@
 -- What a sink has taken of a certificate.
-use Rattle.std.proofs.Common.{◌≡◌, ℕ, zero, suc, ◌+◌, ◌<◌, List, [], ◌∷◌, ◌++◌, length, take, drop, map, get_or, refl, ap, sym, ◌∙◌, subst, arith, append_assoc, append-nil}
+use Rattle.std.proofs.Common.{◌≡◌, ℕ, suc, ◌+◌, List, [], ◌∷◌, ◌++◌, length, refl, ap, sym, ◌∙◌, subst, arith, append_assoc, append-nil}
 use Rattle.std.specs.Prelude.{codes}
 use Rattle.std.specs.Fmt.{decimal}
 use Rattle.std.specs.List.{flat_map}
@@ -8,7 +8,6 @@ use Rattle.dimacs.specs.Sink.{AppendsFront}
 use Rattle.lrat_check.specs.LratWritten.{canonical_derivation}
 use Rattle.lrat_check.specs.declared.derivation.Step.{Step}
 use Rattle.certificate.specs.CertWritten.{section_text, sections_from}
-use Rattle.certificate.specs.declared.certificate.Section.{Section}
 
 -- nothing was taken yet
 pub none_taken : (old bytes : List ℕ) → AppendsFront old old bytes

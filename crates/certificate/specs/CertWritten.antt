@@ -2,7 +2,7 @@
 use Rattle.std.specs.Prelude.{◌≡◌, ℕ, suc, ◌≤◌, true, List, [], ◌∷◌, ◌++◌, codes}
 use Rattle.std.specs.Fmt.{decimal}
 use Rattle.std.specs.List.{list_all, flat_map}
-use Rattle.cube_tree.specs.CubeTree.{CubeTree, IsCubeTree}
+use Rattle.cube_tree.specs.CubeTree.{CubeTree}
 use Rattle.cube_tree.specs.TreeText.{tree_text}
 use Rattle.lrat_check.specs.LratText.{is_lrat_step}
 use Rattle.lrat_check.specs.LratWritten.{canonical_derivation}

@@ -2,7 +2,7 @@
 use Rattle.std.specs.Prelude.{◌≡◌, ◌⊎◌, ℕ, ◌<◌, ℤ, Bool, true, false, List, ◌∷◌, ◌++◌, Option, Some, None, ◌==◌, nat_le, nat_lt, if◌then◌else◌}
 use Rattle.std.specs.List.{list_any, list_all, slice_get}
 use Rattle.text_lines.specs.FirstFault.{IsFaultless, IsFirstFault}
-use Rattle.cube_tree.specs.CubeTree.{CubeTree, leaves, cubes_of}
+use Rattle.cube_tree.specs.CubeTree.{leaves, cubes_of}
 use Rattle.lrat_check.specs.Checked.{IsAccepted, IsRefused}
 use Rattle.lrat_check.specs.Derivation.{are_steps}
 use Rattle.lrat_check.specs.declared.refusal.StepFault.{StepFault}

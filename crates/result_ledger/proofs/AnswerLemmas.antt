@@ -1,5 +1,5 @@
 -- What one slot's answer is worth.
-use Rattle.std.proofs.Common.{◌≡◌, ◌⊎◌, ℕ, zero, suc, ◌<◌, ◌+◌, ℤ, Bool, List, length, get_or, Some, refl, sym, ◌∙◌, ap, subst, inl, inr, arith}
+use Rattle.std.proofs.Common.{◌≡◌, ℕ, ◌<◌, ◌+◌, ℤ, Bool, List, length, get_or, Some, refl, sym, ◌∙◌, subst, inl, inr}
 use Rattle.std.specs.Prelude.{IsTrue, ◌↔◌}
 use Rattle.std.specs.List.{slice_get}
 use Rattle.std.proofs.lemmas.Option.{slice_get_read}
@@ -9,6 +9,7 @@ use Rattle.lrat_check.specs.declared.derivation.Step.{Step}
 use Rattle.result_ledger.specs.declared.slot.Slot.{Slot}
 use Rattle.cube_queue.specs.Models.{IsModelIn}
 use Rattle.result_ledger.specs.Verdict.{IsProofIn, IsModelAnswer, IsProofAnswer, HasProofAt, HaveNoModelBefore}
+use Rattle.result_ledger.proofs.WithoutLemmas.{below_next}
 
 -- an answer that is no model in the cube
 pub no_model_answer : (clauses : List (List ℤ)) (slot : Slot) (found : List Bool) → slot.outcome ≡ Some (Model found) → (IsModelIn clauses slot.cube (value_of found) → ⊥) → (truth : List Bool) → IsModelAnswer clauses slot truth → ⊥
@@ -27,19 +28,13 @@ proof_answer clauses slot steps proved said right = (
       right.1 (subst (λ (values : List Step). IsProofIn clauses slot.cube values) (sym same) h.confirmed),
 )
 
-order : (a b : ℕ) → a < b + 1 → (a < b) ⊎ (a ≡ b)
-order zero zero h = inr refl
-order zero (suc b) h = inl (omega arith)
-order (suc a) zero h = absurd (omega arith)
-order (suc a) (suc b) h = elim (order a b (omega arith)) [ inl l ↦ inl (omega (arith, l)) | inr e ↦ inr (ap suc e) ]
-
 -- the element that was read
 pub read : (slots : List Slot) (leaf : ℕ) (slot : Slot) → leaf < length slots → slot ≡ get_or slots leaf slot → slice_get slots leaf ≡ Some slot
 read slots leaf slot below is = slice_get_read slots (length slots) leaf slot refl below is
 
 -- one more leaf has no model for its answer
 pub none_on : (clauses : List (List ℤ)) (slots : List Slot) (leaf : ℕ) (slot : Slot) → slice_get slots leaf ≡ Some slot → ((truth : List Bool) → IsModelAnswer clauses slot truth → ⊥) → HaveNoModelBefore clauses slots leaf → HaveNoModelBefore clauses slots (leaf + 1)
-none_on clauses slots leaf slot there none before other truth below h = elim (order other leaf below) [
+none_on clauses slots leaf slot there none before other truth below h = elim (below_next other leaf below) [
   | inl less ↦ before other truth less h
   | inr same ↦
       let at : slice_get slots leaf ≡ Some h.slot = subst (λ (n : ℕ). slice_get slots n ≡ Some h.slot) same h.there in

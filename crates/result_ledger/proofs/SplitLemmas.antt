@@ -6,14 +6,14 @@ use Rattle.cube_tree.specs.CubeTree.{CubeTree, leaves, cubes_of, with_split}
 use Rattle.result_ledger.specs.Ledger.{SplitsCube}
 
 -- the cube at a place, between those before and those after it
-record At (cubes : List (List ℤ)) (place : ℕ) : Type 0 where
-  before : List (List ℤ)
-  cube : List ℤ
-  after : List (List ℤ)
-  parts : cubes ≡ before ++ cube ∷ after
-  counted : place ≡ length before
+pub record At (cubes : List (List ℤ)) (place : ℕ) : Type 0 where
+  pub before : List (List ℤ)
+  pub cube : List ℤ
+  pub after : List (List ℤ)
+  pub parts : cubes ≡ before ++ cube ∷ after
+  pub counted : place ≡ length before
 
-parts_at : (cubes : List (List ℤ)) (place : ℕ) → place < length cubes → At cubes place
+pub parts_at : (cubes : List (List ℤ)) (place : ℕ) → place < length cubes → At cubes place
 parts_at [] place h = absurd (omega arith)
 parts_at (x ∷ xs) zero h = record { before = []; cube = x; after = xs; parts = refl; counted = refl }
 parts_at (x ∷ xs) (suc place) h =

@@ -1,6 +1,7 @@
 -- One verdict for the answers of a ledger, and the same for ledgers that agree.
 use Rattle.std.proofs.Common.{◌≡◌, ℕ, eqb, false, ◌<◌, suc, ℤ, Bool, List, [], ◌∷◌, length, Some, refl, sym, ◌∙◌, ap, inl, inr, subst, arith}
 use Rattle.std.specs.List.{Contains, slice_get}
+use Rattle.std.proofs.lemmas.Bool.{cases_order}
 use Rattle.std.proofs.lemmas.Option.{slice_get_within}
 use Rattle.traces.proofs.ElementLemmas.{head_in, none_in}
 use Rattle.cube_queue.specs.declared.outcome.Outcome.TheVariants.{Model}
@@ -9,7 +10,6 @@ use Rattle.result_ledger.specs.declared.verdict.Verdict.{Verdict}
 use Rattle.result_ledger.specs.declared.verdict.Verdict.TheVariants.{Consistent, Inconsistent, Unknown}
 use Rattle.result_ledger.specs.Verdict.{HasModelAt, HasProofAt, HaveNoModelBefore, AreWithout, IsVerdict, AgreeUpToModel}
 use Rattle.result_ledger.proofs.RisingLemmas.{rising_same}
-use Rattle.result_ledger.proofs.WithoutLemmas.{order}
 
 -- lists with the same elements at the same places are the same
 pub same_lists : {X : Type 0} (xs ys : List X) → ((k : ℕ) → slice_get xs k ≡ slice_get ys k) → xs ≡ ys
@@ -50,10 +50,10 @@ into Has end xs ys left other z c =
 
 -- the answers have one verdict at most
 pub one_verdict : (clauses : List (List ℤ)) (slots : List Slot) (v w : Verdict) → IsVerdict clauses slots v → IsVerdict clauses slots w → v ≡ w
-one_verdict clauses slots (Consistent a s) (Consistent b t) (here, lowest) (there, least) = elim (order a b) [
-  | inl below ↦ absurd (least a s below here)
-  | inr (inl above) ↦ absurd (lowest b t above there)
-  | inr (inr same) ↦ one_model clauses slots a b s t same here there
+one_verdict clauses slots (Consistent a s) (Consistent b t) (here, lowest) (there, least) = elim (cases_order a b) [
+  | inl same ↦ one_model clauses slots a b s t same here there
+  | inr (inl below) ↦ absurd (least a s below here)
+  | inr (inr above) ↦ absurd (lowest b t above there)
 ]
 one_verdict clauses slots (Consistent a s) (Inconsistent n) (here, lowest) k = absurd (nowhere clauses slots a s k.0 here)
 one_verdict clauses slots (Consistent a s) (Unknown ys) (here, lowest) k = absurd (nowhere clauses slots a s k.0 here)

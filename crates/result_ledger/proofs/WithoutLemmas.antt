@@ -1,7 +1,7 @@
 -- The leaves that do not have something, leaf by leaf.
 use Rattle.std.proofs.Common.{◌≡◌, ◌⊎◌, ℕ, ◌<◌, ◌≤◌, ◌+◌, zero, suc, List, [], ◌∷◌, ◌++◌, length, get_or, refl, sym, ap, inl, inr, subst, arith}
 use Rattle.std.specs.List.{All, AllPairs, Contains}
-use Rattle.std.proofs.lemmas.Bool.{cases_lt}
+use Rattle.std.proofs.lemmas.Bool.{cases_lt, cases_order}
 use Rattle.std.proofs.lemmas.List.Elements.{All-append, Contains-append_cases, Contains-append_left, Contains-append_right, Contains-get_or}
 use Rattle.std.proofs.lemmas.List.Kept.{AllPairs-cons}
 use Rattle.std.proofs.lemmas.List.Quantifiers.{all_pairs_push}
@@ -9,19 +9,8 @@ use Rattle.traces.proofs.ElementLemmas.{head_in, tail_in, none_in, cases_in}
 use Rattle.result_ledger.specs.Pieces.{AreWithoutBetween}
 use Rattle.result_ledger.specs.Verdict.{AreWithout}
 
--- which of two numbers is less
-pub order : (a b : ℕ) → (a < b) ⊎ ((b < a) ⊎ (a ≡ b))
-order zero zero = inr (inr refl)
-order zero (suc b) = inl (omega arith)
-order (suc a) zero = inr (inl (omega arith))
-order (suc a) (suc b) = elim (order a b) [
-  | inl h ↦ inl (omega (arith, h))
-  | inr (inl h) ↦ inr (inl (omega (arith, h)))
-  | inr (inr h) ↦ inr (inr (ap suc h))
-]
-
-below_next : (leaf end : ℕ) → leaf < end + 1 → (leaf < end) ⊎ (leaf ≡ end)
-below_next leaf end below = elim (order leaf end) [ inl h ↦ inl h | inr (inl h) ↦ absurd (omega (arith, h, below)) | inr (inr h) ↦ inr h ]
+pub below_next : (leaf end : ℕ) → leaf < end + 1 → (leaf < end) ⊎ (leaf ≡ end)
+below_next leaf end below = elim (cases_order leaf end) [ inl e ↦ inr e | inr (inl h) ↦ inl h | inr (inr h) ↦ absurd (omega (arith, h, below)) ]
 
 module _ (Has : ℕ → Type 0) where
   -- no leaf was looked at yet

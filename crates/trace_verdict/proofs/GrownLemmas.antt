@@ -6,28 +6,8 @@ use Rattle.cube_tree.specs.CubeTree.{CubeTree, cubes_of, with_split}
 use Rattle.result_ledger.specs.declared.slot.Slot.{Slot}
 use Rattle.result_ledger.specs.Ledger.{cubes_in, empty_slot, IsSplitAt, SplitsCube}
 use Rattle.result_ledger.proofs.SlotLemmas.{as_many, cube_at, split_cubes}
+use Rattle.result_ledger.proofs.SplitLemmas.{At, parts_at}
 use Rattle.trace_verdict.specs.Rounds.{first_free, IsSplitOn, AreAfterSplits, IsGrown}
-
--- the element at a place, between those before and those after it
-record At (xs : List (List ℤ)) (k : ℕ) : Type 0 where
-  before : List (List ℤ)
-  cube : List ℤ
-  after : List (List ℤ)
-  parts : xs ≡ before ++ cube ∷ after
-  counted : k ≡ length before
-
-parts_at : (xs : List (List ℤ)) (k : ℕ) → k < length xs → At xs k
-parts_at [] k h = absurd (omega arith)
-parts_at (x ∷ xs) zero h = record { before = []; cube = x; after = xs; parts = refl; counted = refl }
-parts_at (x ∷ xs) (suc k) h =
-    let there = parts_at xs k (omega arith) in
-    record {
-      before = x ∷ there.before;
-      cube = there.cube;
-      after = there.after;
-      parts = ap (λ (ys : List (List ℤ)). x ∷ ys) there.parts;
-      counted = ap suc there.counted;
-    }
 
 -- the tree that is split has the cubes of the old one with one of them replaced by two
 pub splits_cube : (old : List (List ℤ)) (tree new : CubeTree) (leaf v : ℕ) → old ≡ cubes_of tree → leaf < length old → new ≡ with_split leaf v tree →
