@@ -36,11 +36,24 @@ fn readers_by_source(alloc: Global, possible: &SourceSets) -> Result<Vec<u32>, A
 }
 
 /// Whether all possible sources of the reader are among these.
+#[inline(always)]
 fn has_all_within(possible: &SourceSets, reader: u32, within: &[u64]) -> bool {
-    (0..possible.words()).all(|number| possible.word(reader, number) & !at(within, number, 0) == 0)
+    for number in 0..possible.words() {
+        if possible.word(reader, number) & !at(within, number, 0) != 0 {
+            return false;
+        }
+    }
+    true
+}
+
+/// Whether the source is in the set.
+#[inline(always)]
+fn is_member(set: &[u64], source: u32) -> bool {
+    at(set, source >> 6, 0) >> (source & 63) & 1 == 1
 }
 
 /// Puts a source into a set, or takes it out.
+#[inline(always)]
 fn set_member(set: &mut [u64], source: u32, is_member: bool) {
     let bit = 1 << (source & 63);
     let word = at(set, source >> 6, 0);
@@ -48,36 +61,33 @@ fn set_member(set: &mut [u64], source: u32, is_member: bool) {
     put(set, source >> 6, word);
 }
 
-/// The updates that are left where those are taken out, one after the other, that may have a source which is none of the others: 1
-/// for these.
-fn without_outsiders(alloc: Global, possible: &SourceSets) -> Result<Vec<u8>, AllocError> {
-    let mut is_left = vec![in alloc; 0; possible.readers() as usize]?;
-    let mut sources = vec![in alloc; 0; possible.words() as usize]?;
+/// The updates that are left where those are taken out, one after the other, that may have a source which is none of the others: a set
+/// of sources, and how many they are.
+fn without_outsiders(alloc: Global, possible: &SourceSets) -> Result<(Vec<u64>, u32), AllocError> {
+    let mut left = vec![in alloc; 0; possible.words() as usize]?;
+    let mut count: u32 = 0;
     for reader in 0..possible.readers() {
         if let Some(update) = possible.update(reader) {
-            put(is_left.as_mut_slice(), reader, 1);
-            set_member(sources.as_mut_slice(), update, true);
+            set_member(left.as_mut_slice(), update, true);
+            count = count.wrapping_add(1);
         }
     }
     for _ in 0..possible.readers() {
-        let mut has_changed = false;
+        let before = count;
         for reader in 0..possible.readers() {
-            let Some(update) = possible.update(reader) else {
-                continue;
-            };
-            if at(is_left.as_slice(), reader, 0) == 1
-                && !has_all_within(possible, reader, sources.as_slice())
+            if let Some(update) = possible.update(reader)
+                && is_member(left.as_slice(), update)
+                && !has_all_within(possible, reader, left.as_slice())
             {
-                put(is_left.as_mut_slice(), reader, 0);
-                set_member(sources.as_mut_slice(), update, false);
-                has_changed = true;
+                set_member(left.as_mut_slice(), update, false);
+                count = count.wrapping_sub(1);
             }
         }
-        if !has_changed {
+        if count == before || count == 0 {
             break;
         }
     }
-    Ok(is_left)
+    Ok((left, count))
 }
 
 /// The reader, the readers that are its possible sources, theirs, and so on.
@@ -116,14 +126,18 @@ fn reached_from(
 /// Looks for updates whose possible sources are all among them, so that none of them can be the first. The smallest set is taken of
 /// those to which one update leads.
 pub fn find_circle(alloc: Global, possible: &SourceSets) -> Result<Option<Circle>, AllocError> {
-    let is_left = without_outsiders(alloc, possible)?;
-    if is_left.as_slice().iter().all(|one| *one == 0) {
+    let (left, count) = without_outsiders(alloc, possible)?;
+    if count == 0 {
         return Ok(None);
     }
     let by_source = readers_by_source(alloc, possible)?;
     let mut smallest = Vec::new(alloc);
     for reader in 0..possible.readers() {
-        if at(is_left.as_slice(), reader, 0) == 0 {
+        let is_left = match possible.update(reader) {
+            Some(update) => is_member(left.as_slice(), update),
+            None => false,
+        };
+        if !is_left {
             continue;
         }
         let reached = reached_from(alloc, possible, by_source.as_slice(), reader)?;

@@ -17,40 +17,70 @@ pub struct Ending {
 
 /// Whether no writer of its location surely comes after this one.
 fn may_be_last(known: KnownOrder<'_>, writer: u32) -> bool {
+    // The next one of its process has mostly a number in the same word.
+    let likeliest = writer >> 6;
+    if known.writers.word(writer, likeliest) & known.behind.word(writer, likeliest) != 0 {
+        return false;
+    }
     (0..known.writers.words()).all(|number| {
         known.writers.word(writer, number) & known.behind.word(writer, number) == 0
     })
 }
 
-impl Ending {
-    /// Of the location of this writer.
-    pub fn of(alloc: Global, known: KnownOrder<'_>, writer: u32) -> Result<Ending, AllocError> {
-        let mut ending = Ending {
-            writers: Vec::new(alloc),
-            candidates: Vec::new(alloc),
-        };
-        for number in 0..known.writers.words() {
-            let mut word = known.writers.word(writer, number);
-            if writer >> 6 == number {
-                word |= 1 << (writer & 63);
+/// The writers of the location of this one, itself among them: a word of that set.
+#[inline(always)]
+fn location_word(known: KnownOrder<'_>, writer: u32, number: u32) -> u64 {
+    let others = known.writers.word(writer, number);
+    if writer >> 6 == number {
+        others | 1 << (writer & 63)
+    } else {
+        others
+    }
+}
+
+/// Those writers of the location of this one that may be the last one.
+pub fn candidates_of(
+    alloc: Global,
+    known: KnownOrder<'_>,
+    writer: u32,
+) -> Result<Vec<u32>, AllocError> {
+    let mut candidates = Vec::new(alloc);
+    for number in 0..known.writers.words() {
+        let mut word = location_word(known, writer, number);
+        for _ in 0..64 {
+            let Some(candidate) = next_element(&mut word, number) else {
+                break;
+            };
+            if may_be_last(known, candidate) {
+                candidates.push(candidate)?;
             }
+        }
+    }
+    Ok(candidates)
+}
+
+impl Ending {
+    /// Of the location of this writer, with these candidates.
+    pub fn of(
+        alloc: Global,
+        known: KnownOrder<'_>,
+        writer: u32,
+        candidates: Vec<u32>,
+    ) -> Result<Ending, AllocError> {
+        let mut writers = Vec::new(alloc);
+        for number in 0..known.writers.words() {
+            let mut word = location_word(known, writer, number);
             for _ in 0..64 {
                 let Some(operation) = next_element(&mut word, number) else {
                     break;
                 };
-                ending.add_writer(known, operation)?;
+                writers.push(operation)?;
             }
         }
-        Ok(ending)
-    }
-
-    /// Adds a writer, which may be the last one.
-    fn add_writer(&mut self, known: KnownOrder<'_>, writer: u32) -> Result<(), AllocError> {
-        self.writers.push(writer)?;
-        if may_be_last(known, writer) {
-            self.candidates.push(writer)?;
-        }
-        Ok(())
+        Ok(Ending {
+            writers,
+            candidates,
+        })
     }
 
     /// A bound on the steps which say that one of the candidates is the last one.
@@ -101,42 +131,54 @@ impl Ending {
     }
 }
 
-/// Marks the writer and all others of its location.
-fn mark_location(known: KnownOrder<'_>, is_done: &mut [u8], writer: u32) {
-    put(is_done, writer, 1);
+/// Whether a source that has no reader may be the last writer of this one's location. (Of those in a word only the last one is looked at,
+/// which is the likeliest.)
+fn has_free_end(known: KnownOrder<'_>, free: &[u64], writer: u32) -> bool {
     for number in 0..known.writers.words() {
-        let mut others = known.writers.word(writer, number);
-        for _ in 0..64 {
-            let Some(other) = next_element(&mut others, number) else {
-                break;
-            };
-            put(is_done, other, 1);
+        let word = known.writers.word(writer, number) & at(free, number, 0);
+        let last = number.wrapping_mul(64).wrapping_add(63);
+        let last = last.wrapping_sub(word.leading_zeros());
+        if word != 0 && may_be_last(known, last) {
+            return true;
         }
+    }
+    false
+}
+
+/// Adds the writer and all others of its location to the set.
+fn add_location(known: KnownOrder<'_>, done: &mut [u64], writer: u32) {
+    for number in 0..known.writers.words() {
+        let word = at(done, number, 0) | location_word(known, writer, number);
+        put(done, number, word);
     }
 }
 
-/// The endings of the locations that have an update and no final value among the readers.
-pub fn endings_of(
+/// A writer of each location that has an update and no final value among the readers, but for those where one of these free sources may be
+/// the last writer: there one more reader has a source.
+pub fn writers_without_end(
     alloc: Global,
     possible: &SourceSets,
+    free: &[u64],
     known: KnownOrder<'_>,
-) -> Result<Vec<Ending>, AllocError> {
-    let mut is_done = vec![in alloc; 0; known.order.operations as usize]?;
+) -> Result<Vec<u32>, AllocError> {
+    let mut done = vec![in alloc; 0; known.writers.words() as usize]?;
     for reader in 0..possible.readers() {
         if possible.update(reader).is_none()
             && let Some(writer) = possible.first(reader)
         {
-            mark_location(known, is_done.as_mut_slice(), writer);
+            add_location(known, done.as_mut_slice(), writer);
         }
     }
-    let mut endings = Vec::new(alloc);
+    let mut writers = Vec::new(alloc);
     for reader in 0..possible.readers() {
         if let Some(update) = possible.update(reader)
-            && at(is_done.as_slice(), update, 1) == 0
+            && at(done.as_slice(), update >> 6, u64::MAX) >> (update & 63) & 1 == 0
         {
-            mark_location(known, is_done.as_mut_slice(), update);
-            endings.push(Ending::of(alloc, known, update)?)?;
+            add_location(known, done.as_mut_slice(), update);
+            if !has_free_end(known, free, update) {
+                writers.push(update)?;
+            }
         }
     }
-    Ok(endings)
+    Ok(writers)
 }

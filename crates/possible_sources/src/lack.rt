@@ -1,7 +1,7 @@
 //! Readers that cannot all have a source.
 
 use crate::circle::{Circle, find_circle};
-use crate::ending::{Ending, endings_of};
+use crate::ending::{Ending, candidates_of, writers_without_end};
 use crate::known_order::KnownOrder;
 use crate::matching::Matching;
 use crate::source_sets::SourceSets;
@@ -24,15 +24,15 @@ fn find_ending(
     known: KnownOrder<'_>,
     matching: &mut Matching,
 ) -> Result<Option<Lack>, AllocError> {
-    for ending in endings_of(alloc, matching.possible(), known)? {
+    let writers = writers_without_end(alloc, matching.possible(), matching.free(), known)?;
+    for writer in &writers {
+        let candidates = candidates_of(alloc, known, *writer)?;
         let sources = matching.possible().sources();
-        let may_be_read = ending
-            .candidates()
-            .iter()
-            .all(|candidate| *candidate < sources);
-        if may_be_read && matching.has_none_for(ending.candidates())? {
+        let may_be_read = candidates.iter().all(|candidate| *candidate < sources);
+        if may_be_read && matching.has_none_for(candidates.as_slice())? {
             let mut readers = Vec::new(alloc);
             readers.extend_from_slice(matching.reached())?;
+            let ending = Ending::of(alloc, known, *writer, candidates)?;
             return Ok(Some(Lack::Ending(ending, readers)));
         }
     }

@@ -22,10 +22,13 @@ pub struct Matching {
     came_from: Vec<u32>,
     /// The readers to which it has come.
     reached: Vec<u32>,
+    /// The readers that have no source.
+    left_over: Vec<u32>,
 }
 
 impl Matching {
-    /// A maximum matching: from each reader in turn it is enlarged along an alternating path, if there is one.
+    /// A maximum matching. Each reader takes a source that is free, if it can, and from each of the others in turn the matching is
+    /// enlarged along an alternating path, if there is one.
     pub fn of(alloc: Global, possible: SourceSets) -> Result<Matching, AllocError> {
         let readers = possible.readers();
         let sources = possible.sources() as usize;
@@ -37,11 +40,20 @@ impl Matching {
             unseen: vec![in alloc; 0; possible.words() as usize]?,
             came_from: vec![in alloc; 0; sources]?,
             reached: Vec::new(alloc),
+            left_over: Vec::new(alloc),
             possible,
         };
-        for reader in 0..matching.readers {
-            if let Some(source) = matching.walk(reader)? {
-                matching.enlarge(source);
+        // The first free source has a small number, and stands mostly before a reader with a large one. So these take theirs first.
+        let mut waiting = Vec::new(alloc);
+        for reader in (0..matching.readers).rev() {
+            if !matching.take_free(reader) {
+                waiting.push(reader)?;
+            }
+        }
+        for reader in &waiting {
+            match matching.walk(*reader)? {
+                Some(source) => matching.enlarge(source),
+                None => matching.left_over.push(*reader)?,
             }
         }
         Ok(matching)
@@ -56,10 +68,8 @@ impl Matching {
     /// have one. They have one source fewer than they are.
     pub fn smallest_shortage(&mut self, alloc: Global) -> Result<Vec<u32>, AllocError> {
         let mut smallest = Vec::new(alloc);
-        for reader in 0..self.readers {
-            if at(self.source_of.as_slice(), reader, 1) != 0 {
-                continue;
-            }
+        for number in 0..size(self.left_over.as_slice()) {
+            let reader = at(self.left_over.as_slice(), number, 0);
             let _source = self.walk(reader)?;
             if smallest.is_empty() || self.reached.len() < smallest.len() {
                 smallest.clear();
@@ -79,6 +89,36 @@ impl Matching {
     /// The readers to which the last walk has come.
     pub fn reached(&self) -> &[u32] {
         self.reached.as_slice()
+    }
+
+    /// The sources that have no reader, as words of a set.
+    pub fn free(&self) -> &[u64] {
+        self.free.as_slice()
+    }
+
+    /// The reader has this source.
+    #[inline(always)]
+    fn give(&mut self, reader: u32, source: u32) {
+        let number = source.wrapping_add(1);
+        put(self.source_of.as_mut_slice(), reader, number);
+        let number = reader.wrapping_add(1);
+        put(self.reader_of.as_mut_slice(), source, number);
+    }
+
+    /// Gives the reader the first of its sources that has no reader, if there is one.
+    #[inline(always)]
+    fn take_free(&mut self, reader: u32) -> bool {
+        for number in 0..self.possible.words() {
+            let free = at(self.free.as_slice(), number, 0);
+            let mut word = self.possible.word(reader, number) & free;
+            if let Some(source) = next_element(&mut word, number) {
+                let bit = 1 << (source & 63);
+                put(self.free.as_mut_slice(), number, free & !bit);
+                self.give(reader, source);
+                return true;
+            }
+        }
+        false
     }
 
     /// Takes the sources of this reader that the walk has not come to, up to the first that has no reader. It goes on from
@@ -134,16 +174,7 @@ impl Matching {
         for _ in 0..=self.readers {
             let reader = at(self.came_from.as_slice(), source, 0);
             let left = at(self.source_of.as_slice(), reader, 0);
-            put(
-                self.source_of.as_mut_slice(),
-                reader,
-                source.wrapping_add(1),
-            );
-            put(
-                self.reader_of.as_mut_slice(),
-                source,
-                reader.wrapping_add(1),
-            );
+            self.give(reader, source);
             if left == 0 {
                 break;
             }

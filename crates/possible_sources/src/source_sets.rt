@@ -1,6 +1,7 @@
 //! Sets of sources as bits.
 
 use crate::reads::Reads;
+use order_closure::ElementSets;
 use order_closure::tables::{at, put, size};
 use std::alloc::{AllocError, Global};
 
@@ -51,16 +52,27 @@ impl SourceSets {
         Ok(())
     }
 
+    /// Adds the update with this number among all operations, which may have these sources: the set of its number.
+    #[inline(always)]
+    pub fn add_update(&mut self, update: u32, sources: &ElementSets) -> Result<(), AllocError> {
+        let start = self.readers().wrapping_mul(self.words);
+        self.updates.push(update.wrapping_add(1))?;
+        for number in 0..self.words.min(sources.words()) {
+            let place = start.wrapping_add(number);
+            put(
+                self.bits.as_mut_slice(),
+                place,
+                sources.word(update, number),
+            );
+        }
+        Ok(())
+    }
+
     /// Adds a source to those of the reader that was added last.
     #[inline(always)]
     pub fn add_source(&mut self, source: u32) {
-        self.add_sources(source >> 6, 1 << (source & 63));
-    }
-
-    /// Adds sources to those of the reader that was added last: the word of this number of a set.
-    #[inline(always)]
-    pub fn add_sources(&mut self, number: u32, sources: u64) {
-        self.insert(self.readers().wrapping_sub(1), number, sources);
+        let last = self.readers().wrapping_sub(1);
+        self.insert(last, source >> 6, 1 << (source & 63));
     }
 
     /// Adds the sources of a word to the set of the reader.

@@ -1,7 +1,10 @@
 //! When the search begins anew, with all that it has learned.
 
 /// So many conflicts are between two restarts, times a number of Luby's sequence.
-const UNIT: u64 = 100;
+pub const UNIT: u64 = 100;
+
+/// So many along a schedule, where each restart takes another way.
+pub const SHORT_UNIT: u64 = 10;
 
 /// The number of Luby's sequence 1, 1, 2, 1, 1, 2, 4, .. at this place, counted from 0. No other sequence of restarts is better by
 /// more than a factor where nothing is known of the search.
@@ -32,16 +35,18 @@ fn luby(place: u64) -> u64 {
 /// Counts conflicts from one restart to the next.
 #[derive(Clone, Copy)]
 pub struct Restarts {
+    unit: u64,
     done: u64,
     left: u64,
 }
 
 impl Restarts {
-    /// No conflict yet.
-    pub fn new() -> Restarts {
+    /// No conflict yet. So many are between two restarts, times a number of Luby's sequence.
+    pub fn new(unit: u64) -> Restarts {
         Restarts {
+            unit,
             done: 0,
-            left: UNIT,
+            left: unit,
         }
     }
 
@@ -52,7 +57,7 @@ impl Restarts {
             return false;
         }
         self.done = self.done.wrapping_add(1);
-        self.left = luby(self.done).wrapping_mul(UNIT);
+        self.left = luby(self.done).wrapping_mul(self.unit);
         true
     }
 }

@@ -7,10 +7,11 @@ use order_closure::{ElementSets, next_element};
 use std::alloc::{AllocError, Global};
 
 /// What a plain read is worth as the next element: it changes nothing, so it costs nothing to let it be next.
-const PLAIN_READ: u32 = 1000;
+const PLAIN_READ: u32 = 2000;
 
-/// What it is worth that the element was decided to be next before.
-const AS_BEFORE: u32 = 500;
+/// What it is worth that another element can then be next which may read what this one writes. An update after which nothing fits is the
+/// end of a schedule.
+const FOLLOWED: u32 = 1000;
 
 /// The elements one after the other, as far as their order is known: a schedule begins with them. The next decision says which element
 /// comes next, and takes one whose value fits what was written last.
@@ -25,6 +26,8 @@ pub struct Schedule {
     last: Vec<u32>,
     /// The elements so far, as a set of element 0, and those that can be next, as one of element 1.
     sets: ElementSets,
+    /// How often the search has begun anew.
+    restarts: u32,
 }
 
 /// Where there are as many states as this, there are too many nogoods of states to be learned.
@@ -105,7 +108,13 @@ impl Schedule {
             rests,
             last: vec![in alloc; 0; elements as usize]?,
             sets: ElementSets::new(alloc, elements)?,
+            restarts: 0,
         })
+    }
+
+    /// The search begins anew, and is to take other ways.
+    pub fn vary(&mut self) {
+        self.restarts = self.restarts.wrapping_add(1);
     }
 
     /// Whether all that stand before the element are placed.
@@ -171,23 +180,50 @@ impl Schedule {
         choice != 0 && trail.value(choice.wrapping_mul(2)) != FALSE
     }
 
-    /// What the element is worth as the next one, before that other one.
-    fn worth(
-        &self,
-        trail: &OrderedTrail<'_>,
-        readings: &Readings,
-        element: u32,
-        other: u32,
-    ) -> u32 {
-        let mut worth = at(self.rests.as_slice(), element, 0).wrapping_add(1);
+    /// How many elements can be next after this one and may read what it writes.
+    fn followers(&mut self, trail: &OrderedTrail<'_>, element: u32) -> u32 {
+        let mut followers: u32 = 0;
+        self.sets.insert(PLACED, element);
+        for number in 0..self.sets.words() {
+            let placed = self.sets.word(PLACED, number);
+            let mut readers = trail.candidates.readers.word(element, number) & !placed;
+            for _ in 0..64 {
+                let Some(reader) = next_element(&mut readers, number) else {
+                    break;
+                };
+                if self.can_be_next(trail, reader) {
+                    followers = followers.wrapping_add(1);
+                }
+            }
+        }
+        self.sets.take_out(PLACED, element);
+        followers
+    }
+
+    /// A number below 4, 0 before the first restart, and another one after each. Most ways to begin lead to a schedule soon, and some to
+    /// none for very long: these heavy tails are cut where each restart takes another way (Gomes, Selman and Kautz, "Boosting
+    /// combinatorial search through randomization", 1998).
+    fn chance(&self, element: u32) -> u32 {
+        if self.restarts == 0 {
+            return 0;
+        }
+        let mixed = element.wrapping_add(1).wrapping_mul(0x9e37_79b1)
+            ^ self.restarts.wrapping_mul(0x85eb_ca6b);
+        (mixed ^ (mixed >> 15)).wrapping_mul(0x2c1b_3c6d) >> 30
+    }
+
+    /// What the element is worth as the next one.
+    fn worth(&mut self, trail: &OrderedTrail<'_>, readings: &Readings, element: u32) -> u32 {
+        let rest = at(self.rests.as_slice(), element, 0);
+        let worth = rest.wrapping_add(self.chance(element)).wrapping_add(1);
         if !readings.writes(element) {
-            worth = worth.wrapping_add(PLAIN_READ);
+            return worth.wrapping_add(PLAIN_READ);
         }
-        let literal = trail.order().literal(element, other);
-        if trail.trail.tried_first(literal >> 1) == literal {
-            worth = worth.wrapping_add(AS_BEFORE);
+        let followers = self.followers(trail, element);
+        if followers == 0 {
+            return worth;
         }
-        worth
+        worth.wrapping_add(followers).wrapping_add(FOLLOWED)
     }
 
     /// The first element that can be next and is not this one.
@@ -206,8 +242,9 @@ impl Schedule {
         None
     }
 
-    /// The literal that puts the best of the elements that fit before another one that can be next, if there are two.
-    fn best(&self, trail: &OrderedTrail<'_>, readings: &Readings) -> Option<u32> {
+    /// The literal that puts the best of the elements that can be next before another one, if there are two. Where none fits, the state is
+    /// a dead end, and any of them leads to the conflict that says so.
+    fn best(&mut self, trail: &OrderedTrail<'_>, readings: &Readings) -> Option<u32> {
         let mut best = None;
         let mut most: u32 = 0;
         for number in 0..self.sets.words() {
@@ -219,8 +256,11 @@ impl Schedule {
                 let Some(other) = self.rival_of(element) else {
                     break;
                 };
-                let worth = self.worth(trail, readings, element, other);
-                if worth > most && self.fits(trail, readings, element) {
+                let mut worth = 1;
+                if self.fits(trail, readings, element) {
+                    worth = self.worth(trail, readings, element).wrapping_add(1);
+                }
+                if worth > most {
                     most = worth;
                     best = Some(trail.order().literal(element, other));
                 }
@@ -230,7 +270,7 @@ impl Schedule {
     }
 
     /// The next decision: which of two elements that can both be next comes before the other. None where only one can be next at
-    /// each place, and where nothing fits.
+    /// each place, and where that one does not fit.
     pub fn pick(&mut self, trail: &OrderedTrail<'_>) -> Option<u32> {
         let readings = trail.readings?;
         self.begin(trail);

@@ -1,7 +1,7 @@
 //! The search: it decides, propagates, and learns from each conflict.
 
 use crate::reduce::FIRST_REDUCTION;
-use crate::restart::Restarts;
+use crate::restart::{Restarts, SHORT_UNIT, UNIT};
 use crate::schedule::{MOST_STATES, Schedule};
 use assignment_trail::{Activities, FALSE, OPEN, OrderedTrail, TRUE};
 use clause_store::{
@@ -98,7 +98,7 @@ impl<'a> Search<'a> {
             level_stamps: vec![in alloc; 0; places.saturating_add(1)]?,
             stamp: 0,
             conflicts: 0,
-            restarts: Restarts::new(),
+            restarts: Restarts::new(UNIT),
             next_reduction: FIRST_REDUCTION,
             reduction_gap: FIRST_REDUCTION,
         };
@@ -221,12 +221,15 @@ impl<'a> Search<'a> {
     /// so along a schedule nothing is dropped before there are as many clauses as states.
     pub fn change_course(&mut self) -> Result<(), AllocError> {
         let mut first = FIRST_REDUCTION;
+        let mut unit = UNIT;
         let mut schedule = None;
         if self.schedule.is_none() {
             schedule = Some(Schedule::new(self.alloc, &self.trail)?);
             first = MOST_STATES;
+            unit = SHORT_UNIT;
         }
         self.schedule = schedule;
+        self.restarts = Restarts::new(unit);
         self.next_reduction = first;
         self.reduction_gap = first;
         Ok(())
@@ -317,6 +320,9 @@ impl<'a> Search<'a> {
         self.activities.age();
         if self.restarts.count() {
             self.trail.take_back(0, &mut self.activities);
+            if let Some(schedule) = &mut self.schedule {
+                schedule.vary();
+            }
         }
         self.reduce_in_time()
     }

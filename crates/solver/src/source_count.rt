@@ -33,9 +33,10 @@ fn known_order<'b>(
 impl<'a> Search<'a> {
     /// Whether there are readers that cannot all have a source. Mostly there are none, so this goes by what is at hand.
     fn lacks_sources(&self, guide: Guide<'a>, readings: &Readings) -> Result<bool, AllocError> {
-        let Some(possible) = possible_sources(self.alloc, &self.trail, readings)? else {
+        let possible = possible_sources(self.alloc, &self.trail, readings)?;
+        if possible.readers() == 0 {
             return Ok(false);
-        };
+        }
         let known = known_order(guide, &self.trail, readings);
         lacks_sources(self.alloc, possible, known)
     }

@@ -121,23 +121,21 @@ pub fn told_reads(
     Ok(reads)
 }
 
-/// Adds an element that reads and writes, with the sources that it may still have.
+/// Adds an element that reads and writes, with the sources that it may still have. Whether there is room for all of them.
 fn add_update(
     trail: &OrderedTrail<'_>,
     readings: &Readings,
     element: u32,
     sets: &mut SourceSets,
-) -> Result<(), AllocError> {
-    sets.add_reader(Some(element))?;
-    let writers = &trail.candidates.writers;
-    for number in 0..writers.words() {
-        sets.add_sources(number, writers.word(element, number));
-    }
+) -> Result<bool, AllocError> {
+    sets.add_update(element, &trail.candidates.writers)?;
     let variable = readings.variable_without_writer(element);
-    if variable != 0 && !is_excluded(trail, variable) {
-        sets.add_source(first_value(readings, element));
+    if variable == 0 || is_excluded(trail, variable) {
+        return Ok(true);
     }
-    Ok(())
+    let source = first_value(readings, element);
+    sets.add_source(source);
+    Ok(source < sets.sources())
 }
 
 /// Adds the final values, with the last writers that are still possible.
@@ -159,24 +157,47 @@ fn add_finals(
     Ok(())
 }
 
-/// The same as sets, which are for the most part at hand: the readers as `told_reads` tells of them, and their possible sources. None
+/// The same as sets, if there is room for all sources where there are so many numbers for them.
+fn sources_below(
+    alloc: Global,
+    trail: &OrderedTrail<'_>,
+    readings: &Readings,
+    sources: u32,
+) -> Result<Option<SourceSets>, AllocError> {
+    let elements = readings.elements();
+    let readers = elements.wrapping_add(size(readings.last_writers()));
+    let mut sets = SourceSets::new(alloc, readers, sources)?;
+    for element in 0..elements {
+        if readings.reads(element)
+            && readings.writes(element)
+            && !add_update(trail, readings, element, &mut sets)?
+        {
+            return Ok(None);
+        }
+    }
+    if sets.readers() > 0 {
+        add_finals(trail, readings, &mut sets)?;
+    }
+    Ok(Some(sets))
+}
+
+/// The same as sets, which are for the most part at hand: the readers as `told_reads` tells of them, and their possible sources. No reader
 /// where no element reads and writes, since the final values of several locations have no source in common.
+///
+/// The value before all writers has a number above those of all elements, and mostly not far above, so sets of fewer words are tried first.
 pub fn possible_sources(
     alloc: Global,
     trail: &OrderedTrail<'_>,
     readings: &Readings,
-) -> Result<Option<SourceSets>, AllocError> {
+) -> Result<SourceSets, AllocError> {
     let elements = readings.elements();
-    let readers = elements.wrapping_add(size(readings.last_writers()));
-    let mut sets = SourceSets::new(alloc, readers, elements.wrapping_mul(2))?;
-    for element in 0..elements {
-        if readings.reads(element) && readings.writes(element) {
-            add_update(trail, readings, element, &mut sets)?;
-        }
+    let few = elements.wrapping_add(1);
+    if let Some(sets) = sources_below(alloc, trail, readings, few)? {
+        return Ok(sets);
     }
-    if sets.readers() == 0 {
-        return Ok(None);
+    let all = elements.wrapping_mul(2);
+    match sources_below(alloc, trail, readings, all)? {
+        Some(sets) => Ok(sets),
+        None => SourceSets::new(alloc, 0, 0),
     }
-    add_finals(trail, readings, &mut sets)?;
-    Ok(Some(sets))
 }

@@ -29,4 +29,6 @@ mod random_formulas;
 #[cfg(test)]
 mod reads;
 #[cfg(test)]
+mod refused_memory;
+#[cfg(test)]
 mod traced;
