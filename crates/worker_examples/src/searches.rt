@@ -9,8 +9,8 @@ use result_ledger::Ledger;
 use solver::Guide;
 use std::alloc::Global;
 use std::process::Abort;
-use std::sync::atomic::{AtomicBool, Ordering};
 use std::sync::Wait;
+use std::sync::atomic::{AtomicBool, Ordering};
 use std::test::Fail;
 use std::thread::{Threads, yield_now};
 
@@ -70,7 +70,7 @@ impl Gate for HoldingGate {
 }
 
 /// The formula of the text.
-fn formula_of(rt: &impl Abort, alloc: Global, text: &str) -> Formula {
+pub fn formula_of(rt: &impl Abort, alloc: Global, text: &str) -> Formula {
     match read_cnf(alloc, text.as_bytes()) {
         Ok(formula) => formula,
         Err(_) => panic!(rt; "the formula is refused"),
@@ -78,7 +78,7 @@ fn formula_of(rt: &impl Abort, alloc: Global, text: &str) -> Formula {
 }
 
 /// The tree of the text.
-fn tree_of(rt: &impl Abort, alloc: Global, text: &[u8]) -> Tree {
+pub fn tree_of(rt: &impl Abort, alloc: Global, text: &[u8]) -> Tree {
     match read_tree(alloc, text) {
         Ok((tree, _)) => tree,
         Err(_) => panic!(rt; "the tree is refused"),
