@@ -5,7 +5,8 @@ ghost use Rattle.result_ledger.specs.Ledger.{cubes_in};
 
 use crate::answers::{Expected, is_expected};
 use crate::expectations::{ample, expect};
-use cube_queue::{Gate, Options, SearchFault, Settled, search};
+use cube_queue::{Gate, Options, SearchFault, Settled};
+use cube_search::search;
 use cube_tree::Tree;
 use dimacs::Formula;
 use result_ledger::Ledger;
