@@ -53,6 +53,7 @@ fn is_proof_in<L: ClauseList>(
     ensures { IfOk result (λ proved. IsTrue proved ↔ IsProofIn (L.formula formula.now).clauses cube.now derivation.now) }
 {
     never_accepted_and_refused();
+    // This call says that the additions are clauses.
     let _additions = derivation.steps();
     match check(alloc, formula, cube, derivation) {
         Ok(_) => Ok(true),
@@ -75,7 +76,7 @@ fn model_of<'a, L: ClauseList>(formula: &L, slot: &'a Slot) -> Option<&'a Assign
     }
 }
 
-/// Whether the slot's answer is such a derivation for its cube.
+/// Whether the slot's answer is a derivation that is accepted for its cube.
 pub(crate) fn is_proved<L: ClauseList>(
     alloc: Global,
     formula: &L,

@@ -57,7 +57,7 @@ fn without_proof_in<L: ClauseList>(
     without_proof_between(alloc, formula, slots, from, end)
 }
 
-/// The leaves of all pieces, where these are those of each piece, in order.
+/// The leaves of all pieces, where these are those of each piece, in order. What the pieces are of is named in clauses alone.
 fn joined<L: ClauseList>(
     alloc: Global,
     _formula: &L,
@@ -99,7 +99,18 @@ fn without_proof_in_pieces<R: Threads + Sync, L: ClauseList + Sync>(
     joined(alloc, formula, slots, size, pieces)
 }
 
-/// The leaves without a derivation that is accepted, rising, looked for by so many workers.
+/// How many of the workers so many leaves need.
+fn needed(workers: u32, leaves: usize) -> u32
+    ensures { result ≤ workers }
+{
+    if leaves < workers as usize {
+        leaves as u32
+    } else {
+        workers
+    }
+}
+
+/// The leaves without a derivation that is accepted, rising, looked for by so many workers at most.
 pub(crate) fn without_proof<R: Threads + Sync, L: ClauseList + Sync>(
     alloc: Global,
     rt: &R,
@@ -111,7 +122,8 @@ pub(crate) fn without_proof<R: Threads + Sync, L: ClauseList + Sync>(
     requires workers { (1 ≤ workers) × (workers ≤ 8) }
     ensures { IfOk result (λ leaves. AreWithoutBetween (HasProofAt (L.formula formula.now).clauses slots.now) 0 (length slots.now) leaves.items) }
 {
-    if workers == 1 {
+    let workers = needed(workers, slots.len());
+    if workers < 2 {
         without_proof_between(alloc, formula, slots, 0, slots.len())
     } else {
         without_proof_in_pieces(alloc, rt, formula, slots, workers)
