@@ -27,30 +27,23 @@ pub struct Activities {
 }
 
 impl Activities {
-    /// None of so many variables is to be decided.
-    pub fn new(alloc: Global, variables: u32) -> Result<Activities, AllocError> {
+    /// Of so many variables these are to be decided, and none is more active than another: they can be taken in this order.
+    pub fn new(alloc: Global, variables: u32, wanted: &[u32]) -> Result<Activities, AllocError> {
         let places = variables.wrapping_add(1) as usize;
-        Ok(Activities {
+        let mut activities = Activities {
             activities: vec![in alloc; 0.0; places]?,
             bump: 1.0,
             heap: vec![in alloc; 0; places]?,
-            count: 0,
+            count: size(wanted),
             places: vec![in alloc; 0; places]?,
             wanted: vec![in alloc; 0; places]?,
-        })
-    }
-
-    /// The variable is to be decided.
-    #[inline(always)]
-    pub fn want(&mut self, variable: u32) {
-        put(self.wanted.as_mut_slice(), variable, 1);
-    }
-
-    /// All variables that are to be decided can be taken, by their numbers.
-    pub fn offer_wanted(&mut self) {
-        for variable in 0..size(self.wanted.as_slice()) {
-            self.insert(variable);
+        };
+        for place in 0..size(wanted) {
+            let variable = at(wanted, place, 0);
+            put(activities.wanted.as_mut_slice(), variable, 1);
+            activities.settle(place, variable);
         }
+        Ok(activities)
     }
 
     /// How active the variable is.

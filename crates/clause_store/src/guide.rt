@@ -100,6 +100,18 @@ impl<'a> Guide<'a> {
         self.elements
     }
 
+    /// The variable that says in which order these two elements stand.
+    pub fn variable_of_pair(self, a: u32, b: u32) -> u32 {
+        let i = a.min(b);
+        let j = a.max(b);
+        let before = self
+            .elements
+            .wrapping_mul(2)
+            .wrapping_sub(i)
+            .wrapping_sub(1);
+        (i.wrapping_mul(before) / 2).wrapping_add(j).wrapping_sub(i)
+    }
+
     /// The number of the first clause of the order.
     pub fn first(self) -> u32 {
         self.first

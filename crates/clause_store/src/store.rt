@@ -28,6 +28,13 @@ impl Store {
         })
     }
 
+    /// A store of its own with the same clauses.
+    pub fn copied(&self, alloc: Global) -> Result<Store, AllocError> {
+        let mut words = Vec::with_capacity(alloc, self.words.len())?;
+        words.extend_from_slice(self.words.as_slice())?;
+        Ok(Store { words })
+    }
+
     /// The words of all clauses.
     #[inline(always)]
     pub fn words(&self) -> &[u32] {

@@ -12,10 +12,13 @@ pub struct Watch {
     pub blocker: u32,
 }
 
-/// For each literal the clauses that watch it: each clause watches its first two.
+/// For each literal the clauses that watch it: each clause watches its first two. Most literals of an order are never watched, so a list is
+/// made where it is needed first.
 #[derive(Drop)]
 pub struct Watches {
     alloc: Global,
+    /// For each literal the place of its list and one more, or 0.
+    places: Vec<u32>,
     lists: Vec<Vec<Watch>>,
 }
 
@@ -47,18 +50,30 @@ fn move_list(list: &mut Vec<Watch>, old: &Store) {
 impl Watches {
     /// No clause watches any of so many literals.
     pub fn new(alloc: Global, literals: u32) -> Result<Watches, AllocError> {
-        let mut lists = Vec::with_capacity(alloc, literals as usize)?;
-        for _ in 0..literals {
-            lists.push(Vec::new(alloc))?;
-        }
-        Ok(Watches { alloc, lists })
+        Ok(Watches {
+            alloc,
+            places: vec![in alloc; 0; literals as usize]?,
+            lists: Vec::new(alloc),
+        })
+    }
+
+    /// Where the list of the literal is, or past the last list.
+    #[inline(always)]
+    fn place(&self, literal: u32) -> usize {
+        at(self.places.as_slice(), literal, 0).wrapping_sub(1) as usize
     }
 
     /// The clause watches the literal from now on.
     #[inline(always)]
     pub fn add(&mut self, literal: u32, watch: Watch) -> Result<(), AllocError> {
-        if (literal as usize) < self.lists.len() {
-            self.lists[literal as usize].push(watch)?;
+        if at(self.places.as_slice(), literal, 1) == 0 {
+            self.lists.push(Vec::new(self.alloc))?;
+            let place = size(self.lists.as_slice());
+            put(self.places.as_mut_slice(), literal, place);
+        }
+        let place = self.place(literal);
+        if place < self.lists.len() {
+            self.lists[place].push(watch)?;
         }
         Ok(())
     }
@@ -86,8 +101,9 @@ impl Watches {
     /// The clauses that watch the literal. They are taken out, so that the other lists can grow while these are gone over.
     #[inline(always)]
     pub fn take(&mut self, literal: u32) -> Vec<Watch> {
-        if (literal as usize) < self.lists.len() {
-            mem::replace(&mut self.lists[literal as usize], Vec::new(self.alloc))
+        let place = self.place(literal);
+        if place < self.lists.len() {
+            mem::replace(&mut self.lists[place], Vec::new(self.alloc))
         } else {
             Vec::new(self.alloc)
         }
@@ -96,15 +112,17 @@ impl Watches {
     /// Puts the list of the literal back.
     #[inline(always)]
     pub fn give_back(&mut self, literal: u32, list: Vec<Watch>) {
-        if (literal as usize) < self.lists.len() {
-            self.lists[literal as usize] = list;
+        let place = self.place(literal);
+        if place < self.lists.len() {
+            self.lists[place] = list;
         }
     }
 
     /// Whether no clause watches the literal.
     #[inline(always)]
     pub fn is_empty(&self, literal: u32) -> bool {
-        (literal as usize) >= self.lists.len() || self.lists[literal as usize].is_empty()
+        let place = self.place(literal);
+        place >= self.lists.len() || self.lists[place].is_empty()
     }
 
     /// The clauses have moved to the store that was made of the old one.

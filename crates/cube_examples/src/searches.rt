@@ -10,7 +10,7 @@ use cube_search::search;
 use cube_tree::Tree;
 use dimacs::Formula;
 use result_ledger::Ledger;
-use solver::Guide;
+use solver::{Guide, Preparation};
 use std::alloc::Global;
 use std::process::Abort;
 use std::sync::Wait;
@@ -28,16 +28,8 @@ pub fn results_of<R: Threads + Wait + Sync, G: Gate + Sync>(
     let ledger = Ledger::new(alloc, tree)?;
     let which = ledger.unanswered(alloc)?;
     let leaves = which.as_slice();
-    search(
-        alloc,
-        rt,
-        formula,
-        Guide::none(),
-        tree,
-        leaves,
-        options,
-        gate,
-    )
+    let prepared = Preparation::of(alloc, formula, Guide::none())?;
+    search(alloc, rt, formula, &prepared, tree, leaves, options, gate)
 }
 
 /// The ledger of the tree, without an answer.

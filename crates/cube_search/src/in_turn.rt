@@ -8,7 +8,7 @@ use crate::settling::{is_model_result, settle_job};
 use cube_queue::{Gate, SearchFault, Settled};
 use cube_tree::{Tree, cubes};
 use dimacs::ClauseList;
-use solver::Guide;
+use solver::Preparation;
 use std::alloc::Global;
 
 /// Whether the last of the results is a model of the formula that makes its cube true.
@@ -32,7 +32,7 @@ fn knows_model<L: ClauseList>(formula: &L, known_before: bool, results: &[Settle
 pub(crate) fn search_in_turn<L: ClauseList, G: Gate>(
     alloc: Global,
     formula: &L,
-    guide: Guide,
+    prepared: &Preparation,
     tree: &Tree,
     which: &[u32],
     budget: u64,
@@ -49,7 +49,7 @@ pub(crate) fn search_in_turn<L: ClauseList, G: Gate>(
         has_model = knows_model(formula, has_model, results.as_slice());
         let job = job_of(alloc, cubes.as_slice(), *leaf);
         gate.before(0, *leaf);
-        let settled = settle_job(alloc, formula, guide, job, budget, has_model);
+        let settled = settle_job(alloc, prepared, job, budget, has_model);
         results.push(settled)?;
         gate.after(0, *leaf);
     }

@@ -13,7 +13,7 @@ use cube_queue::{Gate, Options, SearchFault, Settled};
 use cube_tree::laws::a_cube_for_each_leaf;
 use cube_tree::{Cube, Tree, cubes};
 use dimacs::ClauseList;
-use solver::Guide;
+use solver::Preparation;
 use std::alloc::{AllocError, Global};
 use std::sync::Wait;
 use std::thread::Threads;
@@ -64,7 +64,7 @@ fn search_in_threads<R: Threads + Wait + Sync, L: ClauseList + Sync, G: Gate + S
 }
 
 /// Searches the cubes of these leaves of the tree, between the two calls of the gate. There is one result for each of them, with
-/// its cube, and no other. What a result says of its cube is to be checked. The guide tells what is known of the formula, and
+/// its cube, and no other. What a result says of its cube is to be checked. What is prepared of the formula is shared by all cubes, and
 /// nothing rests on it.
 ///
 /// The workers search in threads of their own; a single one, or one for a single leaf, in the caller's. A worker that finds no memory
@@ -74,7 +74,7 @@ pub fn search<R: Threads + Wait + Sync, L: ClauseList + Sync, G: Gate + Sync>(
     alloc: Global,
     rt: &R,
     formula: &L,
-    guide: Guide,
+    prepared: &Preparation,
     tree: &Tree,
     which: &[u32],
     options: &Options,
@@ -86,11 +86,11 @@ pub fn search<R: Threads + Wait + Sync, L: ClauseList + Sync, G: Gate + Sync>(
     let workers = needed(options.workers(), which.len());
     let budget = options.budget();
     if workers < 2 {
-        return search_in_turn(alloc, formula, guide, tree, which, budget, gate);
+        return search_in_turn(alloc, formula, prepared, tree, which, budget, gate);
     }
     let settler = CubeSettler {
         formula,
-        guide,
+        prepared,
         budget,
     };
     search_in_threads(alloc, rt, &settler, tree, which, workers, gate)

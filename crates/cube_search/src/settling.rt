@@ -6,14 +6,14 @@ ghost use Rattle.cube_queue.specs.Models.{IsModelResult};
 use crate::settler::Settler;
 use cube_queue::{Job, Outcome, Settled, is_model_in};
 use dimacs::{ClauseList, Lit};
-use solver::{Answer, Guide, solve};
+use solver::{Answer, Preparation, solve_cube};
 use std::alloc::Global;
 
-/// A formula, what is known of it, and how many conflicts are worked on in a cube.
+/// A formula, what is prepared of it for all cubes, and how many conflicts are worked on in a cube.
 #[derive(Clone, Copy)]
 pub(crate) struct CubeSettler<'a, L> {
     pub(crate) formula: &'a L,
-    pub(crate) guide: Guide<'a>,
+    pub(crate) prepared: &'a Preparation<'a>,
     pub(crate) budget: u64,
 }
 
@@ -21,7 +21,7 @@ impl<'a, L: ClauseList> Settler for CubeSettler<'a, L> {
     ghost clauses = { λ settler. (L.formula settler.formula.now).clauses };
 
     fn settle(&self, alloc: Global, job: Job, skips: bool) -> Settled {
-        settle_job(alloc, self.formula, self.guide, job, self.budget, skips)
+        settle_job(alloc, self.prepared, job, self.budget, skips)
     }
 
     fn confirms(&self, settled: &Settled) -> bool {
@@ -30,16 +30,10 @@ impl<'a, L: ClauseList> Settler for CubeSettler<'a, L> {
 }
 
 /// What the solver says of the cube. A search that finds no memory leaves it open.
-fn outcome_of<L: ClauseList>(
-    alloc: Global,
-    formula: &L,
-    guide: Guide,
-    cube: &[Lit],
-    budget: u64,
-) -> Outcome
+fn outcome_of(alloc: Global, prepared: &Preparation, cube: &[Lit], budget: u64) -> Outcome
     ensures { result ≡ Skipped → ⊥ }
 {
-    match solve(alloc, formula, cube, guide, budget) {
+    match solve_cube(alloc, prepared, cube, budget) {
         Ok(Answer::Model(assignment)) => Outcome::Model(assignment),
         Ok(Answer::Refuted(derivation)) => Outcome::Refuted(derivation),
         Ok(Answer::Open) => Outcome::Open,
@@ -48,10 +42,9 @@ fn outcome_of<L: ClauseList>(
 }
 
 /// Settles the job: its cube is searched, or skipped where it is to be.
-pub(crate) fn settle_job<L: ClauseList>(
+pub(crate) fn settle_job(
     alloc: Global,
-    formula: &L,
-    guide: Guide,
+    prepared: &Preparation,
     job: Job,
     budget: u64,
     skips: bool,
@@ -63,7 +56,7 @@ pub(crate) fn settle_job<L: ClauseList>(
     if skips {
         return job.settle(Outcome::Skipped);
     }
-    let outcome = outcome_of(alloc, formula, guide, job.cube(), budget);
+    let outcome = outcome_of(alloc, prepared, job.cube(), budget);
     job.settle(outcome)
 }
 

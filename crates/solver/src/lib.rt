@@ -1,6 +1,7 @@
 //! A solver that learns: it answers a formula with a model, or with a derivation that there is none.
 //!
 //! - `solve` takes a formula, a cube, a guide and a budget.
+//! - `Preparation` is what all cubes of a formula share, and `solve_cube` searches one of them.
 //! - `Answer` is what it answers.
 //! - `Guide` tells it which clauses say that an order is transitive.
 //!
@@ -15,6 +16,7 @@ mod analyze;
 mod hints;
 mod learning;
 mod minimise;
+mod preparation;
 mod propagate;
 mod reduce;
 mod restart;
@@ -24,7 +26,9 @@ mod solving;
 mod source_count;
 mod told_reads;
 mod units;
+mod wanted;
 
 pub use clause_store::{Choice, Guide, LastWriter, Readings};
 pub use derivation_log::Answer;
-pub use solving::solve;
+pub use preparation::Preparation;
+pub use solving::{solve, solve_cube};

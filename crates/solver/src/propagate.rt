@@ -161,31 +161,55 @@ fn visit_stored(
     Ok(conflict)
 }
 
+/// Makes true what follows from the literals that are true, of so many variables, until nothing more follows, or until all literals of a
+/// clause are false: that clause.
+pub fn propagate(
+    trail: &mut OrderedTrail<'_>,
+    small: &SmallClauses,
+    store: &mut Store,
+    watches: &mut Watches,
+    variables: u32,
+) -> Result<Option<Reason>, AllocError> {
+    for _ in 0..=variables {
+        let Some(literal) = trail.trail.next() else {
+            return Ok(None);
+        };
+        if let Err(conflict) = trail.follow_reads(literal) {
+            return Ok(Some(conflict));
+        }
+        let falsified = literal ^ 1;
+        if let Some(conflict) = visit_small(trail, small, falsified) {
+            return Ok(Some(conflict));
+        }
+        let clause = visit_stored(trail, store, watches, falsified)?;
+        if clause != 0 {
+            return Ok(Some(store.reason(clause)));
+        }
+    }
+    Ok(None)
+}
+
 impl<'a> Search<'a> {
     /// Makes true what follows from the literals that are true, until nothing more follows, or until all literals of a clause are
     /// false: that clause.
     pub fn propagate(&mut self) -> Result<Option<Reason>, AllocError> {
-        for _ in 0..=self.variables {
-            let Some(literal) = self.trail.trail.next() else {
-                return Ok(None);
-            };
-            if let Err(conflict) = self.trail.follow_reads(literal) {
-                return Ok(Some(conflict));
-            }
-            let falsified = literal ^ 1;
-            if let Some(conflict) = visit_small(&mut self.trail, &self.small, falsified) {
-                return Ok(Some(conflict));
-            }
-            let clause = visit_stored(
-                &mut self.trail,
-                &mut self.store,
-                &mut self.watches,
-                falsified,
-            )?;
-            if clause != 0 {
-                return Ok(Some(self.store.reason(clause)));
-            }
-        }
-        Ok(None)
+        propagate(
+            &mut self.trail,
+            &self.small,
+            &mut self.store,
+            &mut self.watches,
+            self.variables,
+        )
+    }
+
+    /// The same by these clauses of two and three literals.
+    pub fn propagate_by(&mut self, small: &SmallClauses) -> Result<Option<Reason>, AllocError> {
+        propagate(
+            &mut self.trail,
+            small,
+            &mut self.store,
+            &mut self.watches,
+            self.variables,
+        )
     }
 }

@@ -1,14 +1,13 @@
 //! The search: it decides, propagates, and learns from each conflict.
 
+use crate::preparation::Preparation;
 use crate::reduce::FIRST_REDUCTION;
 use crate::restart::{Restarts, SHORT_UNIT, UNIT};
 use crate::schedule::{MOST_STATES, Schedule};
 use assignment_trail::{Activities, FALSE, OPEN, OrderedTrail, TRUE};
-use clause_store::{
-    Cause, Guide, Intake, Readings, Reason, SmallClause, SmallClauses, Store, Unit, Watches,
-};
-use derivation_log::codes::NEVER;
-use order_closure::next_element;
+use clause_store::{Cause, Reason, SmallClause, SmallClauses, Store, Unit, Watches};
+use derivation_log::codes::{NEVER, code_of};
+use dimacs::Lit;
 use order_closure::tables::{at, put, size};
 use std::alloc::{AllocError, Global};
 
@@ -59,32 +58,41 @@ pub struct Search<'a> {
 }
 
 impl<'a> Search<'a> {
-    /// A search through these clauses over so many variables. Nothing is decided yet.
+    /// A search over so many variables through what is prepared, in the cube of these literals. Nothing is decided yet.
     pub fn new(
         alloc: Global,
         variables: u32,
-        guide: Guide<'a>,
-        intake: Intake,
+        prepared: &Preparation<'a>,
+        cube: &[Lit],
+    ) -> Result<Search<'a>, AllocError> {
+        let mut search = Search::of_long(alloc, variables, prepared)?;
+        search.attach_long()?;
+        search.assume_all(prepared, cube);
+        if search.conflict.is_none() {
+            search.conflict = search.propagate_by(&prepared.small)?;
+            search.leave_out_satisfied(prepared.intake.small.as_slice())?;
+        }
+        Ok(search)
+    }
+
+    /// The same before the clauses of one, two and three literals are looked at.
+    fn of_long(
+        alloc: Global,
+        variables: u32,
+        prepared: &Preparation<'a>,
     ) -> Result<Search<'a>, AllocError> {
         let literals = variables.wrapping_mul(2).wrapping_add(2);
         let places = variables.wrapping_add(1) as usize;
-        let Intake {
-            units,
-            small,
-            long,
-            empty,
-            ..
-        } = intake;
-        let mut search = Search {
+        Ok(Search {
             alloc,
             variables,
-            small: SmallClauses::new(alloc, literals, small.as_slice())?,
-            store: long,
+            small: SmallClauses::new(alloc, 0, &[])?,
+            store: prepared.intake.long.copied(alloc)?,
             watches: Watches::new(alloc, literals)?,
             clauses: Vec::new(alloc),
             conflict: None,
-            trail: OrderedTrail::new(alloc, variables, guide)?,
-            activities: Activities::new(alloc, variables)?,
+            trail: OrderedTrail::new(alloc, variables, prepared.guide)?,
+            activities: Activities::new(alloc, variables, prepared.wanted.as_slice())?,
             schedule: None,
             learned: Vec::new(alloc),
             hints: Vec::new(alloc),
@@ -101,20 +109,7 @@ impl<'a> Search<'a> {
             restarts: Restarts::new(UNIT),
             next_reduction: FIRST_REDUCTION,
             reduction_gap: FIRST_REDUCTION,
-        };
-        search.want_small(small.as_slice());
-        search.want_reads();
-        search.attach_long()?;
-        search.activities.offer_wanted();
-        search.assume(units.as_slice());
-        if empty != 0 {
-            search.conflict = Some(Reason::of_literals(empty, NEVER, NEVER, NEVER));
-        }
-        if search.conflict.is_none() {
-            search.conflict = search.propagate()?;
-            search.leave_out_satisfied(small.as_slice())?;
-        }
-        Ok(search)
+        })
     }
 
     /// Leaves those of these clauses out that are true before anything is decided. In a trace's formula program order alone makes many of
@@ -136,52 +131,7 @@ impl<'a> Search<'a> {
 }
 
 impl<'a> Search<'a> {
-    /// The variables of these clauses can be decided. Variables that stand in none of the clauses that were read need no
-    /// decision: what is known of an order, with no clause of these false, always extends to an order of all.
-    fn want_small(&mut self, clauses: &[SmallClause]) {
-        for clause in clauses {
-            self.activities.want(clause.first >> 1);
-            self.activities.want(clause.second >> 1);
-            if clause.third != NEVER {
-                self.activities.want(clause.third >> 1);
-            }
-        }
-    }
-
-    /// The variables of choices can be decided, and those of the pairs of which their clauses speak.
-    fn want_reads(&mut self) {
-        let Some(readings) = self.trail.readings else {
-            return;
-        };
-        for choice in readings.choices() {
-            if let Some(choice) = choice {
-                self.activities.want(choice.variable);
-            }
-        }
-        for element in 0..readings.elements() {
-            let is_read = self.trail.candidates.readers.count(element) > 0;
-            let reads = self.trail.candidates.writers.count(element) > 0;
-            if is_read || reads || readings.variable_without_writer(element) != 0 {
-                self.want_pairs(readings, element);
-            }
-        }
-    }
-
-    /// The variables of the pairs of this element and a writer of its location can be decided.
-    fn want_pairs(&mut self, readings: &Readings, element: u32) {
-        for number in 0..readings.writers().words() {
-            let mut writers = readings.writers().word(element, number);
-            for _ in 0..64 {
-                let Some(writer) = next_element(&mut writers, number) else {
-                    break;
-                };
-                let literal = self.trail.order().literal(element, writer);
-                self.activities.want(literal >> 1);
-            }
-        }
-    }
-
-    /// The clauses of the store watch their first literals, and their variables can be decided.
+    /// The clauses of the store watch their first literals.
     fn attach_long(&mut self) -> Result<(), AllocError> {
         let mut clause: u32 = 1;
         for _ in 0..self.store.end() {
@@ -189,31 +139,42 @@ impl<'a> Search<'a> {
                 break;
             }
             self.watches.attach(&self.store, clause)?;
-            for number in 0..self.store.count(clause) {
-                self.activities
-                    .want(self.store.literal(clause, number) >> 1);
-            }
             clause = self.store.behind(clause);
         }
         Ok(())
     }
 
-    /// Makes these literals true before anything is decided.
-    fn assume(&mut self, units: &[Unit]) {
-        for unit in units {
-            let value = self.trail.value(unit.literal);
-            if value == OPEN {
-                self.trail.assign(
-                    unit.literal,
-                    Cause::Clause {
-                        id: unit.id,
-                        first: NEVER,
-                        second: NEVER,
-                    },
-                );
-            } else if value == FALSE {
-                self.conflict = Some(Reason::of_literals(unit.id, unit.literal, NEVER, NEVER));
-            }
+    /// Makes the literal true before anything is decided.
+    fn assume(&mut self, unit: Unit) {
+        let value = self.trail.value(unit.literal);
+        if value == OPEN {
+            self.trail.assign(
+                unit.literal,
+                Cause::Clause {
+                    id: unit.id,
+                    first: NEVER,
+                    second: NEVER,
+                },
+            );
+        } else if value == FALSE {
+            self.conflict = Some(Reason::of_literals(unit.id, unit.literal, NEVER, NEVER));
+        }
+    }
+
+    /// Makes the literals of the formula's clauses of one literal true, and then those of the cube. A clause without literals is a conflict.
+    fn assume_all(&mut self, prepared: &Preparation<'a>, cube: &[Lit]) {
+        for unit in &prepared.intake.units {
+            self.assume(*unit);
+        }
+        for place in 0..cube.len() {
+            self.assume(Unit {
+                literal: code_of(cube[place]),
+                id: prepared.id_in_cube(place),
+            });
+        }
+        let empty = prepared.intake.empty;
+        if empty != 0 {
+            self.conflict = Some(Reason::of_literals(empty, NEVER, NEVER, NEVER));
         }
     }
 

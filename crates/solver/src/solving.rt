@@ -3,9 +3,10 @@
 ghost use Rattle.std.specs.Prelude.{◌≤◌, IfOk};
 ghost use Rattle.derivation_log.specs.Answers.{IsWithin};
 
+use crate::preparation::Preparation;
 use crate::schedule::{begins_with_a_schedule, suits_a_schedule};
 use crate::search::Search;
-use clause_store::{Guide, Intake, number_of};
+use clause_store::Guide;
 use derivation_log::{Answer, Attempt, TURN, take_turns};
 use dimacs::{ClauseList, Lit};
 use std::alloc::{AllocError, Global};
@@ -30,21 +31,49 @@ fn first_turn(search: &Search<'_>, budget: u64) -> u64
     }
 }
 
-/// A search of this formula over so many variables, in the cube of these literals, that has done nothing yet. Its decisions go along a
-/// schedule where that is the better one of two courses to begin with.
-fn begin<'a, L: ClauseList>(
+/// A search of what is prepared, in the cube of these literals, that has done nothing yet. Its decisions go along a schedule where that
+/// is the better one of two courses to begin with.
+fn begin<'a>(
     alloc: Global,
-    variables: u32,
-    formula: &L,
+    prepared: &Preparation<'a>,
     cube: &[Lit],
-    guide: Guide<'a>,
 ) -> Result<Search<'a>, AllocError> {
-    let intake = Intake::of(alloc, variables, formula, cube, guide)?;
-    let mut search = Search::new(alloc, variables, guide, intake)?;
+    let mut search = Search::new(alloc, prepared.variables_in(cube), prepared, cube)?;
     if begins_with_a_schedule(&search.trail) {
         search.change_course()?;
     }
     Ok(search)
+}
+
+/// Looks for a model of the formula that was prepared which makes all literals of the cube true, or for a derivation that there is none:
+/// as `solve`, for one of many cubes.
+pub fn solve_cube(
+    alloc: Global,
+    prepared: &Preparation<'_>,
+    cube: &[Lit],
+    budget: u64,
+) -> Result<Answer, AllocError>
+    ensures { IfOk result (λ answer. IsWithin budget answer) }
+{
+    let first_id = prepared.id_in_cube(cube.len());
+    let mut search = begin(alloc, prepared, cube)?;
+    if let Some(counted) = search.count_sources(prepared.guide, first_id, budget)? {
+        return Ok(counted);
+    }
+    let share = first_turn(&search, budget);
+    let mut first = Attempt::new(alloc, search, first_id);
+    if let Some(answer) = first.run(share)? {
+        return Ok(answer);
+    }
+    let left = budget - share;
+    if left == 0 {
+        return Ok(Answer::Open);
+    }
+    let mut other = begin(alloc, prepared, cube)?;
+    other.change_course()?;
+    let mut second = Attempt::new(alloc, other, first_id);
+    let answer = take_turns(&mut second, &mut first, left)?;
+    Ok(answer)
 }
 
 /// Looks for a model of the formula that makes all literals of the cube true, or for a derivation that there is none.
@@ -66,24 +95,6 @@ pub fn solve<L: ClauseList>(
     ensures { IfOk result (λ answer. IsWithin budget answer) }
 {
     let variables = variables_of(formula, cube);
-    let guide = guide.fitting(variables, formula.count());
-    let first_id = number_of(formula.count().saturating_add(cube.len()));
-    let mut search = begin(alloc, variables, formula, cube, guide)?;
-    if let Some(counted) = search.count_sources(guide, first_id, budget)? {
-        return Ok(counted);
-    }
-    let share = first_turn(&search, budget);
-    let mut first = Attempt::new(alloc, search, first_id);
-    if let Some(answer) = first.run(share)? {
-        return Ok(answer);
-    }
-    let left = budget - share;
-    if left == 0 {
-        return Ok(Answer::Open);
-    }
-    let mut other = begin(alloc, variables, formula, cube, guide)?;
-    other.change_course()?;
-    let mut second = Attempt::new(alloc, other, first_id);
-    let answer = take_turns(&mut second, &mut first, left)?;
-    Ok(answer)
+    let prepared = Preparation::over(alloc, variables, formula, guide)?;
+    solve_cube(alloc, &prepared, cube, budget)
 }

@@ -39,6 +39,15 @@ fn shown_by_steps(alloc: Global, formula: &Formula, cube: &[Lit], steps: &Deriva
     }
 }
 
+/// What an answer shows of the formula in the cube: it is evaluated or checked.
+pub fn shown_by(alloc: Global, formula: &Formula, cube: &[Lit], answer: &Answer) -> Shown {
+    match answer {
+        Answer::Model(model) => shown_by_model(formula, cube, model),
+        Answer::Refuted(derivation) => shown_by_steps(alloc, formula, cube, derivation),
+        Answer::Open => Shown::Nothing,
+    }
+}
+
 /// Solves the formula, and evaluates or checks the answer.
 fn solve_and_check(
     alloc: Global,
@@ -47,11 +56,8 @@ fn solve_and_check(
     guide: Guide,
     budget: u64,
 ) -> Result<Shown, AllocError> {
-    Ok(match solve(alloc, formula, cube, guide, budget)? {
-        Answer::Model(model) => shown_by_model(formula, cube, &model),
-        Answer::Refuted(derivation) => shown_by_steps(alloc, formula, cube, &derivation),
-        Answer::Open => Shown::Nothing,
-    })
+    let answer = solve(alloc, formula, cube, guide, budget)?;
+    Ok(shown_by(alloc, formula, cube, &answer))
 }
 
 /// What an answer of the solver has shown that has memory enough.

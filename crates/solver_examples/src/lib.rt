@@ -25,6 +25,8 @@ mod plain_checker;
 #[cfg(test)]
 mod plain_solver;
 #[cfg(test)]
+mod preparations;
+#[cfg(test)]
 mod random_formulas;
 #[cfg(test)]
 mod reads;

@@ -24,6 +24,7 @@ use reducer::expand::expand;
 use reducer::reduced::Reduced;
 use result_ledger::{Ledger, Verdict, inconsistent_has_no_model, unknown_holds_all_models};
 use schedule_decode::decode::schedule_of;
+use solver::Preparation;
 use std::alloc::{AllocError, Global};
 use std::sync::Wait;
 use std::thread::Threads;
@@ -125,6 +126,7 @@ pub fn decide<R: Threads + Wait + Sync, G: Gate + Sync>(
     let clauses = TraceClauses::of(alloc, reduced)?;
     let readings = readings_of(alloc, clauses.layout())?;
     let guide = guide_to_order(clauses.layout()).with_readings(&readings);
-    let decided = search_in_rounds(alloc, rt, &clauses, guide, options, gate)?;
+    let prepared = Preparation::of(alloc, &clauses, guide)?;
+    let decided = search_in_rounds(alloc, rt, &clauses, &prepared, options, gate)?;
     Ok(decision_of(alloc, reduced, &clauses, decided)?)
 }

@@ -13,7 +13,7 @@ use cube_queue::{Gate, MOST_LITERALS, Options, SearchFault, Settled};
 use cube_search::search;
 use cube_tree::{Tree, grow};
 use result_ledger::{Ledger, Verdict};
-use solver::Guide;
+use solver::Preparation;
 use std::alloc::{AllocError, Global};
 use std::sync::Wait;
 use std::thread::Threads;
@@ -52,7 +52,7 @@ fn search_open<R: Threads + Wait + Sync, G: Gate + Sync>(
     alloc: Global,
     rt: &R,
     clauses: &TraceClauses,
-    guide: Guide,
+    prepared: &Preparation,
     tree: Tree,
     ledger: Ledger,
     options: &Options,
@@ -67,7 +67,7 @@ fn search_open<R: Threads + Wait + Sync, G: Gate + Sync>(
         alloc,
         rt,
         clauses,
-        guide,
+        prepared,
         &tree,
         which.as_slice(),
         options,
@@ -88,7 +88,7 @@ fn search_again<R: Threads + Wait + Sync, G: Gate + Sync>(
     alloc: Global,
     rt: &R,
     clauses: &TraceClauses,
-    guide: Guide,
+    prepared: &Preparation,
     variables: &[u32],
     decided: Decided,
     options: &Options,
@@ -119,7 +119,7 @@ fn search_again<R: Threads + Wait + Sync, G: Gate + Sync>(
             verdict,
         });
     }
-    search_open(alloc, rt, clauses, guide, tree, ledger, options, gate)
+    search_open(alloc, rt, clauses, prepared, tree, ledger, options, gate)
 }
 
 /// Searches in rounds, at most as many as the options say.
@@ -127,7 +127,7 @@ pub(crate) fn search_in_rounds<R: Threads + Wait + Sync, G: Gate + Sync>(
     alloc: Global,
     rt: &R,
     clauses: &TraceClauses,
-    guide: Guide,
+    prepared: &Preparation,
     options: &Options,
     gate: &G,
 ) -> Result<Decided, SearchFault>
@@ -138,13 +138,13 @@ pub(crate) fn search_in_rounds<R: Threads + Wait + Sync, G: Gate + Sync>(
     let variables = layout.first_splits(alloc, MOST_LITERALS)?;
     let tree = grow(alloc, layout, options.split())?;
     let ledger = Ledger::new(alloc, &tree)?;
-    let mut decided = search_open(alloc, rt, clauses, guide, tree, ledger, options, gate)?;
+    let mut decided = search_open(alloc, rt, clauses, prepared, tree, ledger, options, gate)?;
     for _round in 1..options.rounds() {
         decided = search_again(
             alloc,
             rt,
             clauses,
-            guide,
+            prepared,
             variables.as_slice(),
             decided,
             options,

@@ -6,7 +6,7 @@ use cube_queue::{OpenGate, Options};
 use cube_search::search;
 use dimacs::Formula;
 use result_ledger::{Ledger, Verdict};
-use solver::Guide;
+use solver::{Guide, Preparation};
 use std::alloc::Global;
 use std::process::Abort;
 use std::sync::Wait;
@@ -32,11 +32,12 @@ fn ledger_but_for<R: Threads + Wait + Abort + Sync>(
         .ok_or("an option is out of its range")?;
     let mut ledger = Ledger::new(alloc, &tree)?;
     let which = ledger.unanswered(alloc)?;
+    let prepared = Preparation::of(alloc, formula, Guide::none())?;
     let results = search(
         alloc,
         rt,
         formula,
-        Guide::none(),
+        &prepared,
         &tree,
         which.as_slice(),
         &options,

@@ -6,7 +6,7 @@ use cube_search::search;
 use cube_tree::{Tree, read_tree};
 use dimacs::Formula;
 use result_ledger::Ledger;
-use solver::Guide;
+use solver::{Guide, Preparation};
 use std::alloc::Global;
 use std::process::Abort;
 use std::sync::Wait;
@@ -103,11 +103,14 @@ fn results_of<R: Threads + Wait + Abort + Sync, G: Gate + Sync>(
     let Ok(which) = ledger.unanswered(alloc) else {
         panic!(rt; "out of memory")
     };
+    let Ok(prepared) = Preparation::of(alloc, &formula, Guide::none()) else {
+        panic!(rt; "out of memory")
+    };
     match search(
         alloc,
         rt,
         &formula,
-        Guide::none(),
+        &prepared,
         &tree,
         which.as_slice(),
         &options,
