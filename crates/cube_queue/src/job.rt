@@ -44,7 +44,8 @@ impl Job {
 
     /// The literals of its cube.
     pub fn cube(&self) -> &[Lit]
-        ensures { result.now ≡ self.now.cube }
+        ensures literals { result.now ≡ self.now.cube }
+        ensures few { length self.now.cube ≤ MOST_LITERALS }
     {
         self.cube.as_slice()
     }

@@ -6,12 +6,12 @@ use Rattle.std.proofs.lemmas.List.Elements.{All-nil, All-cons, All-head, All-tai
 use Rattle.cube_queue.specs.declared.job.Job.{Job}
 use Rattle.cube_queue.specs.declared.job.Settled.{Settled}
 use Rattle.job_board.specs.Merge.{IsMergeOf}
-use Rattle.job_board.specs.ChannelRules.{with_worker_joined, TakesAccount, GivesAccount}
+use Rattle.job_board.specs.ChannelRules.{with_worker_joined, PutAddsUp, GotAddsUp}
 use Rattle.job_board.specs.Pairs.{of_jobs, of_results, below}
 use Rattle.job_board.specs.Seats.{put_by, taken_by, given_by, gathered_by}
 use Rattle.job_board.specs.Accounts.{total, taken_below, given_below, AreJoined, IsAccountOf, WereDealt, WereGathered, IsBalanced, AreAnswersTo}
 use Rattle.job_board.specs.declared.channel_view.ChannelView.{ChannelView}
-use Rattle.job_board.specs.declared.channel_view.ChannelView.TheVariants.{One}
+use Rattle.job_board.specs.declared.channel_view.ChannelView.TheVariants.{Single}
 use Rattle.job_board.specs.declared.account.Account.{Account}
 use Rattle.job_board.specs.declared.seats.DealerSeat.{DealerSeat}
 use Rattle.job_board.specs.declared.seats.WorkerSeat.{WorkerSeat}
@@ -28,25 +28,25 @@ one_joined cubes workers put got seats seat v v' w w' taken taken' given given' 
     let t : seat.taken ≡ taken_below cubes seat = subst (λ (n : ℕ). seat.taken ≡ taken_below n seat) same seat.counted in
     let g : seat.given ≡ given_below cubes seat = subst (λ (n : ℕ). seat.given ≡ given_below n seat) same seat.settled in
     record {
-      jobs_known = jobs ∙ ap (λ (u : ChannelView Job). with_worker_joined u (view seat.jobs)) joined.jobs_known ∙ ap (λ (parts : List (List Job)). One put workers parts) (sym (map-append taken_by seats (seat ∷ [])));
-      results_known = results ∙ ap (λ (u : ChannelView Settled). with_worker_joined u (view seat.results)) joined.results_known ∙ ap (λ (parts : List (List Settled)). One got workers parts) (sym (map-append given_by seats (seat ∷ [])));
+      jobs_known = jobs ∙ ap (λ (u : ChannelView Job). with_worker_joined u (view seat.jobs)) joined.jobs_known ∙ ap (λ (parts : List (List Job)). Single put workers parts) (sym (map-append taken_by seats (seat ∷ [])));
+      results_known = results ∙ ap (λ (u : ChannelView Settled). with_worker_joined u (view seat.results)) joined.results_known ∙ ap (λ (parts : List (List Settled)). Single got workers parts) (sym (map-append given_by seats (seat ∷ [])));
       taken_is = omega (arith, joined.taken_is, more_taken, t, total-append (taken_below cubes) seats (seat ∷ []));
       given_is = omega (arith, joined.given_is, more_given, g, total-append (given_below cubes) seats (seat ∷ []));
     }
 
 -- the last look at the job channel
-pub were_dealt : (workers : ℕ) (put : List Job) (seats : List WorkerSeat) (v : ChannelView Job) → v ≡ One put workers (map taken_by seats) → length seats ≡ workers →
-    (queue : List Job) × TakesAccount v queue → (front : List Job) × (queue : List Job) × IsMergeOf (map taken_by seats) front × (put ≡ front ++ queue)
+pub were_dealt : (workers : ℕ) (put : List Job) (seats : List WorkerSeat) (v : ChannelView Job) → v ≡ Single put workers (map taken_by seats) → length seats ≡ workers →
+    (queue : List Job) × PutAddsUp v queue → (front : List Job) × (queue : List Job) × IsMergeOf (map taken_by seats) front × (put ≡ front ++ queue)
 were_dealt workers put seats v known all told =
-    let account = subst (λ (u : ChannelView Job). TakesAccount u told.0) known told.1 in
+    let account = subst (λ (u : ChannelView Job). PutAddsUp u told.0) known told.1 in
     let part = account (length-map seats taken_by ∙ all) in
     (part.0, told.0, part.1, part.2)
 
 -- the last look at the result channel
-pub were_gathered : (workers : ℕ) (got : List Settled) (seats : List WorkerSeat) (w : ChannelView Settled) → w ≡ One got workers (map given_by seats) → length seats ≡ workers →
-    (queue : List Settled) × GivesAccount w queue → (queue : List Settled) × IsMergeOf (map given_by seats) (got ++ queue)
+pub were_gathered : (workers : ℕ) (got : List Settled) (seats : List WorkerSeat) (w : ChannelView Settled) → w ≡ Single got workers (map given_by seats) → length seats ≡ workers →
+    (queue : List Settled) × GotAddsUp w queue → (queue : List Settled) × IsMergeOf (map given_by seats) (got ++ queue)
 were_gathered workers got seats w known all told =
-    let account = subst (λ (u : ChannelView Settled). GivesAccount u told.0) known told.1 in
+    let account = subst (λ (u : ChannelView Settled). GotAddsUp u told.0) known told.1 in
     (told.0, account (length-map seats given_by ∙ all))
 
 -- 1 at a result of a stop ticket
@@ -112,7 +112,7 @@ all_seats seats before [] is none = sym (append-nil before) ∙ sym is
 all_seats seats before (s ∷ rest) is none = absurd (omega (arith, none))
 
 -- no seat was joined yet
-pub none_joined : (cubes workers : ℕ) (put : List Job) (got : List Settled) (v : ChannelView Job) (w : ChannelView Settled) → v ≡ One put workers [] → w ≡ One got workers [] →
+pub none_joined : (cubes workers : ℕ) (put : List Job) (got : List Settled) (v : ChannelView Job) (w : ChannelView Settled) → v ≡ Single put workers [] → w ≡ Single got workers [] →
     AreJoined cubes workers put got [] v w 0 0
 none_joined cubes workers put got v w jobs results = record { jobs_known = jobs; results_known = results; taken_is = refl; given_is = refl }
 

@@ -1,6 +1,7 @@
 pub mod MergeLemmas
 pub mod ViewLemmas
 pub mod PassLemmas
+pub mod WorkerLemmas
 pub mod JobRuleLemmas
 pub mod ResultRuleLemmas
 pub mod StepLemmas
@@ -10,3 +11,4 @@ pub mod AccountLemmas
 pub mod AnswerLemmas
 pub mod CloseLemmas
 pub mod OpenLemmas
+pub mod LawLemmas

@@ -1,4 +1,4 @@
--- A worker's pass is cut off that of the one seat, and joined into it again.
+-- A worker's pass is cut off that of the single seat, and joined into it again.
 use Rattle.std.proofs.Common.{◌≡◌, ◌≢◌, ℕ, ◌+◌, ◌<◌, ◌≤◌, List, [], ◌∷◌, ◌++◌, length, set, slice_index_or, Bool, cond, Option, Some, None, eq-eqb, ne_eqb, refl, sym, ◌∙◌, ap, subst, ⊎_elim, arith, ◌==◌}
 use mathlib.Core.Option.{some}
 use lib.ListN.{get_elem?}
@@ -8,7 +8,7 @@ use Rattle.atomic_table.proofs.Lists.{set_else}
 use Rattle.job_board.specs.Merge.{Marked, marked}
 use Rattle.job_board.specs.ChannelRules.{Fits}
 use Rattle.job_board.specs.declared.channel_view.ChannelView.{ChannelView}
-use Rattle.job_board.specs.declared.channel_view.ChannelView.TheVariants.{One, Worker, Spent}
+use Rattle.job_board.specs.declared.channel_view.ChannelView.TheVariants.{Single, Worker, Spent}
 use Rattle.job_board.proofs.MergeLemmas.{mark_of, marked_other}
 use Rattle.job_board.proofs.ViewLemmas.{Each, each_set, each_more}
 
@@ -29,21 +29,21 @@ pub seat_other : (seat : ℕ → Option ℕ) (k : ℕ) (new : Option ℕ) (j : �
 seat_other seat k new j apart = ap (λ (b : Bool). cond b new (seat j)) (ne_eqb j k apart)
 
 module _ {X : Type 0} where
-  -- only the one seat's list may change with what it put or got
+  -- only the single seat's list may change with what it put or got
   pub one_more : (one : ℕ) (seat : ℕ → Option ℕ) (log : List (Marked X)) (all more : List X) (pass : ℕ) (v : ChannelView X) → pass ≢ one → Fits one seat log all pass v → Fits one seat log more pass v
-  one_more one seat log all more pass (One list made joined) apart fits = absurd (apart fits.0)
+  one_more one seat log all more pass (Single list made joined) apart fits = absurd (apart fits.0)
   one_more one seat log all more pass (Worker number list) apart fits = fits
   one_more one seat log all more pass Spent apart fits = tt
 
 module _ {X : Type 0} where
   -- the first pass of a channel
-  pub first_fits : (one : ℕ) → Fits {X = X} one (λ k. None) [] [] one (One [] 0 [])
+  pub first_fits : (one : ℕ) → Fits {X = X} one (λ k. None) [] [] one (Single [] 0 [])
   first_fits one = (refl, refl, (λ k late. (refl, refl)), (λ k early. absurd (omega arith)), omega arith)
 
 module _ {X : Type 0} (one : ℕ) (seat : ℕ → Option ℕ) (log : List (Marked X)) (all : List X) where
   -- another pass, where the worker of this one took or gave an item
   pub logged : (number id : ℕ) (x : X) → seat number ≡ Some id → (pass : ℕ) (v : ChannelView X) → pass ≢ id → Fits one seat log all pass v → Fits one seat (log ++ mark_of number x ∷ []) all pass v
-  logged number id x here pass (One list made joined) apart fits = (
+  logged number id x here pass (Single list made joined) apart fits = (
     fits.0,
     fits.1,
     λ k late. (let h = fits.2 k late in (h.0, marked_other k number log x (λ e. none_some id (sym h.0 ∙ ap seat (sym e) ∙ here)) ∙ h.1)),
@@ -55,7 +55,7 @@ module _ {X : Type 0} (one : ℕ) (seat : ℕ → Option ℕ) (log : List (Marke
   logged number id x here pass Spent apart fits = tt
 
   -- where all workers are joined, their lists are the parts of the log
-  pub all_parts : (pass : ℕ) (list : List X) (made : ℕ) (joined : List (List X)) → Fits one seat log all pass (One list made joined) → length joined ≡ made → (k : ℕ) → marked k log ≡ slice_index_or joined k []
+  pub all_parts : (pass : ℕ) (list : List X) (made : ℕ) (joined : List (List X)) → Fits one seat log all pass (Single list made joined) → length joined ≡ made → (k : ℕ) → marked k log ≡ slice_index_or joined k []
   all_parts pass list made joined fits whole k =
       ⊎_elim
       (λ (low : k < length joined). (fits.3 k low).1)
@@ -64,18 +64,18 @@ module _ {X : Type 0} (one : ℕ) (seat : ℕ → Option ℕ) (log : List (Marke
 
   -- another pass, where a worker without a seat gets one
   seated : (k new pass : ℕ) (v : ChannelView X) → seat k ≡ None → pass ≢ one → Fits one seat log all pass v → Fits one (with_seat seat k (Some new)) log all pass v
-  seated k new pass (One list made joined) none apart fits = absurd (apart fits.0)
+  seated k new pass (Single list made joined) none apart fits = absurd (apart fits.0)
   seated k new pass (Worker j list) none apart fits = (seat_other seat k (Some new) j (λ e. none_some pass (sym none ∙ ap seat (sym e) ∙ fits.0)) ∙ fits.0, fits.1)
   seated k new pass Spent none apart fits = tt
 
-  pub cut_each : (views : List (ChannelView X)) (pass : ℕ) (list : List X) (made : ℕ) (joined : List (List X)) → Each (Fits one seat log all) views → get_elem? views pass ≡ some (One list made joined) →
-      Each (Fits one (with_seat seat made (Some (length views))) log all) (set views pass (One list (made + 1) joined) ++ Worker made [] ∷ [])
+  pub cut_each : (views : List (ChannelView X)) (pass : ℕ) (list : List X) (made : ℕ) (joined : List (List X)) → Each (Fits one seat log all) views → get_elem? views pass ≡ some (Single list made joined) →
+      Each (Fits one (with_seat seat made (Some (length views))) log all) (set views pass (Single list (made + 1) joined) ++ Worker made [] ∷ [])
   cut_each views pass list made joined each there =
-      let mine = each pass (One list made joined) there in
+      let mine = each pass (Single list made joined) there in
       let free = mine.2 made (omega arith) in
       let new = length views in
       let seat' = with_seat seat made (Some new) in
-      let left = One list (made + 1) joined in
+      let left = Single list (made + 1) joined in
       let long : length (set views pass left) ≡ new = length-set views pass left in
       each_more (Fits one seat' log all) (set views pass left) (Worker made [])
       (each_set (Fits one seat log all) (Fits one seat' log all) views pass left each
@@ -90,13 +90,13 @@ module _ {X : Type 0} (one : ℕ) (seat : ℕ → Option ℕ) (log : List (Marke
 
   -- another pass, where a worker is joined
   unseated : (k other pass : ℕ) (v : ChannelView X) → seat k ≡ Some other → pass ≢ one → pass ≢ other → Fits one seat log all pass v → Fits one (with_seat seat k None) log all pass v
-  unseated k other pass (One list made joined) here apart elsewhere fits = absurd (apart fits.0)
+  unseated k other pass (Single list made joined) here apart elsewhere fits = absurd (apart fits.0)
   unseated k other pass (Worker j list) here apart elsewhere fits =
       (seat_other seat k None j (λ e. elsewhere (some_same pass other (sym fits.0 ∙ ap seat e ∙ here))) ∙ fits.0, fits.1)
   unseated k other pass Spent here apart elsewhere fits = tt
 
   -- the worker of a pass that is next to be joined was made
-  made_before : (number other : ℕ) (list : List X) (made : ℕ) (joined : List (List X)) (pass : ℕ) → Fits one seat log all pass (One list made joined) → seat number ≡ Some other → number < made
+  made_before : (number other : ℕ) (list : List X) (made : ℕ) (joined : List (List X)) (pass : ℕ) → Fits one seat log all pass (Single list made joined) → seat number ≡ Some other → number < made
   made_before number other list made joined pass fits here =
       ⊎_elim
       (λ (low : number < made). low)
@@ -116,12 +116,12 @@ module _ {X : Type 0} (one : ℕ) (seat : ℕ → Option ℕ) (log : List (Marke
       (cases_lt k (length joined))
 
   pub join_each : (views : List (ChannelView X)) (pass : ℕ) (list : List X) (made : ℕ) (joined : List (List X)) (other number : ℕ) (taken : List X) → Each (Fits one seat log all) views →
-      get_elem? views pass ≡ some (One list made joined) → other ≢ pass → get_elem? (set views pass (One list made (joined ++ taken ∷ []))) other ≡ some (Worker number taken) → number ≡ length joined →
-      Each (Fits one (with_seat seat number None) log all) (set (set views pass (One list made (joined ++ taken ∷ []))) other Spent)
+      get_elem? views pass ≡ some (Single list made joined) → other ≢ pass → get_elem? (set views pass (Single list made (joined ++ taken ∷ []))) other ≡ some (Worker number taken) → number ≡ length joined →
+      Each (Fits one (with_seat seat number None) log all) (set (set views pass (Single list made (joined ++ taken ∷ []))) other Spent)
   join_each views pass list made joined other number taken each there apart there' next =
-      let both = One list made (joined ++ taken ∷ []) in
+      let both = Single list made (joined ++ taken ∷ []) in
       let seat' = with_seat seat number None in
-      let mine = each pass (One list made joined) there in
+      let mine = each pass (Single list made joined) there in
       let theirs = each other (Worker number taken) (sym (set_else views pass other both apart) ∙ there') in
       let low = made_before number other list made joined pass mine theirs.0 in
       let long = length-append joined (taken ∷ []) in

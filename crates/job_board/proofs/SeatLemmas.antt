@@ -13,17 +13,17 @@ use Rattle.job_board.specs.declared.hand.Hand.{Hand}
 use Rattle.job_board.specs.declared.hand.Hand.TheVariants.{Empty, Holds, Stopped, Cut}
 use Rattle.job_board.specs.declared.hand.HeldJob.{HeldJob}
 use Rattle.job_board.specs.declared.channel_view.ChannelView.{ChannelView}
-use Rattle.job_board.specs.declared.channel_view.ChannelView.TheVariants.{One, Worker}
+use Rattle.job_board.specs.declared.channel_view.ChannelView.TheVariants.{Single, Worker}
 
 module _ {X : Type 0} where
-  -- the one seat's list, and a worker's, after an item joined it
-  pub one_more_item : (v w : ChannelView X) (list : List X) (made : ℕ) (joined : List (List X)) (x : X) → v ≡ One list made joined → w ≡ with_item v x →
-      (list_in w ≡ list_in v ++ x ∷ []) × (w ≡ One (list_in w) made joined)
+  -- the single seat's list, and a worker's, after an item joined it
+  pub one_more_item : (v w : ChannelView X) (list : List X) (made : ℕ) (joined : List (List X)) (x : X) → v ≡ Single list made joined → w ≡ with_item v x →
+      (list_in w ≡ list_in v ++ x ∷ []) × (w ≡ Single (list_in w) made joined)
   one_more_item v w list made joined x is more =
-      let whole : w ≡ One (list ++ x ∷ []) made joined = more ∙ ap (λ (u : ChannelView X). with_item u x) is in
+      let whole : w ≡ Single (list ++ x ∷ []) made joined = more ∙ ap (λ (u : ChannelView X). with_item u x) is in
       let mine : list_in w ≡ list ++ x ∷ [] = ap list_in whole in (
         mine ∙ ap (λ (u : ChannelView X). list_in u ++ x ∷ []) (sym is),
-        whole ∙ ap (λ (xs : List X). One xs made joined) (sym mine),
+        whole ∙ ap (λ (xs : List X). Single xs made joined) (sym mine),
       )
 
   pub worker_more_item : (v w : ChannelView X) (number : ℕ) (list : List X) (x : X) → v ≡ Worker number list → w ≡ with_item v x →
@@ -130,16 +130,16 @@ gave_low cubes number v w settled is more all low =
     subst (All (λ (s : Settled). s.ticket < cubes)) (sym (worker_more_item v w number (list_in v) settled is more).0) (All-push (λ (s : Settled). s.ticket < cubes) (list_in v) settled all low)
 
 -- what the dealer put, after a job was put
-pub put_rises : (made : ℕ) (v w : ChannelView Job) (job : Job) → v ≡ One (list_in v) made [] → w ≡ with_item v job → Rise (of_jobs (list_in v)) →
+pub put_rises : (made : ℕ) (v w : ChannelView Job) (job : Job) → v ≡ Single (list_in v) made [] → w ≡ with_item v job → Rise (of_jobs (list_in v)) →
     All (λ (earlier : Job). earlier.ticket < job.ticket) (list_in v) → Rise (of_jobs (list_in w))
 put_rises made v w job is more rise above = rises_more (list_in v) (list_in w) job rise above (one_more_item v w (list_in v) made [] job is more).0
 
-pub put_job : (cubes made : ℕ) (v w : ChannelView Job) (job : Job) (put next : ℕ) → v ≡ One (list_in v) made [] → w ≡ with_item v job → put ≡ length (below cubes (of_jobs (list_in v))) →
+pub put_job : (cubes made : ℕ) (v w : ChannelView Job) (job : Job) (put next : ℕ) → v ≡ Single (list_in v) made [] → w ≡ with_item v job → put ≡ length (below cubes (of_jobs (list_in v))) →
     next ≡ put + 1 → job.ticket < cubes → next ≡ length (below cubes (of_jobs (list_in w)))
 put_job cubes made v w job put next is more so one low =
     one ∙ job_counted cubes (list_in v) (list_in w) job put true so (one_more_item v w (list_in v) made [] job is more).0 (lt-ltb job.ticket cubes low)
 
-pub put_stop : (cubes made : ℕ) (v w : ChannelView Job) (job : Job) (put : ℕ) → v ≡ One (list_in v) made [] → w ≡ with_item v job → put ≡ length (below cubes (of_jobs (list_in v))) →
+pub put_stop : (cubes made : ℕ) (v w : ChannelView Job) (job : Job) (put : ℕ) → v ≡ Single (list_in v) made [] → w ≡ with_item v job → put ≡ length (below cubes (of_jobs (list_in v))) →
     cubes ≤ job.ticket → put ≡ length (below cubes (of_jobs (list_in w)))
 put_stop cubes made v w job put is more so high =
     job_counted cubes (list_in v) (list_in w) job put false so (one_more_item v w (list_in v) made [] job is more).0 (le-ltb job.ticket cubes high)

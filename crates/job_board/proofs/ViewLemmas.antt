@@ -34,3 +34,9 @@ module _ {V : Type 0} where
   -- there is one pass
   pub each_one : (P : ℕ → V → Type 0) (w : V) → P 0 w → Each P (w ∷ [])
   each_one P w first = each_more P [] w (λ pass v at. absurd (some-ne-none v (sym at))) first
+
+  -- the pass that changed has the new view
+  pub set_mine : (views : List V) (id : ℕ) (v w : V) → get_elem? views id ≡ some v → get_elem? (set views id w) id ≡ some w
+  set_mine [] id v w there = absurd (some-ne-none v (sym there))
+  set_mine (x ∷ views) zero v w there = refl
+  set_mine (x ∷ views) (suc id) v w there = set_mine views id v w there

@@ -8,7 +8,7 @@ use Rattle.job_board.specs.Pairs.{of_job, of_result, of_jobs, of_results, below}
 use Rattle.job_board.specs.Seats.{put_by, taken_by, given_by, gathered_by}
 use Rattle.job_board.specs.declared.account.Account.{Account}
 use Rattle.job_board.specs.declared.channel_view.ChannelView.{ChannelView}
-use Rattle.job_board.specs.declared.channel_view.ChannelView.TheVariants.{One}
+use Rattle.job_board.specs.declared.channel_view.ChannelView.TheVariants.{Single}
 use Rattle.job_board.specs.declared.seats.DealerSeat.{DealerSeat}
 use Rattle.job_board.specs.declared.seats.WorkerSeat.{WorkerSeat}
 use Rattle.job_board.specs.declared.seats.CollectorSeat.{CollectorSeat}
@@ -34,8 +34,8 @@ pub record IsAccountOf (cubes : ℕ) (dealer : DealerSeat) (workers : List Worke
 
 -- Both first passes have taken in these workers' seats, and these are what they know now, and the seats' counts.
 pub record AreJoined (cubes workers : ℕ) (put : List Job) (got : List Settled) (seats : List WorkerSeat) (v : ChannelView Job) (w : ChannelView Settled) (taken given : ℕ) : Type 0 where
-  pub jobs_known : v ≡ One put workers (map taken_by seats)
-  pub results_known : w ≡ One got workers (map given_by seats)
+  pub jobs_known : v ≡ Single put workers (map taken_by seats)
+  pub results_known : w ≡ Single got workers (map given_by seats)
   pub taken_is : taken ≡ total (taken_below cubes) seats
   pub given_is : given ≡ total (given_below cubes) seats
 

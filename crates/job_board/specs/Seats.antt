@@ -4,14 +4,21 @@ use Rattle.std.specs.List.{slice_get}
 use Rattle.cube_queue.specs.declared.job.Job.{Job}
 use Rattle.cube_queue.specs.declared.job.Settled.{Settled}
 use Rattle.crossbeam_channel.specs.Claims.{view, IsSeatAt}
-use Rattle.crossbeam_channel.specs.Ends.{sends_on}
+use Rattle.crossbeam_channel.specs.Ends.{sends_on, ruled_capacity}
 use Rattle.job_board.specs.ChannelRules.{list_in}
 use Rattle.job_board.specs.declared.board.Board.{Board}
-use Rattle.job_board.specs.declared.channel_view.ChannelView.TheVariants.{One}
+use Rattle.job_board.specs.declared.channel_view.ChannelView.TheVariants.{Single}
 use Rattle.job_board.specs.declared.hand.Hand.TheVariants.{Empty}
 use Rattle.job_board.specs.declared.seats.DealerSeat.{DealerSeat}
 use Rattle.job_board.specs.declared.seats.WorkerSeat.{WorkerSeat}
 use Rattle.job_board.specs.declared.seats.CollectorSeat.{CollectorSeat}
+
+-- how many jobs may wait at this board, and how many results
+abbrev pub job_room : Board → ℕ
+job_room board = ruled_capacity (sends_on board.job_sender)
+
+abbrev pub result_room : Board → ℕ
+result_room board = ruled_capacity (sends_on board.result_sender)
 
 -- the jobs that the dealer put
 abbrev pub put_by : DealerSeat → List Job
@@ -32,7 +39,7 @@ gathered_by seat = list_in (view seat.results)
 -- the dealer's seat at this board, which has made its workers
 pub record IsDealerAt (board : Board) (seat : DealerSeat) : Type 0 where
   pub at : IsSeatAt (sends_on board.job_sender) seat.jobs
-  pub knows : view seat.jobs ≡ One (put_by seat) board.workers []
+  pub knows : view seat.jobs ≡ Single (put_by seat) board.workers []
   pub same : seat.cubes ≡ board.cubes
 
 -- a worker's seat at this board
@@ -44,7 +51,7 @@ pub record IsWorkerAt (board : Board) (seat : WorkerSeat) : Type 0 where
 -- the collector's seat at this board
 pub record IsCollectorAt (board : Board) (seat : CollectorSeat) : Type 0 where
   pub at : IsSeatAt (sends_on board.result_sender) seat.results
-  pub knows : view seat.results ≡ One (gathered_by seat) board.workers []
+  pub knows : view seat.results ≡ Single (gathered_by seat) board.workers []
   pub same : seat.cubes ≡ board.cubes
 
 -- all workers' seats at this board, in the order of their numbers

@@ -1,7 +1,7 @@
 //! The rules of the two channels, and what their steps tell.
 ghost use Rattle.std.specs.Prelude.{◌≡◌, List, [], ◌∷◌, ⊤};
-ghost use Rattle.job_board.specs.declared.channel_view.ChannelView.TheVariants.{One, Spent};
-ghost use Rattle.job_board.specs.ChannelRules.{IsDealt, IsGathered, with_item, with_worker_made, worker_made, with_worker_joined, TakesAccount, GivesAccount};
+ghost use Rattle.job_board.specs.declared.channel_view.ChannelView.TheVariants.{Single, Spent};
+ghost use Rattle.job_board.specs.ChannelRules.{MeetsJobRule, MeetsResultRule, with_item, with_worker_made, worker_made, with_worker_joined, PutAddsUp, GotAddsUp};
 
 use crate::channel_view::ChannelView;
 use crossbeam_channel::protocol::{Join, Lesson, Outcome, Protocol, Split};
@@ -10,18 +10,18 @@ use crossbeam_channel::protocol::{Join, Lesson, Outcome, Protocol, Split};
 pub struct JobRule;
 
 impl<T> Protocol<T, ChannelView<T>> for JobRule {
-    ghost holds = { IsDealt };
+    ghost holds = { MeetsJobRule };
 
-    ghost first = { One [] 0 [] };
+    ghost first = { Single [] 0 [] };
 }
 
 /// The rule of the result channel.
 pub struct ResultRule;
 
 impl<T> Protocol<T, ChannelView<T>> for ResultRule {
-    ghost holds = { IsGathered };
+    ghost holds = { MeetsResultRule };
 
-    ghost first = { One [] 0 [] };
+    ghost first = { Single [] 0 [] };
 }
 
 /// A send or a receive: the seat's list grows by the item, and by no other.
@@ -57,20 +57,20 @@ impl<T> Join<ChannelView<T>> for WorkerJoined {
 pub struct LastTake;
 
 impl<T> Outcome<T, ChannelView<T>> for LastTake {
-    ghost then = { λ v x w. (w ≡ Spent) × ((queue : List T) × TakesAccount v (x ∷ queue)) };
+    ghost then = { λ v x w. (w ≡ Spent) × ((queue : List T) × PutAddsUp v (x ∷ queue)) };
 }
 
 impl<T> Lesson<T, ChannelView<T>> for LastTake {
-    ghost fact = { TakesAccount };
+    ghost fact = { PutAddsUp };
 }
 
 /// The last receive on the result channel. Whether an item comes or not, it shows the result rule of the lists as they stood.
 pub struct LastGather;
 
 impl<T> Outcome<T, ChannelView<T>> for LastGather {
-    ghost then = { λ v x w. (w ≡ Spent) × ((queue : List T) × GivesAccount v (x ∷ queue)) };
+    ghost then = { λ v x w. (w ≡ Spent) × ((queue : List T) × GotAddsUp v (x ∷ queue)) };
 }
 
 impl<T> Lesson<T, ChannelView<T>> for LastGather {
-    ghost fact = { GivesAccount };
+    ghost fact = { GotAddsUp };
 }

@@ -5,7 +5,7 @@ use std::collections::LinkedList;
 pub enum ChannelView<T> {
     /// The seat that puts jobs, or that gathers results: what it put or got, how many workers were made, and the lists of those that
     /// were joined, in the order of their numbers.
-    One {
+    Single {
         list: LinkedList<T>,
         made: u32,
         joined: LinkedList<LinkedList<T>>,

@@ -4,8 +4,8 @@ ghost use Rattle.crossbeam_channel.specs.Claims.{view, IsSeatAt};
 ghost use Rattle.crossbeam_channel.specs.Ends.{sends_on};
 ghost use Rattle.cube_queue.specs.declared.job.Job.{Job};
 ghost use Rattle.cube_queue.specs.declared.job.Settled.{Settled};
-ghost use Rattle.job_board.specs.declared.channel_view.ChannelView.TheVariants.{One};
-ghost use Rattle.job_board.specs.ChannelRules.{list_in, TakesAccount, GivesAccount, with_worker_joined};
+ghost use Rattle.job_board.specs.declared.channel_view.ChannelView.TheVariants.{Single};
+ghost use Rattle.job_board.specs.ChannelRules.{list_in, PutAddsUp, GotAddsUp, with_worker_joined};
 ghost use Rattle.job_board.specs.Merge.{IsMergeOf};
 ghost use Rattle.job_board.specs.Seats.{put_by, given_by, gathered_by, IsDealerAt, IsWorkerAt, IsCollectorAt, AreWorkersAt};
 ghost use Rattle.job_board.specs.Accounts.{IsAccountOf, AreJoined, WereDealt, WereGathered, IsBalanced, AreAnswersTo};
@@ -65,8 +65,8 @@ impl Board {
         results: &mut ResultPass,
     ) -> (u32, u32)
         requires workers { AreWorkersAt self.now workers.items }
-        requires jobs { IsSeatAt (sends_on self.now.job_sender) jobs.old × (view jobs.old ≡ One (list_in (view jobs.old)) self.now.workers []) }
-        requires results { IsSeatAt (sends_on self.now.result_sender) results.old × (view results.old ≡ One (list_in (view results.old)) self.now.workers []) }
+        requires jobs { IsSeatAt (sends_on self.now.job_sender) jobs.old × (view jobs.old ≡ Single (list_in (view jobs.old)) self.now.workers []) }
+        requires results { IsSeatAt (sends_on self.now.result_sender) results.old × (view results.old ≡ Single (list_in (view results.old)) self.now.workers []) }
         ensures jobs { IsSeatAt (sends_on self.now.job_sender) jobs.new }
         ensures results { IsSeatAt (sends_on self.now.result_sender) results.new }
         ensures joined { AreJoined self.now.cubes self.now.workers (list_in (view jobs.old)) (list_in (view results.old)) workers.items (view jobs.new) (view results.new) result.0 result.1 }
@@ -84,8 +84,8 @@ impl Board {
     /// Both first passes take in those of the next worker's seat.
     fn join(&self, seat: WorkerSeat, jobs: &mut JobPass, results: &mut ResultPass)
         requires seat { IsWorkerAt self.now seat }
-        requires jobs { IsSeatAt (sends_on self.now.job_sender) jobs.old × ((put : List Job) × (joined : List (List Job)) × (view jobs.old ≡ One put self.now.workers joined) × (seat.number ≡ length joined)) }
-        requires results { IsSeatAt (sends_on self.now.result_sender) results.old × ((got : List Settled) × (joined : List (List Settled)) × (view results.old ≡ One got self.now.workers joined) × (seat.number ≡ length joined)) }
+        requires jobs { IsSeatAt (sends_on self.now.job_sender) jobs.old × ((put : List Job) × (joined : List (List Job)) × (view jobs.old ≡ Single put self.now.workers joined) × (seat.number ≡ length joined)) }
+        requires results { IsSeatAt (sends_on self.now.result_sender) results.old × ((got : List Settled) × (joined : List (List Settled)) × (view results.old ≡ Single got self.now.workers joined) × (seat.number ≡ length joined)) }
         ensures jobs { IsSeatAt (sends_on self.now.job_sender) jobs.new × (view jobs.new ≡ with_worker_joined (view jobs.old) (view seat.jobs)) }
         ensures results { IsSeatAt (sends_on self.now.result_sender) results.new × (view results.new ≡ with_worker_joined (view results.old) (view seat.results)) }
     {
@@ -101,8 +101,8 @@ impl Board {
     /// The last receive on the job channel, after which the dealer's pass is spent.
     fn end_jobs<R: Wait>(&self, rt: &R, jobs: &mut JobPass)
         requires jobs { IsSeatAt (sends_on self.now.job_sender) jobs.old }
-        requires knows { (put : List Job) × (made : ℕ) × (joined : List (List Job)) × (view jobs.old ≡ One put made joined) }
-        ensures { (queue : List Job) × TakesAccount (view jobs.old) queue }
+        requires knows { (put : List Job) × (made : ℕ) × (joined : List (List Job)) × (view jobs.old ≡ Single put made joined) }
+        ensures { (queue : List Job) × PutAddsUp (view jobs.old) queue }
     {
         let _last = self.job_receiver.try_recv_as::<LastTake, R>(rt, jobs);
     }
@@ -110,8 +110,8 @@ impl Board {
     /// The last receive on the result channel, after which the collector's pass is spent.
     fn end_results<R: Wait>(&self, rt: &R, results: &mut ResultPass)
         requires results { IsSeatAt (sends_on self.now.result_sender) results.old }
-        requires knows { (got : List Settled) × (made : ℕ) × (joined : List (List Settled)) × (view results.old ≡ One got made joined) }
-        ensures { (queue : List Settled) × GivesAccount (view results.old) queue }
+        requires knows { (got : List Settled) × (made : ℕ) × (joined : List (List Settled)) × (view results.old ≡ Single got made joined) }
+        ensures { (queue : List Settled) × GotAddsUp (view results.old) queue }
     {
         let _last = self
             .result_receiver

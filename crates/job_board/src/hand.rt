@@ -5,10 +5,9 @@ ghost use Rattle.job_board.specs.Pairs.{of_result};
 ghost use Rattle.job_board.specs.declared.hand.Hand.TheVariants.{Holds};
 ghost use Rattle.job_board.specs.declared.hand.HeldJob.{HeldJob};
 
-use cube_queue::{Job, JobCube, MOST_LITERALS, Settled};
+use cube_queue::{Job, JobCube, Settled};
 use dimacs::Lit;
 use std::alloc::Global;
-use std::sync::Wait;
 
 /// The ticket and the cube of a job that a worker has taken and not yet settled.
 #[derive(Drop)]
@@ -38,21 +37,15 @@ fn are_same(first: &[Lit], second: &[Lit]) -> bool
 }
 
 impl HeldJob {
-    /// The ticket and the cube of this job. It takes no memory. No job has a cube of more literals than a `JobCube` takes: there it would
-    /// wait for ever.
-    pub(crate) fn of<R: Wait>(alloc: Global, rt: &R, job: &Job) -> HeldJob
+    /// The ticket and the cube of this job. It takes no memory.
+    pub(crate) fn of(alloc: Global, job: &Job) -> HeldJob
         ensures ticket { result.ticket ≡ job.now.ticket }
         ensures cube { result.cube ≡ job.now.cube }
     {
-        for _ in rt.forever() {
-            if job.cube().len() <= MOST_LITERALS {
-                return HeldJob {
-                    ticket: job.ticket(),
-                    cube: JobCube::of(alloc, job.cube()),
-                };
-            }
+        HeldJob {
+            ticket: job.ticket(),
+            cube: JobCube::of(alloc, job.cube()),
         }
-        unreachable!()
     }
 
     /// Whether the result is one for this job.

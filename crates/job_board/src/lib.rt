@@ -10,6 +10,7 @@ mod closing;
 mod counts;
 mod ended;
 mod hand;
+pub mod laws;
 mod moves;
 mod opening;
 mod seats;

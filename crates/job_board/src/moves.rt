@@ -77,7 +77,7 @@ impl Board {
         match self.job_receiver.recv_as::<OneItem, R>(rt, &mut seat.jobs) {
             Ok(job) => {
                 if job.ticket() < seat.cubes {
-                    seat.hand = Hand::Holds(HeldJob::of(alloc, rt, &job));
+                    seat.hand = Hand::Holds(HeldJob::of(alloc, &job));
                     seat.taken = next;
                     Ok(job)
                 } else {

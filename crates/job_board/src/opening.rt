@@ -3,8 +3,8 @@ ghost use Rattle.std.specs.Prelude.{◌≡◌, ◌+◌, ◌<◌, ◌≤◌, [], 
 ghost use Rattle.std.specs.List.{All};
 ghost use Rattle.crossbeam_channel.specs.Claims.{view, IsSeatAt};
 ghost use Rattle.crossbeam_channel.specs.Ends.{sends_on};
-ghost use Rattle.job_board.specs.declared.channel_view.ChannelView.TheVariants.{One};
-ghost use Rattle.job_board.specs.Seats.{put_by, gathered_by, IsDealerAt, IsWorkerAt, IsCollectorAt, AreWorkersAt, IsIdle};
+ghost use Rattle.job_board.specs.declared.channel_view.ChannelView.TheVariants.{Single};
+ghost use Rattle.job_board.specs.Seats.{job_room, result_room, put_by, gathered_by, IsDealerAt, IsWorkerAt, IsCollectorAt, AreWorkersAt, IsIdle};
 
 use crate::board::Board;
 use crate::channel_rules::NewWorker;
@@ -32,6 +32,7 @@ impl Board {
         requires cubes { (1 ≤ cubes) × (cubes ≤ MOST_CUBES) }
         requires capacity { (1 ≤ capacity) × (capacity ≤ MOST_CUBES) }
         ensures board { IfOk result (λ r. (r.0.workers ≡ workers) × (r.0.cubes ≡ cubes)) }
+        ensures room { IfOk result (λ r. (job_room r.0 ≡ capacity) × (result_room r.0 ≡ cubes)) }
         ensures dealer { IfOk result (λ r. IsDealerAt r.0 r.1 × (put_by r.1 ≡ [])) }
         ensures workers { IfOk result (λ r. AreWorkersAt r.0 r.2.items) }
         ensures idle { IfOk result (λ r. All IsIdle r.2.items) }
@@ -62,8 +63,9 @@ impl Board {
         requires cubes { 1 ≤ cubes }
         requires capacity { 1 ≤ capacity }
         ensures board { IfOk result (λ r. (r.0.workers ≡ workers) × (r.0.cubes ≡ cubes)) }
-        ensures jobs { IfOk result (λ r. IsSeatAt (sends_on r.0.job_sender) r.1 × (view r.1 ≡ One [] 0 [])) }
-        ensures results { IfOk result (λ r. IsSeatAt (sends_on r.0.result_sender) r.2 × (view r.2 ≡ One [] 0 [])) }
+        ensures room { IfOk result (λ r. (job_room r.0 ≡ capacity) × (result_room r.0 ≡ cubes)) }
+        ensures jobs { IfOk result (λ r. IsSeatAt (sends_on r.0.job_sender) r.1 × (view r.1 ≡ Single [] 0 [])) }
+        ensures results { IfOk result (λ r. IsSeatAt (sends_on r.0.result_sender) r.2 × (view r.2 ≡ Single [] 0 [])) }
     {
         let (job_sender, job_receiver, jobs) = bounded_with(alloc, capacity as usize)?;
         let (result_sender, result_receiver, results) = bounded_with(alloc, cubes as usize)?;
@@ -85,10 +87,10 @@ impl Board {
         jobs: &mut JobPass,
         results: &mut ResultPass,
     ) -> Result<Vec<WorkerSeat>, AllocError>
-        requires jobs { IsSeatAt (sends_on self.now.job_sender) jobs.old × (view jobs.old ≡ One [] 0 []) }
-        requires results { IsSeatAt (sends_on self.now.result_sender) results.old × (view results.old ≡ One [] 0 []) }
-        ensures jobs { OnOk result (IsSeatAt (sends_on self.now.job_sender) jobs.new × (view jobs.new ≡ One [] self.now.workers [])) }
-        ensures results { OnOk result (IsSeatAt (sends_on self.now.result_sender) results.new × (view results.new ≡ One [] self.now.workers [])) }
+        requires jobs { IsSeatAt (sends_on self.now.job_sender) jobs.old × (view jobs.old ≡ Single [] 0 []) }
+        requires results { IsSeatAt (sends_on self.now.result_sender) results.old × (view results.old ≡ Single [] 0 []) }
+        ensures jobs { OnOk result (IsSeatAt (sends_on self.now.job_sender) jobs.new × (view jobs.new ≡ Single [] self.now.workers [])) }
+        ensures results { OnOk result (IsSeatAt (sends_on self.now.result_sender) results.new × (view results.new ≡ Single [] self.now.workers [])) }
         ensures workers { IfOk result (λ seats. AreWorkersAt self.now seats.items) }
         ensures idle { IfOk result (λ seats. All IsIdle seats.items) }
     {
@@ -101,10 +103,10 @@ impl Board {
 
     /// The next worker's seat, cut off both first passes.
     fn cut(&self, number: u32, jobs: &mut JobPass, results: &mut ResultPass) -> WorkerSeat
-        requires jobs { IsSeatAt (sends_on self.now.job_sender) jobs.old × (view jobs.old ≡ One [] number []) }
-        requires results { IsSeatAt (sends_on self.now.result_sender) results.old × (view results.old ≡ One [] number []) }
-        ensures jobs { IsSeatAt (sends_on self.now.job_sender) jobs.new × (view jobs.new ≡ One [] (number + 1) []) }
-        ensures results { IsSeatAt (sends_on self.now.result_sender) results.new × (view results.new ≡ One [] (number + 1) []) }
+        requires jobs { IsSeatAt (sends_on self.now.job_sender) jobs.old × (view jobs.old ≡ Single [] number []) }
+        requires results { IsSeatAt (sends_on self.now.result_sender) results.old × (view results.old ≡ Single [] number []) }
+        ensures jobs { IsSeatAt (sends_on self.now.job_sender) jobs.new × (view jobs.new ≡ Single [] (number + 1) []) }
+        ensures results { IsSeatAt (sends_on self.now.result_sender) results.new × (view results.new ≡ Single [] (number + 1) []) }
         ensures seat { IsWorkerAt self.now result }
         ensures number { result.number ≡ number }
         ensures idle { IsIdle result }
