@@ -1,7 +1,7 @@
 //! Gates: what a worker calls before and after each job.
 
-/// What a worker calls directly before it searches a cube, and directly after its outcome is there. Whoever wants to see or
-/// to hold up the work hands one in; no answer depends on it.
+/// What a worker calls directly after it has taken a job, whose cube is then searched or skipped, and directly after it has given the
+/// result. Whoever wants to see or to hold up the work hands one in; no answer depends on it.
 pub trait Gate {
     /// The worker has taken the job of this ticket.
     fn before(&self, worker: u32, ticket: u32);

@@ -1,4 +1,4 @@
-//! The search that settles the leaves of a tree, by workers in threads.
+//! The search that settles the leaves of a tree, by workers in threads, or by one in the caller's.
 #![tactic(auto)]
 
 mod closing;

@@ -6,8 +6,8 @@ pub const UNIT: u64 = 100;
 /// So many along a schedule, where each restart takes another way.
 pub const SHORT_UNIT: u64 = 10;
 
-/// The number of Luby's sequence 1, 1, 2, 1, 1, 2, 4, .. at this place, counted from 0. No other sequence of restarts is better by
-/// more than a factor where nothing is known of the search.
+/// The number of Luby's sequence 1, 1, 2, 1, 1, 2, 4, .. at this place, counted from 0. Where nothing is known of the
+/// search, no other sequence is better by more than a constant factor of the logarithm (Luby, Sinclair and Zuckerman, 1993).
 fn luby(place: u64) -> u64 {
     let mut place = place;
     let mut size: u64 = 1;

@@ -16,8 +16,8 @@ const FOLLOWED: u32 = 1000;
 /// The elements one after the other, as far as their order is known: a schedule begins with them. The next decision says which element
 /// comes next, and takes one whose value fits what was written last.
 ///
-/// What is learned then are nogoods of states, so there is an end once each state has one: where locks are taken and given back it takes
-/// a twentieth of the conflicts. It is of no use where nothing is counted, so this search goes by turns with the other.
+/// What is learned then are nogoods of states, so there is an end once each state has one, as where locks are taken and given back.
+/// Where there are many states it finds no end, so this search goes by turns with the other.
 #[derive(Drop)]
 pub struct Schedule {
     /// For each element how many stand after it from the start.
@@ -78,7 +78,7 @@ fn are_mostly_updates(trail: &OrderedTrail<'_>) -> bool {
 }
 
 /// Whether a search begins with decisions along a schedule. What an update reads, and so where it may come next, the last one before it
-/// alone decides: of recorded updates such a search takes a quarter of the conflicts.
+/// alone decides, so a schedule that goes on with a value which fits may be right at once.
 pub fn begins_with_a_schedule(trail: &OrderedTrail<'_>) -> bool {
     are_mostly_updates(trail) && has_long_processes(trail)
 }

@@ -15,7 +15,7 @@ fn is_excluded(trail: &OrderedTrail<'_>, variable: u32) -> bool {
 fn places_of(alloc: Global, readings: &Readings) -> Result<Vec<u32>, AllocError> {
     let mut places = Vec::with_capacity(alloc, readings.elements() as usize)?;
     for element in 0..readings.elements() {
-        places.push(readings.writers().count_below(element, element))?;
+        places.push(readings.place_of_writer(element))?;
     }
     Ok(places)
 }
