@@ -7,7 +7,7 @@ pub const UNIT: u64 = 100;
 pub const SHORT_UNIT: u64 = 10;
 
 /// The number of Luby's sequence 1, 1, 2, 1, 1, 2, 4, .. at this place, counted from 0. Where nothing is known of the
-/// search, no other sequence is better by more than a constant factor of the logarithm (Luby, Sinclair and Zuckerman, 1993).
+/// search, no other sequence is better by more than a constant factor (Luby, Sinclair and Zuckerman, 1993).
 fn luby(place: u64) -> u64 {
     let mut place = place;
     let mut size: u64 = 1;
