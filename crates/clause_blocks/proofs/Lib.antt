@@ -24,6 +24,7 @@ pub mod ScheduleModelLemmas
 pub mod ScheduleOrderLemmas
 pub mod ScheduleValueLemmas
 pub mod SentLemmas
+pub mod ShareLemmas
 pub mod SortedLemmas
 pub mod StandLemmas
 pub mod StepLemmas

@@ -58,3 +58,21 @@ module _ (head : List ℕ) (piece : ℕ → List (List ℤ)) (a : ℕ) where
       let all : (upto ++ piece k) ++ after ≡ flat_map piece (range_with_len a (end - a)) = ap (λ l. l ++ after) (flat_upto piece [] a k low) ∙ flat_split piece a (k + 1) end (omega (arith, low)) high in
       subst (λ clauses. AppendsFront old new (head ++ flat_map clause_line clauses)) all
       (front_of_both old new head (upto ++ piece k) after (sent_then_front old between new head kept upto (piece k) s f))
+
+  -- the lines up to k were sent, and those from k up to the end after them
+  pub ranges_sent : (k end : ℕ) (old between new kept kept' : List ℕ) → a ≤ k → k ≤ end → IsSent old between kept (lines_to k)
+      → IsSent between new kept' (kept ++ flat_map clause_line (flat_map piece (range_with_len k (end - k)))) → IsSent old new kept' (lines_to end)
+  ranges_sent k end old between new kept kept' low high s t =
+      subst (λ clauses. IsSent old new kept' (head ++ flat_map clause_line clauses)) (flat_split piece a k end low high)
+      (sent_then old between new head kept kept' (flat_map piece (range_with_len a (k - a))) (flat_map piece (range_with_len k (end - k))) s t)
+
+  -- and of those from k up to some number a front
+  pub ranges_front : (k upto end : ℕ) (old between new kept : List ℕ) → a ≤ k → k ≤ upto → upto ≤ end → IsSent old between kept (lines_to k)
+      → AppendsFront between new (kept ++ flat_map clause_line (flat_map piece (range_with_len k (upto - k)))) → AppendsFront old new (lines_to end)
+  ranges_front k upto end old between new kept low rising high s f =
+      let before = flat_map piece (range_with_len a (k - a)) in
+      let middle = flat_map piece (range_with_len k (upto - k)) in
+      let after = flat_map piece (range_with_len upto (end - upto)) in
+      let all : (before ++ middle) ++ after ≡ flat_map piece (range_with_len a (end - a)) = ap (λ l. l ++ after) (flat_split piece a k upto low rising) ∙ flat_split piece a upto end (omega (arith, low, rising)) high in
+      subst (λ clauses. AppendsFront old new (head ++ flat_map clause_line clauses)) all
+      (front_of_both old new head (before ++ middle) after (sent_then_front old between new head kept before middle s f))

@@ -5,59 +5,67 @@ ghost use Rattle.std.specs.List.{flat_map};
 ghost use Rattle.dimacs.specs.CnfText.{clause_line, cnf_text};
 ghost use Rattle.dimacs.specs.Sink.{AppendsFront, IsSent};
 ghost use Rattle.dimacs.specs.SinkFault.{failures_told};
-ghost use Rattle.traces.specs.Trace.{operation_count};
 ghost use Rattle.clause_blocks.specs.Clauses.{clauses_of, formula_of};
-ghost use Rattle.clause_blocks.specs.Pieces.{clauses_in};
 
-use crate::trace_clauses::{Piece, TraceClauses};
-use crate::transitivity::put_transitivity_from;
-use dimacs::{CnfWriter, Failed, Sink, SinkFault};
+use crate::in_turn::put_in_turn;
+use crate::side_by_side::put_side_by_side;
+use crate::trace_clauses::TraceClauses;
+use dimacs::{CnfWriter, Sink, SinkFault};
 use reducer::reduced::Reduced;
 use std::alloc::Global;
 use std::thread::Threads;
-use var_layout::layout::Layout;
 
-/// Writes the clauses of a piece. Those of transitivity are never made.
-fn put_piece<W: Sink>(
-    layout: &Layout,
-    piece: Piece<'_>,
-    writer: &mut CnfWriter,
-    sink: &mut W,
-) -> Result<(), Failed>
-    ensures sent { OnOk result (IsSent (W.written sink.old) (W.written sink.new) writer.new (writer.old ++ flat_map clause_line (clauses_in (operation_count layout.now) piece.entry))) }
-    ensures well { OnOk result (W.failures sink.new ≡ W.failures sink.old) }
-    ensures front { OnErr result (AppendsFront (W.written sink.old) (W.written sink.new) (writer.old ++ flat_map clause_line (clauses_in (operation_count layout.now) piece.entry))) }
-    ensures failed { OnErr result (W.failures sink.new ≡ W.failures sink.old + 1) }
+/// The text of a trace with fewer operations is made sooner than threads are started.
+const LARGE: usize = 128;
+
+/// The pieces of the last so many operations are made sooner than threads are started.
+const SMALL: usize = 32;
+
+/// The number of the first piece of transitivity that is not made beside others: one worker makes all of them in turn, and several make
+/// those of a small trace so, and the last ones, which are small.
+fn first_in_turn(operations: usize, workers: u32) -> usize
+    requires { operations ≤ 160 }
+    ensures some { 1 ≤ result }
+    ensures within { result ≤ operations + 1 }
 {
-    match piece {
-        Piece::Stored(clauses) => writer.put(clauses, sink),
-        Piece::TransitivityFrom(i) => put_transitivity_from(layout, i, writer, sink),
+    if workers < 2 || operations < LARGE {
+        return 1;
     }
+    operations - SMALL + 1
 }
 
-/// Writes all pieces, one after the other.
-fn put_pieces<W: Sink>(
+/// Writes all pieces.
+fn put_pieces<R: Threads + Sync, W: Sink>(
+    alloc: Global,
+    rt: &R,
+    workers: u32,
     clauses: &TraceClauses,
     writer: &mut CnfWriter,
     sink: &mut W,
-) -> Result<(), Failed>
+) -> Result<(), SinkFault>
+    requires { (1 ≤ workers) × (workers ≤ 8) }
     ensures sent { OnOk result (IsSent (W.written sink.old) (W.written sink.new) writer.new (writer.old ++ flat_map clause_line (clauses_of clauses.now))) }
     ensures well { OnOk result (W.failures sink.new ≡ W.failures sink.old) }
     ensures front { OnErr result (AppendsFront (W.written sink.old) (W.written sink.new) (writer.old ++ flat_map clause_line (clauses_of clauses.now))) }
-    ensures failed { OnErr result (W.failures sink.new ≡ W.failures sink.old + 1) }
+    ensures failed { IfErr result (λ fault. W.failures sink.new ≡ W.failures sink.old + failures_told fault) }
 {
-    for k in 0..clauses.pieces() {
-        put_piece(clauses.layout(), clauses.piece(k), writer, sink)?;
-    }
+    clauses.is_clause_list();
+    let end = first_in_turn(clauses.layout().operations(), workers);
+    put_in_turn(clauses, 0, 1, writer, sink)?;
+    put_side_by_side(alloc, rt, workers, clauses, end, writer, sink)?;
+    put_in_turn(clauses, end, clauses.pieces(), writer, sink)?;
     Ok(())
 }
 
 /// Writes the text of a trace's formula.
-fn put_formula<W: Sink>(
+fn put_formula<R: Threads + Sync, W: Sink>(
     alloc: Global,
+    rt: &R,
+    workers: u32,
     clauses: &TraceClauses,
     sink: &mut W,
 ) -> Result<(), SinkFault>
+    requires { (1 ≤ workers) × (workers ≤ 8) }
     ensures whole { OnOk result (W.written sink.new ≡ W.written sink.old ++ cnf_text (formula_of clauses.now)) }
     ensures well { OnOk result (W.failures sink.new ≡ W.failures sink.old) }
     ensures front { OnErr result (AppendsFront (W.written sink.old) (W.written sink.new) (cnf_text (formula_of clauses.now))) }
@@ -65,7 +73,7 @@ fn put_formula<W: Sink>(
 {
     let variables = clauses.layout().count();
     let mut writer = CnfWriter::begin(alloc, variables, clauses.clause_count())?;
-    put_pieces(clauses, &mut writer, sink)?;
+    put_pieces(alloc, rt, workers, clauses, &mut writer, sink)?;
     writer.finish(sink)?;
     Ok(())
 }
@@ -87,5 +95,5 @@ pub fn stream_cnf<R: Threads + Sync, W: Sink>(
     ensures failed { IfErr result (λ fault. W.failures sink.new ≡ W.failures sink.old + failures_told fault) }
 {
     let clauses = TraceClauses::of(alloc, reduced)?;
-    put_formula(alloc, &clauses, sink)
+    put_formula(alloc, rt, workers, &clauses, sink)
 }

@@ -1,5 +1,5 @@
 //! The writer of a formula's text.
-ghost use Rattle.std.specs.Prelude.{◌≡◌, ◌+◌, ◌≤◌, ◌++◌, length, take, IfOk, OnOk, OnErr, IfErr};
+ghost use Rattle.std.specs.Prelude.{◌≡◌, ◌+◌, ◌≤◌, ◌++◌, [], length, take, IfOk, OnOk, OnErr, IfErr};
 ghost use Rattle.std.specs.List.{flat_map};
 ghost use Rattle.dimacs.specs.CnfText.{header_line, clause_line, cnf_text};
 ghost use Rattle.dimacs.specs.Sink.{AppendsFront, IsSent};
@@ -24,11 +24,11 @@ const SHORT: usize = 4;
 /// No short clause's line is longer.
 const SHORT_LINE: usize = 42;
 
-/// A buffer of that size.
-fn new_buffer(alloc: Global) -> Result<Vec<u8>, AllocError>
-    ensures { IfOk result (λ buffer. length buffer.items ≡ BUFFER) }
+/// A buffer of this size.
+fn new_buffer(alloc: Global, room: usize) -> Result<Vec<u8>, AllocError>
+    ensures { IfOk result (λ buffer. length buffer.items ≡ room) }
 {
-    vec![in alloc; 0; BUFFER]
+    vec![in alloc; 0; room]
 }
 
 /// Where the buffer has no room for a literal any more, the sink takes what was made. Says how many bytes the buffer
@@ -163,14 +163,14 @@ pub struct CnfWriter {
 
 impl Model for CnfWriter {
     ghost use Rattle.std.specs.Prelude.{◌≡◌, ◌≤◌, ℕ, List, length, take};
-    ghost use Rattle.dimacs.specs.declared.cnf_writer.TheConstants.{BUFFER};
+    ghost use Rattle.dimacs.specs.declared.line_buffer.TheConstants.{HEADER};
 
     /// What was made and has not gone to the sink yet.
     ghost Value = { List ℕ };
 
     ghost view = { λ writer. take writer.end writer.buffer.items };
 
-    ghost invariant = { λ writer. (length writer.buffer.items ≡ BUFFER) × (writer.end ≤ BUFFER) };
+    ghost invariant = { λ writer. (HEADER ≤ length writer.buffer.items) × (writer.end ≤ length writer.buffer.items) };
 }
 
 impl CnfWriter {
@@ -179,9 +179,34 @@ impl CnfWriter {
         ensures { IfOk result (λ writer. writer ≡ header_line variables clauses) }
     {
         let table = VariableTable::of(alloc, variables)?;
-        let mut buffer = new_buffer(alloc)?;
+        let mut buffer = new_buffer(alloc, BUFFER)?;
         let end = put_header(variables, clauses, buffer.as_mut_slice());
         Ok(CnfWriter { table, buffer, end })
+    }
+
+    /// A writer of lines alone, with no header before them, of a text with so many variables. It keeps so many bytes, or somewhat
+    /// fewer, before the sink takes them.
+    pub fn without_header(
+        alloc: Global,
+        variables: u32,
+        room: usize,
+    ) -> Result<CnfWriter, AllocError>
+        ensures { IfOk result (λ writer. writer ≡ []) }
+    {
+        let table = VariableTable::of(alloc, variables)?;
+        let buffer = new_buffer(alloc, room.max(HEADER))?;
+        Ok(CnfWriter {
+            table,
+            buffer,
+            end: 0,
+        })
+    }
+
+    /// What the writer keeps.
+    pub fn kept(&self) -> &[u8]
+        ensures { result.now ≡ self.now }
+    {
+        &self.buffer.as_slice()[..self.end]
     }
 
     /// Writes the lines of the next clauses. The writer keeps some of them.
@@ -219,6 +244,25 @@ impl CnfWriter {
         )?;
         self.end = kept;
         Ok(())
+    }
+
+    /// Drops what the writer keeps.
+    pub fn clear(&mut self)
+        ensures { self.new ≡ [] }
+    {
+        self.end = 0;
+    }
+
+    /// Writes a text of lines that were made apart. The writer then keeps nothing.
+    pub fn put_text<W: Sink>(&mut self, text: &[u8], sink: &mut W) -> Result<(), Failed>
+        ensures sent { OnOk result (IsSent (W.written sink.old) (W.written sink.new) self.new (self.old ++ text.now)) }
+        ensures well { OnOk result (W.failures sink.new ≡ W.failures sink.old) }
+        ensures front { OnErr result (AppendsFront (W.written sink.old) (W.written sink.new) (self.old ++ text.now)) }
+        ensures failed { OnErr result (W.failures sink.new ≡ W.failures sink.old + 1) }
+    {
+        write_whole(sink, &self.buffer.as_slice()[..self.end])?;
+        self.end = 0;
+        write_whole(sink, text)
     }
 
     /// Writes what the writer keeps.

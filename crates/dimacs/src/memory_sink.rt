@@ -31,6 +31,25 @@ impl MemorySink {
         self.bytes.as_slice()
     }
 
+    /// A sink that has taken nothing yet, in the memory of this list, whose bytes are dropped.
+    pub fn reusing(mut bytes: Vec<u8>) -> MemorySink
+        ensures written { ⟦<MemorySink as Sink>⟧.written result ≡ [] }
+        ensures failures { ⟦<MemorySink as Sink>⟧.failures result ≡ 0 }
+    {
+        bytes.clear();
+        MemorySink {
+            bytes,
+            failures: FailureCount::new(),
+        }
+    }
+
+    /// The bytes that it has taken, as a list.
+    pub fn into_vec(self) -> Vec<u8>
+        ensures { result.items ≡ ⟦<MemorySink as Sink>⟧.written self }
+    {
+        self.bytes
+    }
+
     /// Fails, and takes nothing.
     pub(crate) fn fail<T>(&mut self) -> Result<T, Failed>
         ensures answer { IsErr result }

@@ -1,11 +1,12 @@
 use Rattle.std.proofs.Common.{◌≡◌}
 use Rattle.dimacs.specs.Sink.{IsSent}
+use Rattle.clause_blocks.specs.Pieces.{share_begins}
 use Rattle.clause_blocks.proofs.ListLemmas.{piece_at}
 use Rattle.clause_blocks.proofs.RangeSentLemmas.{lines_to}
-use Rattle.clause_blocks.proofs.stream_cnf.put_pieces.Given as goal
+use Rattle.clause_blocks.proofs.side_by_side.put_batch.Given as goal
 
 abbrev pub invariant-loop-k : goal.invariant-loop-k
 invariant-loop-k g l = record {
-  sent : IsSent (g.W.Sink.written l.fn.sink) (g.W.Sink.written l.sink) l.writer (lines_to l.fn.writer (piece_at l.clauses) 0 l.k);
+  sent : IsSent (g.W.Sink.written l.fn.sink) (g.W.Sink.written l.sink) l.writer (lines_to l.fn.writer (piece_at l.clauses) l.first (share_begins l.first l.end l.count l.k));
   failures : g.W.Sink.failures l.sink ≡ g.W.Sink.failures l.fn.sink;
 }

@@ -1,0 +1,11 @@
+use Rattle.std.proofs.Common.{◌≡◌}
+use Rattle.dimacs.specs.Sink.{IsSent}
+use Rattle.clause_blocks.proofs.ListLemmas.{piece_at}
+use Rattle.clause_blocks.proofs.RangeSentLemmas.{lines_to}
+use Rattle.clause_blocks.proofs.in_turn.put_in_turn.Given as goal
+
+abbrev pub invariant-loop-k : goal.invariant-loop-k
+invariant-loop-k g l = record {
+  sent : IsSent (g.W.Sink.written l.fn.sink) (g.W.Sink.written l.sink) l.writer (lines_to l.fn.writer (piece_at l.clauses) l.first l.k);
+  failures : g.W.Sink.failures l.sink ≡ g.W.Sink.failures l.fn.sink;
+}
