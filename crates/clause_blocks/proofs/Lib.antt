@@ -13,6 +13,7 @@ pub mod ModelReadLemmas
 pub mod OperationLemmas
 pub mod OperationNumberLemmas
 pub mod OrderLiteralLemmas
+pub mod PartLemmas
 pub mod PieceLemmas
 pub mod PlaceLemmas
 pub mod RangeSentLemmas

@@ -1,5 +1,5 @@
 -- Order literals: what makes them true, and their variables.
-use Rattle.std.proofs.Common.{◌≡◌, ℕ, zero, suc, ◌-◌, ◌<◌, pos, neg_ℤ, Bool, not, refl, sym, ◌∙◌, ap, cond, inl, inr, arith}
+use Rattle.std.proofs.Common.{◌≡◌, ℕ, zero, suc, ◌<◌, pos, neg_ℤ, Bool, not, refl, sym, ◌∙◌, ap, cond, inl, inr, arith}
 use Rattle.std.specs.Prelude.{◌≢◌}
 use Rattle.std.proofs.lemmas.Bool.{lt-ltb, le-ltb, cases_order}
 use Rattle.text_lines.proofs.BoolLemmas.{not_not}

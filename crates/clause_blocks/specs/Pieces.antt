@@ -1,5 +1,5 @@
 -- What a trace's clause list keeps, and what is given of a piece.
-use Rattle.std.specs.Prelude.{◌≡◌, ℕ, ℤ, List}
+use Rattle.std.specs.Prelude.{◌≡◌, ℕ, ℤ, List, ◌++◌, length}
 use Rattle.traces.specs.Trace.{TraceValue, operation_count}
 use Rattle.clause_blocks.specs.declared.trace_clauses.Piece.{Piece}
 use Rattle.clause_blocks.specs.declared.trace_clauses.Piece.TheVariants.{Stored, TransitivityFrom}
@@ -17,3 +17,10 @@ pub record AreStored (t : TraceValue) (tabled : ℕ) (order reads finals pairs :
   pub in_reads : reads ≡ read_clauses t
   pub in_finals : finals ≡ final_clauses t
   pub in_pairs : pairs ≡ before_clauses t
+
+-- these clauses stand in the list after so many others
+pub record StandAfter (clauses : List (List ℤ)) (from : ℕ) (part : List (List ℤ)) : Type 0 where
+  pub front : List (List ℤ)
+  pub back : List (List ℤ)
+  pub parts : clauses ≡ front ++ (part ++ back)
+  pub counted : from ≡ length front

@@ -1,18 +1,19 @@
 //! The clause list of a reduced trace as a formula that is seen by its clauses.
 
-ghost use Rattle.std.specs.Prelude.{◌≡◌, ◌<◌, ◌≤◌, ◌++◌, [], length, slice_index_or, take, OnOk, IfErr};
+ghost use Rattle.std.specs.Prelude.{◌≡◌, ◌+◌, ◌<◌, ◌≤◌, ◌++◌, [], length, slice_index_or, take, OnOk, IfErr};
 ghost use Rattle.dimacs.specs.Assignment.{value_of};
 ghost use Rattle.dimacs.specs.Models.{IsModel, IsFirstFalse};
 ghost use Rattle.traces.specs.Trace.{operation_count};
 ghost use Rattle.clause_blocks.specs.Blocks as blocks;
 ghost use Rattle.clause_blocks.specs.Clauses.{clauses_of};
+ghost use Rattle.clause_blocks.specs.Pieces.{StandAfter};
 ghost use Rattle.clause_blocks.specs.Triples.{clause_of_triple};
 
-use crate::laws::{clauses_are_clauses, formula_is_over_its_variables};
+use crate::laws::{clauses_are_clauses, few_clauses, formula_is_over_its_variables};
 use crate::ranks::puts_in_order;
 use crate::trace_clauses::TraceClauses;
 use crate::triple_table::Triple;
-use dimacs::{Assignment, Clause, ClauseList, FirstFalse, ListedClause};
+use dimacs::{Assignment, Clause, ClauseList, FirstFalse, ListedClause, first_false};
 use var_layout::layout::Layout;
 
 /// The clause of transitivity that a triple stands for.
@@ -91,6 +92,47 @@ impl TraceClauses {
         }
         Ok(())
     }
+
+    /// Whether the assignment makes these clauses true, which stand in the list after so many others. If not, the first one that it
+    /// makes false.
+    fn eval_stored(
+        &self,
+        from: usize,
+        stored: &[Clause],
+        assignment: &Assignment,
+    ) -> Result<(), FirstFalse>
+        requires there { StandAfter (clauses_of self.now) from stored.now }
+        requires so_far { IsModel (value_of assignment.now) (take from (clauses_of self.now)) }
+        ensures model { OnOk result (IsModel (value_of assignment.now) (take (from + length stored.now) (clauses_of self.now))) }
+        ensures first { IfErr result (λ found. IsFirstFalse (value_of assignment.now) (clauses_of self.now) found.clause) }
+    {
+        self.is_clause_list();
+        few_clauses();
+        match first_false(stored, assignment) {
+            Some(place) => Err(FirstFalse {
+                clause: from + place + 1,
+            }),
+            None => Ok(()),
+        }
+    }
+
+    /// Whether the assignment makes the clauses after transitivity true. If not, the first one that it makes false.
+    fn eval_last(&self, from: usize, assignment: &Assignment) -> Result<(), FirstFalse>
+        requires counted { from ≡ length (blocks.program_order self.now ++ blocks.transitivity (operation_count self.now)) }
+        requires so_far { IsModel (value_of assignment.now) (take from (clauses_of self.now)) }
+        ensures model { OnOk result (IsModel (value_of assignment.now) (clauses_of self.now)) }
+        ensures first { IfErr result (λ found. IsFirstFalse (value_of assignment.now) (clauses_of self.now) found.clause) }
+    {
+        self.is_clause_list();
+        few_clauses();
+        let reads = self.reads();
+        let final_values = self.final_values();
+        let after_reads = from + reads.len();
+        let after_finals = after_reads + final_values.len();
+        self.eval_stored(from, reads, assignment)?;
+        self.eval_stored(after_reads, final_values, assignment)?;
+        self.eval_stored(after_finals, self.before(), assignment)
+    }
 }
 
 impl ClauseList for TraceClauses {
@@ -116,14 +158,15 @@ impl ClauseList for TraceClauses {
 
     /// Transitivity is looked at clause by clause only if the assignment does not put the operations in an order.
     fn eval(&self, assignment: &Assignment) -> Result<(), FirstFalse> {
-        let order = self.program_order().len();
-        let circles = self.triples().count();
-        let count = self.clause_count();
-        self.eval_between(0, order, assignment)?;
+        self.is_clause_list();
+        few_clauses();
+        let order = self.program_order();
+        let after_circles = order.len() + self.triples().count();
+        self.eval_stored(0, order, assignment)?;
         if !puts_in_order(self.layout(), assignment) {
-            self.eval_between(order, order + circles, assignment)?;
+            self.eval_between(order.len(), after_circles, assignment)?;
         }
-        self.eval_between(order + circles, count, assignment)
+        self.eval_last(after_circles, assignment)
     }
 
     fn is_formula(&self) {

@@ -1,4 +1,4 @@
-use Rattle.std.proofs.Common.{◌≤◌, ◌∙◌, length, ap, arith}
+use Rattle.std.proofs.Common.{◌∙◌, length, ap, arith}
 use Rattle.clause_blocks.specs.Blocks.{transitivity}
 use Rattle.clause_blocks.proofs.PlaceLemmas.{all_counted}
 use Rattle.clause_blocks.proofs.trace_clauses.TraceClauses.clause_count.Goals as goal
