@@ -108,7 +108,7 @@ def with_content(root, paths):
 
 
 def wrong_bodies(paths):
-    """For each crate that has some: the files of its folder must-fail. One that is no wrong body is never refused, as `rt ci` says."""
+    """For each crate that has some: the files of its folder must-fail. One that is no wrong body is never refused."""
     found = {}
     for path in paths:
         parts = path.split("/", 3)
@@ -170,8 +170,8 @@ class Plan:
         yield f"to be tried: {number} wrong bodies of {len(self.tried)} crates, of {len(self.bodies)} crates that have some"
 
     def all_refused(self, log):
-        """The crates that were tried and of which a log of `rt ci` says that each wrong body was refused."""
-        said = re.findall(r"(?m)^rt: must-fail (\w+)/(\S+\.edit): (refused, as it must be)?", log)
+        """The crates that were tried and of which a log of `tools/try-wrong-bodies` says that each wrong body was refused."""
+        said = re.findall(r"(?m)^must-fail (\w+)/(\S+\.edit): (refused, as it must be)?", log)
         refused = {(name, edit) for name, edit, well in said if well} - {(name, edit) for name, edit, well in said if not well}
         return [name for name in self.tried if all((name, edit) in refused for edit in self.bodies[name])]
 

@@ -1,0 +1,78 @@
+"""Wrong bodies as they are kept: files of lines `file: PATH`, and of pairs of lines `old: TEXT` and `new: TEXT`."""
+
+import re
+
+# The first line of a function, by its column and its name.
+START = re.compile(r"( *)(?:pub(?:\([^)]*\))? )?(?:const )?fn (\w+)")
+
+
+def pairs(text):
+    """The replacements of an edit, in order: a path, what stands there once, and what takes its place."""
+    found, path, old = [], None, None
+    for line in text.split("\n"):
+        word, _, rest = line.partition(": " if ": " in line else ":")
+        if word == "file":
+            path = rest.strip()
+        elif word == "old":
+            old = rest
+        elif word == "new":
+            found.append((path, old, rest))
+    return found
+
+
+def applied(text, texts):
+    """The texts of the sources, by their paths, with an edit made in them, or None where it cannot be made."""
+    made = dict(texts)
+    for path, old, new in pairs(text):
+        if not old or made.get(path, "").count(old) != 1:
+            return None
+        made[path] = made[path].replace(old, new)
+    return made
+
+
+def without_generics(text):
+    while re.search("<[^<>]*>", text):
+        text = re.sub("<[^<>]*>", "", text)
+    return text
+
+
+def owner_of(head):
+    """What the prover calls the place of an impl's functions: the type, and after it the trait, where there is one."""
+    words = re.findall(r"[\w:]+", without_generics(head.replace("->", "")).partition(" where ")[0])[1:]
+    names = [it.rpartition("::")[2] for it in words if it != "mut"]
+    return names[2] + names[0] if "for" in names[1:2] else names[0]
+
+
+def bodies(text):
+    """The functions of a source by the names that they have in it, each with the numbers of the first and the last line of its body."""
+    lines, owner, found = text.split("\n"), "", []
+    for at, line in enumerate(lines):
+        if re.match(r"impl\b", line):
+            owner = owner_of(" ".join(lines[at:]).partition("{")[0]) + "::"
+        elif line == "}":
+            owner = ""
+        start = START.match(line)
+        if start:
+            # The format has a signature's lines and the braces of its body in one column, and clauses further in.
+            opening, closing = re.compile(rf"{start[1]}(\S.* )?{{$"), start[1] + "}"
+            end = next((it for it in range(at + 1, len(lines)) if START.match(lines[it])), len(lines))
+            first = next((it for it in range(at, end) if opening.match(lines[it])), len(lines))
+            last = next((it for it in range(first, len(lines)) if lines[it] == closing), None)
+            if last is not None:
+                found.append((owner * bool(start[1]) + start[2], first, last))
+    return found
+
+
+def functions(text, texts):
+    """The functions whose bodies an edit changes, by their paths below the crate, or nothing where it changes anything else."""
+    found = set()
+    for path, old, new in pairs(text):
+        source = texts[path]
+        at = source[: source.find(old)].count("\n")
+        inside = [name for name, first, last in bodies(source) if first <= at <= last]
+        if len(inside) != 1:
+            return set()
+        module = [it for it in re.sub(r"^src/|\.rt$", "", path).split("/") if it not in ("lib", "main", "mod")]
+        found.add("::".join([*module, inside[0]]))
+        texts = {**texts, path: source.replace(old, new)}
+    return found
