@@ -36,18 +36,30 @@ def without_generics(text):
     return text
 
 
+def last_name(path):
+    """The last word of a type or a trait, without what it is applied to."""
+    return re.findall(r"\w+", without_generics(path))[-1]
+
+
 def owner_of(head):
-    """What the prover calls the place of an impl's functions: the type, and after it the trait, where there is one."""
-    words = re.findall(r"[\w:]+", without_generics(head.replace("->", "")).partition(" where ")[0])[1:]
-    names = [it.rpartition("::")[2] for it in words if it != "mut"]
-    return names[2] + names[0] if "for" in names[1:2] else names[0]
+    """What the prover calls the place of an impl's functions: the type, and the trait after it with what it is applied to."""
+    said = re.sub(r"^impl\s*(<(?:[^<>]|<[^<>]*>)*>)?", "", head.replace("->", "")).partition(" where ")[0].strip()
+    trait, _, of_type = said.rpartition(" for ")
+    if not trait:
+        return last_name(of_type)
+    name, _, arguments = trait.partition("<")
+    words = re.findall(r"[A-Z]\w*", without_generics(arguments[:-1]))
+    return "".join([last_name(of_type), last_name(name), *words])
 
 
 def bodies(text):
     """The functions of a source by the names that they have in it, each with the numbers of the first and the last line of its body."""
     lines, owner, found = text.split("\n"), "", []
     for at, line in enumerate(lines):
-        if re.match(r"impl\b", line):
+        trait = re.match(r"(?:pub(?:\([^)]*\))? )?trait (\w+)", line)
+        if trait:
+            owner = trait[1] + "::"
+        elif re.match(r"impl\b", line):
             owner = owner_of(" ".join(lines[at:]).partition("{")[0]) + "::"
         elif line == "}":
             owner = ""
