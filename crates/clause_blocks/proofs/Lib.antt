@@ -1,4 +1,5 @@
 pub mod BeforeLemmas
+pub mod CircleLemmas
 pub mod CountLemmas
 pub mod FewLemmas
 pub mod FinalLemmas

@@ -1,5 +1,5 @@
 -- Clauses that stand in a list after so many others.
-use Rattle.std.proofs.Common.{◌≡◌, ℕ, ◌+◌, ◌≤◌, ℤ, Bool, Some, None, List, [], ◌∷◌, ◌++◌, length, length-append, take, refl, sym, ap, ◌∙◌, subst, position, not, append-nil, append_assoc, arith}
+use Rattle.std.proofs.Common.{◌≡◌, ℕ, ◌+◌, ◌≤◌, ℤ, Bool, Some, None, List, [], ◌∷◌, ◌++◌, length, length-append, take, sym, ap, ◌∙◌, subst, position, not, append-nil, append_assoc, arith}
 use Rattle.std.proofs.Math.Seq.{take-append_seam}
 use Rattle.dimacs.specs.Assignment.{makes_some}
 use Rattle.dimacs.specs.Models.{IsModel, IsFirstFalse}
@@ -9,7 +9,7 @@ use Rattle.clause_blocks.specs.Blocks.{program_order, transitivity, read_clauses
 use Rattle.clause_blocks.specs.Clauses.{clauses_of}
 use Rattle.clause_blocks.specs.Pieces.{StandAfter}
 use Rattle.clause_blocks.proofs.FormulaLemmas.{all_append}
-use Rattle.clause_blocks.proofs.ListLemmas.{clause_list}
+use Rattle.clause_blocks.proofs.PlaceLemmas.{first_part}
 
 module _ (clauses part : List (List ℤ)) (from : ℕ) (s : StandAfter clauses from part) where
   -- what stands before them
@@ -46,27 +46,16 @@ module _ (clauses part : List (List ℤ)) (from : ℕ) (s : StandAfter clauses f
           first = all_append (makes_some value) s.front f.before (subst (IsModel value) front_taken so_far) f.first;
         }
 
--- where each family but transitivity stands
-pub order_first : (t : TraceValue) → StandAfter (clauses_of t) 0 (program_order t)
-order_first t = record {
-  front = [];
-  back = transitivity (operation_count t) ++ (read_clauses t ++ (final_clauses t ++ before_clauses t));
-  parts = clause_list t;
-  counted = refl;
-}
-
+-- where each family behind transitivity stands
 module _ (t : TraceValue) (n : ℕ) (long : n ≡ length (program_order t ++ transitivity (operation_count t))) where
   abbrev first : List (List ℤ)
   first = program_order t ++ transitivity (operation_count t)
-
-  rest : clauses_of t ≡ first ++ (read_clauses t ++ (final_clauses t ++ before_clauses t))
-  rest = clause_list t ∙ sym (append_assoc (program_order t) (transitivity (operation_count t)) (read_clauses t ++ (final_clauses t ++ before_clauses t)))
 
   pub reads_there : StandAfter (clauses_of t) n (read_clauses t)
   reads_there = record {
     front = first;
     back = final_clauses t ++ before_clauses t;
-    parts = rest;
+    parts = first_part t;
     counted = long;
   }
 
@@ -74,12 +63,12 @@ module _ (t : TraceValue) (n : ℕ) (long : n ≡ length (program_order t ++ tra
   finals_there = record {
     front = first ++ read_clauses t;
     back = before_clauses t;
-    parts = rest ∙ sym (append_assoc first (read_clauses t) (final_clauses t ++ before_clauses t));
+    parts = first_part t ∙ sym (append_assoc first (read_clauses t) (final_clauses t ++ before_clauses t));
     counted = omega (arith, long, length-append first (read_clauses t));
   }
 
   whole : clauses_of t ≡ ((first ++ read_clauses t) ++ final_clauses t) ++ before_clauses t
-  whole = rest ∙ sym (append_assoc first (read_clauses t) (final_clauses t ++ before_clauses t)) ∙ sym (append_assoc (first ++ read_clauses t) (final_clauses t) (before_clauses t))
+  whole = first_part t ∙ sym (append_assoc first (read_clauses t) (final_clauses t ++ before_clauses t)) ∙ sym (append_assoc (first ++ read_clauses t) (final_clauses t) (before_clauses t))
 
   pub pairs_there : StandAfter (clauses_of t) (n + length (read_clauses t) + length (final_clauses t)) (before_clauses t)
   pairs_there = record {

@@ -22,7 +22,7 @@ module _ (t : TraceValue) (place n : ℕ) (long : length (program_order t) ≡ n
   within_later low high = omega (arith, long, low, high, ap length (clause_list t), length-append (program_order t) (later_clauses t))
 
 -- the clauses up to those after transitivity
-first_part : (t : TraceValue) → clauses_of t ≡ (program_order t ++ transitivity (operation_count t)) ++ (read_clauses t ++ (final_clauses t ++ before_clauses t))
+pub first_part : (t : TraceValue) → clauses_of t ≡ (program_order t ++ transitivity (operation_count t)) ++ (read_clauses t ++ (final_clauses t ++ before_clauses t))
 first_part t = clause_list t ∙ sym (append_assoc (program_order t) (transitivity (operation_count t)) (read_clauses t ++ (final_clauses t ++ before_clauses t)))
 
 module _ (t : TraceValue) (n m : ℕ) (long : n ≡ length (program_order t)) (count : m ≡ length (transitivity (operation_count t))) where

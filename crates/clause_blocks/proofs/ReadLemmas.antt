@@ -1,8 +1,9 @@
 -- What is read: where the choices of a reading operation lie.
-use Rattle.std.proofs.Common.{◌≡◌, ℕ, ◌<◌, ◌≤◌, List, length, get_or, Option, Some, None, IsSome, true, false, refl, subst}
+use Rattle.std.proofs.Common.{◌≡◌, ◌∙◌, ℕ, ℤ, ◌<◌, ◌≤◌, List, map, length, get_or, sym, ap, Option, Some, None, IsSome, true, false, refl, subst}
 use Rattle.std.specs.Prelude.{◌≢◌, slice_get}
 use Rattle.std.specs.List.{All, Contains}
 use Rattle.std.specs.Option.{option_and_then}
+use Rattle.std.proofs.lemmas.List.{get_or-map}
 use Rattle.std.proofs.lemmas.Option.{slice_get_within}
 use Rattle.std.proofs.lemmas.List.Elements.{Contains-get_or}
 use Rattle.traces.specs.declared.operation.OpName.{OpName}
@@ -14,6 +15,7 @@ use Rattle.var_layout.specs.Numbers.{name_at, read_at, other_writers}
 use Rattle.var_layout.proofs.NumberLemmas.{names_counted}
 use Rattle.var_layout.proofs.VariableLemmas.{choice_over}
 use Rattle.var_layout.proofs.WriterLemmas.{other_writer}
+use Rattle.clause_blocks.specs.Blocks.{stands_before}
 use Rattle.clause_blocks.specs.Ranges.{FitsFormula, IsSource}
 use Rattle.clause_blocks.proofs.VariableLemmas.{fits_formula, choice_source}
 
@@ -37,3 +39,7 @@ choices_are_sources t r operation cs e k d within =
 
 pub others_within : (t : TraceValue) (r : ℕ) (ws : List ℕ) → ws ≡ other_writers t r → (k : ℕ) (d : ℕ) → k < length ws → (get_or ws k d < operation_count t) × (get_or ws k d ≢ r)
 others_within t r ws e k d within = other_writer t r (get_or ws k d) (subst (λ (l : List ℕ). Contains l (get_or ws k d)) e (Contains-get_or ws k d within))
+
+-- of the literals that say that each other writer stands after r, the one at a place
+pub literal_there : (t : TraceValue) (r : ℕ) (ws : List ℕ) (literals : List ℤ) → ws ≡ other_writers t r → literals ≡ map (stands_before t r) (other_writers t r) → (k : ℕ) (d : ℤ) → k < length ws → get_or literals k d ≡ stands_before t r (get_or ws k 0)
+literal_there t r ws literals e is k d within = ap (λ l. get_or l k d) (is ∙ ap (map (stands_before t r)) (sym e)) ∙ get_or-map (stands_before t r) ws k 0 d within

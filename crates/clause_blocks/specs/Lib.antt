@@ -1,4 +1,5 @@
 pub mod Blocks
+pub mod Circles
 pub mod Clauses
 pub mod Examples
 pub mod FinalClauses

@@ -6,6 +6,7 @@ ghost use Rattle.clause_blocks.specs.Clauses.{clauses_of, formula_of};
 ghost use Rattle.clause_blocks.specs.Pieces.{clauses_in};
 
 use crate::laws::formula_is_over_its_variables;
+use crate::parallel_transitivity::push_transitivity_in_threads;
 use crate::trace_clauses::{Piece, TraceClauses};
 use crate::transitivity::push_transitivity_from;
 use dimacs::{Clause, Formula};
@@ -28,33 +29,50 @@ fn push_copies(
     Ok(())
 }
 
-/// Appends the clauses of a piece.
-fn push_piece(
+/// Appends the clauses of a piece. With two workers or more, threads make those of transitivity.
+fn push_piece<R: Threads + Sync>(
     alloc: Global,
+    rt: &R,
     layout: &Layout,
     piece: Piece<'_>,
+    workers: u32,
     clauses: &mut Vec<Clause>,
 ) -> Result<(), AllocError>
     ensures { OnOk result (clauses.new.items ≡ clauses.old.items ++ clauses_in (operation_count layout.now) piece.entry) }
 {
     match piece {
         Piece::Stored(stored) => push_copies(alloc, stored, clauses),
+        Piece::TransitivityFrom(i) if workers > 1 => push_transitivity_in_threads(
+            alloc, rt, layout, i, clauses,
+        ),
         Piece::TransitivityFrom(i) => push_transitivity_from(alloc, layout, i, clauses),
     }
 }
 
 /// All clauses, in order.
-fn clause_list(alloc: Global, clauses: &TraceClauses) -> Result<Vec<Clause>, AllocError>
+fn clause_list<R: Threads + Sync>(
+    alloc: Global,
+    rt: &R,
+    clauses: &TraceClauses,
+    workers: u32,
+) -> Result<Vec<Clause>, AllocError>
     ensures { IfOk result (λ made. made.items ≡ clauses_of clauses.now) }
 {
     let mut made = Vec::with_capacity(alloc, clauses.clause_count())?;
     for k in 0..clauses.pieces() {
-        push_piece(alloc, clauses.layout(), clauses.piece(k), &mut made)?;
+        push_piece(
+            alloc,
+            rt,
+            clauses.layout(),
+            clauses.piece(k),
+            workers,
+            &mut made,
+        )?;
     }
     Ok(made)
 }
 
-/// The formula of the kept trace. It is the same whatever the number of workers.
+/// The formula of the kept trace. It is the same whatever the number of workers. With one, no thread is started.
 pub fn formula<R: Threads + Sync>(
     alloc: Global,
     rt: &R,
@@ -68,6 +86,6 @@ pub fn formula<R: Threads + Sync>(
     let clauses = TraceClauses::of(alloc, reduced)?;
     clauses.is_clause_list();
     formula_is_over_its_variables();
-    let made = clause_list(alloc, &clauses)?;
+    let made = clause_list(alloc, rt, &clauses, workers)?;
     Ok(Formula::new(clauses.layout().count(), made))
 }

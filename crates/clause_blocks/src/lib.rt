@@ -8,6 +8,7 @@ pub mod formula;
 pub mod laws;
 mod listed_clauses;
 pub mod meaning;
+mod parallel_transitivity;
 mod program_order;
 mod ranks;
 mod read_clauses;

@@ -1,10 +1,11 @@
 //! What is read: a reading operation reads from one of its candidates, and what that means.
 
-ghost use Rattle.std.specs.Prelude.{◌≡◌, ◌<◌, ◌++◌, ◌∷◌, pos, map, IsSome, IfOk, OnOk};
+ghost use Rattle.std.specs.Prelude.{◌≡◌, ◌<◌, ◌++◌, ◌∷◌, [], pos, map, IsSome, IfOk, OnOk};
 ghost use Rattle.std.specs.List.{All, flat_map};
 ghost use Rattle.traces.specs.Trace.{operation_count};
 ghost use Rattle.var_layout.specs.ChoiceVariables.{choices};
-ghost use Rattle.var_layout.specs.Numbers.{read_at};
+ghost use Rattle.var_layout.specs.Numbers.{read_at, other_writers};
+ghost use Rattle.clause_blocks.specs.Blocks.{implies, stands_before};
 ghost use Rattle.clause_blocks.specs.Blocks as blocks;
 ghost use Rattle.clause_blocks.specs.Ranges.{FitsFormula, AreTwo, IsSource};
 
@@ -26,22 +27,33 @@ fn literals_of(alloc: Global, choices: &[Choice]) -> Result<Vec<Lit>, AllocError
     Ok(literals)
 }
 
+/// The literals that say that each other writer of its location stands after an operation.
+fn others_after(alloc: Global, layout: &Layout, r: usize) -> Result<Vec<Lit>, AllocError>
+    requires { r < operation_count layout.now }
+    ensures { IfOk result (λ after. after.items ≡ map (stands_before layout.now r) (other_writers layout.now r)) }
+{
+    layout.is_layout();
+    let others = layout.other_writers(r);
+    let mut after = Vec::with_capacity(alloc, others.len())?;
+    for v in others {
+        after.push(layout.order_lit(r, *v))?;
+    }
+    Ok(after)
+}
+
 /// Appends what it means that an operation reads the initial value: it stands before each other writer of the location.
 fn push_reads_initial(
     alloc: Global,
-    layout: &Layout,
-    r: usize,
+    after: &[Lit],
     variable: u32,
     clauses: &mut Vec<Clause>,
 ) -> Result<(), AllocError>
-    requires within { r < operation_count layout.now }
-    requires variable { FitsFormula variable }
-    ensures { OnOk result (clauses.new.items ≡ clauses.old.items ++ blocks.reads_from layout.now r variable Candidate.InitialValue) }
+    requires { FitsFormula variable }
+    ensures { OnOk result (clauses.new.items ≡ clauses.old.items ++ map (λ literal. implies variable (literal ∷ [])) after.now) }
 {
-    layout.is_layout();
     let unchosen = Lit::positive(variable).negated();
-    for v in layout.other_writers(r) {
-        clauses.push(Clause::binary(alloc, unchosen, layout.order_lit(r, *v)))?;
+    for literal in after {
+        clauses.push(Clause::binary(alloc, unchosen, *literal))?;
     }
     Ok(())
 }
@@ -52,11 +64,13 @@ fn push_reads_writer(
     alloc: Global,
     layout: &Layout,
     r: usize,
+    after: &[Lit],
     w: usize,
     variable: u32,
     clauses: &mut Vec<Clause>,
 ) -> Result<(), AllocError>
     requires two { AreTwo layout.now w r }
+    requires after { after.now ≡ map (stands_before layout.now r) (other_writers layout.now r) }
     requires variable { FitsFormula variable }
     ensures { OnOk result (clauses.new.items ≡ clauses.old.items ++ blocks.reads_from layout.now r variable (Candidate.Writer w)) }
 {
@@ -64,11 +78,11 @@ fn push_reads_writer(
     let unchosen = Lit::positive(variable).negated();
     clauses.push(Clause::binary(alloc, unchosen, layout.order_lit(w, r)))?;
     let writers = layout.other_writers(r);
-    for v in writers {
-        if *v != w {
-            let before = layout.order_lit(*v, w);
-            let after = layout.order_lit(r, *v);
-            clauses.push(Clause::ternary(alloc, unchosen, before, after))?;
+    for k in 0..writers.len() {
+        let v = writers[k];
+        if v != w {
+            let before = layout.order_lit(v, w);
+            clauses.push(Clause::ternary(alloc, unchosen, before, after[k]))?;
         }
     }
     Ok(())
@@ -79,17 +93,20 @@ fn push_reads_from(
     alloc: Global,
     layout: &Layout,
     r: usize,
+    after: &[Lit],
     choice: Choice,
     clauses: &mut Vec<Clause>,
 ) -> Result<(), AllocError>
-    requires within { r < operation_count layout.now }
+    requires after { after.now ≡ map (stands_before layout.now r) (other_writers layout.now r) }
     requires source { IsSource layout.now r choice.candidate }
     requires variable { FitsFormula choice.variable }
     ensures { OnOk result (clauses.new.items ≡ clauses.old.items ++ blocks.reads_from layout.now r choice.variable choice.candidate) }
 {
     match choice.candidate {
-        Candidate::InitialValue => push_reads_initial(alloc, layout, r, choice.variable, clauses),
-        Candidate::Writer(w) => push_reads_writer(alloc, layout, r, w, choice.variable, clauses),
+        Candidate::InitialValue => push_reads_initial(alloc, after, choice.variable, clauses),
+        Candidate::Writer(w) => {
+            push_reads_writer(alloc, layout, r, after, w, choice.variable, clauses)
+        }
     }
 }
 
@@ -107,8 +124,9 @@ fn push_choices(
     let choices = layout.choices(r);
     let literals = literals_of(alloc, choices)?;
     clauses.push(Clause::from_slice(alloc, literals.as_slice())?)?;
+    let after = others_after(alloc, layout, r)?;
     for choice in choices {
-        push_reads_from(alloc, layout, r, *choice, clauses)?;
+        push_reads_from(alloc, layout, r, after.as_slice(), *choice, clauses)?;
     }
     Ok(())
 }

@@ -2,7 +2,7 @@
 
 use crate::expectations::{ample, expect};
 use crate::formulas::literals_of;
-use crate::traces_of_texts::{HAND_OFF, STORE_BUFFERING, reduced_of};
+use crate::traces_of_texts::{HAND_OFF, STORE_BUFFERING, THREE_WRITERS, reduced_of};
 use clause_blocks::formula::formula;
 use clause_blocks::trace_clauses::TraceClauses;
 use dimacs::{Assignment, Clause, ClauseList, FirstFalse, Formula, ListedClause, Lit};
@@ -106,6 +106,35 @@ fn gives_each_clause_of_a_trace_by_its_number(rt: HostRuntime) {
         let is_right = has_clause(&rt, rt.alloc(), &list, place, numbers);
         expect(&rt, is_right, place);
         place = place.wrapping_add(1);
+    }
+}
+
+/// Whether these are the same clauses in the same order.
+fn are_same(left: &[Clause], right: &[Clause]) -> bool {
+    if left.len() != right.len() {
+        return false;
+    }
+    for place in 0..left.len() {
+        if left[place].as_slice() != right[place].as_slice() {
+            return false;
+        }
+    }
+    true
+}
+
+#[test]
+fn makes_the_same_clauses_with_more_workers(rt: HostRuntime) {
+    for text in &[HAND_OFF, STORE_BUFFERING, THREE_WRITERS] {
+        let reduced = reduced_of(&rt, rt.alloc(), text);
+        let alone = ample(&rt, formula(rt.alloc(), &rt, &reduced, 1));
+        for workers in [2, 8] {
+            let made = ample(&rt, formula(rt.alloc(), &rt, &reduced, workers));
+            assert!(rt; made.variables() == alone.variables());
+            assert!(rt;
+                are_same(made.clauses(), alone.clauses()),
+                "with {workers} workers"
+            );
+        }
     }
 }
 

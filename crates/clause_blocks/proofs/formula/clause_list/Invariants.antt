@@ -4,4 +4,4 @@ use Rattle.clause_blocks.proofs.ListLemmas.{piece_at}
 use Rattle.clause_blocks.proofs.formula.clause_list.Given as goal
 
 abbrev pub invariant-loop-k : goal.invariant-loop-k
-invariant-loop-k l = l.made.items ≡ flat_map (piece_at l.clauses) (range_with_len 0 l.k)
+invariant-loop-k g l = l.made.items ≡ flat_map (piece_at l.clauses) (range_with_len 0 l.k)

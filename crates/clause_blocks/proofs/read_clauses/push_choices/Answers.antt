@@ -4,11 +4,11 @@ use Rattle.clause_blocks.proofs.read_clauses.push_choices.Goals as goal
 pub literals_of-requires : goal.literals_of-requires
 literals_of-requires c = choices_are_variables c.args.layout.now c.is_layout.ensures.trace c.is_layout.ensures.few c.args.r c.choices-choices.result.now c.choices-choices.ensures
 
-pub push_reads_from-requires : goal.push_reads_from-requires
-push_reads_from-requires c =
-    let within = reader_within c.args.layout.now c.args.r c.requires in
-    record {
-      within = within;
-      source = choices_are_sources c.args.layout.now c.args.r within c.choices-choices.result.now c.choices-choices.ensures c.loop-choice.choice-index _ c.loop-choice-test.true;
-      variable = choices_are_variables c.args.layout.now c.is_layout.ensures.trace c.is_layout.ensures.few c.args.r c.choices-choices.result.now c.choices-choices.ensures c.loop-choice.choice-index _ c.loop-choice-test.true;
-    }
+pub others_after-requires : goal.others_after-requires
+others_after-requires c = reader_within c.args.layout.now c.args.r c.requires
+
+pub push_reads_from-requires-clause-source : goal.push_reads_from-requires-clause-source
+push_reads_from-requires-clause-source c = choices_are_sources c.args.layout.now c.args.r (reader_within c.args.layout.now c.args.r c.requires) c.choices-choices.result.now c.choices-choices.ensures c.loop-choice.choice-index _ c.loop-choice-test.true
+
+pub push_reads_from-requires-clause-variable : goal.push_reads_from-requires-clause-variable
+push_reads_from-requires-clause-variable c = choices_are_variables c.args.layout.now c.is_layout.ensures.trace c.is_layout.ensures.few c.args.r c.choices-choices.result.now c.choices-choices.ensures c.loop-choice.choice-index _ c.loop-choice-test.true

@@ -3,5 +3,5 @@ use Rattle.var_layout.specs.Numbers.{others}
 use Rattle.clause_blocks.specs.Blocks.{implies, stands_before}
 use Rattle.clause_blocks.proofs.read_clauses.push_reads_writer.Given as goal
 
-abbrev pub invariant-loop-v : goal.invariant-loop-v
-invariant-loop-v l = l.clauses.items ≡ l.initial.clauses.items ++ map (λ v. implies l.variable (stands_before l.layout v l.w ∷ stands_before l.layout l.r v ∷ [])) (others l.w (take l.v-index l.writers))
+abbrev pub invariant-loop-k : goal.invariant-loop-k
+invariant-loop-k l = l.clauses.items ≡ l.initial.clauses.items ++ map (λ v. implies l.variable (stands_before l.layout v l.w ∷ stands_before l.layout l.r v ∷ [])) (others l.w (take l.k l.writers))
