@@ -1,7 +1,8 @@
 //! When the search begins anew, with all that it has learned.
 
-/// So many conflicts are between two restarts, times a number of Luby's sequence.
-pub const UNIT: u64 = 100;
+/// So many conflicts are between two restarts, times a number of Luby's sequence. With 100 a search may stay for long with bad first
+/// decisions, and with 20 and fewer it takes more conflicts on the whole.
+pub const UNIT: u64 = 30;
 
 /// So many along a schedule, where each restart takes another way.
 pub const SHORT_UNIT: u64 = 10;
