@@ -9,8 +9,8 @@ use std::alloc::{AllocError, Global};
 
 /// Updates, and the writers that none of them has taken yet, as sets of elements.
 ///
-/// Each update takes a source that is still there, and keeps it. Where all of them have one, and in each location one more writer is left
-/// that may be the last, nothing lacks. This reads the sets where they are, and writes down nowhere who has which source.
+/// Each update takes a source that is still there, or one that another update gives back for such a one. Where all of them have one, and
+/// in each location one more writer is left that may be the last, nothing lacks. This reads the sets where they are.
 #[derive(Drop)]
 pub struct Glance<'a> {
     known: KnownOrder<'a>,
@@ -22,6 +22,8 @@ pub struct Glance<'a> {
     /// The writers that may be the last one of their location, and all other elements.
     ends: Vec<u64>,
     others: Vec<u64>,
+    /// For each element the update that took it and one more, or 0.
+    takers: Vec<u32>,
     /// The writers of the locations that were looked at, and one of each.
     seen: Vec<u64>,
     heads: Vec<u32>,
@@ -40,13 +42,13 @@ fn has_one_outside(sources: &ElementSets, update: u32, set: &[u64]) -> bool {
 
 /// Takes the first source of the update out of the set, if there is one in it.
 #[inline(always)]
-fn takes_one_of(sources: &ElementSets, update: u32, set: &mut [u64]) -> bool {
+fn takes_one_of(sources: &ElementSets, update: u32, set: &mut [u64], takers: &mut [u32]) -> bool {
     for number in 0..sources.words() {
         let left = at(set, number, 0);
-        let word = sources.word(update, number) & left;
-        if word != 0 {
-            let first = word & !word.wrapping_sub(1);
-            put(set, number, left & !first);
+        let mut word = sources.word(update, number) & left;
+        if let Some(source) = next_element(&mut word, number) {
+            put(set, number, left & !(1 << (source & 63)));
+            put(takers, source, update.wrapping_add(1));
             return true;
         }
     }
@@ -68,6 +70,7 @@ impl<'a> Glance<'a> {
             with_first: vec![in alloc; 0; words]?,
             ends: vec![in alloc; 0; words]?,
             others: vec![in alloc; u64::MAX; words]?,
+            takers: Vec::new(alloc),
             seen: vec![in alloc; 0; words]?,
             heads: Vec::new(alloc),
         })
@@ -182,7 +185,48 @@ impl<'a> Glance<'a> {
         is_there
     }
 
-    /// Whether each update takes a source: one that cannot be the last writer, if it can.
+    /// The update takes one of its sources, if one is still there: one that cannot be the last writer, if it can.
+    #[inline(always)]
+    fn takes_one(&mut self, update: u32) -> bool {
+        let takers = self.takers.as_mut_slice();
+        takes_one_of(self.sources, update, self.others.as_mut_slice(), takers)
+            || self.takes_first(update)
+            || takes_one_of(
+                self.sources,
+                update,
+                self.ends.as_mut_slice(),
+                self.takers.as_mut_slice(),
+            )
+    }
+
+    /// One of these sources is given back, if the update that has it can take another one.
+    fn given_back(&mut self, sources: u64, number: u32) -> Option<u32> {
+        let mut word = sources;
+        for _ in 0..64 {
+            let Some(source) = next_element(&mut word, number) else {
+                break;
+            };
+            let taker = at(self.takers.as_slice(), source, 0);
+            if taker != 0 && self.takes_one(taker.wrapping_sub(1)) {
+                return Some(source);
+            }
+        }
+        None
+    }
+
+    /// The update takes a source that another one gives back, if there is such a source.
+    fn takes_another(&mut self, update: u32) -> bool {
+        for number in 0..self.known.writers.words() {
+            let word = self.sources.word(update, number);
+            if let Some(source) = self.given_back(word, number) {
+                put(self.takers.as_mut_slice(), source, update.wrapping_add(1));
+                return true;
+            }
+        }
+        false
+    }
+
+    /// Whether each update takes a source.
     fn have_sources(&mut self) -> bool {
         // The first source that is there has a small number, and stands mostly before an update with a large one. So these take theirs first.
         for number in (0..self.known.writers.words()).rev() {
@@ -194,10 +238,7 @@ impl<'a> Glance<'a> {
                 let place = 63_u32.wrapping_sub(word.leading_zeros());
                 word &= !(1 << (place & 63));
                 let update = number.wrapping_mul(64).wrapping_add(place);
-                if !takes_one_of(self.sources, update, self.others.as_mut_slice())
-                    && !self.takes_first(update)
-                    && !takes_one_of(self.sources, update, self.ends.as_mut_slice())
-                {
+                if !self.takes_one(update) && !self.takes_another(update) {
                     return false;
                 }
             }
@@ -205,15 +246,28 @@ impl<'a> Glance<'a> {
         true
     }
 
-    /// Whether in each location a writer is left that may be the last one.
-    fn have_ends(&self) -> bool {
-        for head in &self.heads {
-            let mut left: u64 = 0;
-            for number in 0..self.known.writers.words() {
-                let word = at(self.ends.as_slice(), number, 0);
-                left |= word & location_word(self.known, *head, number);
+    /// Whether in the location of this writer one is left that may be the last one, or is given back.
+    fn has_end(&mut self, writer: u32, may_end: &[u64]) -> bool {
+        for number in 0..self.known.writers.words() {
+            let word = at(self.ends.as_slice(), number, 0);
+            if word & location_word(self.known, writer, number) != 0 {
+                return true;
             }
-            if left == 0 {
+        }
+        for number in 0..self.known.writers.words() {
+            let word = at(may_end, number, 0) & location_word(self.known, writer, number);
+            if self.given_back(word, number).is_some() {
+                return true;
+            }
+        }
+        false
+    }
+
+    /// Whether in each location a writer is left that may be the last one.
+    fn have_ends(&mut self, may_end: &[u64]) -> bool {
+        for number in 0..size(self.heads.as_slice()) {
+            let head = at(self.heads.as_slice(), number, 0);
+            if !self.has_end(head, may_end) {
                 return false;
             }
         }
@@ -223,6 +277,9 @@ impl<'a> Glance<'a> {
     /// Whether it shows that nothing lacks. Where it does not, it is not known.
     pub fn shows_enough(&mut self, alloc: Global) -> Result<bool, AllocError> {
         self.add_locations()?;
-        Ok(self.has_no_circle(alloc)? && self.have_sources() && self.have_ends())
+        let mut may_end = Vec::new(alloc);
+        may_end.extend_from_slice(self.ends.as_slice())?;
+        self.takers = vec![in alloc; 0; self.sources.words().wrapping_mul(64) as usize]?;
+        Ok(self.has_no_circle(alloc)? && self.have_sources() && self.have_ends(may_end.as_slice()))
     }
 }
