@@ -26,7 +26,7 @@ mod writer;
 
 pub use log::Free;
 pub use possible_sources::{
-    Choice, Contradiction, KnownOrder, Order, Reader, Reads, SourceSets, Update,
+    Choice, Contradiction, Glance, KnownOrder, Order, Reader, Reads, SourceSets, Update,
     find_contradiction, lacks_sources,
 };
 pub use refutation::{Given, refute};

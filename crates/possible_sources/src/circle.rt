@@ -48,13 +48,13 @@ fn has_all_within(possible: &SourceSets, reader: u32, within: &[u64]) -> bool {
 
 /// Whether the source is in the set.
 #[inline(always)]
-fn is_member(set: &[u64], source: u32) -> bool {
+pub fn is_member(set: &[u64], source: u32) -> bool {
     at(set, source >> 6, 0) >> (source & 63) & 1 == 1
 }
 
 /// Puts a source into a set, or takes it out.
 #[inline(always)]
-fn set_member(set: &mut [u64], source: u32, is_member: bool) {
+pub fn set_member(set: &mut [u64], source: u32, is_member: bool) {
     let bit = 1 << (source & 63);
     let word = at(set, source >> 6, 0);
     let word = if is_member { word | bit } else { word & !bit };

@@ -16,7 +16,7 @@ pub struct Ending {
 }
 
 /// Whether no writer of its location surely comes after this one.
-fn may_be_last(known: KnownOrder<'_>, writer: u32) -> bool {
+pub fn may_be_last(known: KnownOrder<'_>, writer: u32) -> bool {
     // The next one of its process has mostly a number in the same word.
     let likeliest = writer >> 6;
     if known.writers.word(writer, likeliest) & known.behind.word(writer, likeliest) != 0 {
@@ -29,7 +29,7 @@ fn may_be_last(known: KnownOrder<'_>, writer: u32) -> bool {
 
 /// The writers of the location of this one, itself among them: a word of that set.
 #[inline(always)]
-fn location_word(known: KnownOrder<'_>, writer: u32, number: u32) -> u64 {
+pub fn location_word(known: KnownOrder<'_>, writer: u32, number: u32) -> u64 {
     let others = known.writers.word(writer, number);
     if writer >> 6 == number {
         others | 1 << (writer & 63)

@@ -5,7 +5,7 @@ ghost use Rattle.std.specs.Prelude.{◌≤◌, length, IfOk, IfSome};
 ghost use Rattle.derivation_log.specs.Answers.{IsWithin};
 
 use crate::search::Search;
-use crate::told_reads::{possible_sources, told_reads};
+use crate::told_reads::{has_enough_sources, possible_sources, told_reads};
 use crate::units::Units;
 use assignment_trail::OrderedTrail;
 use clause_store::{Guide, Readings};
@@ -33,11 +33,11 @@ fn known_order<'b>(
 impl<'a> Search<'a> {
     /// Whether there are readers that cannot all have a source. Mostly there are none, so this goes by what is at hand.
     fn lacks_sources(&self, guide: Guide<'a>, readings: &Readings) -> Result<bool, AllocError> {
-        let possible = possible_sources(self.alloc, &self.trail, readings)?;
-        if possible.readers() == 0 {
+        let known = known_order(guide, &self.trail, readings);
+        if has_enough_sources(self.alloc, &self.trail, readings, known)? {
             return Ok(false);
         }
-        let known = known_order(guide, &self.trail, readings);
+        let possible = possible_sources(self.alloc, &self.trail, readings)?;
         lacks_sources(self.alloc, possible, known)
     }
 

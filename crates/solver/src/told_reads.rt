@@ -2,7 +2,7 @@
 
 use assignment_trail::{FALSE, OrderedTrail};
 use clause_store::{Choice, LastWriter, Readings};
-use counting::{Choice as Source, Reader, Reads, SourceSets, Update};
+use counting::{Choice as Source, Glance, KnownOrder, Reader, Reads, SourceSets, Update};
 use order_closure::tables::{at, size};
 use std::alloc::{AllocError, Global};
 
@@ -200,4 +200,35 @@ pub fn possible_sources(
         Some(sets) => Ok(sets),
         None => SourceSets::new(alloc, 0, 0),
     }
+}
+
+/// Whether a glance shows that no source lacks. Where no element reads and writes none does, since the final values of several locations
+/// have no source in common.
+pub fn has_enough_sources(
+    alloc: Global,
+    trail: &OrderedTrail<'_>,
+    readings: &Readings,
+    known: KnownOrder<'_>,
+) -> Result<bool, AllocError> {
+    let mut glance = Glance::new(alloc, known, &trail.candidates.writers)?;
+    for element in 0..readings.elements() {
+        if readings.reads(element) && readings.writes(element) {
+            let variable = readings.variable_without_writer(element);
+            glance.add_update(element, variable != 0 && !is_excluded(trail, variable));
+        }
+    }
+    if !glance.has_updates() {
+        return Ok(true);
+    }
+    let mut clause: u32 = 0;
+    for last in readings.last_writers() {
+        if last.clause != clause {
+            clause = last.clause;
+            glance.add_location(last.writer)?;
+        }
+        if !is_excluded(trail, last.variable) {
+            glance.add_end(last.writer);
+        }
+    }
+    glance.shows_enough(alloc)
 }
