@@ -41,28 +41,31 @@ def last_name(path):
     return re.findall(r"\w+", without_generics(path))[-1]
 
 
-def owner_of(head):
-    """What the prover calls the place of an impl's functions: the type, and the trait after it with what it is applied to."""
+def owner_of(head, module):
+    """The path of an impl's functions: the type alone, whose module is where it is declared, or the module of the impl of a trait, and
+    the type with the trait after it and what that is applied to."""
     said = re.sub(r"^impl\s*(<(?:[^<>]|<[^<>]*>)*>)?", "", head.replace("->", "")).partition(" where ")[0].strip()
     trait, _, of_type = said.rpartition(" for ")
     if not trait:
-        return last_name(of_type)
+        return last_name(of_type) + "::"
     name, _, arguments = trait.partition("<")
     words = re.findall(r"[A-Z]\w*", without_generics(arguments[:-1]))
-    return "".join([last_name(of_type), last_name(name), *words])
+    return module + "".join([last_name(of_type), last_name(name), *words]) + "::"
 
 
-def bodies(text):
-    """The functions of a source by the names that they have in it, each with the numbers of the first and the last line of its body."""
-    lines, owner, found = text.split("\n"), "", []
+def bodies(path, text):
+    """The functions of a source by their paths below the crate, or the ends of these, each with the first and the last line of its body."""
+    parts = re.sub(r"^src/|\.rt$", "", path).split("/")
+    module = "".join(f"{it}::" for it in parts if it not in ("lib", "main", "mod"))
+    lines, owner, found = text.split("\n"), module, []
     for at, line in enumerate(lines):
         trait = re.match(r"(?:pub(?:\([^)]*\))? )?trait (\w+)", line)
         if trait:
-            owner = trait[1] + "::"
+            owner = f"{module}{trait[1]}::"
         elif re.match(r"impl\b", line):
-            owner = owner_of(" ".join(lines[at:]).partition("{")[0]) + "::"
+            owner = owner_of(" ".join(lines[at:]).partition("{")[0], module)
         elif line == "}":
-            owner = ""
+            owner = module
         start = START.match(line)
         if start:
             # The format has a signature's lines and the braces of its body in one column, and clauses further in.
@@ -71,20 +74,19 @@ def bodies(text):
             first = next((it for it in range(at, end) if opening.match(lines[it])), len(lines))
             last = next((it for it in range(first, len(lines)) if lines[it] == closing), None)
             if last is not None:
-                found.append((owner * bool(start[1]) + start[2], first, last))
+                found.append((owner + start[2], first, last))
     return found
 
 
 def functions(text, texts):
-    """The functions whose bodies an edit changes, by their paths below the crate, or nothing where it changes anything else."""
+    """The functions whose bodies an edit changes, or nothing where it changes anything else."""
     found = set()
     for path, old, new in pairs(text):
         source = texts[path]
         at = source[: source.find(old)].count("\n")
-        inside = [name for name, first, last in bodies(source) if first <= at <= last]
+        inside = [name for name, first, last in bodies(path, source) if first <= at <= last]
         if len(inside) != 1:
             return set()
-        module = [it for it in re.sub(r"^src/|\.rt$", "", path).split("/") if it not in ("lib", "main", "mod")]
-        found.add("::".join([*module, inside[0]]))
+        found.add(inside[0])
         texts = {**texts, path: source.replace(old, new)}
     return found
