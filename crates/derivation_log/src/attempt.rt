@@ -5,6 +5,7 @@ ghost use Rattle.derivation_log.specs.Answers.{IsWithin};
 
 use crate::answer::Answer;
 use crate::learner::Learner;
+use crate::limit::refuted_within;
 use crate::log::Log;
 use crate::searching::{Outcome, search_on};
 use std::alloc::{AllocError, Global};
@@ -51,6 +52,48 @@ impl<S: Learner + Drop> Attempt<S> {
             Outcome::Open => Ok(None),
         }
     }
+
+    /// An answer that takes no further conflict, if there is one: a derivation of so many steps at most.
+    fn refute_at_root(&mut self, budget: u64) -> Result<Option<Answer>, AllocError>
+        ensures log { OnOk result (self.new.log ≡ self.old.log) }
+        ensures answer { IfOk result (λ found. IfSome found (λ answer. IsWithin budget answer)) }
+    {
+        match self.search.refute_at_root(&self.log, budget)? {
+            Some(derivation) => Ok(refuted_within(derivation, budget)),
+            None => Ok(None),
+        }
+    }
+
+    /// A turn: works on so many conflicts at most, and then, if others are left, looks for a derivation that takes no further one.
+    pub fn take_turn(&mut self, share: u64, left: u64) -> Result<Option<Answer>, AllocError>
+        ensures within { OnOk result (self.new.log ≤ self.old.log + share) }
+        ensures answer { IfOk result (λ found. IfSome found (λ answer. IsWithin (self.old.log + share + left) answer)) }
+    {
+        if let Some(answer) = self.run(share)? {
+            return Ok(Some(answer));
+        }
+        self.refute_at_root(left)
+    }
+}
+
+/// Lets an attempt search by turns, until it has an answer or so many conflicts have been worked on and there is one more.
+pub fn search_alone<S: Learner + Drop>(
+    attempt: &mut Attempt<S>,
+    budget: u64,
+) -> Result<Answer, AllocError>
+    ensures { IfOk result (λ answer. IsWithin (attempt.old.log + budget) answer) }
+{
+    let mut left = budget;
+    loop {
+        let share = left.min(TURN);
+        left -= share;
+        if let Some(answer) = attempt.take_turn(share, left)? {
+            return Ok(answer);
+        }
+        if left == 0 {
+            return Ok(Answer::Open);
+        }
+    }
 }
 
 /// Lets two attempts search by turns, until one of them has an answer or so many conflicts have been worked on and there is one more.
@@ -68,12 +111,12 @@ pub fn take_turns<S: Learner + Drop>(
             return Ok(Answer::Open);
         }
         left -= share;
-        if let Some(answer) = first.run(share)? {
+        if let Some(answer) = first.take_turn(share, left)? {
             return Ok(answer);
         }
         let rest = left.min(TURN);
         left -= rest;
-        if let Some(answer) = second.run(rest)? {
+        if let Some(answer) = second.take_turn(rest, left)? {
             return Ok(answer);
         }
     }

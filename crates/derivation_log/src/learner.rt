@@ -1,6 +1,8 @@
 //! A search, as far as a budget is concerned.
 
+use crate::log::Log;
 use dimacs::Assignment;
+use lrat_check::derivation::Derivation;
 use std::alloc::AllocError;
 
 /// A search that learns a clause from each conflict, where a conflict is a clause all of whose literals have become false. Literals are
@@ -21,6 +23,10 @@ pub trait Learner {
 
     /// Goes on with the clause that was learned last, which has this number.
     fn go_on(&mut self, id: u32) -> Result<(), AllocError>;
+
+    /// Goes back to where nothing is decided, and looks there for a derivation of so many steps at most that takes no further conflict. The log
+    /// has what was learned.
+    fn refute_at_root(&mut self, log: &Log, budget: u64) -> Result<Option<Derivation>, AllocError>;
 
     /// The values of all variables, where there is no conflict and nothing is left to decide.
     fn model(&self) -> Result<Assignment, AllocError>;

@@ -94,19 +94,23 @@ impl Log {
         piece(self.literals.as_slice(), from, to)
     }
 
-    /// Which additions the last one rests on: 1 for these.
-    fn needed(&self, alloc: Global) -> Result<Vec<u8>, AllocError> {
+    /// Marks those additions that are among these clauses.
+    fn mark(&self, clauses: &[u32], marks: &mut [u8]) {
+        for clause in clauses {
+            if *clause >= self.first {
+                put(marks, clause.wrapping_sub(self.first), 1);
+            }
+        }
+    }
+
+    /// Which additions are among these clauses or are what these rest on: 1 for them.
+    fn needed(&self, alloc: Global, clauses: &[u32]) -> Result<Vec<u8>, AllocError> {
         let count = size(self.ends.as_slice());
         let mut needed = vec![in alloc; 0; count as usize]?;
-        put(needed.as_mut_slice(), count.wrapping_sub(1), 1);
+        self.mark(clauses, needed.as_mut_slice());
         for addition in (0..count).rev() {
-            if at(needed.as_slice(), addition, 0) == 0 {
-                continue;
-            }
-            for hint in self.hints_of(addition) {
-                if *hint >= self.first {
-                    put(needed.as_mut_slice(), hint.wrapping_sub(self.first), 1);
-                }
+            if at(needed.as_slice(), addition, 0) != 0 {
+                self.mark(self.hints_of(addition), needed.as_mut_slice());
             }
         }
         Ok(needed)
@@ -131,6 +135,11 @@ impl Log {
         })
     }
 
+    /// The clauses on which the additions rest, one list after the other.
+    pub fn cited(&self) -> &[u32] {
+        self.hints.as_slice()
+    }
+
     /// All additions as steps.
     pub fn steps(&self, alloc: Global) -> Result<Vec<Step>, AllocError> {
         let mut steps = Vec::with_capacity(alloc, self.ends.len())?;
@@ -140,21 +149,36 @@ impl Log {
         Ok(steps)
     }
 
+    /// Those additions as steps that are marked, or have no mark at all.
+    fn marked_steps(&self, alloc: Global, marks: &[u8]) -> Result<Vec<Step>, AllocError>
+        ensures { IfOk result (λ steps. length steps.items ≤ self.now) }
+    {
+        let mut steps = Vec::new(alloc);
+        for place in 0..self.ends.len() {
+            let addition = u32::try_from(place).unwrap_or(u32::MAX);
+            if at(marks, addition, 1) != 0 {
+                steps.push(self.step(alloc, addition)?)?;
+            }
+        }
+        Ok(steps)
+    }
+
     /// The derivation of those additions on which the last one rests. Where there is no memory to mark these, it has all of them.
     pub fn derivation(&self, alloc: Global) -> Result<Derivation, AllocError>
         ensures { IfOk result (λ derivation. length derivation ≤ self.now) }
     {
-        let needed = match self.needed(alloc) {
+        let last = self.next_id().wrapping_sub(1);
+        let needed = match self.needed(alloc, &[last]) {
             Ok(needed) => needed,
             Err(_) => Vec::new(alloc),
         };
-        let mut steps = Vec::new(alloc);
-        for place in 0..self.ends.len() {
-            let addition = u32::try_from(place).unwrap_or(u32::MAX);
-            if at(needed.as_slice(), addition, 1) != 0 {
-                steps.push(self.step(alloc, addition)?)?;
-            }
-        }
+        let steps = self.marked_steps(alloc, needed.as_slice())?;
         Ok(Derivation::new(steps))
+    }
+
+    /// Those additions as steps that are among these clauses or are what these rest on.
+    pub fn steps_to(&self, alloc: Global, clauses: &[u32]) -> Result<Vec<Step>, AllocError> {
+        let needed = self.needed(alloc, clauses)?;
+        self.marked_steps(alloc, needed.as_slice())
     }
 }

@@ -2,8 +2,9 @@
 
 use crate::search::Search;
 use assignment_trail::TRUE;
-use derivation_log::Learner;
+use derivation_log::{Learner, Log};
 use dimacs::Assignment;
+use lrat_check::derivation::Derivation;
 use std::alloc::AllocError;
 
 impl<'a> Learner for Search<'a> {
@@ -30,6 +31,14 @@ impl<'a> Learner for Search<'a> {
     fn go_on(&mut self, id: u32) -> Result<(), AllocError> {
         self.follow(id)?;
         self.keep_house()
+    }
+
+    /// By counting. To go back where there is nothing to count would only disturb the search.
+    fn refute_at_root(&mut self, log: &Log, budget: u64) -> Result<Option<Derivation>, AllocError> {
+        if budget == 0 || !self.has_updates() || !self.resume_at_root()? {
+            return Ok(None);
+        }
+        self.refute_by_counting(log, budget)
     }
 
     /// The values of an order that is known in part are those of an order of all elements that extends it; where nothing is known of

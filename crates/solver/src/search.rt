@@ -5,7 +5,7 @@ use crate::reduce::FIRST_REDUCTION;
 use crate::restart::{Restarts, SHORT_UNIT, UNIT};
 use crate::schedule::{MOST_STATES, Schedule};
 use assignment_trail::{Activities, FALSE, OPEN, OrderedTrail, TRUE};
-use clause_store::{Cause, Reason, SmallClause, SmallClauses, Store, Unit, Watches};
+use clause_store::{Cause, Guide, Reason, SmallClause, SmallClauses, Store, Unit, Watches};
 use derivation_log::codes::{NEVER, code_of};
 use dimacs::Lit;
 use order_closure::tables::{at, put, size};
@@ -16,6 +16,8 @@ use std::alloc::{AllocError, Global};
 pub struct Search<'a> {
     pub alloc: Global,
     pub variables: u32,
+    /// What is known of the formula.
+    pub guide: Guide<'a>,
 
     // The clauses.
     pub small: SmallClauses,
@@ -86,6 +88,7 @@ impl<'a> Search<'a> {
         Ok(Search {
             alloc,
             variables,
+            guide: prepared.guide,
             small: SmallClauses::new(alloc, 0, &[])?,
             store: prepared.intake.long.copied(alloc)?,
             watches: Watches::new(alloc, literals)?,
@@ -229,6 +232,17 @@ impl<'a> Search<'a> {
             self.trail.assign(literal, Cause::Decision);
         }
         Ok(None)
+    }
+
+    /// Goes back to where nothing is decided, and makes true what follows. Whether there is no conflict: one that is there before anything
+    /// is decided stays at hand.
+    pub fn resume_at_root(&mut self) -> Result<bool, AllocError> {
+        if self.trail.trail.level() == 0 {
+            return Ok(self.conflict.is_none());
+        }
+        self.trail.take_back(0, &mut self.activities);
+        self.conflict = self.propagate()?;
+        Ok(self.conflict.is_none())
     }
 
     /// Puts the literal of the latest level among the others of the learned clause second, to be watched. Its level is the one to go

@@ -1,4 +1,4 @@
-//! The solver's one call.
+//! The solver's calls: for one formula, and for one cube of a formula that was prepared.
 
 ghost use Rattle.std.specs.Prelude.{◌≤◌, IfOk};
 ghost use Rattle.derivation_log.specs.Answers.{IsWithin};
@@ -7,7 +7,7 @@ use crate::preparation::Preparation;
 use crate::schedule::{begins_with_a_schedule, suits_a_schedule};
 use crate::search::Search;
 use clause_store::Guide;
-use derivation_log::{Answer, Attempt, TURN, take_turns};
+use derivation_log::{Answer, Attempt, TURN, search_alone, take_turns};
 use dimacs::{ClauseList, Lit};
 use std::alloc::{AllocError, Global};
 
@@ -18,17 +18,6 @@ fn variables_of<L: ClauseList>(formula: &L, cube: &[Lit]) -> u32 {
         variables = variables.max(literal.variable());
     }
     variables
-}
-
-/// How many of these conflicts the first turn has: all, where no other search is to have a turn.
-fn first_turn(search: &Search<'_>, budget: u64) -> u64
-    ensures { result ≤ budget }
-{
-    if suits_a_schedule(&search.trail) {
-        budget.min(TURN)
-    } else {
-        budget
-    }
 }
 
 /// A search of what is prepared, in the cube of these literals, that has done nothing yet. Its decisions go along a schedule where that
@@ -57,15 +46,19 @@ pub fn solve_cube(
 {
     let first_id = prepared.id_in_cube(cube.len());
     let mut search = begin(alloc, prepared, cube)?;
-    if let Some(counted) = search.count_sources(prepared.guide, first_id, budget)? {
+    if let Some(counted) = search.count_sources(first_id, budget)? {
         return Ok(counted);
     }
-    let share = first_turn(&search, budget);
+    let has_another_course = suits_a_schedule(&search.trail);
     let mut first = Attempt::new(alloc, search, first_id);
-    if let Some(answer) = first.run(share)? {
+    if !has_another_course {
+        return search_alone(&mut first, budget);
+    }
+    let share = budget.min(TURN);
+    let left = budget - share;
+    if let Some(answer) = first.take_turn(share, left)? {
         return Ok(answer);
     }
-    let left = budget - share;
     if left == 0 {
         return Ok(Answer::Open);
     }
@@ -81,7 +74,8 @@ pub fn solve_cube(
 /// At most `budget` conflicts are worked on, where a conflict is a clause all of whose literals have become false, and each of
 /// them makes one addition of the derivation. The next one makes the answer `Open`. What follows by unit propagation is found before
 /// anything is decided. If counting then shows that there are readers which cannot all have a source, the derivation says that in at
-/// most `budget` steps, and nothing is searched.
+/// most `budget` steps, and nothing is searched. After each turn of the search that is tried again, with what has been learned, in at most
+/// so many steps as there are conflicts left.
 ///
 /// The guide tells what the caller knows of the formula. Neither it nor the answer is believed by anybody: a model is evaluated,
 /// a derivation checked.

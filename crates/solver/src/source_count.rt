@@ -1,5 +1,6 @@
-//! Readers that cannot all have a source, before anything is decided. A search that learns does not find this in reasonable time, so
-//! it is looked for, and refuted, by counting.
+//! Readers that cannot all have a source, with what is true before anything is decided. A search that learns does not find this in
+//! reasonable time, so it is looked for, and refuted, by counting: before the first decision, and again after each turn of a search, since
+//! what was learned may exclude more sources.
 
 ghost use Rattle.std.specs.Prelude.{◌≤◌, length, IfOk, IfSome};
 ghost use Rattle.derivation_log.specs.Answers.{IsWithin};
@@ -10,8 +11,8 @@ use crate::units::Units;
 use assignment_trail::OrderedTrail;
 use clause_store::{Guide, Readings};
 use counting::{Free, Given, KnownOrder, Order, find_contradiction, lacks_sources, refute};
-use derivation_log::{Answer, refuted_within};
-use lrat_check::derivation::Derivation;
+use derivation_log::{Answer, Log, refuted_within};
+use lrat_check::derivation::{Derivation, Step};
 use std::alloc::AllocError;
 
 /// What is known of the order before anything is decided.
@@ -31,9 +32,22 @@ fn known_order<'b>(
 }
 
 impl<'a> Search<'a> {
+    /// Whether some element reads and writes. Where none does, readers share their sources, and none lacks.
+    pub fn has_updates(&self) -> bool {
+        let Some(readings) = self.guide.readings() else {
+            return false;
+        };
+        for element in 0..readings.elements() {
+            if readings.reads(element) && readings.writes(element) {
+                return true;
+            }
+        }
+        false
+    }
+
     /// Whether there are readers that cannot all have a source. Mostly there are none, so this goes by what is at hand.
-    fn lacks_sources(&self, guide: Guide<'a>, readings: &Readings) -> Result<bool, AllocError> {
-        let known = known_order(guide, &self.trail, readings);
+    fn lacks_sources(&self, readings: &Readings) -> Result<bool, AllocError> {
+        let known = known_order(self.guide, &self.trail, readings);
         if has_enough_sources(self.alloc, &self.trail, readings, known)? {
             return Ok(false);
         }
@@ -41,61 +55,73 @@ impl<'a> Search<'a> {
         lacks_sources(self.alloc, possible, known)
     }
 
-    /// A derivation of so many steps at most, the first of which has this number, if there are readers that cannot all have a source.
-    fn refute_by_counting(
+    /// Why these literals are true before anything is decided: for each the number of a clause that has it alone, and the steps that add
+    /// these clauses, behind what of the log they rest on. With them the number of the next step.
+    fn unit_clauses(
         &mut self,
-        guide: Guide<'a>,
-        first: u32,
+        literals: &[u32],
+        log: &Log,
+    ) -> Result<(Vec<u32>, Vec<Step>, u32), AllocError> {
+        let alloc = self.alloc;
+        let mut units = Units::new(alloc, self.variables, log.next_id())?;
+        let mut clauses = Vec::new(alloc);
+        for literal in literals {
+            clauses.push(self.unit(&mut units, *literal)?)?;
+        }
+        let mut cited = clauses.clone()?;
+        cited.extend_from_slice(units.log.cited())?;
+        let mut steps = log.steps_to(alloc, cited.as_slice())?;
+        steps.append(&mut units.log.steps(alloc)?)?;
+        Ok((clauses, steps, units.log.next_id()))
+    }
+
+    /// A derivation of so many steps at most, if there are readers that cannot all have a source. The log has what was learned, and
+    /// nothing is decided.
+    pub fn refute_by_counting(
+        &mut self,
+        log: &Log,
         budget: u64,
     ) -> Result<Option<Derivation>, AllocError>
         ensures { IfOk result (λ found. IfSome found (λ derivation. length derivation ≤ budget)) }
     {
-        let Some(readings) = guide.readings() else {
+        let Some(readings) = self.guide.readings() else {
             return Ok(None);
         };
-        if self.conflict.is_some() || !self.lacks_sources(guide, readings)? {
+        if self.conflict.is_some() || !self.lacks_sources(readings)? {
             return Ok(None);
         }
         let alloc = self.alloc;
         let reads = told_reads(alloc, &self.trail, readings)?;
-        let known = known_order(guide, &self.trail, readings);
+        let known = known_order(self.guide, &self.trail, readings);
         let Some(found) = find_contradiction(alloc, &reads, known)? else {
             return Ok(None);
         };
         if found.most_steps() > budget {
             return Ok(None);
         }
-        let mut units = Units::new(alloc, self.variables, first)?;
-        let mut clauses = Vec::new(alloc);
-        for literal in found.rests_on() {
-            clauses.push(self.unit(&mut units, *literal)?)?;
-        }
+        let (clauses, steps, next) = self.unit_clauses(found.rests_on(), log)?;
         let given = Given {
-            steps: units.log.steps(alloc)?,
+            steps,
             clauses: clauses.as_slice(),
         };
         let free = Free {
-            clause: units.log.next_id(),
+            clause: next,
             variable: self.variables.wrapping_add(1),
         };
-        let known = known_order(guide, &self.trail, readings);
+        let known = known_order(self.guide, &self.trail, readings);
         refute(alloc, given, &reads, &found, known, free, budget)
     }
 
-    /// An answer within the budget, if counting shows that there are readers which cannot all have a source. The first step of its
-    /// derivation has this number.
-    pub fn count_sources(
-        &mut self,
-        guide: Guide<'a>,
-        first: u32,
-        budget: u64,
-    ) -> Result<Option<Answer>, AllocError>
+    /// An answer within the budget, if counting shows before the search begins that there are readers which cannot all have a source. The
+    /// first step of its derivation has this number.
+    pub fn count_sources(&mut self, first: u32, budget: u64) -> Result<Option<Answer>, AllocError>
         ensures { IfOk result (λ found. IfSome found (λ answer. IsWithin budget answer)) }
     {
         if budget == 0 {
             return Ok(None);
         }
-        let Some(derivation) = self.refute_by_counting(guide, first, budget)? else {
+        let nothing = Log::new(self.alloc, first);
+        let Some(derivation) = self.refute_by_counting(&nothing, budget)? else {
             return Ok(None);
         };
         Ok(refuted_within(derivation, budget))

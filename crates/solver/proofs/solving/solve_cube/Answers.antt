@@ -4,6 +4,6 @@ use Rattle.solver.proofs.solving.solve_cube.Goals as goal
 
 pub returns : goal.returns
 returns c =
-    let enough : c.new-second.result.log + c.run.new.self.log + (c.args.budget - c.first_turn-share.result) ≤ c.args.budget =
-    omega (arith, c.new-second.ensures, c.new-first.ensures, c.in_ok-answer.ensures.within, c.first_turn-share.ensures) in
+    let enough : c.new-second.result.log + c.take_turn.new.self.log + (c.args.budget - c.min-share.result) ≤ c.args.budget =
+    omega (arith, c.new-second.ensures, c.new-first.ensures, c.in_ok-answer.ensures.within, c.min-share.ensures) in
     within_more enough c.in_ok-answer-2.answer c.in_ok-answer-2.ensures

@@ -1,5 +1,5 @@
 use Rattle.std.proofs.Common.{◌≤◌, vec_len}
-use Rattle.derivation_log.proofs.log.Log.derivation.Given as goal
+use Rattle.derivation_log.proofs.log.Log.marked_steps.Given as goal
 
 -- no step without an addition
 abbrev pub invariant-loop-place : goal.invariant-loop-place
