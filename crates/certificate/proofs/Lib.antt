@@ -1,3 +1,4 @@
+pub mod AlwaysLemmas
 pub mod EitherLemmas
 pub mod HeaderLemmas
 pub mod LineCutLemmas

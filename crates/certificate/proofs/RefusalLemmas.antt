@@ -18,7 +18,7 @@ use Rattle.certificate.proofs.RecheckLemmas.{any_at, of_itself}
 use Rattle.certificate.proofs.SectionLemmas.{picked}
 
 -- an element of a list that has one at each place
-cube_at : (cubes : List (List ℤ)) (leaf : ℕ) → leaf < length cubes → (cube : List ℤ) × (slice_get cubes leaf ≡ Some cube)
+pub cube_at : (cubes : List (List ℤ)) (leaf : ℕ) → leaf < length cubes → (cube : List ℤ) × (slice_get cubes leaf ≡ Some cube)
 cube_at [] leaf below = absurd (omega (arith, below))
 cube_at (cube ∷ cubes) zero below = (cube, refl)
 cube_at (cube ∷ cubes) (suc leaf) below = cube_at cubes leaf (omega (arith, below))

@@ -31,6 +31,12 @@ pub fn one_refusal()
         HasRecheckFault clauses certificate c j → HasRecheckFault clauses certificate d k → (c ≡ d) × (j ≡ k) }
 {}
 
+/// Each certificate is accepted or refused.
+pub fn accepted_or_refused()
+    ensures { (clauses : List (List ℤ)) (certificate : Certificate) →
+        ((count : ℕ) × IsRechecked clauses certificate count) ⊎ ((cause : CertCause) × (leaf : ℕ) × HasRecheckFault clauses certificate cause leaf) }
+{}
+
 /// A tree with a derivation for each of its leaves, in their order, each of which is accepted for its leaf's cube, is a certificate that
 /// is accepted.
 pub fn proofs_are_accepted()

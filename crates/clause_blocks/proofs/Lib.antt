@@ -18,6 +18,7 @@ pub mod PartLemmas
 pub mod PieceLemmas
 pub mod PlaceLemmas
 pub mod RangeSentLemmas
+pub mod RankCountLemmas
 pub mod RankLemmas
 pub mod ReadLemmas
 pub mod ScheduleChoiceLemmas

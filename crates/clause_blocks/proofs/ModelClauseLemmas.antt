@@ -1,7 +1,7 @@
 -- What a model of the clause list says of the order of the operations, block by block.
 use Rattle.std.proofs.Common.{◌≡◌, ◌⊎◌, ℕ, zero, suc, ◌+◌, ◌-◌, ◌<◌, ℤ, pos, neg_ℤ, List, [], ◌∷◌, ◌++◌, Bool, true, false, not, ◌||◌, refl, ap, sym, ◌∙◌, arith, inl, inr, subst}
 use Rattle.std.specs.Prelude.{◌≢◌, Some}
-use Rattle.std.specs.List.{Contains, enumerate_from, filter, flat_map, list_any, slice_get}
+use Rattle.std.specs.List.{Contains, enumerate_from, filter, flat_map, list_any, range_with_len, slice_get}
 use Rattle.std.proofs.lemmas.Bool.{cases_Bool, cases_order, true_from_ne_false, not-true}
 use Rattle.std.proofs.lemmas.List.Elements.{Contains-append_left, Contains-append_right}
 use Rattle.dimacs.specs.Assignment.{makes_true, makes_some}
@@ -12,7 +12,7 @@ use Rattle.traces.proofs.ElementLemmas.{all_pass, head_in, tail_in, to_map, to_f
 use Rattle.var_layout.specs.declared.candidate.Candidate.{Candidate}
 use Rattle.var_layout.specs.declared.candidate.Candidate.TheVariants.{InitialValue, Writer}
 use Rattle.var_layout.specs.Numbers.{numbers, number_of, others, other_writers, in_one_process}
-use Rattle.var_layout.specs.OrderVariables.{numbers_above}
+use Rattle.var_layout.specs.OrderVariables.{numbers_above, order_lit}
 use Rattle.clause_blocks.specs.Blocks.{stands_before, implies, program_order, no_circle, transitivity_from, transitivity, read_clauses, final_clauses, before_clauses}
 use Rattle.clause_blocks.specs.Clauses.{clauses_of}
 use Rattle.clause_blocks.proofs.ListLemmas.{clause_list}
@@ -127,6 +127,31 @@ module _ (ahead : ℕ → ℕ → Bool) (n : ℕ) (flips : (i j : ℕ) → i ≢
         ]
       ]
 
+-- where each clause of transitivity is true, the order of n operations is transitive
+module _ (value : ℕ → Bool) (n : ℕ) (holds : (c : List ℤ) → Contains (transitivity n) c → makes_some value c ≡ true) where
+  triple_true : (i j k : ℕ) → i < j → j < k → k < n → AreTrue value (no_circle n i j k)
+  triple_true i j k h g l = record {
+    each = λ c d.
+        holds c (to_flat_map (transitivity_from n) (range_with_len 0 n) i c (to_range 0 n i (omega arith) (omega (arith, h, g, l)))
+        (to_flat_map (λ (y : ℕ). flat_map (λ (z : ℕ). no_circle n i y z) (numbers_above n y)) (numbers_above n i) j c
+        (to_range (i + 1) (n - (i + 1)) j (omega (arith, h)) (omega (arith, h, g, l)))
+        (to_flat_map (λ (z : ℕ). no_circle n i j z) (numbers_above n j) k c
+        (to_range (j + 1) (n - (j + 1)) k (omega (arith, g)) (omega (arith, h, g, l))) d)));
+  }
+
+  triple_sides : (i j k : ℕ) → i < j → j < k → k < n → HasNoCircle (λ x y. makes_true value (order_lit n x y)) i j k
+  triple_sides i j k h g l = record {
+    up = λ a b. third_true (makes_true value (neg_ℤ (order_lit n i j))) (makes_true value (neg_ℤ (order_lit n j k))) (makes_true value (order_lit n i k))
+        (first_true (triple_true i j k h g l))
+        (lit_negated value n i j h ∙ ap not a) (lit_negated value n j k g ∙ ap not b);
+    down = λ a b. not-true (makes_true value (order_lit n i k)) (sym (lit_negated value n i k (omega (arith, h, g)))
+        ∙ third_true (makes_true value (order_lit n i j)) (makes_true value (order_lit n j k)) (makes_true value (neg_ℤ (order_lit n i k)))
+        (first_true (rest_true (triple_true i j k h g l))) a b);
+  }
+
+  pub order_trans : (i j k : ℕ) → i ≢ j → j ≢ k → i ≢ k → i < n → j < n → k < n → makes_true value (order_lit n i j) ≡ true → makes_true value (order_lit n j k) ≡ true → makes_true value (order_lit n i k) ≡ true
+  order_trans = ahead_trans (λ x y. makes_true value (order_lit n x y)) n (turned value n) triple_sides
+
 module _ (value : ℕ → Bool) (t : TraceValue) (model : IsModel value (clauses_of t)) where
   true_clause : (c : List ℤ) → Contains (program_order t ++ (transitivity (operation_count t) ++ (read_clauses t ++ (final_clauses t ++ before_clauses t)))) c → makes_some value c ≡ true
   true_clause c d = all_pass (makes_some value) _ (subst (λ clauses. IsModel value clauses) (clause_list t) model) c d
@@ -157,25 +182,5 @@ module _ (value : ℕ → Bool) (t : TraceValue) (model : IsModel value (clauses
       (in_pairs _ (to_map (λ (p : OpName × OpName). stands_before t (number_of t p.0) (number_of t p.1) ∷ []) t.before pair c))
 
   -- transitivity
-  pub model_circle : (i j k : ℕ) → i < j → j < k → k < operation_count t → AreTrue value (no_circle (operation_count t) i j k)
-  model_circle i j k h g l = record {
-    each = λ c d.
-        in_transitivity c (to_flat_map (transitivity_from (operation_count t)) (numbers t) i c (to_range 0 (operation_count t) i (omega arith) (omega (arith, h, g, l)))
-        (to_flat_map (λ (y : ℕ). flat_map (λ (z : ℕ). no_circle (operation_count t) i y z) (numbers_above (operation_count t) y)) (numbers_above (operation_count t) i) j c
-        (to_range (i + 1) (operation_count t - (i + 1)) j (omega (arith, h)) (omega (arith, h, g, l)))
-        (to_flat_map (λ (z : ℕ). no_circle (operation_count t) i j z) (numbers_above (operation_count t) j) k c
-        (to_range (j + 1) (operation_count t - (j + 1)) k (omega (arith, g)) (omega (arith, h, g, l))) d)));
-  }
-
-  pub model_sides : (i j k : ℕ) → i < j → j < k → k < operation_count t → HasNoCircle (order_by value t) i j k
-  model_sides i j k h g l = record {
-    up = λ a b. third_true (makes_true value (neg_ℤ (stands_before t i j))) (makes_true value (neg_ℤ (stands_before t j k))) (order_by value t i k)
-        (first_true (model_circle i j k h g l))
-        (lit_negated value (operation_count t) i j h ∙ ap not a) (lit_negated value (operation_count t) j k g ∙ ap not b);
-    down = λ a b. not-true (order_by value t i k) (sym (lit_negated value (operation_count t) i k (omega (arith, h, g)))
-        ∙ third_true (order_by value t i j) (order_by value t j k) (makes_true value (neg_ℤ (stands_before t i k)))
-        (first_true (rest_true (model_circle i j k h g l))) a b);
-  }
-
   pub model_trans : (i j k : ℕ) → i ≢ j → j ≢ k → i ≢ k → i < operation_count t → j < operation_count t → k < operation_count t → order_by value t i j ≡ true → order_by value t j k ≡ true → order_by value t i k ≡ true
-  model_trans = ahead_trans (order_by value t) (operation_count t) (turned value (operation_count t)) model_sides
+  model_trans = order_trans value (operation_count t) in_transitivity

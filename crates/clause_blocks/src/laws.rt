@@ -1,6 +1,6 @@
 //! Laws of the clauses.
 
-ghost use Rattle.std.specs.Prelude.{◌≡◌, ◌≤◌, ◌*◌, ◌-◌, ◌/◌, ℕ, Bool, length, IsTrue};
+ghost use Rattle.std.specs.Prelude.{◌≡◌, ◌↔◌, ◌≤◌, ◌*◌, ◌-◌, ◌/◌, ℕ, Bool, length, IsTrue};
 ghost use Rattle.std.specs.List.{list_all};
 ghost use Rattle.dimacs.specs.Formula.{is_formula};
 ghost use Rattle.dimacs.specs.Literal.{is_clause};
@@ -9,7 +9,7 @@ ghost use Rattle.traces.specs.Trace.{TraceValue, IsTrace, operation_count};
 ghost use Rattle.clause_blocks.specs.Blocks.{transitivity};
 ghost use Rattle.clause_blocks.specs.Clauses.{clauses_of, formula_of};
 ghost use Rattle.clause_blocks.specs.Examples.{store_buffering_formula, two_updates, two_updates_formula, late_read, late_read_formula, lost_values, lost_values_formula};
-ghost use Rattle.clause_blocks.specs.Ranks.{AreRanks};
+ghost use Rattle.clause_blocks.specs.Ranks.{AreRanks, count_before};
 ghost use Rattle.var_layout.specs.StoreBuffering.{store_buffering};
 
 /// The formulas of small traces.
@@ -33,6 +33,12 @@ pub fn transitivity_has_so_many_clauses()
 /// Truth values that put the operations in the order of some ranks make each clause of transitivity true.
 pub fn ranked_without_circle()
     ensures { (value : ℕ → Bool) (n : ℕ) (rank : ℕ → ℕ) → AreRanks value n rank → IsModel value (transitivity n) }
+{}
+
+/// Each clause of transitivity is true if and only if of each two operations the one before which fewer stand stands first. So where the truth
+/// values of some two do not agree with these counts, some clause of transitivity is false.
+pub fn transitive_exactly_by_counts()
+    ensures { (value : ℕ → Bool) (n : ℕ) → IsModel value (transitivity n) ↔ AreRanks value n (count_before value n) }
 {}
 
 /// A trace of 160 operations at most has no more clauses than the header of a formula's text may tell.

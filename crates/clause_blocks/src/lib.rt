@@ -3,7 +3,6 @@
 
 mod before_clauses;
 mod final_clauses;
-pub mod first_false;
 pub mod formula;
 pub mod laws;
 mod listed_clauses;
