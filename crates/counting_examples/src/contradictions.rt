@@ -1,8 +1,8 @@
 //! Locks, lost updates, final values and rounds, with enough sources and without.
 
+use crate::derivations::{Said, accepted};
 use crate::one_location::{Location, Spelling, Writer};
-use counting::{Free, Given, find_contradiction, refute};
-use lrat_check::checker::check;
+use counting::find_contradiction;
 use possible_sources::Kind;
 use std::alloc::{AllocError, Global};
 use std::test::Fail;
@@ -25,45 +25,33 @@ fn readers_of(kind: &Kind) -> u32 {
 /// Looks for a contradiction, and has its derivation checked.
 fn find(alloc: Global, location: Location<'_>, budget: u64) -> Result<Found, AllocError> {
     let spelling = Spelling::of(alloc, location)?;
-    let reads = &spelling.reads;
     let known = spelling.known();
-    let Some(contradiction) = find_contradiction(alloc, reads, known)? else {
+    let Some(contradiction) = find_contradiction(alloc, &spelling.reads, known)? else {
         return Ok(Found {
             readers: 0,
             is_refuted: false,
         });
     };
-    let free = Free {
-        clause: spelling.count().wrapping_add(1),
-        variable: spelling.variables().wrapping_add(1),
-    };
     let readers = readers_of(contradiction.kind());
-    let clauses = spelling.units(contradiction.rests_on())?;
-    let given = Given {
-        steps: Vec::new(alloc),
-        clauses: clauses.as_slice(),
+    let said = Said {
+        reads: &spelling.reads,
+        known,
     };
-    let refuted = refute(alloc, given, reads, &contradiction, known, free, budget)?;
-    let is_refuted = match refuted {
-        Some(derivation) => {
-            let formula = spelling.formula();
-            check(alloc, &formula, &[], &derivation).is_ok()
-        }
-        None => false,
-    };
+    let is_refuted = accepted(alloc, &spelling, said, &contradiction, budget)?;
     Ok(Found {
         readers,
         is_refuted,
     })
 }
 
-const WRITE: Writer = Writer {
+/// A write of 0.
+pub const WRITE: Writer = Writer {
     reads: None,
     leaves: 0,
 };
 
 /// An update from one value to another.
-fn update(from: u32, to: u32) -> Writer {
+pub fn update(from: u32, to: u32) -> Writer {
     Writer {
         reads: Some(from),
         leaves: to,
@@ -71,7 +59,7 @@ fn update(from: u32, to: u32) -> Writer {
 }
 
 /// Each of these writers so many times: all of the first, then all of the second, and so on.
-fn times(alloc: Global, writers: &[(Writer, u32)]) -> Result<Vec<Writer>, AllocError> {
+pub fn times(alloc: Global, writers: &[(Writer, u32)]) -> Result<Vec<Writer>, AllocError> {
     let mut all = Vec::new(alloc);
     for (writer, count) in writers {
         for _ in 0..*count {
@@ -82,7 +70,7 @@ fn times(alloc: Global, writers: &[(Writer, u32)]) -> Result<Vec<Writer>, AllocE
 }
 
 /// These writers one after the other, so many times.
-fn rounds(alloc: Global, writers: &[Writer], count: u32) -> Result<Vec<Writer>, AllocError> {
+pub fn rounds(alloc: Global, writers: &[Writer], count: u32) -> Result<Vec<Writer>, AllocError> {
     let mut all = Vec::new(alloc);
     for _ in 0..count {
         all.extend_from_slice(writers)?;
@@ -91,7 +79,7 @@ fn rounds(alloc: Global, writers: &[Writer], count: u32) -> Result<Vec<Writer>, 
 }
 
 /// A location of these writers, each in a process of its own, that holds 0 at the start.
-fn from_zero<'a>(writers: &'a [Writer]) -> Location<'a> {
+pub fn from_zero<'a>(writers: &'a [Writer]) -> Location<'a> {
     Location {
         writers,
         in_process: 1,
@@ -187,7 +175,7 @@ fn refutes_what_has_too_few_sources(rt: HostRuntime) -> Result<(), Fail> {
     Ok(())
 }
 
-/// Whether a contradiction is found and shown where so many of 1000 choices are excluded.
+/// Whether a contradiction is found and shown where so many of 1000 choices are excluded. With none it is of all updates that read 0.
 fn is_refuted_with(alloc: Global, seed: u64, excluded: u64) -> Result<bool, AllocError> {
     let releases = u32::try_from(seed % 12).unwrap_or(0);
     let acquires = releases.wrapping_add(2);
@@ -197,9 +185,20 @@ fn is_refuted_with(alloc: Global, seed: u64, excluded: u64) -> Result<bool, Allo
         excluded,
         ..from_zero(writers.as_slice())
     };
-    Ok(find(alloc, location, 10_000)?.is_refuted)
+    let found = find(alloc, location, 10_000)?;
+    Ok(found.is_refuted && (excluded > 0 || found.readers == acquires))
 }
 
+/// From 2 readers of 1 source to 13 of 12.
+#[test]
+fn refutes_where_no_choice_is_excluded(rt: HostRuntime) -> Result<(), Fail> {
+    for seed in 0..12u64 {
+        assert!(rt; is_refuted_with(rt.alloc(), seed, 0)?, "{seed}");
+    }
+    Ok(())
+}
+
+/// Twice from 2 readers to 13.
 #[test]
 fn refutes_where_choices_are_excluded(rt: HostRuntime) -> Result<(), Fail> {
     let alloc = rt.alloc();

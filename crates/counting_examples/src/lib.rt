@@ -4,4 +4,8 @@
 #[cfg(test)]
 mod contradictions;
 #[cfg(test)]
+mod derivations;
+#[cfg(test)]
 mod one_location;
+#[cfg(test)]
+mod wrong_reads;

@@ -182,17 +182,15 @@ impl Spelling {
     }
 
     /// The formula of the clauses.
-    pub fn formula(self) -> Formula {
-        let Spelling {
-            alloc,
-            variables,
-            clauses,
-            ..
-        } = self;
-        if Formula::fits(variables, clauses.as_slice()) {
-            Formula::new(variables, clauses)
+    pub fn formula(&self) -> Result<Formula, AllocError> {
+        let mut clauses = Vec::new(self.alloc);
+        for clause in &self.clauses {
+            clauses.push(Clause::from_slice(self.alloc, clause.as_slice())?)?;
+        }
+        if Formula::fits(self.variables, clauses.as_slice()) {
+            Ok(Formula::new(self.variables, clauses))
         } else {
-            Formula::new(0, Vec::new(alloc))
+            Ok(Formula::new(0, Vec::new(self.alloc)))
         }
     }
 

@@ -58,8 +58,19 @@ pub fn result_of(
     says: Says,
 ) -> Result<Settled, AllocError> {
     let literals = literals_of(alloc, cube)?;
+    settled_of(rt, alloc, leaf, literals.as_slice(), says)
+}
+
+/// The same, of a cube of these literals.
+pub fn settled_of(
+    rt: &impl Abort,
+    alloc: Global,
+    leaf: u32,
+    literals: &[Lit],
+    says: Says,
+) -> Result<Settled, AllocError> {
     let outcome = outcome_of(rt, alloc, says)?;
-    Ok(job_of(rt, alloc, leaf, literals.as_slice()).settle(outcome))
+    Ok(job_of(rt, alloc, leaf, literals).settle(outcome))
 }
 
 /// Whether these are the values of the variables 1, 2 and so on.

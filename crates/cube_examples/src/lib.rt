@@ -9,6 +9,8 @@ mod expectations;
 #[cfg(test)]
 mod false_answers;
 #[cfg(test)]
+mod false_searches;
+#[cfg(test)]
 mod gates;
 #[cfg(test)]
 mod large_trees;

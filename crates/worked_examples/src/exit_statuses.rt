@@ -1,7 +1,9 @@
 //! The exit status of each outcome, and the line of each kind of fault.
 
 use crate::expectations::{ample, expect};
+use certificate::CertCause;
 use cnf_reader::CnfCause;
+use cube_queue::SearchFault;
 use dimacs::MemorySink;
 use lrat_check::lrat_fault::LratCause;
 use lrat_check::refusal::StepFault;
@@ -22,7 +24,7 @@ fn gives_a_status_for_each_answer(rt: HostRuntime) {
 }
 
 /// Faults, the exit status of each, and its line.
-const FAULTS: [(Fault, u8, &str); 11] = [
+const FAULTS: [(Fault, u8, &str); 14] = [
     (Fault::OutOfMemory, 2, "refused: memory\n"),
     (Fault::Device, 4, "refused: device\n"),
     (Fault::InputTooLong, 2, "refused: input 2 InputTooLong\n"),
@@ -65,6 +67,21 @@ const FAULTS: [(Fault, u8, &str); 11] = [
         Fault::Check(StepFault::NoConflict, 1),
         2,
         "refused: check 4 NoConflict at 1\n",
+    ),
+    (
+        Fault::Cert(CertCause::Missing, 1),
+        2,
+        "refused: cert 10 Missing at 1\n",
+    ),
+    (
+        Fault::Search(SearchFault::Cut),
+        2,
+        "refused: search 2 Cut\n",
+    ),
+    (
+        Fault::Search(SearchFault::NoThread),
+        2,
+        "refused: search 3 NoThread\n",
     ),
 ];
 
