@@ -14,7 +14,7 @@ import subprocess
 NAME = "must-fail.record"
 HEAD = (
     "# A line for each crate whose wrong bodies were all refused: its name, and a hash of all that they were tried on.\n"
-    "# ./test writes this file, and tries again what differs. Where two versions of it meet, take either.\n"
+    "# ./test writes this file, and tries again what differs.\n"
 )
 
 
