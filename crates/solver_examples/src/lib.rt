@@ -15,9 +15,13 @@ mod damage;
 #[cfg(test)]
 mod expectations;
 #[cfg(test)]
+mod final_values;
+#[cfg(test)]
 mod formulas;
 #[cfg(test)]
 mod guides;
+#[cfg(test)]
+mod known_derivations;
 #[cfg(test)]
 mod locks;
 #[cfg(test)]
@@ -32,5 +36,7 @@ mod random_formulas;
 mod reads;
 #[cfg(test)]
 mod refused_memory;
+#[cfg(test)]
+mod small_formulas;
 #[cfg(test)]
 mod traced;

@@ -2,7 +2,7 @@
 
 use crate::answers::{Shown, solved};
 use crate::expectations::{ample, expect};
-use crate::traced::{Access, Traced, formula_of_trace};
+use crate::traced::{Access, Mistake, Traced, formula_of_trace};
 use std::alloc::{AllocError, Global};
 use std::process::Abort;
 
@@ -31,7 +31,7 @@ fn lock(alloc: Global, broken: u32) -> Result<Traced, AllocError> {
             }
         }
     }
-    formula_of_trace(alloc, accesses.as_slice(), 0)
+    formula_of_trace(alloc, accesses.as_slice(), None, Mistake::NONE)
 }
 
 /// What so many conflicts show of the lock that so many processes do not give back.

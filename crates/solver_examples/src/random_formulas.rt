@@ -95,7 +95,7 @@ pub fn assert_solved(
 }
 
 /// Whether an answer shows what the plain solver has found out.
-fn agrees(answer: Shown, known: Option<bool>) -> bool {
+pub fn agrees(answer: Shown, known: Option<bool>) -> bool {
     match answer {
         Shown::Model => known == Some(true),
         Shown::NoModel(_) => known == Some(false),

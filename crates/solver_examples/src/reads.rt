@@ -1,10 +1,11 @@
-//! Formulas with an order and with reads that the guide knows: those of small random traces of one location.
+//! Formulas with an order, with reads and with a final value that the guide knows: those of small random traces of one location.
 
 use crate::answers::{Shown, solved};
 use crate::expectations::{ample, expect};
 use crate::formulas::literals_of;
-use crate::random_formulas::Random;
-use crate::traced::{Access, Traced, formula_of_trace};
+use crate::plain_solver::has_model;
+use crate::random_formulas::{Random, agrees};
+use crate::traced::{Access, Mistake, Traced, formula_of_trace};
 use dimacs::Lit;
 use solver::Guide;
 use std::alloc::{AllocError, Global};
@@ -35,44 +36,148 @@ fn random_access(random: &mut Random, is_first: bool) -> Access {
     }
 }
 
-/// A random trace of two processes of three operations each, with this mistake in what is known of it.
-fn random_trace(alloc: Global, random: &mut Random, mistake: u32) -> Result<Traced, AllocError> {
+/// A random trace of two processes of three operations each, mostly with a final value, with this mistake in what is known of it.
+fn random_trace(
+    alloc: Global,
+    random: &mut Random,
+    mistake: Mistake,
+) -> Result<Traced, AllocError> {
     let mut accesses = Vec::new(alloc);
     for place in 0..6u32 {
         accesses.push(random_access(random, place == 0 || place == 3))?;
     }
-    formula_of_trace(alloc, accesses.as_slice(), mistake)
+    let final_value = if random.next() % 3 == 0 {
+        None
+    } else {
+        Some(random_value(random))
+    };
+    formula_of_trace(alloc, accesses.as_slice(), final_value, mistake)
 }
 
-/// Whether the answers with and without the guide agree in a cube: where the guide has a mistake an answer may show nothing, and what
-/// it shows is so.
-fn agree(rt: &impl Abort, alloc: Global, trace: &Traced, cube: &[Lit], mistake: u32) -> bool {
-    let plain = solved(rt, alloc, &trace.formula, cube, Guide::none(), 100_000);
+/// Whether the answers with and without the guide are those of the plain solver in a cube: where the guide has a mistake an answer may
+/// show nothing, and what it shows is so.
+fn agree(rt: &impl Abort, alloc: Global, trace: &Traced, cube: &[Lit], mistake: Mistake) -> bool {
+    let known = ample(rt, has_model(alloc, &trace.formula, cube));
+    let alone = solved(rt, alloc, &trace.formula, cube, Guide::none(), 100_000);
     let guided = solved(rt, alloc, &trace.formula, cube, trace.guide(), 1000);
     let shows = guided != Shown::Mistake && guided != Shown::Nothing;
-    let is_right = (plain == Shown::Model) == (guided == Shown::Model);
-    let is_wrong = shows && !is_right || plain == Shown::Mistake || plain == Shown::Nothing;
-    !is_wrong && (shows || mistake != 0)
+    let is_right = agrees(guided, known) || !shows && mistake != Mistake::NONE;
+    is_right && agrees(alone, known)
 }
 
 /// Asserts that the answers for a random trace agree, by themselves and in a random cube.
-fn assert_agreed(rt: &impl Abort, alloc: Global, random: &mut Random, mistake: u32) {
+fn assert_agreed(
+    rt: &impl Abort,
+    alloc: Global,
+    random: &mut Random,
+    mistake: Mistake,
+    number: usize,
+) {
     let trace = ample(rt, random_trace(alloc, random, mistake));
     let numbers = [random.literal(1, 15), random.literal(1, 15)];
     let cube = ample(rt, literals_of(alloc, &numbers));
     let is_right = agree(rt, alloc, &trace, &[], mistake);
-    expect(rt, is_right, mistake as usize);
+    expect(rt, is_right, number);
     let is_right = agree(rt, alloc, &trace, cube.as_slice(), mistake);
-    expect(rt, is_right, mistake as usize);
+    expect(rt, is_right, number);
 }
 
 #[test]
-fn solves_reads_with_right_and_wrong_guides(rt: HostRuntime) {
-    let alloc = rt.alloc();
+fn solves_reads_with_right_guides(rt: HostRuntime) {
     let mut random = Random::new(5);
-    for mistake in [0, 0, 0, 0, 0, 0, 1, 7, 100, 4_294_967_295] {
-        for _ in 0..50 {
-            assert_agreed(&rt, alloc, &mut random, mistake);
+    for number in 0..300 {
+        assert_agreed(&rt, rt.alloc(), &mut random, Mistake::NONE, number);
+    }
+}
+
+/// What may be wrong in a guide.
+const MISTAKES: [Mistake; 17] = [
+    Mistake {
+        clauses: 1,
+        ..Mistake::NONE
+    },
+    Mistake {
+        clauses: 7,
+        ..Mistake::NONE
+    },
+    Mistake {
+        clauses: 100,
+        ..Mistake::NONE
+    },
+    Mistake {
+        clauses: u32::MAX,
+        ..Mistake::NONE
+    },
+    Mistake {
+        clauses: 1,
+        only: 2,
+        ..Mistake::NONE
+    },
+    Mistake {
+        variables: 1,
+        ..Mistake::NONE
+    },
+    Mistake {
+        variables: 5,
+        ..Mistake::NONE
+    },
+    Mistake {
+        variables: 1,
+        only: 3,
+        ..Mistake::NONE
+    },
+    Mistake {
+        readers: 1,
+        ..Mistake::NONE
+    },
+    Mistake {
+        readers: 3,
+        ..Mistake::NONE
+    },
+    Mistake {
+        readers: 1,
+        only: 1,
+        ..Mistake::NONE
+    },
+    Mistake {
+        readers: 2,
+        only: 4,
+        ..Mistake::NONE
+    },
+    Mistake {
+        writers: 1,
+        ..Mistake::NONE
+    },
+    Mistake {
+        writers: 3,
+        ..Mistake::NONE
+    },
+    Mistake {
+        writers: 1,
+        only: 1,
+        ..Mistake::NONE
+    },
+    Mistake {
+        writers: 2,
+        only: 5,
+        ..Mistake::NONE
+    },
+    Mistake {
+        clauses: 3,
+        variables: 2,
+        readers: 1,
+        writers: 1,
+        ..Mistake::NONE
+    },
+];
+
+/// Whatever is wrong in a guide, no wrong answer passes.
+#[test]
+fn wrong_guides_to_reads_cost_no_truth(rt: HostRuntime) {
+    let mut random = Random::new(6);
+    for number in 0..MISTAKES.len() {
+        for _ in 0..40 {
+            assert_agreed(&rt, rt.alloc(), &mut random, MISTAKES[number], number);
         }
     }
 }

@@ -1,7 +1,7 @@
 //! Searches that may be refused memory. With memory enough these tests show that they answer rightly; `tests/refused-memory` runs them
 //! with each request for memory refused in turn: a search that was refused says so, and answers rightly where it is asked again.
 
-use crate::traced::{Access, Traced, formula_of_trace};
+use crate::traced::{Access, Mistake, Traced, formula_of_trace};
 use lrat_check::checker::check;
 use solver::{Answer, solve};
 use std::alloc::{AllocError, Global};
@@ -45,7 +45,7 @@ fn trace_of(alloc: Global, processes: &[[Pair; 4]]) -> Result<Traced, AllocError
             is_first = false;
         }
     }
-    formula_of_trace(alloc, accesses.as_slice(), 0)
+    formula_of_trace(alloc, accesses.as_slice(), None, Mistake::NONE)
 }
 
 /// Asserts that the solver finds that the trace has no legal schedule.

@@ -1,8 +1,8 @@
-//! Formulas of traces of one location, with an order and with reads that a guide can know.
+//! Formulas of traces of one location, with an order, with reads and with a final value that a guide can know.
 
 use crate::formulas::{add, formula_of};
 use dimacs::{Clause, Formula};
-use solver::{Choice, Guide, Readings};
+use solver::{Choice, Guide, LastWriter, Readings};
 use std::alloc::{AllocError, Global};
 
 /// What an operation reads and writes, and whether it is the first one of its process.
@@ -11,6 +11,41 @@ pub struct Access {
     pub reads: Option<u16>,
     pub writes: Option<u16>,
     pub is_first: bool,
+}
+
+/// By how much numbers are too large in what is known of reads and of the final value. Nothing is wrong where all are 0.
+#[derive(Clone, Copy, PartialEq, Eq)]
+pub struct Mistake {
+    /// The numbers of clauses.
+    pub clauses: u32,
+    /// The variables.
+    pub variables: u32,
+    /// The readers, counted around.
+    pub readers: u32,
+    /// The writers, counted around.
+    pub writers: u32,
+    /// The one variable of which something is wrong, counted from 1 behind those of the order. 0: all are.
+    pub only: u32,
+}
+
+impl Mistake {
+    /// Nothing is wrong.
+    pub const NONE: Mistake = Mistake {
+        clauses: 0,
+        variables: 0,
+        readers: 0,
+        writers: 0,
+        only: 0,
+    };
+
+    /// What is wrong of the variable of this number behind those of the order.
+    fn of(self, number: u32) -> Mistake {
+        if self.only == 0 || self.only == number {
+            self
+        } else {
+            Mistake::NONE
+        }
+    }
 }
 
 /// The formula of a trace, and what is known of it.
@@ -24,20 +59,21 @@ pub struct Traced {
 }
 
 impl Traced {
-    /// What is known of the order and of the reads.
+    /// What is known of the order, of the reads and of the final value.
     pub fn guide(&self) -> Guide<'_> {
         Guide::with_order(self.elements, self.first).with_readings(&self.readings)
     }
 }
 
-/// A formula while it is made, and what is known of its reads. Where the knowledge is wrong, numbers of clauses are too large by this.
+/// A formula while it is made, and what is known of it, with this mistake in it.
 #[derive(Drop)]
 struct Made {
     elements: u32,
     clauses: Vec<Clause>,
     readings: Readings,
+    /// The last variable.
     variables: u32,
-    mistake: u32,
+    mistake: Mistake,
 }
 
 impl Made {
@@ -59,6 +95,43 @@ impl Made {
     fn next(&self) -> u32 {
         let stored = u32::try_from(self.clauses.len()).unwrap_or(0);
         stored.wrapping_add(1)
+    }
+
+    /// What is wrong in what is told of this variable.
+    fn mistake_of(&self, variable: u32) -> Mistake {
+        let pairs = self.elements.wrapping_mul(self.elements.wrapping_sub(1)) / 2;
+        self.mistake.of(variable.wrapping_sub(pairs))
+    }
+
+    /// The element that stands so many further on, counted around.
+    fn further(&self, element: u32, by: u32) -> u32 {
+        element.wrapping_add(by) % self.elements.max(1)
+    }
+
+    /// What is told of a choice.
+    fn told(&self, choice: Choice) -> Choice {
+        let mistake = self.mistake_of(choice.variable);
+        let writer = match choice.writer {
+            Some(writer) => Some(self.further(writer, mistake.writers)),
+            None => None,
+        };
+        Choice {
+            variable: choice.variable.wrapping_add(mistake.variables),
+            reader: self.further(choice.reader, mistake.readers),
+            writer,
+            first: choice.first.wrapping_add(mistake.clauses),
+        }
+    }
+
+    /// What is told of a last writer.
+    fn told_of_last(&self, last: LastWriter) -> LastWriter {
+        let mistake = self.mistake_of(last.variable);
+        LastWriter {
+            variable: last.variable.wrapping_add(mistake.variables),
+            writer: self.further(last.writer, mistake.writers),
+            clause: last.clause.wrapping_add(mistake.clauses),
+            first: last.first.wrapping_add(mistake.clauses),
+        }
     }
 }
 
@@ -105,13 +178,14 @@ fn add_choice(
     writer: Option<u32>,
     variable: u32,
 ) -> Result<(), AllocError> {
-    let first = made.next().wrapping_add(made.mistake);
-    made.readings.add_choice(Choice {
+    let first = made.next();
+    let told = made.told(Choice {
         variable,
         reader,
         writer,
         first,
-    })?;
+    });
+    made.readings.add_choice(told)?;
     if let Some(chosen) = writer {
         let comes_first = made.before(chosen, reader);
         add(alloc, &mut made.clauses, &[not(variable), comes_first])?;
@@ -180,11 +254,69 @@ fn add_reader(
     Ok(())
 }
 
-/// The formula of the trace of these operations, and what is known of its reads, with this mistake in it.
+/// Adds the clauses of a last writer, and tells of it. The clause which says that there is one has this number.
+fn add_last_writer(
+    alloc: Global,
+    made: &mut Made,
+    accesses: &[Access],
+    writer: u32,
+    clause: u32,
+) -> Result<(), AllocError> {
+    made.variables = made.variables.wrapping_add(1);
+    let variable = made.variables;
+    let first = made.next();
+    let told = made.told_of_last(LastWriter {
+        variable,
+        writer,
+        clause,
+        first,
+    });
+    made.readings.add_last_writer(told)?;
+    let mut other: u32 = 0;
+    for access in accesses {
+        if access.writes.is_some() && other != writer {
+            let is_before = made.before(other, writer);
+            add(alloc, &mut made.clauses, &[not(variable), is_before])?;
+        }
+        other = other.wrapping_add(1);
+    }
+    Ok(())
+}
+
+/// Adds the clauses of the final value: that one of those that write it is the last writer, and what that means for each of them.
+fn add_final_value(
+    alloc: Global,
+    made: &mut Made,
+    accesses: &[Access],
+    value: u16,
+) -> Result<(), AllocError> {
+    let clause = made.next();
+    let mut some = Vec::new(alloc);
+    let mut variable = made.variables;
+    for access in accesses {
+        if access.writes == Some(value) {
+            variable = variable.wrapping_add(1);
+            some.push(i32::try_from(variable).unwrap_or(1))?;
+        }
+    }
+    add(alloc, &mut made.clauses, some.as_slice())?;
+    let mut writer: u32 = 0;
+    for access in accesses {
+        if access.writes == Some(value) {
+            add_last_writer(alloc, made, accesses, writer, clause)?;
+        }
+        writer = writer.wrapping_add(1);
+    }
+    Ok(())
+}
+
+/// The formula of the trace of these operations, which leave this final value, if it is known. What is known of its reads and of the final
+/// value has this mistake in it.
 pub fn formula_of_trace(
     alloc: Global,
     accesses: &[Access],
-    mistake: u32,
+    final_value: Option<u16>,
+    mistake: Mistake,
 ) -> Result<Traced, AllocError> {
     let elements = u32::try_from(accesses.len()).unwrap_or(0);
     let mut made = Made {
@@ -212,6 +344,9 @@ pub fn formula_of_trace(
             add_reader(alloc, &mut made, accesses, reader, value)?;
         }
         reader = reader.wrapping_add(1);
+    }
+    if let Some(value) = final_value {
+        add_final_value(alloc, &mut made, accesses, value)?;
     }
     let Made {
         clauses,
