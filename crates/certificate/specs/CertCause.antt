@@ -31,7 +31,7 @@ cause_name Double = codes "Double"
 cause_name Missing = codes "Missing"
 cause_name Derivation = codes "Derivation"
 
--- what is wrong with the tree's text, as it is told of the certificate
+-- what is wrong with the tree's text, as it is reported of the certificate
 abbrev pub of_tree : TreeCause → CertCause
 of_tree tree.BadLine = BadTree
 of_tree tree.TooDeep = TooDeep

@@ -32,7 +32,7 @@ pub record IsSilent (lines : List (List ℕ)) (line : ℕ) : Type 0 where
   pub silent : list_all is_silent lines ≡ true
   pub behind : line ≡ length lines + 1
 
--- the header is missing, which is told of the first line that says something, or of the line after the last
+-- the header is missing, which is reported of the first line that says something, or of the line after the last
 abbrev pub LacksHeader : List ℕ → CertCause → ℕ → Type 0
 LacksHeader text cause line = (cause ≡ Header) × (IsNoHeader (lines_of text) line ⊎ IsSilent (lines_of text) line)
 

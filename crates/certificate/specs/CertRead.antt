@@ -27,7 +27,7 @@ pub record IsSectionCut (lines inside others : List (List ℕ)) (count : ℕ) : 
   pub none : list_any ends inside ≡ false
   pub ended : (line : List ℕ) (behind : List (List ℕ)) → others ≡ line ∷ behind → ends line ≡ true
 
--- the text has its first fault as a derivation, which is told after so many lines
+-- the text has its first fault as a derivation, which is reported after so many lines
 pub record HasLratFaultBehind (before : ℕ) (text : List ℕ) (cause : CertCause) (line : ℕ) : Type 0 where
   pub lrat_cause : LratCause
   pub place : ℕ
@@ -35,13 +35,13 @@ pub record HasLratFaultBehind (before : ℕ) (text : List ℕ) (cause : CertCaus
   pub told : cause ≡ BadLrat
   pub counted : line ≡ before + place
 
--- the lines have their first fault, which is told after so many lines
+-- the lines have their first fault, which is reported after so many lines
 pub record HasSectionFaultBehind (before : ℕ) (lines : List (List ℕ)) (cause : CertCause) (line : ℕ) : Type 0 where
   pub place : ℕ
   pub fault : HasSectionFault lines cause place
   pub counted : line ≡ before + place
 
--- the text has its first fault as a tree, which is told after so many lines
+-- the text has its first fault as a tree, which is reported after so many lines
 pub record HasTreeFaultBehind (before : ℕ) (text : List ℕ) (cause : CertCause) (line : ℕ) : Type 0 where
   pub tree_cause : TreeCause
   pub place : ℕ

@@ -39,7 +39,7 @@ fn read_header(text: &[u8]) -> Result<(&[u8], usize), CertFault>
     Err(CertFault::At(CertCause::Header, number + 1))
 }
 
-/// What is wrong with the tree, as it is told of the certificate.
+/// What is wrong with the tree, as it is reported of the certificate.
 fn cause_of_tree(cause: TreeCause) -> CertCause
     ensures { result ≡ of_tree cause }
 {
@@ -110,7 +110,7 @@ pub fn take_cert(alloc: Global, text: Vec<u8>) -> Result<Certificate, CertFault>
 /// Its first line that is not skipped is `vsc-cert 1`. At once after it stands a tree, and after that one section after the other: a
 /// line `proof` with a leaf's number, a derivation (LRAT), and a line `end`. Lines without words and those whose first word begins with
 /// `c` are skipped outside the tree. The error is the first fault of the text, with its line, counted from 1, or `OutOfMemory`, which
-/// tells nothing of the text. Whether the certificate shows anything is for [`recheck`](crate::recheck).
+/// says nothing of the text. Whether the certificate shows anything is for [`recheck`](crate::recheck).
 pub fn read_cert(alloc: Global, text: &[u8]) -> Result<Certificate, CertFault>
     ensures spelled { IfOk result (λ certificate. SpellsCertificate text.now certificate) }
     ensures faulty { IfErr result (λ fault. IsRefusal (HasCertFault text.now) fault) }

@@ -130,8 +130,8 @@ fn are_clauses(sections: &[Section])
 /// Checks that the certificate shows that the formula has no model, with no solver. Says how many cubes its tree has.
 ///
 /// Each leaf of the tree has one section, no section is of another leaf, and each derivation is accepted for the formula and its leaf's
-/// cube. If not, the error tells what is wrong and the leaf: the first section that is a `Stranger` or a `Double`; else the lowest leaf
-/// that is `Missing`; else the lowest leaf whose `Derivation` is refused. `OutOfMemory` tells nothing of the certificate.
+/// cube. If not, the error says what is wrong and the leaf: the first section that is a `Stranger` or a `Double`; else the lowest leaf
+/// that is `Missing`; else the lowest leaf whose `Derivation` is refused. `OutOfMemory` says nothing of the certificate.
 pub fn recheck<L: ClauseList>(
     alloc: Global,
     clauses: &L,

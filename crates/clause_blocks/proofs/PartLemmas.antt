@@ -46,7 +46,7 @@ module _ (clauses part : List (List ℤ)) (from : ℕ) (s : StandAfter clauses f
           first = all_append (makes_some value) s.front f.before (subst (IsModel value) front_taken so_far) f.first;
         }
 
--- where each family behind transitivity stands
+-- where each family after transitivity stands
 module _ (t : TraceValue) (n : ℕ) (long : n ≡ length (program_order t ++ transitivity (operation_count t))) where
   abbrev first : List (List ℤ)
   first = program_order t ++ transitivity (operation_count t)

@@ -23,7 +23,7 @@ sent_then old between new head kept kept' first second s t =
     (sent_on old between (kept ++ flat_map clause_line second) ((head ++ flat_map clause_line first) ++ flat_map clause_line second) new kept'
     (sent_more old between kept (head ++ flat_map clause_line first) (kept ++ flat_map clause_line second) (flat_map clause_line second) s refl) t)
 
--- those of the first list were sent, and of those of the second one a front
+-- those of the first list were sent, and of those of the second one a prefix
 pub sent_then_front : (old between new head kept : List ℕ) (first second : List (List ℤ)) → IsSent old between kept (head ++ flat_map clause_line first) → AppendsFront between new (kept ++ flat_map clause_line second)
     → AppendsFront old new (head ++ flat_map clause_line (first ++ second))
 sent_then_front old between new head kept first second s f =

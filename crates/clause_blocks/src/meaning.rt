@@ -33,7 +33,7 @@ pub fn each_legal_schedule_has_a_model()
     ensures { (t : TraceValue) (names : List OpName) → IsTrace t → IsLegal t names → (value : ℕ → Bool) × IsModel value (clauses_of t) × IsInOrderOf value t names }
 {}
 
-/// The clauses have a model exactly where the trace has a legal schedule.
+/// The clauses have a model if and only if the trace has a legal schedule.
 pub fn satisfiable_exactly_where_schedulable()
     ensures { (t : TraceValue) → IsTrace t → ((value : ℕ → Bool) × IsModel value (clauses_of t)) ↔ ((names : List OpName) × IsLegal t names) }
 {}

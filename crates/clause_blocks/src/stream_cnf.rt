@@ -1,6 +1,6 @@
 //! The text of a reduced trace's formula.
 
-ghost use Rattle.std.specs.Prelude.{◌≡◌, ◌≤◌, ◌+◌, ◌++◌, OnOk, OnErr, IfErr};
+ghost use Rattle.std.specs.Prelude.{◌≡◌, ◌+◌, ◌++◌, OnOk, OnErr, IfErr};
 ghost use Rattle.std.specs.List.{flat_map};
 ghost use Rattle.dimacs.specs.CnfText.{clause_line, cnf_text};
 ghost use Rattle.dimacs.specs.Sink.{AppendsFront, IsSent};
@@ -14,7 +14,6 @@ use crate::transitivity::put_transitivity_from;
 use dimacs::{CnfWriter, Failed, Sink, SinkFault};
 use reducer::reduced::Reduced;
 use std::alloc::Global;
-use std::thread::Threads;
 use var_layout::layout::Layout;
 
 /// Writes the clauses of a piece. Those of transitivity are never made.
@@ -70,17 +69,9 @@ fn put_formula<W: Sink>(
     Ok(())
 }
 
-/// Writes the text of the formula of the kept trace. Where memory runs out or the sink fails, the sink has taken a front
-/// of it.
-pub fn stream_cnf<R: Threads + Sync, W: Sink>(
-    alloc: Global,
-    rt: &R,
-    reduced: &Reduced,
-    workers: u32,
-    sink: &mut W,
-) -> Result<(), SinkFault>
-    requires some { 1 ≤ workers }
-    requires few { workers ≤ 8 }
+/// Writes the text of the formula of the kept trace. Where memory runs out or the sink fails, the sink has taken a
+/// prefix of it.
+pub fn stream_cnf<W: Sink>(alloc: Global, reduced: &Reduced, sink: &mut W) -> Result<(), SinkFault>
     ensures whole { OnOk result (W.written sink.new ≡ W.written sink.old ++ cnf_text (formula_of reduced.now.kept)) }
     ensures well { OnOk result (W.failures sink.new ≡ W.failures sink.old) }
     ensures front { OnErr result (AppendsFront (W.written sink.old) (W.written sink.new) (cnf_text (formula_of reduced.now.kept))) }

@@ -60,7 +60,7 @@ fn read_body(
 /// optional minus; but a minus before zero is none. Empty clauses, repeated literals and a literal beside its negation
 /// are kept as they stand.
 ///
-/// The error is the first fault of the text with its line, counted from 1 over all lines, or `OutOfMemory`, which tells
+/// The error is the first fault of the text with its line, counted from 1 over all lines, or `OutOfMemory`, which says
 /// nothing of the text. A fault of the header or of a word stands at its line. What the whole text lacks, a header, a 0
 /// or a clause, stands at the line of the `%`, or after the last line.
 pub fn read_cnf(alloc: Global, text: &[u8]) -> Result<Formula, CnfFault>

@@ -16,8 +16,8 @@ use std::alloc::{AllocError, Global};
 const ABOUT: &str = "Writes the formula of a trace as DIMACS text";
 
 const EXAMPLE: &str =
-    "The DIMACS text of the trace's clause list goes to standard output. The trace alone fixes it: --workers
-changes nothing but the number of threads that may make it.
+    "The DIMACS text of the trace's clause list goes to standard output. The trace alone fixes it: one thread
+makes it, whatever --workers says.
 
 Example, a trace:
     vsc 1
@@ -41,7 +41,7 @@ pub fn new_cnf_command<'a>(alloc: Global) -> Result<Command<'a>, AllocError>
     ensures local { IfOk result (λ c. (out-Command c).has_globals ≡ false) }
 {
     let trace = trace_argument(alloc);
-    let workers = workers_argument(alloc, "How many threads may make the text, 1 to 8");
+    let workers = workers_argument(alloc, "As of verify, 1 to 8: it changes nothing here");
     command_of_two(alloc, "cnf", ABOUT, EXAMPLE, trace, workers)
 }
 

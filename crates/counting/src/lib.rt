@@ -11,8 +11,8 @@
 //! look past the end of a table reads a fixed value.
 #![tactic(auto)]
 
-mod circles;
 mod codes;
+mod cycles;
 mod elimination;
 mod last_writer;
 mod log;

@@ -2,7 +2,7 @@
 
 ghost use Rattle.std.specs.Prelude.{◌≤◌, length, IfOk, IfSome};
 
-use crate::circles::add_circle;
+use crate::cycles::add_cycle;
 use crate::last_writer::add_last_writer;
 use crate::log::{Free, Log};
 use crate::shortages::add_shortage;
@@ -32,9 +32,7 @@ fn add_lines(
 ) -> Result<(), AllocError> {
     match kind {
         Kind::Shortage(shortage) => add_shortage(alloc, writer, reads, units, shortage),
-        Kind::Circle(circle) => {
-            add_circle(alloc, writer.log(), reads, units, circle, known.order)
-        }
+        Kind::Cycle(cycle) => { add_cycle(alloc, writer.log(), reads, units, cycle, known.order) }
         Kind::Ending(ending, shortage) => {
             let all = add_last_writer(alloc, writer.log(), reads, ending, known, units)?;
             add_shortage(alloc, writer, &all, units, shortage)

@@ -18,7 +18,7 @@ struct Found {
 fn readers_of(kind: &Kind) -> u32 {
     match kind {
         Kind::Shortage(shortage) | Kind::Ending(_, shortage) => shortage.readers(),
-        Kind::Circle(circle) => u32::try_from(circle.readers().len()).unwrap_or(0),
+        Kind::Cycle(cycle) => u32::try_from(cycle.readers().len()).unwrap_or(0),
     }
 }
 
@@ -123,14 +123,14 @@ fn locks_are_told_apart(alloc: Global, releases: u32, release: Writer) -> Result
 }
 
 /// Updates from 1 over 2 to 3 and on to 1, so many of each, which have no first one if the location does not hold 2 at the start.
-fn circles_are_told_apart(alloc: Global, count: u32) -> Result<bool, AllocError> {
+fn cycles_are_told_apart(alloc: Global, count: u32) -> Result<bool, AllocError> {
     let updates = rounds(alloc, &[update(1, 2), update(2, 3), update(3, 1)], count)?;
-    let circle = from_zero(updates.as_slice());
+    let cycle = from_zero(updates.as_slice());
     let with_first = Location {
         initial: 2,
-        ..circle
+        ..cycle
     };
-    Ok(is_found(alloc, circle, count.wrapping_mul(3))? && is_found(alloc, with_first, 0)?)
+    Ok(is_found(alloc, cycle, count.wrapping_mul(3))? && is_found(alloc, with_first, 0)?)
 }
 
 /// So many processes that take a lock and give it back, which is not free at the start: each release is read, and so none is the last
@@ -164,7 +164,7 @@ fn refutes_what_has_too_few_sources(rt: HostRuntime) -> Result<(), Fail> {
             "{count} updates"
         );
         assert!(rt;
-            count == 0 || circles_are_told_apart(alloc, count)?,
+            count == 0 || cycles_are_told_apart(alloc, count)?,
             "{count} rounds"
         );
         assert!(rt;

@@ -149,8 +149,8 @@ fn mistakes_cost_the_derivation(rt: HostRuntime) -> Result<(), Fail> {
     let alloc = rt.alloc();
     let lock = times(alloc, &[(update(0, 1), 4), (update(1, 0), 2)])?;
     let lock = from_zero(lock.as_slice());
-    let circle = rounds(alloc, &[update(1, 2), update(2, 3), update(3, 1)], 2)?;
-    let circle = from_zero(circle.as_slice());
+    let cycle = rounds(alloc, &[update(1, 2), update(2, 3), update(3, 1)], 2)?;
+    let cycle = from_zero(cycle.as_slice());
     let taken = rounds(alloc, &[update(0, 1), WRITE], 4)?;
     let taken = Location {
         in_process: 2,
@@ -159,8 +159,8 @@ fn mistakes_cost_the_derivation(rt: HostRuntime) -> Result<(), Fail> {
     };
     assert!(rt; is_lost_by(alloc, lock, &OF_CLAUSES)?, "too few sources");
     assert!(rt; is_lost_by(alloc, lock, &OF_VARIABLES)?, "variables");
-    assert!(rt; is_lost_by(alloc, circle, &OF_CLAUSES)?, "no first one");
-    assert!(rt; is_lost_by(alloc, circle, &OF_ORDERS)?, "its order");
+    assert!(rt; is_lost_by(alloc, cycle, &OF_CLAUSES)?, "no first one");
+    assert!(rt; is_lost_by(alloc, cycle, &OF_ORDERS)?, "its order");
     assert!(rt; is_lost_by(alloc, taken, &OF_CLAUSES)?, "no last one");
     assert!(rt; is_lost_by(alloc, taken, &OF_ORDERS)?, "the order of ends");
     Ok(())

@@ -268,7 +268,7 @@ fn copies_of(alloc: Global, sections: &[Section]) -> Result<Vec<Derivation>, All
     Ok(derivations)
 }
 
-/// Asserts that the text of the certificate is written, or a front of it, if there is no memory.
+/// Asserts that the text of the certificate is written, or a prefix of it, if there is no memory.
 fn assert_written(
     rt: &impl Abort,
     alloc: Global,

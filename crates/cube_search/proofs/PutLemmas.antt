@@ -7,7 +7,7 @@ use Rattle.cube_queue.specs.declared.job.Job.{Job}
 use Rattle.cube_search.specs.Crew.{WithStops}
 use Rattle.cube_search.proofs.JobLemmas.{all_below}
 
--- a front of a list
+-- a prefix of a list
 all_front : {X : Type 0} (P : X → Type 0) (front rest : List X) → All P (front ++ rest) → All P front
 all_front P [] rest all = All-nil P
 all_front P (x ∷ front) rest all = All-cons P x front (All-head P x (front ++ rest) all) (all_front P front rest (All-tail P x (front ++ rest) all))

@@ -44,7 +44,7 @@ looked_at clauses cubes tickets results has_model now so right = record {
   known = known_on clauses results has_model now so.known right;
 }
 
--- elements of the front of a rising list are below the next one
+-- elements of a prefix of a rising list are below the next one
 in_front : (xs : List ℕ) (k : ℕ) (x : ℕ) → Contains (take k xs) x → (i : ℕ) × (i < k) × (i < length xs) × (get_or xs i 0 ≡ x)
 in_front xs zero x c = absurd (none_in x c)
 in_front [] (suc k) x c = absurd (none_in x c)

@@ -66,7 +66,7 @@ fn at_most(bytes: usize, most: usize) -> usize
 ///
 /// A line is `leaf`, or `split` and the number of a variable; after a split stand the lines of its left and then those of
 /// its right tree. No line is skipped. The error is the first fault of the text, with its line, counted from 1, or
-/// `OutOfMemory`, which tells nothing of the text.
+/// `OutOfMemory`, which says nothing of the text.
 pub fn read_tree(alloc: Global, text: &[u8]) -> Result<(Tree, usize), Fault<TreeCause>>
     ensures spelled { IfOk result (λ read. SpellsTree text.now read.0 read.1) }
     ensures faulty { IfErr result (λ fault. IsRefusal (HasTreeFault text.now) fault) }

@@ -35,7 +35,7 @@ counted_at takers takers' puts puts' gives gives' gathers gathers' m ts ps gs n 
     (subst (λ (xs : List ℕ). Counted takers xs gives' gathers' m) (sym ps)
     (subst (λ (xs : List (ℕ × Outcome)). Counted takers puts xs gathers' m) (sym gs) (subst (λ (k : ℕ). Counted takers puts gives k m) (sym n) c)))
 
--- what a possible event tells of the machine
+-- what follows for the machine of a possible event
 passed : (b : Bool) (refused : Refused) → (if b then Some refused else None) ≡ None → b ≡ false
 passed true refused e = absurd (cc)
 passed false refused e = refl

@@ -70,7 +70,7 @@ impl Machine {
     }
 
     /// One event. Where it is not possible, it is refused and given up, and the machine is unchanged: the number of an event's
-    /// worker is looked at first, and then the lowest refusal from `PutTwice` on is told. `OutOfMemory` is told of possible
+    /// worker is looked at first, and then the lowest refusal from `PutTwice` on is reported. `OutOfMemory` is reported of possible
     /// events alone.
     pub fn step(&mut self, event: Event) -> Result<(), Refused>
         ensures { IsStep self.old event result self.new }

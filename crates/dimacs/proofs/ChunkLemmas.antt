@@ -22,7 +22,7 @@ sent_more old new kept bytes kept' more s e = record {
   appended = s.appended;
 }
 
--- of what was kept, a front was taken too
+-- of what was kept, a prefix was taken too
 pub sent_on : (old between kept bytes new kept' : List ℕ) → IsSent old between kept bytes → IsSent between new kept' kept → IsSent old new kept' bytes
 sent_on old between kept bytes new kept' s t = record {
   front = s.front ++ t.front;

@@ -8,13 +8,13 @@ use Rattle.dimacs.specs.Sink.{AppendsFront}
 pub range-rest : (n : ℕ) (bytes : List ℕ) → take (length bytes - n) (drop n bytes) ≡ drop n bytes
 range-rest n bytes = take_all _ _ (omega (arith, length-drop n bytes))
 
--- a front was taken, and then a prefix of what was left
+-- a prefix was taken, and then a prefix of what was left
 pub take-rest : (old between new bytes : List ℕ) (n count : ℕ) → between ≡ old ++ take n bytes
     → new ≡ between ++ take count (take (length bytes - n) (drop n bytes)) → new ≡ old ++ take (n + count) bytes
 take-rest old between new bytes n count e f =
     rw (take-add n count bytes, ← append_assoc, ← e, ← range-rest n bytes) f
 
--- the first bytes are a front
+-- the first bytes are a prefix
 pub front-take : (old new bytes : List ℕ) (n : ℕ) → new ≡ old ++ take n bytes → AppendsFront old new bytes
 front-take old new bytes n e = record { front = take n bytes; back = drop n bytes; parts = take-append-drop n bytes; appended = e }
 

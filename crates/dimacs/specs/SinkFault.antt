@@ -18,7 +18,7 @@ name_of Device = codes "Device"
 abbrev pub line_of : SinkFault → List ℕ
 line_of fault = decimal (number_of fault) ++ 32 ∷ name_of fault
 
--- how many failures of the sink a fault tells
+-- how many failures of the sink a fault stands for
 abbrev pub failures_told : SinkFault → ℕ
 failures_told OutOfMemory = 0
 failures_told Device = 1

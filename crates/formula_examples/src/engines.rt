@@ -5,7 +5,6 @@ use crate::traces_of_texts::HAND_OFF;
 use dimacs::{MemorySink, ShortSink};
 use std::alloc::Global;
 use std::process::Abort;
-use std::thread::Threads;
 use verdict_report::{Fault, ShortSource, Status, run_cnf, run_decode, run_lrat};
 
 /// The text of the clause list of the hand-off.
@@ -21,17 +20,17 @@ const SCHEDULE: &[u8] = b"P.1\nQ.1\n";
 
 const ACCEPTED: &[u8] = b"ACCEPTED\n";
 
-/// A source of the text that hands out a byte a call, and fails at this call. The call after the last byte tells the
+/// A source of the text that hands out a byte a call, and fails at this call. The call after the last byte reports the
 /// end.
 fn failing_at(text: &str, call: usize) -> ShortSource<'_> {
     ShortSource::new(text.as_bytes(), 1).failing_at(call as u64)
 }
 
 /// Asserts what becomes of the clause list of the hand-off where the sink fails at this call.
-fn assert_writes<R: Threads + Sync + Abort>(rt: &R, alloc: Global, call: usize, front: &[u8]) {
+fn assert_writes(rt: &impl Abort, alloc: Global, call: usize, front: &[u8]) {
     let mut source = ShortSource::new(HAND_OFF.as_bytes(), 1);
     let mut sink = ShortSink::new(alloc, 1).failing_at(call as u64);
-    let outcome = run_cnf(alloc, rt, &mut source, 4, &mut sink);
+    let outcome = run_cnf(alloc, &mut source, &mut sink);
     expect(rt, outcome.is_ok() == (call > CNF.len()), call);
     expect(
         rt,
@@ -42,17 +41,17 @@ fn assert_writes<R: Threads + Sync + Abort>(rt: &R, alloc: Global, call: usize, 
 }
 
 /// Asserts that nothing is written of the hand-off where the source fails at this call.
-fn assert_translates_nothing<R: Threads + Sync + Abort>(rt: &R, alloc: Global, call: usize) {
+fn assert_translates_nothing(rt: &impl Abort, alloc: Global, call: usize) {
     let mut source = failing_at(HAND_OFF, call);
     let mut output = MemorySink::new(alloc);
-    let outcome = run_cnf(alloc, rt, &mut source, 4, &mut output);
+    let outcome = run_cnf(alloc, &mut source, &mut output);
     expect(rt, outcome == Err(Fault::Device), call);
     expect(rt, output.as_slice().is_empty(), call);
 }
 
 /// Asserts what the engine that decodes answers and writes: the schedule, or nothing where a device fails.
-fn assert_decodes<R: Threads + Sync + Abort>(
-    rt: &R,
+fn assert_decodes(
+    rt: &impl Abort,
     alloc: Global,
     mut trace: ShortSource<'_>,
     mut model: ShortSource<'_>,
@@ -60,7 +59,7 @@ fn assert_decodes<R: Threads + Sync + Abort>(
     number: usize,
 ) {
     let mut output = MemorySink::new(alloc);
-    let outcome = run_decode(alloc, rt, &mut trace, &mut model, &mut output);
+    let outcome = run_decode(alloc, &mut trace, &mut model, &mut output);
     expect(rt, outcome.is_ok() == is_well, number);
     expect(
         rt,
@@ -98,22 +97,17 @@ fn assert_checks(
     );
 }
 
-/// Asserts that the sink has a front of the schedule where it fails at this call.
-fn assert_front_of_schedule<R: Threads + Sync + Abort>(
-    rt: &R,
-    alloc: Global,
-    call: usize,
-    front: &[u8],
-) {
+/// Asserts that the sink has a prefix of the schedule where it fails at this call.
+fn assert_front_of_schedule(rt: &impl Abort, alloc: Global, call: usize, front: &[u8]) {
     let mut trace = ShortSource::new(HAND_OFF.as_bytes(), 1);
     let mut model = ShortSource::new(MODEL.as_bytes(), 1);
     let mut sink = ShortSink::new(alloc, 1).failing_at(call as u64);
-    let outcome = run_decode(alloc, rt, &mut trace, &mut model, &mut sink);
+    let outcome = run_decode(alloc, &mut trace, &mut model, &mut sink);
     expect(rt, outcome == Err(Fault::Device), call);
     expect(rt, sink.as_slice() == front, call);
 }
 
-/// Asserts that the sink has a front of the line of an accepted proof where it fails at this call.
+/// Asserts that the sink has a prefix of the line of an accepted proof where it fails at this call.
 fn assert_front_of_line(rt: &impl Abort, alloc: Global, call: usize, front: &[u8]) {
     let mut cnf = ShortSource::new(CONTRADICTION.as_bytes(), 1);
     let mut proof = ShortSource::new(PROOF.as_bytes(), 1);

@@ -55,7 +55,7 @@ fn is_written(alloc: Global, formula: &Formula, most: usize, text: &[u8]) -> boo
     write_cnf(alloc, formula, &mut sink).is_ok() && sink.as_slice() == text
 }
 
-/// Whether a sink that takes a byte a call and fails at its eighth has the first seven, and the failure is told.
+/// Whether a sink that takes a byte a call and fails at its eighth has the first seven, and the failure is reported.
 fn is_begun(alloc: Global, formula: &Formula, text: &[u8]) -> bool {
     let mut sink = ShortSink::new(alloc, 1).failing_at(8);
     let written = write_cnf(alloc, formula, &mut sink);

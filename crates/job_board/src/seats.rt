@@ -28,7 +28,7 @@ pub struct DealerSeat {
     ghost rising: { Rise (of_jobs (list_in (view jobs))) },
 }
 
-/// The seat of a worker, who takes jobs and gives results. The jobs that it settled are a front of those that it took, at most one
+/// The seat of a worker, who takes jobs and gives results. The jobs that it settled are a prefix of those that it took, at most one
 /// shorter; where it is one shorter, the last one is in its hand.
 #[derive(Drop)]
 pub struct WorkerSeat {

@@ -173,7 +173,7 @@ fn read_line(alloc: Global, line: &[u8], number: usize) -> Result<Option<Step>, 
 /// The derivation that the text spells, in one pass.
 ///
 /// Each line is a step, and lines without words and those whose first word begins with `c` are skipped. The error is the
-/// first fault of the text, with its line, counted from 1, or `OutOfMemory`, which tells nothing of the text.
+/// first fault of the text, with its line, counted from 1, or `OutOfMemory`, which says nothing of the text.
 pub fn read_lrat(alloc: Global, text: &[u8]) -> Result<Derivation, LratFault>
     ensures spelled { IfOk result (λ derivation. SpellsDerivation text.now derivation) }
     ensures faulty { IfErr result (λ fault. IsRefusal (HasLratFault text.now) fault) }

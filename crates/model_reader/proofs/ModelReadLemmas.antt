@@ -220,7 +220,7 @@ text_refused text number rest reader line after (At cause place) h cut refused =
 lines_read : (text : List ℕ) (number : ℕ) (rest : List ℕ) (reader : ModelReader) → (h : IsModelSoFar text number rest reader) → lines_of rest ≡ [] → said_from 1 (lines_of text) ≡ h.before ++ (number, End) ∷ []
 lines_read text number rest reader h none = h.parts ∙ ap (λ l. h.before ++ said_from number l) none
 
--- what the end of the text is told for
+-- what is reported of the end of the text
 end_fault : (number : ℕ) (before : List (ℕ × Said)) (reader : ModelReader) → IsModelProgress before reader → model_fault before (number, End) ≡ option_map (λ cause. (cause, number)) (cond reader.ended None (Some Unended))
 end_fault number before reader h = ap (λ b. option_map (λ cause. (cause, number)) (cond b None (Some Unended))) (sym (h.numbers (pos 0)))
 

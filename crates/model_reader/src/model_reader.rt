@@ -170,7 +170,7 @@ impl ModelReader {
 /// a `Clash`; a repeated one is not. Where no `0` comes, the text is `Unended`, at the line after the last.
 ///
 /// Variables that no literal names are false. The error is the first fault of the text, with its line, or `OutOfMemory`,
-/// which tells nothing of the text.
+/// which says nothing of the text.
 pub fn read_model(alloc: Global, text: &[u8]) -> Result<Assignment, ModelFault>
     ensures spelled { IfOk result (SpellsModel text.now) }
     ensures faulty { IfErr result (IsRefusal (HasModelFault text.now)) }

@@ -1,6 +1,6 @@
 //! What is found of readers and their sources.
 
-use crate::circle::Circle;
+use crate::cycle::Cycle;
 use crate::ending::Ending;
 use crate::known_order::KnownOrder;
 use crate::lack::{Lack, find_lack};
@@ -16,7 +16,7 @@ pub enum Kind {
     /// Some readers have fewer sources than there are readers.
     Shortage(Shortage),
     /// None of some updates can be the first.
-    Circle(Circle),
+    Cycle(Cycle),
     /// A shortage where the last writer of a location is one more reader.
     Ending(Ending, Shortage),
 }
@@ -44,7 +44,7 @@ impl Contradiction {
     pub fn most_steps(&self) -> u64 {
         match &self.kind {
             Kind::Shortage(shortage) => shortage.most_steps(),
-            Kind::Circle(circle) => circle.most_steps(),
+            Kind::Cycle(cycle) => cycle.most_steps(),
             Kind::Ending(ending, shortage) => {
                 shortage.most_steps().wrapping_add(ending.most_steps())
             }
@@ -114,14 +114,14 @@ fn contradiction_of_shortage(
 }
 
 /// Updates of which none can be the first.
-fn contradiction_of_circle(
+fn contradiction_of_cycle(
     alloc: Global,
     reads: &Reads,
-    circle: Circle,
+    cycle: Cycle,
 ) -> Result<Contradiction, AllocError> {
     let mut rests_on = Vec::new(alloc);
-    add_excluded(&mut rests_on, reads, circle.readers())?;
-    let kind = Kind::Circle(circle);
+    add_excluded(&mut rests_on, reads, cycle.readers())?;
+    let kind = Kind::Cycle(cycle);
     Ok(Contradiction { kind, rests_on })
 }
 
@@ -138,7 +138,7 @@ pub fn find_contradiction(
     };
     let found = match lack {
         Lack::Shortage(readers) => contradiction_of_shortage(alloc, reads, readers.as_slice())?,
-        Lack::Circle(circle) => contradiction_of_circle(alloc, reads, circle)?,
+        Lack::Cycle(cycle) => contradiction_of_cycle(alloc, reads, cycle)?,
         Lack::Ending(ending, readers) => {
             contradiction_of_ending(alloc, reads, known, ending, readers.as_slice())?
         }

@@ -1,6 +1,6 @@
 //! A glance at sources, which mostly shows that there are enough of them.
 
-use crate::circle::{is_member, set_member};
+use crate::cycle::{is_member, set_member};
 use crate::ending::{location_word, may_be_last};
 use crate::known_order::KnownOrder;
 use order_closure::tables::{at, put, size};
@@ -143,7 +143,7 @@ impl<'a> Glance<'a> {
 
     /// Whether each update has a possible source outside, or one of an update that has, and so on: none of them could be the first of
     /// some otherwise.
-    fn has_no_circle(&self, alloc: Global) -> Result<bool, AllocError> {
+    fn has_no_cycle(&self, alloc: Global) -> Result<bool, AllocError> {
         let mut inside = Vec::new(alloc);
         inside.extend_from_slice(self.updates.as_slice())?;
         for _ in 0..=self.known.order.operations {
@@ -280,6 +280,6 @@ impl<'a> Glance<'a> {
         let mut may_end = Vec::new(alloc);
         may_end.extend_from_slice(self.ends.as_slice())?;
         self.takers = vec![in alloc; 0; self.sources.words().wrapping_mul(64) as usize]?;
-        Ok(self.has_no_circle(alloc)? && self.have_sources() && self.have_ends(may_end.as_slice()))
+        Ok(self.has_no_cycle(alloc)? && self.have_sources() && self.have_ends(may_end.as_slice()))
     }
 }

@@ -1,6 +1,6 @@
 //! Readers that cannot all have a source.
 
-use crate::circle::{Circle, find_circle};
+use crate::cycle::{Cycle, find_cycle};
 use crate::ending::{Ending, candidates_of, writers_without_end};
 use crate::known_order::KnownOrder;
 use crate::matching::Matching;
@@ -13,7 +13,7 @@ pub enum Lack {
     /// They have one source fewer than they are.
     Shortage(Vec<u32>),
     /// None of these updates can be the first.
-    Circle(Circle),
+    Cycle(Cycle),
     /// A shortage where the last writer of a location is one more reader, which comes after all others.
     Ending(Ending, Vec<u32>),
 }
@@ -51,8 +51,8 @@ pub fn find_lack(
     if !readers.is_empty() {
         return Ok(Some(Lack::Shortage(readers)));
     }
-    if let Some(circle) = find_circle(alloc, matching.possible())? {
-        return Ok(Some(Lack::Circle(circle)));
+    if let Some(cycle) = find_cycle(alloc, matching.possible())? {
+        return Ok(Some(Lack::Cycle(cycle)));
     }
     find_ending(alloc, known, &mut matching)
 }

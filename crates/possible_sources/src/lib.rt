@@ -10,8 +10,8 @@
 //! proved of it, and a look past the end of a table reads a fixed value.
 #![tactic(auto)]
 
-mod circle;
 mod contradiction;
+mod cycle;
 mod ending;
 mod glance;
 mod grid;
@@ -22,8 +22,8 @@ mod reads;
 mod shortage;
 mod source_sets;
 
-pub use circle::Circle;
 pub use contradiction::{Contradiction, Kind, find_contradiction};
+pub use cycle::Cycle;
 pub use ending::Ending;
 pub use glance::Glance;
 pub use grid::Grid;

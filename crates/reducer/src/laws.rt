@@ -35,7 +35,7 @@ pub fn expansion_is_legal()
     ensures { (t : TraceValue) (names : List OpName) → IsTrace t → IsLegal (kept_trace t) names → IsLegal t (expansion t names) }
 {}
 
-/// The kept trace has a legal schedule exactly where the whole trace has one.
+/// The kept trace has a legal schedule if and only if the whole trace has one.
 pub fn schedulable_exactly_where_reduced_is()
     ensures { (t : TraceValue) → IsTrace t → ((names : List OpName) × IsLegal (kept_trace t) names) ↔ ((names : List OpName) × IsLegal t names) }
 {}

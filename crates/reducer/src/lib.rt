@@ -1,7 +1,7 @@
 //! The reducer of traces: repeated local reads are dropped, and put back into a schedule.
 //!
 //! A process that reads again what its last operation left or, as a plain read, found at the same location learns nothing
-//! from it. Without these reads the trace has a legal schedule exactly where it has one with them, since each can stand
+//! from it. Without these reads the trace has a legal schedule if and only if it has one with them, since each can stand
 //! directly after the operation that it repeats.
 #![tactic(auto)]
 

@@ -18,7 +18,7 @@ no_model_answer clauses slot found said wrong truth h =
     let same : found ≡ truth = cc both in
     wrong (subst (λ (values : List Bool). IsModelIn clauses slot.cube (value_of values)) (sym same) h.confirmed)
 
--- an answer that is a derivation is right exactly where that is accepted
+-- an answer that is a derivation is right if and only if that is accepted
 pub proof_answer : (clauses : List (List ℤ)) (slot : Slot) (steps : List Step) (proved : Bool) → slot.outcome ≡ Some (Refuted steps) → (IsTrue proved ↔ IsProofIn clauses slot.cube steps) → IsTrue proved ↔ IsProofAnswer clauses slot
 proof_answer clauses slot steps proved said right = (
   λ h. record { steps = steps; answer = said; confirmed = right.0 h },

@@ -6,7 +6,7 @@ use Rattle.std.proofs.lemmas.List.{length-append}
 use Rattle.result_ledger.specs.Pieces.{AreWithoutBetween, piece_start}
 use Rattle.result_ledger.proofs.WithoutLemmas.{none_between, both_pieces}
 
--- the element at the end of this front
+-- the element at the end of this prefix
 pub at_front : {X : Type 0} (xs front : List X) (x : X) (rest : List X) → xs ≡ front ++ x ∷ rest → (get_or xs (length front) x ≡ x) × (length front < length xs)
 at_front xs front x rest is = (ap (λ l. get_or l (length front) x) is ∙ at_seam front x rest, omega (arith, ap length is, length-append front (x ∷ rest)))
   where

@@ -207,7 +207,7 @@ impl Ledger {
     }
 
     /// Enters the result as the answer for its leaf. It is handed back, and nothing changes, where there is no such leaf, or
-    /// that leaf has an answer already, or another cube; the lowest that holds is told. It takes no memory.
+    /// that leaf has an answer already, or another cube; the lowest that holds is reported. It takes no memory.
     pub fn enter(&mut self, settled: Settled) -> Result<(), (Settled, EntryFault)>
         ensures filled { OnOk result (Fills self.old self.new settled) }
         ensures refused { IfErr result (λ back. (back.0 ≡ settled) × IsEntryFault self.old settled back.1) }

@@ -38,7 +38,7 @@ pub fn schedule_of(
     Ok(Schedule::new(names_in_order(alloc, names.as_slice(), order.as_slice())?))
 }
 
-/// The schedule in which a model of the trace's formula puts the operations: one stands before another exactly where the
+/// The schedule in which a model of the trace's formula puts the operations: one stands before another if and only if the
 /// literal that says so is true. The schedule is legal.
 pub fn decode(
     alloc: Global,

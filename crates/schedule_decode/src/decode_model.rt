@@ -15,15 +15,13 @@ use clause_blocks::trace_clauses::TraceClauses;
 use dimacs::{Assignment, ClauseList};
 use reducer::reduced::Reduced;
 use std::alloc::Global;
-use std::thread::Threads;
 use text_lines::fault::Fault;
 use traces::schedule::Schedule;
 
 /// The schedule in which a model of the trace's clauses puts the operations, as `decode` gives it. No formula is
 /// held: of transitivity, single clauses are made only if the truth values put the operations in no order.
-pub fn decode_model<R: Threads + Sync>(
+pub fn decode_model(
     alloc: Global,
-    rt: &R,
     reduced: &Reduced,
     assignment: &Assignment,
 ) -> Result<Schedule, DecodeFault>

@@ -52,13 +52,13 @@ any_step : {P : Type 0} (v b : Bool) (first : P → OpName) (h : OpName → Bool
 any_step true b first h x xs rest each tail = (λ i. each refl i || tail i) ∙ not_and (h (first x)) (list_all h (map first xs))
 any_step false b first h x xs rest each tail = tail
 
--- some chosen one fails exactly where not all chosen ones pass
+-- some chosen one fails if and only if not all chosen ones pass
 any_not_all : {P : Type 0} (q b : P → Bool) (first : P → OpName) (h : OpName → Bool) → ((x : P) → q x ≡ true → b x ≡ not (h (first x))) → (xs : List P) → list_any (λ x. q x && b x) xs ≡ not (list_all h (map first (filter q xs)))
 any_not_all q b first h each [] = refl
 any_not_all q b first h each (x ∷ xs) =
     any_step (q x) (b x) first h x (filter q xs) (list_any (λ x. q x && b x) xs) (each x) (any_not_all q b first h each xs)
 
--- an operation that comes first here comes before one that the trace puts before it, exactly where not all of those have come
+-- an operation that comes first here comes before one that the trace puts before it, if and only if not all of those have come
 pub early_is : (t : TraceValue) (names : List OpName) (places early : OpTable) (i : ℕ) (n : OpName) → FindsFirst names places → FindsEarly t.before places early → slice_get names i ≡ Some n → has_come (take i names) n ≡ false → is_some (number_at early n) ≡ not (list_all (has_come (take i names)) (put_before t n))
 early_is t names places early i n first finds at fresh =
     let zeros : 0 + i ≡ i = omega arith in

@@ -65,7 +65,7 @@ below_from p (x ∷ xs) j (suc c) =
     let s : j + suc c ≡ j + 1 + c = omega arith in
     below_chosen (p x) j (j + suc c) (position_from p (j + 1) xs) (list_any p (take c xs)) (λ e. lt_more j c ∙ ap (λ b. b || list_any p (take c xs)) (sym e)) (ap (is_below (position_from p (j + 1) xs)) s ∙ below_from p xs (j + 1) c)
 
--- an operation has come among the first names exactly where it comes first there
+-- an operation has come among the first names if and only if it comes first there
 pub below_first : {X : Type 0} (p : X → Bool) (xs : List X) (c : ℕ) → is_below (position_from p 0 xs) c ≡ list_any p (take c xs)
 below_first p xs c = let s : c ≡ 0 + c = omega arith in ap (is_below (position_from p 0 xs)) s ∙ below_from p xs 0 c
 

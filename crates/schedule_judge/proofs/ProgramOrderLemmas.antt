@@ -19,7 +19,7 @@ descend h a closed (suc k) e =
     let s : a + k + 1 ≡ a + suc k = omega arith in
     descend h a closed k (closed (a + k) (omega arith) (ap h s ∙ e))
 
--- where each place holds if the next does, all of a range hold exactly where the last does
+-- where each place holds if the next does, all of a range hold if and only if the last does
 all_range : (h : ℕ → Bool) (a n : ℕ) → ((k : ℕ) → a ≤ k → h (k + 1) ≡ true → h k ≡ true) → list_all h (range_with_len a (suc n)) ≡ h (a + n)
 all_range h a zero closed = let s : a ≡ a + 0 = omega arith in and-true (h a) ∙ ap h s
 all_range h a (suc n) closed =
@@ -29,7 +29,7 @@ all_range h a (suc n) closed =
 abbrev come_at : List OpName → List ℕ → ℕ → Bool
 come_at names process k = has_come names (record { process = process; place = k })
 
--- the first operations of a process have come exactly where the last of them has
+-- the first operations of a process have come if and only if the last of them has
 pub first_have_come : (names : List OpName) (process : List ℕ) (n : ℕ) → IsInProgramOrder names → list_all (has_come names) (first_names process (suc n)) ≡ has_come names (record { process = process; place = suc n })
 first_have_come names process n order =
     let s : 1 + n ≡ suc n = omega arith in

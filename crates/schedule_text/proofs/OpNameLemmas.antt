@@ -20,7 +20,7 @@ use Rattle.traces.specs.Names.{is_name, may_be_in_name}
 use Rattle.traces.specs.Place.{place_of}
 use Rattle.schedule_text.specs.ScheduleText.{name_word, is_op_name, is_dot, name_fault}
 
--- an element passes exactly where the first place that passes is within the list
+-- an element passes if and only if the first place that passes is within the list
 found_within_of : (b any : Bool) (m n : ℕ) → (b || any) ≡ true → (any ≡ true → m < n) → cond (not b) (1 + m) 0 < suc n
 found_within_of true any m n h more = omega arith
 found_within_of false any m n h more = omega (arith, more h)

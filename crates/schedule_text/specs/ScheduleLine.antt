@@ -22,6 +22,6 @@ pub record IsNameLine (earlier : ℕ) (line : List ℕ) (n : OpName) : Type 0 wh
 abbrev pub line_fault : ℕ → List ℕ → Option ScheduleCause
 line_fault earlier line = if is_skipped (words_of line) then None else schedule_words_fault earlier (words_of line)
 
--- a refusal of the line of this number tells what is wrong with it, or that there was no memory
+-- a refusal of the line of this number says what is wrong with it, or that there was no memory
 abbrev pub IsLineRefusal : ℕ → List ℕ → ℕ → Fault ScheduleCause → Type 0
 IsLineRefusal earlier line number fault = IsRefusalAt (λ cause. line_fault earlier line ≡ Some cause) number fault

@@ -114,7 +114,7 @@ fn name_on_line(
 ///
 /// A line has one word, the name of an operation as in `P.1`. Blank lines and lines whose first word begins with `#` are
 /// skipped, whatever they hold. The error is the first fault of the text, with its line, counted from 1, or
-/// `OutOfMemory`, which tells nothing of the text.
+/// `OutOfMemory`, which says nothing of the text.
 pub fn read_schedule(alloc: Global, text: &[u8]) -> Result<Schedule, ScheduleFault>
     ensures spelled { IfOk result (λ schedule. SpellsSchedule text.now schedule) }
     ensures faulty { IfErr result (λ fault. IsRefusal (HasScheduleFault text.now) fault) }

@@ -20,7 +20,7 @@ const TRANSITIVITY: [&[i32]; 8] = [
 ];
 
 /// Some random clauses, the transitivity of an order of four, and more random clauses, over ten variables of which the first six
-/// are those of the order. How many clauses come first is told too.
+/// are those of the order. How many clauses come first is reported too.
 fn random_order(alloc: Global, random: &mut Random) -> Result<(Formula, u32), AllocError> {
     let mut clauses: Vec<Clause> = Vec::new(alloc);
     let mut first: u32 = 1;

@@ -24,7 +24,7 @@ pub struct Mistake {
     pub readers: u32,
     /// The writers, counted around.
     pub writers: u32,
-    /// The one variable of which something is wrong, counted from 1 behind those of the order. 0: all are.
+    /// The one variable of which something is wrong, counted from 1 after those of the order. 0: all are.
     pub only: u32,
 }
 
@@ -38,7 +38,7 @@ impl Mistake {
         only: 0,
     };
 
-    /// What is wrong of the variable of this number behind those of the order.
+    /// What is wrong of the variable of this number after those of the order.
     fn of(self, number: u32) -> Mistake {
         if self.only == 0 || self.only == number {
             self
@@ -97,7 +97,7 @@ impl Made {
         stored.wrapping_add(1)
     }
 
-    /// What is wrong in what is told of this variable.
+    /// What is wrong in what is reported of this variable.
     fn mistake_of(&self, variable: u32) -> Mistake {
         let pairs = self.elements.wrapping_mul(self.elements.wrapping_sub(1)) / 2;
         self.mistake.of(variable.wrapping_sub(pairs))
@@ -108,7 +108,7 @@ impl Made {
         element.wrapping_add(by) % self.elements.max(1)
     }
 
-    /// What is told of a choice.
+    /// What is reported of a choice.
     fn told(&self, choice: Choice) -> Choice {
         let mistake = self.mistake_of(choice.variable);
         let writer = match choice.writer {
@@ -123,7 +123,7 @@ impl Made {
         }
     }
 
-    /// What is told of a last writer.
+    /// What is reported of a last writer.
     fn told_of_last(&self, last: LastWriter) -> LastWriter {
         let mistake = self.mistake_of(last.variable);
         LastWriter {
@@ -169,7 +169,7 @@ fn add_order(alloc: Global, made: &mut Made) -> Result<(), AllocError> {
     Ok(())
 }
 
-/// Adds the clauses of one choice, and tells of it.
+/// Adds the clauses of one choice, and reports it.
 fn add_choice(
     alloc: Global,
     made: &mut Made,
@@ -254,7 +254,7 @@ fn add_reader(
     Ok(())
 }
 
-/// Adds the clauses of a last writer, and tells of it. The clause which says that there is one has this number.
+/// Adds the clauses of a last writer, and reports it. The clause which says that there is one has this number.
 fn add_last_writer(
     alloc: Global,
     made: &mut Made,

@@ -1,4 +1,4 @@
--- The stop word: the least of all marks. What each seat knows of it, and what a step on it tells.
+-- The stop word: the least of all marks. What each seat knows of it, and what a step on it says.
 use Rattle.std.specs.Prelude.{◌≡◌, ◌≢◌, ℕ, ◌+◌, ◌<◌, ◌≤◌, ◌↔◌, List, [], ◌∷◌, ◌++◌, min, Option, Some, None}
 use Rattle.std.specs.List.{All, Contains, flat_map}
 use mathlib.Core.Option.{some}
@@ -42,7 +42,7 @@ pub record MeetsRule (word : ℕ) (views : List View) : Type 0 where
   pub each : (id : ℕ) (v : View) → get_elem? views id ≡ some v → Fits word v
   pub parts : parts_in views ≡ 8
 
--- What the rule says of the word: it is nothing exactly where no seat has marked; else it is the mark of some seat; and no seat has
+-- What the rule says of the word: it is nothing if and only if no seat has marked; else it is the mark of some seat; and no seat has
 -- marked or been shown a lower number.
 pub record IsStopWord (word : ℕ) (views : List View) : Type 0 where
   pub none : word ≡ nothing ↔ marks_in views ≡ []

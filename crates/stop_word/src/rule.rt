@@ -14,14 +14,14 @@ impl TableRule<u8, View, ()> for LeastMark {
     ghost first = { λ _. view_of [] nothing 8 };
 }
 
-/// What a look tells.
+/// What a look says.
 pub struct Looking;
 
 impl Play<u8, View> for Looking {
     ghost then = { λ _ before shown after. Looks before.0 shown after.0 × (after.1 ≡ before.1) };
 }
 
-/// What a mark tells.
+/// What a mark says.
 pub struct Marking;
 
 impl Play<u8, View> for Marking {

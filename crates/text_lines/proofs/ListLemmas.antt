@@ -12,7 +12,7 @@ pub none_passes : {A : Type 0} (xs : List A) → list_any (λ (x : A). false) xs
 none_passes [] = refl
 none_passes (x ∷ xs) = none_passes xs
 
--- the element behind the front of a list
+-- the element after a prefix of a list
 pub get_behind : {A : Type 0} (xs : List A) (y : A) (ys : List A) → slice_get (xs ++ y ∷ ys) (length xs) ≡ Some y
 get_behind [] y ys = refl
 get_behind (x ∷ xs) y ys = get_behind xs y ys

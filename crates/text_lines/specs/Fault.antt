@@ -24,7 +24,7 @@ fault_place (At cause place) = Some place
 abbrev pub printed : {C : Type 0} → (C → ℕ) → (C → List ℕ) → Fault C → List ℕ
 printed number name fault = printed_at (fault_number number fault) (fault_name name fault) (fault_place fault)
 
--- A fault tells the truth where this holds of its cause and its place. That memory ran out tells nothing.
+-- A fault is true where this holds of its cause and its place. That memory ran out says nothing.
 abbrev pub IsRefusal : {C : Type 0} → (C → ℕ → Type 0) → Fault C → Type 0
 IsRefusal HasFault OutOfMemory = ⊤
 IsRefusal HasFault (At cause place) = HasFault cause place

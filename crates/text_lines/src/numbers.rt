@@ -109,7 +109,7 @@ pub fn read_solver_number(word: &[u8]) -> Option<SolverNumber>
     })
 }
 
-/// A word is a plain number of this value exactly where it is how the value is written in decimal.
+/// A word is a plain number of this value if and only if it is how the value is written in decimal.
 pub fn plain_exactly_decimal()
     ensures { (word : List ℕ) (n : ℕ) → n < 2 ^ 64 → (plain_number word ≡ Some n) ↔ (word ≡ decimal n) }
 {}

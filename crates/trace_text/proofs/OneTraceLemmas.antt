@@ -57,7 +57,7 @@ first_byte words = get_or (get_or words 0 []) 0 0
 same_first : (a b : List (List ℕ)) → a ≡ b → first_byte a ≡ first_byte b
 same_first a b e = ap first_byte e
 
--- a line tells the operation
+-- a line gives the operation
 same_op : (a b : Op) → is_written_op a ≡ true → is_written_op b ≡ true → op_line a ≡ op_line b → a ≡ b
 same_op (Read l v o) (Read m w p) h k e =
     let first = read_parts l v o h in
@@ -130,7 +130,7 @@ same_processes (p ∷ ps) (q ∷ qs) h k e =
     let tail = same_processes ps qs first.1 second.1 ops.1 in
     (λ i. record { name = name i; operations = ops.0 i } ∷ tail i)
 
--- a line tells the pair
+-- a line gives the pair
 same_pair : (a b : OpName × OpName) → is_written_pair a ≡ true → is_written_pair b ≡ true → before_line a ≡ before_line b → a ≡ b
 same_pair a b h k e =
     let first = and_parts (is_written_name a.0) (is_written_name a.1) h in
@@ -143,7 +143,7 @@ same_pair a b h k e =
     let other = same_op_name a.1 b.1 first.1 second.1 back back_place in
     (λ i. (one i, other i))
 
--- a line tells the location and the value
+-- a line gives the location and the value
 abbrev entry_of : List (List ℕ) → List ℕ × ℕ
 entry_of words = (get_or words 1 [], digits_value 10 (get_or words 2 []))
 

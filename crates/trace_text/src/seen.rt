@@ -41,7 +41,7 @@ fn has_name<'a>(table: &NameTable<'a>, name: &'a [u8]) -> bool
 }
 
 impl<'a> Seen<'a> {
-    /// What no line tells.
+    /// What no line says.
     pub fn new(alloc: Global) -> Seen<'a>
         ensures { IsSeen [] result }
     {

@@ -37,7 +37,7 @@ slot_at [] leaf h = absurd (omega arith)
 slot_at (x ∷ slots) zero h = (x, refl)
 slot_at (x ∷ slots) (suc leaf) h = slot_at slots leaf (omega arith)
 
--- the two elements after the same front
+-- the two elements after the same prefix
 two_same : (before : List (List ℤ)) (a b c d : List ℤ) (after rest : List (List ℤ)) → before ++ (a ∷ (b ∷ after)) ≡ before ++ (c ∷ (d ∷ rest)) → (a ≡ c) × (b ≡ d)
 two_same [] a b c d after rest e = (cc, cc)
 two_same (x ∷ before) a b c d after rest e = two_same before a b c d after rest (cc)

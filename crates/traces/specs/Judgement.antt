@@ -67,7 +67,7 @@ fault_of_whole t names =
     else if not (list_all (λ (entry : List ℕ × ℕ). is_held (value_after t entry.0 names) entry.1) t.final_values) then Some WrongFinal
     else None
 
--- what is said of a list of names: it is legal where nothing is wrong, and else its first fault is told
+-- what is said of a list of names: it is legal where nothing is wrong, and else its first fault is reported
 abbrev pub IsJudgement : TraceValue → List OpName → Judgement → Type 0
 IsJudgement t names Legal = IsFaultless (fault_at t) names × (fault_of_whole t names ≡ None)
 IsJudgement t names (Illegal cause place) = IsFirstFault (fault_at t) names place cause

@@ -8,7 +8,7 @@ ghost use Rattle.traces.specs.Judgement.{IsJudgement};
 ghost use Rattle.traces.specs.Legal.{IsLegal};
 ghost use Rattle.traces.specs.Trace.{TraceValue, IsTrace};
 
-/// A list of names has no fault exactly where it is a legal schedule.
+/// A list of names has no fault if and only if it is a legal schedule.
 pub fn legal_exactly_where_faultless()
     ensures { (t : TraceValue) (names : List OpName) → IsTrace t → IsJudgement t names Legal ↔ IsLegal t names }
 {}

@@ -106,7 +106,7 @@ impl Trace {
         self.initial.as_slice()
     }
 
-    /// The final value of each location of which the trace tells one.
+    /// The final value of each location of which the trace gives one.
     pub fn final_values(&self) -> &[(Name, u64)]
         ensures { result.now ≡ self.now.final_values }
     {

@@ -108,7 +108,7 @@ module _ {A : Type 0} (said : List (List ℕ) → Result A Fault → Type 0) (te
   written (Err (Cert cause place)) w = absurd w
   written (Err (Search fault)) w = absurd w
 
-  -- while it is made, and the sink fails or memory runs out after a front
+  -- while it is made, and the sink fails or memory runs out after a prefix
   pub cut_off : (fault : SinkFault) → AppendsFront out.before out.now (text_of answer) → out.failures_now ≡ out.failures_before + failures_told fault →
       IsRunOfEngine InPieces said (λ a. text_of a ∷ []) status_of sources (out ∷ []) (Err (fault_of_sink fault))
   cut_off NoRoom front counts = inr (record { answer = answer; reads = reads; stopped = inl ((front, omega (arith, counts)), tt) })

@@ -32,7 +32,7 @@ one_or_other x n front back c =
       ]
     ]
 
--- what stands in this order behind a name stands so with the name
+-- what stands in this order after a name stands so with the name
 behind : (x : OpName) (xs : List OpName) (m n : OpName) → StandsBefore xs m n → StandsBefore (x ∷ xs) m n
 behind x xs m n (front, middle, back, parts) = (x ∷ front, middle, back, ap (λ (l : List OpName). x ∷ l) parts)
 

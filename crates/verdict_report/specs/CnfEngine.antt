@@ -32,7 +32,7 @@ abbrev pub IsRunOfCnf : SourceRun → SinkRun → Result Status Fault → Type 0
 IsRunOfCnf trace out =
     IsRunOfEngine InPieces (of_one IsReducedFrom) (λ reduced. cnf_of reduced.whole ∷ []) cnf_status (trace ∷ []) (out ∷ [])
 
--- the source handed out the text of a trace, and the sink took that of a formula over its variables, which has a model exactly where
+-- the source handed out the text of a trace, and the sink took that of a formula over its variables, which has a model if and only if
 -- the whole trace has a legal schedule
 pub record MeansSchedulable (trace : SourceRun) (out : SinkRun) : Type 0 where
   pub text : List ℕ

@@ -26,7 +26,7 @@ use Rattle.verdict_report.specs.declared.reading.ReadFault.TheVariants.{OutOfMem
 use Rattle.verdict_report.specs.declared.status.Status.{Status}
 use Rattle.verdict_report.specs.declared.status.Status.TheVariants.{Yes, No, Unknown}
 
--- what is told of a fault: what refused, the number where it is printed, the name, and what stands after `at`
+-- what is reported of a fault: what refused, the number where it is printed, the name, and what stands after `at`
 pub record Told : Type 0 where
   pub area : List ℕ
   pub number : Option ℕ
@@ -78,7 +78,7 @@ printed_parts area (Some number) name place = area ++ (codes " " ++ printed_at n
 abbrev pub printed : Fault → List ℕ
 printed fault = printed_parts (told fault).area (told fault).number (told fault).name (told fault).place
 
--- the line that tells it
+-- the line that reports it
 abbrev pub line_of : Fault → List ℕ
 line_of fault = codes "refused: " ++ (printed fault ++ codes "\n")
 

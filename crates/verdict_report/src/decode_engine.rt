@@ -17,7 +17,6 @@ use reducer::reduced::{Reduced, reduce};
 use schedule_decode::decode_model::decode_model;
 use schedule_text::schedule_writer::write_schedule;
 use std::alloc::Global;
-use std::thread::Threads;
 use trace_text::trace_reader::read_trace;
 use traces::schedule::Schedule;
 
@@ -27,9 +26,8 @@ use traces::schedule::Schedule;
 /// Both texts are read whole, in this order, before either is parsed; then the trace is reduced. The first refusal stands:
 /// of a source that fails, an input past the limit, the trace's text, the model's text, a trace of which more than 160
 /// operations are kept, truth values that are no model, lack of memory, or the sink.
-pub fn run_decode<R: Threads + Sync, T: Source, M: Source, W: Sink>(
+pub fn run_decode<T: Source, M: Source, W: Sink>(
     alloc: Global,
-    rt: &R,
     trace: &mut T,
     model: &mut M,
     out: &mut W,
@@ -41,36 +39,26 @@ pub fn run_decode<R: Threads + Sync, T: Source, M: Source, W: Sink>(
         result }
 {
     let texts = read_two(alloc, trace, model)?;
-    let schedule = decode_texts(alloc, rt, texts.0.as_slice(), texts.1.as_slice())?;
+    let schedule = decode_texts(alloc, texts.0.as_slice(), texts.1.as_slice())?;
     write_names(alloc, &schedule, out)
 }
 
 /// The schedule of the trace that the first text spells, by the model that the second one spells.
-fn decode_texts<R: Threads + Sync>(
-    alloc: Global,
-    rt: &R,
-    trace_text: &[u8],
-    model_text: &[u8],
-) -> Result<Schedule, Fault>
+fn decode_texts(alloc: Global, trace_text: &[u8], model_text: &[u8]) -> Result<Schedule, Fault>
     ensures { IsSaidOfModel trace_text.now model_text.now result }
 {
     let trace = read_trace(alloc, trace_text)?;
     let model = read_model(alloc, model_text)?;
     let reduced = reduce(alloc, &trace)?;
-    decode_reduced(alloc, rt, &reduced, &model)
+    decode_reduced(alloc, &reduced, &model)
 }
 
 /// The schedule of the whole trace, by a model of what is kept of it.
-fn decode_reduced<R: Threads + Sync>(
-    alloc: Global,
-    rt: &R,
-    reduced: &Reduced,
-    model: &Assignment,
-) -> Result<Schedule, Fault>
+fn decode_reduced(alloc: Global, reduced: &Reduced, model: &Assignment) -> Result<Schedule, Fault>
     requires { IsReduced reduced.now }
     ensures { IsDecodedFrom reduced.now model.now result }
 {
-    let kept = decode_model(alloc, rt, reduced, model)?;
+    let kept = decode_model(alloc, reduced, model)?;
     Ok(expand(alloc, reduced, &kept)?)
 }
 

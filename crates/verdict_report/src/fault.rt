@@ -62,7 +62,7 @@ pub enum Fault {
     Search(SearchFault),
 }
 
-/// What is told of a fault.
+/// What is reported of a fault.
 #[derive(Drop)]
 pub(crate) struct Told {
     /// What refused.
@@ -94,7 +94,7 @@ impl fmt::Display for Told {
     }
 }
 
-/// What is told of a cause at a place.
+/// What is reported of a cause at a place.
 fn located<C: Cause>(area: &'static str, cause: &C, place: usize) -> Told
     ensures area { result.area.now ≡ area.now }
     ensures number { result.number ≡ Some (C.number_of cause.now) }
@@ -113,7 +113,7 @@ impl Fault {
     ghost use Rattle.std.specs.Prelude.{◌≡◌};
     ghost use Rattle.verdict_report.specs.Fault.{told, area_of, number_of, name_of, place_of};
 
-    /// What is told of it.
+    /// What is reported of it.
     pub(crate) fn told(&self) -> Told
         ensures area { result.area.now ≡ (told self.now).area }
         ensures number { result.number ≡ (told self.now).number }

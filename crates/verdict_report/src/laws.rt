@@ -43,7 +43,7 @@ pub fn never_admitted_and_refused()
         Admits text value → HasTraceFault text cause line → ⊥ }
 {}
 
-/// The clauses that are written have a model exactly where the whole trace has a legal schedule.
+/// The clauses that are written have a model if and only if the whole trace has a legal schedule.
 pub fn satisfiable_exactly_where_schedulable()
     ensures { (text : List ℕ) (value : TraceValue) → Admits text value →
         ((truth : ℕ → Bool) × IsModel truth (clauses_of (kept_trace value))) ↔ ((names : List OpName) × IsLegal value names) }

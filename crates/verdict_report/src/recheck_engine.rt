@@ -15,7 +15,6 @@ use clause_blocks::trace_clauses::TraceClauses;
 use dimacs::{Sink, write_whole};
 use reducer::reduced::{Reduced, reduce};
 use std::alloc::Global;
-use std::thread::Threads;
 use trace_text::trace_reader::read_trace;
 
 /// Checks that the certificate of the second source shows that the trace of the first has no legal schedule, and writes
@@ -26,9 +25,8 @@ use trace_text::trace_reader::read_trace;
 /// that fails, an input past the limit, the trace's text, the certificate's text, a trace of which more than 160 operations are kept,
 /// a section that is a stranger or a double, the lowest leaf that has none, the lowest leaf whose derivation is refused, lack of
 /// memory, or the sink.
-pub fn run_recheck<R: Threads + Sync, T: Source, C: Source, W: Sink>(
+pub fn run_recheck<T: Source, C: Source, W: Sink>(
     alloc: Global,
-    rt: &R,
     trace: &mut T,
     cert: &mut C,
     out: &mut W,

@@ -1,4 +1,4 @@
-//! The line that tells a refusal.
+//! The line that reports a refusal.
 
 ghost use Rattle.std.specs.Prelude.{◌≡◌, ◌++◌, OnOk, OnErr};
 ghost use Rattle.dimacs.specs.Sink.{AppendsFront};
@@ -8,7 +8,7 @@ use crate::fault::Fault;
 use dimacs::{Sink, SinkFault, write_whole};
 use std::alloc::Global;
 
-/// Writes the line that tells the fault, as `refused: trace 13 TooManyOps at 4099`.
+/// Writes the line that reports the fault, as `refused: trace 13 TooManyOps at 4099`.
 pub fn write_fault<W: Sink>(alloc: Global, fault: &Fault, out: &mut W) -> Result<(), SinkFault>
     ensures whole { OnOk result (W.written out.new ≡ W.written out.old ++ line_of fault.now) }
     ensures front { OnErr result (AppendsFront (W.written out.old) (W.written out.new) (line_of fault.now)) }

@@ -1,7 +1,7 @@
 //! The program `vsc`: its files, its standard streams and its exit status.
 #![tactic(auto)]
 
-ghost use Rattle.std.specs.Prelude.{◌≡◌, ◌≤◌, ◌⊎◌, IfOk, map, string_bytes};
+ghost use Rattle.std.specs.Prelude.{◌≡◌, ◌⊎◌, IfOk, map, string_bytes};
 ghost use Rattle.command_line.specs.CommandLine.{AreSearchNumbers, IsWithinRanges};
 ghost use Rattle.command_line.specs.LineFault.{status_of};
 ghost use Rattle.verdict_report.specs.CnfEngine.{IsRunOfCnf};
@@ -53,34 +53,22 @@ fn judge_files(rt: &HostRuntime, trace: &str, schedule: &str) -> Result<Status, 
 }
 
 /// Writes the clause list of the trace in the file at this path to the standard output.
-fn translate_file(
-    rt: &HostRuntime,
-    threads: &(impl Threads + Sync),
-    trace: &str,
-    workers: u32,
-) -> Result<Status, Fault>
-    requires some { 1 ≤ workers }
-    requires few { workers ≤ 8 }
+fn translate_file(rt: &HostRuntime, trace: &str) -> Result<Status, Fault>
     ensures { RunsOnFile IsRunOfCnf trace.now result }
 {
     let mut trace = FileSource::new(rt, trace);
     let mut output = StreamSink::new(rt.stdout());
-    run_cnf(rt.alloc(), threads, &mut trace, workers, &mut output)
+    run_cnf(rt.alloc(), &mut trace, &mut output)
 }
 
 /// Writes the schedule of the trace in one file by the model in the other to the standard output.
-fn decode_files(
-    rt: &HostRuntime,
-    threads: &(impl Threads + Sync),
-    trace: &str,
-    model: &str,
-) -> Result<Status, Fault>
+fn decode_files(rt: &HostRuntime, trace: &str, model: &str) -> Result<Status, Fault>
     ensures { RunsOnFiles IsRunOfDecode trace.now model.now result }
 {
     let mut trace = FileSource::new(rt, trace);
     let mut model = FileSource::new(rt, model);
     let mut output = StreamSink::new(rt.stdout());
-    run_decode(rt.alloc(), threads, &mut trace, &mut model, &mut output)
+    run_decode(rt.alloc(), &mut trace, &mut model, &mut output)
 }
 
 /// Checks the proof in one file for the formula in the other, and writes the answer to the standard output.
@@ -94,18 +82,13 @@ fn check_files(rt: &HostRuntime, cnf: &str, proof: &str) -> Result<Status, Fault
 }
 
 /// Checks the certificate in one file for the trace in the other, and writes the answer to the standard output.
-fn recheck_files(
-    rt: &HostRuntime,
-    threads: &(impl Threads + Sync),
-    trace: &str,
-    cert: &str,
-) -> Result<Status, Fault>
+fn recheck_files(rt: &HostRuntime, trace: &str, cert: &str) -> Result<Status, Fault>
     ensures { RunsOnFiles IsRunOfRecheck trace.now cert.now result }
 {
     let mut trace = FileSource::new(rt, trace);
     let mut cert = FileSource::new(rt, cert);
     let mut output = StreamSink::new(rt.stdout());
-    run_recheck(rt.alloc(), threads, &mut trace, &mut cert, &mut output)
+    run_recheck(rt.alloc(), &mut trace, &mut cert, &mut output)
 }
 
 /// The options of a search of these numbers.
@@ -187,7 +170,7 @@ fn decide_gated<G: Gate + Sync>(
     }
 }
 
-/// Decides whether the trace in the file at this path has a legal schedule. The progress is told on standard error, where it is
+/// Decides whether the trace in the file at this path has a legal schedule. The progress is reported on standard error, where it is
 /// asked for.
 fn verify_file(
     rt: &HostRuntime,
@@ -217,10 +200,10 @@ fn run_engine(
 {
     match line {
         Line::Judge { trace, schedule } => judge_files(rt, trace, schedule),
-        Line::Cnf { trace, workers } => translate_file(rt, threads, trace, workers),
-        Line::Decode { trace, model } => decode_files(rt, threads, trace, model),
+        Line::Cnf { trace, .. } => translate_file(rt, trace),
+        Line::Decode { trace, model } => decode_files(rt, trace, model),
         Line::Lrat { cnf, proof } => check_files(rt, cnf, proof),
-        Line::Recheck { trace, cert } => recheck_files(rt, threads, trace, cert),
+        Line::Recheck { trace, cert } => recheck_files(rt, trace, cert),
         Line::Verify {
             trace,
             cert,
@@ -230,10 +213,10 @@ fn run_engine(
     }
 }
 
-/// Tells the fault on standard error, or that there is no memory for its line.
+/// Reports the fault on standard error, or that there is no memory for its line.
 fn tell_fault(rt: &HostRuntime, fault: &Fault) {
     let mut error = StreamSink::new(rt.stderr());
-    // Where standard error is closed too, the exit status alone tells.
+    // Where standard error is closed too, only the exit status says so.
     if let Err(SinkFault::OutOfMemory) = write_fault(rt.alloc(), fault, &mut error) {
         let _ = write_fault(rt.alloc(), &Fault::OutOfMemory, &mut error);
     }

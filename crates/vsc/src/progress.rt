@@ -1,9 +1,9 @@
-//! The progress of a search, told on standard error.
+//! The progress of a search, reported on standard error.
 use cube_queue::Gate;
 use std::sync::atomic::{AtomicU64, Ordering};
 use std::time::Instant;
 
-/// A gate that tells each cube that is taken or settled: its number, the worker, the seconds since the start, and how many are
+/// A gate that reports each cube that is taken or settled: its number, the worker, the seconds since the start, and how many are
 /// settled. Nothing depends on it.
 #[derive(Drop)]
 pub struct Progress<'a> {
@@ -33,7 +33,7 @@ impl<'a> Progress<'a> {
         }
     }
 
-    /// Tells what became of a cube. Where standard error fails, nothing is told.
+    /// Reports what became of a cube. Where standard error fails, nothing is reported.
     fn tell(&self, what: &str, worker: u32, ticket: u32, settled: u64) {
         let seconds = self.seconds();
         let _ = eprintln!(self.rt;

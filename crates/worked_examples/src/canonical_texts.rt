@@ -91,7 +91,7 @@ fn push_line(rt: &impl Abort, text: &mut String, line: Result<String, AllocError
     ample(rt, text.push_str(ample(rt, line).as_str()));
 }
 
-/// The text of a process of 4,096 operations, of which the first one stands before all others and behind the last one.
+/// The text of a process of 4,096 operations, of which the first one stands before all others and after the last one.
 fn large_text(rt: &impl Abort, alloc: Global) -> String {
     let mut text = ample(rt, String::from_str(alloc, "vsc 2\nproc P\n"));
     for number in 1..=4096u32 {

@@ -37,7 +37,7 @@ fn takes_so_many_bytes_a_call(rt: HostRuntime) {
     assert!(rt; sink.as_slice() == TEXT.as_bytes());
 }
 
-/// Asserts that a sink that fails at this call has this front of the text, and takes the rest then: it fails once.
+/// Asserts that a sink that fails at this call has this prefix of the text, and takes the rest then: it fails once.
 fn assert_front(rt: &impl Abort, alloc: Global, call: usize, front: &[u8], rest: &[u8]) {
     let mut sink = ShortSink::new(alloc, 1).failing_at(call as u64);
     let is_written = write_whole(&mut sink, TEXT.as_bytes()).is_ok();
@@ -64,7 +64,7 @@ fn is_read(alloc: Global, most: usize) -> bool {
     }
 }
 
-/// Whether it is told that the source fails at this call.
+/// Whether it is reported that the source fails at this call.
 fn is_failure_told(alloc: Global, call: usize) -> bool {
     let mut source = ShortSource::new(TEXT.as_bytes(), 1).failing_at(call as u64);
     matches!(read_whole(alloc, &mut source), Err(ReadFault::Device))

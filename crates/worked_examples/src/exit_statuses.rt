@@ -85,7 +85,7 @@ const FAULTS: [(Fault, u8, &str); 14] = [
     ),
 ];
 
-/// Asserts what is told of a fault. The derived text is the line's, without the word before it.
+/// Asserts what is reported of a fault. The derived text is the line's, without the word before it.
 fn assert_told(rt: &impl Abort, alloc: Global, fault: Fault, status: u8, line: &str) {
     let mut error = MemorySink::new(alloc);
     let told = write_fault(alloc, &fault, &mut error).is_ok();

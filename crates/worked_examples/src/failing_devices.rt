@@ -12,7 +12,7 @@ const HAND_OFF: &str = "vsc 1\nproc P\nW x 1\nproc Q\nR x 1\n";
 /// The order that explains the read of the hand-off.
 const SCHEDULE: &str = "P.1\nQ.1\n";
 
-/// A source of the text that hands out a byte a call, and fails at this call. The call after the last byte tells the
+/// A source of the text that hands out a byte a call, and fails at this call. The call after the last byte reports the
 /// end.
 fn failing_at(text: &str, call: usize) -> ShortSource<'_> {
     ShortSource::new(text.as_bytes(), 1).failing_at(call as u64)
@@ -71,7 +71,7 @@ fn reads_both_texts_before_it_judges_one(rt: HostRuntime) {
     );
 }
 
-/// Asserts what is answered and written where the sink fails at this call: this front of the line.
+/// Asserts what is answered and written where the sink fails at this call: this prefix of the line.
 fn assert_front_of_line(
     rt: &impl Abort,
     alloc: Global,
@@ -88,7 +88,7 @@ fn assert_front_of_line(
     expect(rt, output.as_slice() == front, call);
 }
 
-/// Asserts what is answered and written where the sink fails at each of its calls, and behind the last one.
+/// Asserts what is answered and written where the sink fails at each of its calls, and after the last one.
 fn assert_fronts(rt: &impl Abort, alloc: Global, schedule: &str, status: Status, line: &[u8]) {
     for call in 1..=line.len() {
         let answer = Err(Fault::Device);
@@ -108,7 +108,7 @@ fn tells_each_failure_of_the_sink(rt: HostRuntime) {
 /// The line of a fault.
 const REFUSAL: &[u8] = b"refused: device\n";
 
-/// Asserts that the sink has this front of the line of a fault where it fails at this call.
+/// Asserts that the sink has this prefix of the line of a fault where it fails at this call.
 fn assert_front_of_refusal(rt: &impl Abort, alloc: Global, call: usize, front: &[u8]) {
     let mut error = ShortSink::new(alloc, 1).failing_at(call as u64);
     let told = write_fault(alloc, &Fault::Device, &mut error);

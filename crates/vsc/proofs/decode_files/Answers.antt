@@ -4,7 +4,7 @@ use Rattle.vsc.specs.FileSource.{file_run}
 use Rattle.vsc.proofs.decode_files.Goals as goal
 
 pub returns : goal.returns
-returns g c = record {
+returns c = record {
   first = file_run c.new-trace.result c.run_decode.new.trace;
   reads_first = record {
     before = c.new-trace.result;

@@ -4,7 +4,7 @@ use Rattle.vsc.specs.FileSource.{file_run}
 use Rattle.vsc.proofs.translate_file.Goals as goal
 
 pub returns : goal.returns
-returns g c = record {
+returns c = record {
   file = file_run c.new-trace.result c.run_cnf.new.trace;
   reads = record {
     before = c.new-trace.result;

@@ -7,11 +7,11 @@ use std::alloc::{AllocError, Global};
 
 /// Updates whose possible sources are all among them, as numbers of readers.
 #[derive(Drop)]
-pub struct Circle {
+pub struct Cycle {
     readers: Vec<u32>,
 }
 
-impl Circle {
+impl Cycle {
     /// The numbers of the readers.
     pub fn readers(&self) -> &[u32] {
         self.readers.as_slice()
@@ -125,7 +125,7 @@ fn reached_from(
 
 /// Looks for updates whose possible sources are all among them, so that none of them can be the first. The smallest set is taken of
 /// those to which one update leads.
-pub fn find_circle(alloc: Global, possible: &SourceSets) -> Result<Option<Circle>, AllocError> {
+pub fn find_cycle(alloc: Global, possible: &SourceSets) -> Result<Option<Cycle>, AllocError> {
     let (left, count) = without_outsiders(alloc, possible)?;
     if count == 0 {
         return Ok(None);
@@ -145,5 +145,5 @@ pub fn find_circle(alloc: Global, possible: &SourceSets) -> Result<Option<Circle
             smallest = reached;
         }
     }
-    Ok(Some(Circle { readers: smallest }))
+    Ok(Some(Cycle { readers: smallest }))
 }

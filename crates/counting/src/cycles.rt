@@ -5,7 +5,7 @@ use crate::log::Log;
 use crate::units::Units;
 use derivation_log::codes::NEVER;
 use order_closure::tables::size;
-use possible_sources::{Circle, Order, Reads};
+use possible_sources::{Cycle, Order, Reads};
 use std::alloc::{AllocError, Global};
 
 /// The operation of the reader.
@@ -46,21 +46,21 @@ fn add_clause(
 }
 
 /// Adds all lines. The last one is the empty clause.
-pub fn add_circle(
+pub fn add_cycle(
     alloc: Global,
     log: &mut Log,
     reads: &Reads,
     units: &Units,
-    circle: &Circle,
+    cycle: &Cycle,
     order: Order,
 ) -> Result<(), AllocError> {
-    let mut operations = Vec::with_capacity(alloc, circle.readers().len())?;
-    for reader in circle.readers() {
+    let mut operations = Vec::with_capacity(alloc, cycle.readers().len())?;
+    for reader in cycle.readers() {
         operations.push(operation_of(reads, *reader))?;
     }
-    let own = vec![in alloc; NEVER; circle.readers().len()]?;
+    let own = vec![in alloc; NEVER; cycle.readers().len()]?;
     let mut elimination = Elimination::of(alloc, order, Side::Before, operations, own)?;
-    for reader in circle.readers() {
+    for reader in cycle.readers() {
         add_clause(alloc, log, reads, units, &mut elimination, *reader)?;
     }
     let _clause = elimination.run(alloc, log)?;
