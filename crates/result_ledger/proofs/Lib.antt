@@ -1,6 +1,7 @@
 pub mod AnswerLemmas
 pub mod CoverLemmas
 pub mod DerivationLemmas
+pub mod OrderLemmas
 pub mod PieceLemmas
 pub mod RisingLemmas
 pub mod SlotLemmas

@@ -7,7 +7,8 @@ ghost use Rattle.cube_tree.specs.CubeTree.{CubeTree, leaves, cubes_of, with_spli
 ghost use Rattle.dimacs.specs.Formula.{FormulaValue, is_formula};
 ghost use Rattle.dimacs.specs.Literal.{is_clause};
 ghost use Rattle.dimacs.specs.Models.{IsModel};
-ghost use Rattle.result_ledger.specs.Ledger.{cubes_in, derivations_in, SplitsCube};
+ghost use Rattle.cube_queue.specs.declared.job.Settled.{Settled};
+ghost use Rattle.result_ledger.specs.Ledger.{cubes_in, derivations_in, Fills, SplitsCube};
 ghost use Rattle.result_ledger.specs.Verdict.{IsProofIn, IsVerdict, AgreeUpToModel};
 ghost use Rattle.result_ledger.specs.declared.slot.Slot.{Slot};
 ghost use Rattle.result_ledger.specs.declared.verdict.Verdict.{Verdict};
@@ -18,6 +19,12 @@ ghost use Rattle.result_ledger.specs.declared.verdict.Verdict.TheVariants.{Incon
 pub fn agreeing_ledgers_agree()
     ensures { (clauses : List (List ℤ)) (first second : List Slot) (one other : Verdict) →
         AgreeUpToModel clauses first second → IsVerdict clauses first one → IsVerdict clauses second other → one ≡ other }
+{}
+
+/// Two results that are entered one after the other may as well be entered the other way round: the ledger is then the same.
+pub fn entered_in_either_order()
+    ensures { (slots one both : List Slot) (first second : Settled) → Fills slots one first → Fills one both second →
+        (other : List Slot) × Fills slots other second × Fills other both first }
 {}
 
 /// Where the cubes cover and the verdict is that the formula is inconsistent, it has no model.
