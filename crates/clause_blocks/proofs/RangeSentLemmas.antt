@@ -12,22 +12,6 @@ use Rattle.clause_blocks.proofs.StepLemmas.{flat_upto}
 abbrev pub circle : ℤ → ℤ → ℤ → List (List ℤ)
 circle ij jk ik = (neg_ℤ ij ∷ neg_ℤ jk ∷ ik ∷ []) ∷ (ij ∷ jk ∷ neg_ℤ ik ∷ []) ∷ []
 
--- two lines, one after the other
-module _ (head : List ℕ) (a b : List ℤ) where
-  whole_line : (l : List ℤ) → clause_line l ≡ flat_map clause_line (l ∷ [])
-  whole_line l = sym (append-nil (clause_line l))
-
-  pub two_sent : (old between new kept kept' : List ℕ) → IsSent old between kept (head ++ clause_line a) → IsSent between new kept' (kept ++ clause_line b) → IsSent old new kept' (head ++ flat_map clause_line (a ∷ b ∷ []))
-  two_sent old between new kept kept' s t = sent_then old between new head kept kept' (a ∷ []) (b ∷ [])
-      (subst (λ l. IsSent old between kept (head ++ l)) (whole_line a) s) (subst (λ l. IsSent between new kept' (kept ++ l)) (whole_line b) t)
-
-  pub front_of_first : (old new : List ℕ) → AppendsFront old new (head ++ clause_line a) → AppendsFront old new (head ++ flat_map clause_line (a ∷ b ∷ []))
-  front_of_first old new f = front_of_both old new head (a ∷ []) (b ∷ []) (subst (λ l. AppendsFront old new (head ++ l)) (whole_line a) f)
-
-  pub front_of_second : (old between new kept : List ℕ) → IsSent old between kept (head ++ clause_line a) → AppendsFront between new (kept ++ clause_line b) → AppendsFront old new (head ++ flat_map clause_line (a ∷ b ∷ []))
-  front_of_second old between new kept s f = sent_then_front old between new head kept (a ∷ []) (b ∷ [])
-      (subst (λ l. IsSent old between kept (head ++ l)) (whole_line a) s) (subst (λ l. AppendsFront between new (kept ++ l)) (whole_line b) f)
-
 -- those of a pair i below j and each operation above j
 abbrev pub of_pair : ℕ → ℕ → ℕ → List (List ℤ)
 of_pair n i j = flat_map (no_circle n i j) (numbers_above n j)

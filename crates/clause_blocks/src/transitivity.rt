@@ -73,25 +73,6 @@ pub(crate) fn push_transitivity_from(
     Ok(())
 }
 
-/// Writes the lines of the two clauses of three operations i, j and k, by the literals of their pairs.
-#[inline]
-fn put_no_circle<W: Sink>(
-    ij: Lit,
-    jk: Lit,
-    ik: Lit,
-    writer: &mut CnfWriter,
-    sink: &mut W,
-) -> Result<(), Failed>
-    ensures sent { OnOk result (IsSent (W.written sink.old) (W.written sink.new) writer.new (writer.old ++ flat_map clause_line ((neg_ℤ ij ∷ neg_ℤ jk ∷ ik ∷ []) ∷ (ij ∷ jk ∷ neg_ℤ ik ∷ []) ∷ []))) }
-    ensures well { OnOk result (W.failures sink.new ≡ W.failures sink.old) }
-    ensures front { OnErr result (AppendsFront (W.written sink.old) (W.written sink.new) (writer.old ++ flat_map clause_line ((neg_ℤ ij ∷ neg_ℤ jk ∷ ik ∷ []) ∷ (ij ∷ jk ∷ neg_ℤ ik ∷ []) ∷ []))) }
-    ensures failed { OnErr result (W.failures sink.new ≡ W.failures sink.old + 1) }
-{
-    writer.put_line(&[ij.negated(), jk.negated(), ik], sink)?;
-    writer.put_line(&[ij, jk, ik.negated()], sink)?;
-    Ok(())
-}
-
 /// Writes the clauses of a pair i below j and each operation above j.
 fn put_of_pair<W: Sink>(
     layout: &Layout,
@@ -111,7 +92,7 @@ fn put_of_pair<W: Sink>(
     for k in j + 1..layout.operations() {
         let jk = layout.order_lit(j, k);
         let ik = layout.order_lit(i, k);
-        put_no_circle(ij, jk, ik, writer, sink)?;
+        writer.put_agreement(ij, jk, ik, sink)?;
     }
     Ok(())
 }

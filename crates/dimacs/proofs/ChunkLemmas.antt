@@ -85,3 +85,24 @@ on_err_map (Err e) f p = f p
 -- a prefix of what was kept was taken, and no more follows
 pub sent_last : (old between kept bytes new : List ℕ) → IsSent old between kept bytes → AppendsFront between new kept → AppendsFront old new bytes
 sent_last old between kept bytes new s f = subst (λ whole. AppendsFront old new whole) (append-nil bytes) (sent_part old between kept bytes new [] s f)
+
+-- two parts, one after the other
+module _ (head first second : List ℕ) where
+  both_parts : (head ++ first) ++ second ≡ head ++ (first ++ (second ++ []))
+  both_parts = append_assoc head first second ∙ ap (λ l. head ++ (first ++ l)) (sym (append-nil second))
+
+  -- both were made
+  pub both_sent : (old between new kept kept' : List ℕ) → IsSent old between kept (head ++ first) → IsSent between new kept' (kept ++ second) → IsSent old new kept' (head ++ (first ++ (second ++ [])))
+  both_sent old between new kept kept' s t =
+      subst (λ made. IsSent old new kept' made) both_parts
+      (sent_on old between (kept ++ second) ((head ++ first) ++ second) new kept' (sent_more old between kept (head ++ first) (kept ++ second) second s refl) t)
+
+  -- the sink failed at the first
+  pub first_front : (old new : List ℕ) → AppendsFront old new (head ++ first) → AppendsFront old new (head ++ (first ++ (second ++ [])))
+  first_front old new f = subst (λ made. AppendsFront old new made) both_parts (front-append old new (head ++ first) second f)
+
+  -- the sink failed at the second
+  pub second_front : (old between new kept : List ℕ) → IsSent old between kept (head ++ first) → AppendsFront between new (kept ++ second) → AppendsFront old new (head ++ (first ++ (second ++ [])))
+  second_front old between new kept s f =
+      subst (λ made. AppendsFront old new made) both_parts
+      (sent_last old between (kept ++ second) ((head ++ first) ++ second) new (sent_more old between kept (head ++ first) (kept ++ second) second s refl) f)

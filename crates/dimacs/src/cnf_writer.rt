@@ -1,10 +1,11 @@
 //! The writer of a formula's text.
-ghost use Rattle.std.specs.Prelude.{◌≡◌, ◌+◌, ◌≤◌, ◌++◌, length, take, IfOk, OnOk, OnErr, IfErr};
+ghost use Rattle.std.specs.Prelude.{◌≡◌, ◌+◌, ◌≤◌, [], ◌∷◌, ◌++◌, length, take, neg_ℤ, IfOk, OnOk, OnErr, IfErr};
 ghost use Rattle.std.specs.List.{flat_map};
 ghost use Rattle.dimacs.specs.CnfText.{header_line, clause_line, cnf_text};
 ghost use Rattle.dimacs.specs.Sink.{AppendsFront, IsSent};
 ghost use Rattle.dimacs.specs.SinkFault.{failures_told};
 
+use crate::agreement::{AGREEMENT, AgreementTexts};
 use crate::clause::Clause;
 use crate::formula::Formula;
 use crate::line_buffer::{HEADER, LITERAL, put_bytes, put_header, put_literal};
@@ -64,20 +65,6 @@ fn put_short_clause(literals: &[Lit], table: &VariableTable, buffer: &mut [u8], 
     put_bytes(b"0\n", buffer, end)
 }
 
-/// Writes the line of a clause of three literals, as nearly all clauses of an order are: one literal after the other, without a loop.
-#[inline(always)]
-fn put_ternary(literals: &[Lit], table: &VariableTable, buffer: &mut [u8], at: usize) -> usize
-    requires three { length literals.now ≡ 3 }
-    requires room { at + SHORT_LINE ≤ length buffer.old }
-    ensures within { result ≤ length buffer.new }
-    ensures written { take result buffer.new ≡ take at buffer.old ++ clause_line literals.now }
-{
-    let end = put_literal(literals[0], table, buffer, at);
-    let end = put_literal(literals[1], table, buffer, end);
-    let end = put_literal(literals[2], table, buffer, end);
-    put_bytes(b"0\n", buffer, end)
-}
-
 /// Writes the clause's line after what the buffer has. Where the buffer is full, the sink takes it.
 fn put_long_clause<W: Sink>(
     literals: &[Lit],
@@ -104,7 +91,6 @@ fn put_long_clause<W: Sink>(
 }
 
 /// Writes the line of the clause of these literals after what the buffer has. Where the buffer is full, the sink takes it.
-#[inline(always)]
 fn put_line<W: Sink>(
     literals: &[Lit],
     table: &VariableTable,
@@ -120,11 +106,7 @@ fn put_line<W: Sink>(
     ensures front { OnErr result (AppendsFront (W.written sink.old) (W.written sink.new) (take at buffer.old ++ clause_line literals.now)) }
     ensures failed { OnErr result (W.failures sink.new ≡ W.failures sink.old + 1) }
 {
-    let has_room = buffer.len() - at >= SHORT_LINE;
-    if literals.len() == 3 && has_room {
-        return Ok(put_ternary(literals, table, buffer, at));
-    }
-    if literals.len() <= SHORT && has_room {
+    if literals.len() <= SHORT && buffer.len() - at >= SHORT_LINE {
         return Ok(put_short_clause(literals, table, buffer, at));
     }
     put_long_clause(literals, table, buffer, at, sink)
@@ -151,6 +133,58 @@ fn put_clauses<W: Sink>(
         end = put_line(clause.as_slice(), table, buffer, end, sink)?;
     }
     Ok(end)
+}
+
+/// Writes the lines of the two clauses that say that three literals agree, one after the other.
+#[inline(never)]
+fn put_each_line<W: Sink>(
+    first: Lit,
+    second: Lit,
+    third: Lit,
+    table: &VariableTable,
+    buffer: &mut [u8],
+    at: usize,
+    sink: &mut W,
+) -> Result<usize, Failed>
+    requires within { at ≤ length buffer.old }
+    requires room { LITERAL ≤ length buffer.old }
+    ensures within { IfOk result (λ end. end ≤ length buffer.new) }
+    ensures sent { IfOk result (λ end. IsSent (W.written sink.old) (W.written sink.new) (take end buffer.new) (take at buffer.old ++ flat_map clause_line ((neg_ℤ first ∷ neg_ℤ second ∷ third ∷ []) ∷ (first ∷ second ∷ neg_ℤ third ∷ []) ∷ []))) }
+    ensures well { OnOk result (W.failures sink.new ≡ W.failures sink.old) }
+    ensures front { OnErr result (AppendsFront (W.written sink.old) (W.written sink.new) (take at buffer.old ++ flat_map clause_line ((neg_ℤ first ∷ neg_ℤ second ∷ third ∷ []) ∷ (first ∷ second ∷ neg_ℤ third ∷ []) ∷ []))) }
+    ensures failed { OnErr result (W.failures sink.new ≡ W.failures sink.old + 1) }
+{
+    let opposite = [first.negated(), second.negated(), third];
+    let kept = put_line(&opposite, table, buffer, at, sink)?;
+    let same = [first, second, third.negated()];
+    put_line(&same, table, buffer, kept, sink)
+}
+
+/// Writes the same two lines: at once, where the buffer has room and the table has the texts.
+#[inline(always)]
+fn put_agreement<W: Sink>(
+    first: Lit,
+    second: Lit,
+    third: Lit,
+    table: &VariableTable,
+    buffer: &mut [u8],
+    at: usize,
+    sink: &mut W,
+) -> Result<usize, Failed>
+    requires within { at ≤ length buffer.old }
+    requires room { LITERAL ≤ length buffer.old }
+    ensures within { IfOk result (λ end. end ≤ length buffer.new) }
+    ensures sent { IfOk result (λ end. IsSent (W.written sink.old) (W.written sink.new) (take end buffer.new) (take at buffer.old ++ flat_map clause_line ((neg_ℤ first ∷ neg_ℤ second ∷ third ∷ []) ∷ (first ∷ second ∷ neg_ℤ third ∷ []) ∷ []))) }
+    ensures well { OnOk result (W.failures sink.new ≡ W.failures sink.old) }
+    ensures front { OnErr result (AppendsFront (W.written sink.old) (W.written sink.new) (take at buffer.old ++ flat_map clause_line ((neg_ℤ first ∷ neg_ℤ second ∷ third ∷ []) ∷ (first ∷ second ∷ neg_ℤ third ∷ []) ∷ []))) }
+    ensures failed { OnErr result (W.failures sink.new ≡ W.failures sink.old + 1) }
+{
+    if buffer.len() - at >= AGREEMENT {
+        if let Some(texts) = AgreementTexts::of(first, second, third, table) {
+            return Ok(texts.put(buffer, at));
+        }
+    }
+    put_each_line(first, second, third, table, buffer, at, sink)
 }
 
 /// A formula's text, which goes to a sink piece by piece: its header, and then its clauses' lines.
@@ -202,22 +236,31 @@ impl CnfWriter {
         Ok(())
     }
 
-    /// Writes the line of the clause of these literals, which may stand anywhere. The writer keeps some of it.
+    /// Writes the lines of the two clauses which say that the third literal is what the first two are, where these are alike. The
+    /// writer keeps some of them.
     #[inline]
-    pub fn put_line<W: Sink>(&mut self, literals: &[Lit], sink: &mut W) -> Result<(), Failed>
-        ensures sent { OnOk result (IsSent (W.written sink.old) (W.written sink.new) self.new (self.old ++ clause_line literals.now)) }
+    pub fn put_agreement<W: Sink>(
+        &mut self,
+        first: Lit,
+        second: Lit,
+        third: Lit,
+        sink: &mut W,
+    ) -> Result<(), Failed>
+        ensures sent { OnOk result (IsSent (W.written sink.old) (W.written sink.new) self.new (self.old ++ flat_map clause_line ((neg_ℤ first ∷ neg_ℤ second ∷ third ∷ []) ∷ (first ∷ second ∷ neg_ℤ third ∷ []) ∷ []))) }
         ensures well { OnOk result (W.failures sink.new ≡ W.failures sink.old) }
-        ensures front { OnErr result (AppendsFront (W.written sink.old) (W.written sink.new) (self.old ++ clause_line literals.now)) }
+        ensures front { OnErr result (AppendsFront (W.written sink.old) (W.written sink.new) (self.old ++ flat_map clause_line ((neg_ℤ first ∷ neg_ℤ second ∷ third ∷ []) ∷ (first ∷ second ∷ neg_ℤ third ∷ []) ∷ []))) }
         ensures failed { OnErr result (W.failures sink.new ≡ W.failures sink.old + 1) }
     {
-        let kept = put_line(
-            literals,
+        let end = put_agreement(
+            first,
+            second,
+            third,
             &self.table,
             self.buffer.as_mut_slice(),
             self.end,
             sink,
         )?;
-        self.end = kept;
+        self.end = end;
         Ok(())
     }
 

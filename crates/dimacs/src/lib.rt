@@ -2,6 +2,7 @@
 //! contracts alone see of them.
 #![tactic(auto)]
 
+mod agreement;
 mod assignment;
 mod clause;
 mod clause_list;

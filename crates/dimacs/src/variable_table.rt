@@ -1,9 +1,10 @@
 //! The texts of variables, made once for a writer.
-ghost use Rattle.std.specs.Prelude.{◌≡◌, ◌+◌, ◌<◌, ◌≤◌, ◌++◌, length, map, take, IfOk};
+ghost use Rattle.std.specs.Prelude.{◌≡◌, ◌+◌, ◌<◌, ◌≤◌, ◌∷◌, ◌++◌, length, map, take, neg_ℤ, IfOk, IfSome};
 ghost use Rattle.std.specs.List.{range_with_len};
-ghost use Rattle.dimacs.specs.CnfText.{variable_text};
+ghost use Rattle.dimacs.specs.CnfText.{literal_text, variable_text};
 
 use crate::line_buffer::{put_bytes, put_number};
+use crate::literal::Lit;
 use std::alloc::{AllocError, Global};
 use std::marker::Model;
 
@@ -15,7 +16,7 @@ const LISTED: u32 = 65_536;
 
 /// The text of a variable, with its space, in a place of fixed size.
 #[derive(Drop)]
-struct VariableText {
+pub(crate) struct VariableText {
     bytes: [u8; TEXT],
     length: u8,
 }
@@ -47,15 +48,38 @@ impl VariableText {
         }
     }
 
+    /// The same text. What is written from it is no part of the table, so the compiler need not ask whether the buffer and the table
+    /// overlap.
+    #[inline(always)]
+    fn copied(&self) -> VariableText
+        ensures { result ≡ self.now }
+    {
+        VariableText {
+            bytes: self.bytes,
+            length: self.length,
+        }
+    }
+
     /// Writes the text. After it are bytes of no meaning.
     #[inline(always)]
-    fn put(&self, buffer: &mut [u8], at: usize) -> usize
+    pub(crate) fn put(&self, buffer: &mut [u8], at: usize) -> usize
         requires { at + 8 ≤ length buffer.old }
         ensures within { result ≤ at + 8 }
         ensures written { take result buffer.new ≡ take at buffer.old ++ self.now }
     {
         let _whole = put_bytes(&self.bytes, buffer, at);
         at + self.length as usize
+    }
+
+    /// Writes the text of the variable's negation. After it are bytes of no meaning.
+    #[inline(always)]
+    pub(crate) fn put_negated(&self, buffer: &mut [u8], at: usize) -> usize
+        requires { at + 9 ≤ length buffer.old }
+        ensures within { result ≤ at + 9 }
+        ensures written { take result buffer.new ≡ take at buffer.old ++ 45 ∷ self.now }
+    {
+        buffer[at] = b'-';
+        self.put(buffer, at + 1)
     }
 }
 
@@ -112,6 +136,27 @@ impl VariableTable {
         })
     }
 
+    /// The text of the variable, if the table has it.
+    #[inline(always)]
+    fn text(&self, variable: u32) -> Option<&VariableText>
+        ensures { IfSome result (λ text. text.now ≡ variable_text variable) }
+    {
+        self.texts.get(variable as usize)
+    }
+
+    /// The text of a literal that says that its variable is true, if the table has it.
+    #[inline(always)]
+    pub(crate) fn text_of(&self, literal: Lit) -> Option<VariableText>
+        ensures itself { IfSome result (λ text. literal_text literal ≡ text) }
+        ensures opposite { IfSome result (λ text. literal_text (neg_ℤ literal) ≡ 45 ∷ text) }
+    {
+        if !literal.is_positive() {
+            return None;
+        }
+        let text = self.text(literal.variable())?;
+        Some(text.copied())
+    }
+
     /// Writes the variable and a space.
     #[inline(always)]
     pub(crate) fn put(&self, variable: u32, buffer: &mut [u8], at: usize) -> usize
@@ -120,7 +165,7 @@ impl VariableTable {
         ensures within { result ≤ at + 9 }
         ensures written { take result buffer.new ≡ take at buffer.old ++ variable_text variable }
     {
-        match self.texts.get(variable as usize) {
+        match self.text(variable) {
             Some(text) => text.put(buffer, at),
             None => put_unlisted(variable, buffer, at),
         }

@@ -16,15 +16,15 @@ loop-k-init g c =
       failures = refl;
     }
 
-pub returns-in_err-put_no_circle-clause-front : goal.returns-in_err-put_no_circle-clause-front
-returns-in_err-put_no_circle-clause-front g c =
+pub returns-in_err-put_agreement-clause-front : goal.returns-in_err-put_agreement-clause-front
+returns-in_err-put_agreement-clause-front g c =
     let n = operation_count c.args.layout.now in
     let high : c.loop-k.k + 1 ≤ n = search rules in
     let same : circle c.order_lit-ij.result c.order_lit-jk.result c.order_lit-ik.result ≡ no_circle n c.args.i c.args.j c.loop-k.k =
     λ p. circle (c.order_lit-ij.ensures p) (c.order_lit-jk.ensures p) (c.order_lit-ik.ensures p) in
     on_err c.from_residual.result
     (range_front c.args.writer.now (no_circle n c.args.i c.args.j) (c.args.j + 1) c.loop-k.k n _ _ _ c.loop-k.writer c.loop-k.auto.k high c.loop-k.invariant.sent
-    (subst (λ clauses. AppendsFront (g.W.Sink.written c.loop-k.sink) (g.W.Sink.written c.put_no_circle.new.sink) (c.loop-k.writer ++ flat_map clause_line clauses)) same c.in_err-put_no_circle.ensures.front))
+    (subst (λ clauses. AppendsFront (g.W.Sink.written c.loop-k.sink) (g.W.Sink.written c.put_agreement.new.sink) (c.loop-k.writer ++ flat_map clause_line clauses)) same c.in_err-put_agreement.ensures.front))
 
 pub loop-k-preserved : goal.loop-k-preserved
 loop-k-preserved g c =
@@ -32,7 +32,7 @@ loop-k-preserved g c =
     let same : circle c.order_lit-ij.result c.order_lit-jk.result c.order_lit-ik.result ≡ no_circle n c.args.i c.args.j c.loop-k.k =
     λ p. circle (c.order_lit-ij.ensures p) (c.order_lit-jk.ensures p) (c.order_lit-ik.ensures p) in
     record {
-      sent = range_sent c.args.writer.now (no_circle n c.args.i c.args.j) (c.args.j + 1) c.loop-k.k _ _ _ c.loop-k.writer c.put_no_circle.new.writer c.loop-k.auto.k c.loop-k.invariant.sent
-          (subst (λ clauses. IsSent (g.W.Sink.written c.loop-k.sink) (g.W.Sink.written c.put_no_circle.new.sink) c.put_no_circle.new.writer (c.loop-k.writer ++ flat_map clause_line clauses)) same c.in_ok-put_no_circle.ensures.sent);
-      failures = c.in_ok-put_no_circle.ensures.well ∙ c.loop-k.invariant.failures;
+      sent = range_sent c.args.writer.now (no_circle n c.args.i c.args.j) (c.args.j + 1) c.loop-k.k _ _ _ c.loop-k.writer c.put_agreement.new.self c.loop-k.auto.k c.loop-k.invariant.sent
+          (subst (λ clauses. IsSent (g.W.Sink.written c.loop-k.sink) (g.W.Sink.written c.put_agreement.new.sink) c.put_agreement.new.self (c.loop-k.writer ++ flat_map clause_line clauses)) same c.in_ok-put_agreement.ensures.sent);
+      failures = c.in_ok-put_agreement.ensures.well ∙ c.loop-k.invariant.failures;
     }

@@ -1,0 +1,65 @@
+//! The two clauses that say that three literals agree: where the first two are alike, the third is what they are.
+ghost use Rattle.std.specs.Prelude.{◌≡◌, ◌+◌, ◌≤◌, [], ◌∷◌, ◌++◌, length, take, neg_ℤ, IfSome};
+ghost use Rattle.std.specs.List.{flat_map};
+ghost use Rattle.dimacs.specs.CnfText.{clause_line, literal_text};
+
+use crate::line_buffer::put_bytes;
+use crate::literal::Lit;
+use crate::variable_table::{VariableTable, VariableText};
+use std::marker::Model;
+
+/// Both lines are no longer, where a table has the variables' texts.
+pub(crate) const AGREEMENT: usize = 56;
+
+/// The texts of the three literals, each of which says that its variable is true.
+#[derive(Drop)]
+pub(crate) struct AgreementTexts {
+    first: VariableText,
+    second: VariableText,
+    third: VariableText,
+}
+
+impl Model for AgreementTexts {
+    ghost use Rattle.std.specs.Prelude.{ℕ, List, ◌∷◌, ◌++◌, codes};
+
+    /// The two lines.
+    ghost Value = { List ℕ };
+
+    ghost view = { λ texts. (45 ∷ texts.first ++ (45 ∷ texts.second ++ (texts.third ++ codes "0\n"))) ++ (texts.first ++ (texts.second ++ (45 ∷ texts.third ++ codes "0\n"))) };
+}
+
+impl AgreementTexts {
+    /// The texts of the three literals, if the table has them.
+    #[inline(always)]
+    pub(crate) fn of(
+        first: Lit,
+        second: Lit,
+        third: Lit,
+        table: &VariableTable,
+    ) -> Option<AgreementTexts>
+        ensures { IfSome result (λ texts. texts ≡ flat_map clause_line ((neg_ℤ first ∷ neg_ℤ second ∷ third ∷ []) ∷ (first ∷ second ∷ neg_ℤ third ∷ []) ∷ [])) }
+    {
+        Some(AgreementTexts {
+            first: table.text_of(first)?,
+            second: table.text_of(second)?,
+            third: table.text_of(third)?,
+        })
+    }
+
+    /// Writes both lines.
+    #[inline(always)]
+    pub(crate) fn put(&self, buffer: &mut [u8], at: usize) -> usize
+        requires room { at + AGREEMENT ≤ length buffer.old }
+        ensures within { result ≤ length buffer.new }
+        ensures written { take result buffer.new ≡ take at buffer.old ++ self.now }
+    {
+        let end = self.first.put_negated(buffer, at);
+        let end = self.second.put_negated(buffer, end);
+        let end = self.third.put(buffer, end);
+        let end = put_bytes(b"0\n", buffer, end);
+        let end = self.first.put(buffer, end);
+        let end = self.second.put(buffer, end);
+        let end = self.third.put_negated(buffer, end);
+        put_bytes(b"0\n", buffer, end)
+    }
+}
