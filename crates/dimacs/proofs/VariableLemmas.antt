@@ -1,5 +1,5 @@
 -- The text of a variable in a place of fixed size.
-use Rattle.std.proofs.Common.{Bor, ◌≡◌, ℕ, map, get_or, zero, suc, ℤ, pos, negsuc, neg_ℤ, nat_abs, Bool, true, refl, ◌+◌, ◌<◌, ◌≤◌, List, [], ◌∷◌, ◌++◌, length, take, set, sym, ap, ◌∙◌, arith}
+use Rattle.std.proofs.Common.{Bor, ◌≡◌, ℕ, map, get_or, zero, suc, ℤ, pos, negsuc, neg_ℤ, nat_abs, true, refl, ◌+◌, ◌<◌, ◌≤◌, List, [], ◌∷◌, ◌++◌, length, take, set, sym, ap, ◌∙◌, arith}
 use Rattle.std.specs.Fmt.{decimal}
 use Rattle.std.specs.Int.{is_positive}
 use Rattle.std.specs.List.{range_with_len}

@@ -1,4 +1,4 @@
-use Rattle.std.proofs.Common.{◌≡◌, ◌∷◌, [], ◌++◌, neg_ℤ, take, ap, subst}
+use Rattle.std.proofs.Common.{◌≡◌, ◌∷◌, [], ◌++◌, neg_ℤ, take, subst}
 use Rattle.std.proofs.lemmas.Result.{IfOk-weaker}
 use Rattle.dimacs.specs.CnfText.{clause_line}
 use Rattle.dimacs.specs.Sink.{AppendsFront, IsSent}
