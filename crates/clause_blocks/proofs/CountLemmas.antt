@@ -69,7 +69,7 @@ few_transitivity n few =
     omega (arith, triples, count)
 
 -- no operation is above the last one
-pub none_from : (n i : ℕ) → n ≤ i → transitivity_from n i ≡ []
+pub none_from : (n i : ℕ) → n ≤ i + 1 → transitivity_from n i ≡ []
 none_from n i high =
     let none : n - (i + 1) ≡ 0 = omega (arith, high) in
     ap (λ m. flat_map (λ j. flat_map (no_circle n i j) (numbers_above n j)) (range_with_len (i + 1) m)) none
@@ -82,7 +82,7 @@ from_within n i low =
 from_behind : (n i : ℕ) → n ≤ i → length (transitivity_from n i) ≡ (n - i - 1) * (n - i - 1 - 1)
 from_behind n i high =
     let none : n - i - 1 ≡ 0 = omega (arith, high) in
-    ap length (none_from n i high) ∙ sym (ap (λ m. m * (m - 1)) none)
+    ap length (none_from n i (omega (arith, high))) ∙ sym (ap (λ m. m * (m - 1)) none)
 
 -- how many clauses there are of a lowest operation
 pub from_count : (n i : ℕ) → length (transitivity_from n i) ≡ (n - i - 1) * (n - i - 1 - 1)

@@ -16,7 +16,6 @@ pub mod OperationNumberLemmas
 pub mod OrderLiteralLemmas
 pub mod PartLemmas
 pub mod PieceLemmas
-pub mod PlaceLemmas
 pub mod RangeSentLemmas
 pub mod RankCountLemmas
 pub mod RankLemmas

@@ -1,22 +1,13 @@
 -- Where the clauses of three operations stand in transitivity.
-use Rattle.std.specs.Prelude.{◌≡◌, ◌+◌, ℕ, ℤ, neg_ℤ, List, [], ◌∷◌, length, map, if◌then◌else◌}
+use Rattle.std.specs.Prelude.{ℕ, ℤ, neg_ℤ, List, [], ◌∷◌, length, if◌then◌else◌}
 use Rattle.std.specs.List.{flat_map, range_with_len}
 use Rattle.var_layout.specs.OrderVariables.{numbers_above, order_lit}
-use Rattle.clause_blocks.specs.Blocks.{no_circle, transitivity_from}
+use Rattle.clause_blocks.specs.Blocks.{no_circle}
 use Rattle.clause_blocks.specs.declared.triple_table.Triple.{Triple}
-
--- how many clauses have a lowest operation below i
-abbrev pub below_lowest : ℕ → ℕ → ℕ
-below_lowest n i = length (flat_map (transitivity_from n) (range_with_len 0 i))
 
 -- how many clauses of one lowest operation have a middle one below j, where those are counted too whose middle one is not above the lowest
 abbrev pub below_middle : ℕ → ℕ → ℕ
 below_middle n j = length (flat_map (λ m. flat_map (no_circle n 0 m) (numbers_above n m)) (range_with_len 0 j))
-
--- the tables of n operations
-pub record AreTables (n : ℕ) (lowest middle : List ℕ) : Type 0 where
-  pub by_lowest : lowest ≡ map (below_lowest n) (range_with_len 0 (n + 1))
-  pub by_middle : middle ≡ map (below_middle n) (range_with_len 0 (n + 1))
 
 -- the clause that a triple stands for
 abbrev pub clause_of_triple : ℕ → Triple → List ℤ

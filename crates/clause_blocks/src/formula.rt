@@ -7,7 +7,8 @@ ghost use Rattle.clause_blocks.specs.Pieces.{clauses_in};
 
 use crate::laws::formula_is_over_its_variables;
 use crate::parallel_transitivity::push_transitivity_in_threads;
-use crate::trace_clauses::{Piece, TraceClauses};
+use crate::pieces::Piece;
+use crate::trace_clauses::TraceClauses;
 use crate::transitivity::push_transitivity_from;
 use dimacs::{Clause, Formula};
 use reducer::reduced::Reduced;

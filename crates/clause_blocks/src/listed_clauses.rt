@@ -1,17 +1,18 @@
 //! The clause list of a reduced trace as a formula that is seen by its clauses.
 
-ghost use Rattle.std.specs.Prelude.{◌≡◌, ◌+◌, ◌<◌, ◌≤◌, ◌++◌, [], length, slice_index_or, take, OnOk, IfErr};
+ghost use Rattle.std.specs.Prelude.{◌≡◌, ◌<◌, [], length, slice_index_or, IsTrue, OnOk, IfErr};
 ghost use Rattle.dimacs.specs.Assignment.{value_of};
 ghost use Rattle.dimacs.specs.Models.{IsModel, IsFirstFalse};
 ghost use Rattle.traces.specs.Trace.{operation_count};
 ghost use Rattle.clause_blocks.specs.Blocks as blocks;
-ghost use Rattle.clause_blocks.specs.Clauses.{clauses_of};
-ghost use Rattle.clause_blocks.specs.Pieces.{StandAfter};
+ghost use Rattle.clause_blocks.specs.Pieces.{clauses_in};
 ghost use Rattle.clause_blocks.specs.Triples.{clause_of_triple};
 
 use crate::laws::{clauses_are_clauses, few_clauses, formula_is_over_its_variables};
+use crate::pieces::Piece;
 use crate::ranks::puts_in_order;
 use crate::trace_clauses::TraceClauses;
+use crate::transitivity::count_transitivity_from;
 use crate::triple_table::Triple;
 use dimacs::{Assignment, Clause, ClauseList, FirstFalse, ListedClause, first_false};
 use var_layout::layout::Layout;
@@ -33,105 +34,69 @@ fn circle_clause<'a>(layout: &Layout, triple: Triple) -> ListedClause<'a>
     }
 }
 
-/// The clause at this place of two lists, one after the other, counted from 0.
-fn clause_of_both<'a>(first: &'a [Clause], second: &'a [Clause], place: usize) -> ListedClause<'a>
-    requires { place < length (first.now ++ second.now) }
-    ensures { result ≡ slice_index_or (first.now ++ second.now) place [] }
+/// Whether the assignment makes these clauses true. If not, the first one that it makes false.
+fn eval_stored(stored: &[Clause], assignment: &Assignment) -> Result<(), FirstFalse>
+    ensures model { OnOk result (IsModel (value_of assignment.now) stored.now) }
+    ensures first { IfErr result (λ found. IsFirstFalse (value_of assignment.now) stored.now found.clause) }
 {
-    if place < first.len() {
-        return ListedClause::lent(&first[place]);
-    }
-    ListedClause::lent(&second[place - first.len()])
-}
-
-impl TraceClauses {
-    /// The clause at this place of those after transitivity, counted from 0.
-    fn last_clause(&self, place: usize) -> ListedClause<'_>
-        requires { place < length (blocks.read_clauses self.now ++ (blocks.final_clauses self.now ++ blocks.before_clauses self.now)) }
-        ensures { result ≡ slice_index_or (blocks.read_clauses self.now ++ (blocks.final_clauses self.now ++ blocks.before_clauses self.now)) place [] }
-    {
-        let reads = self.reads();
-        if place < reads.len() {
-            return ListedClause::lent(&reads[place]);
-        }
-        clause_of_both(self.final_values(), self.before(), place - reads.len())
-    }
-
-    /// The clause at this place of those after program order, counted from 0.
-    fn later_clause(&self, place: usize) -> ListedClause<'_>
-        requires { place < length (blocks.transitivity (operation_count self.now) ++ (blocks.read_clauses self.now ++ (blocks.final_clauses self.now ++ blocks.before_clauses self.now))) }
-        ensures { result ≡ slice_index_or (blocks.transitivity (operation_count self.now) ++ (blocks.read_clauses self.now ++ (blocks.final_clauses self.now ++ blocks.before_clauses self.now))) place [] }
-    {
-        let triples = self.triples();
-        let count = triples.count();
-        if place < count {
-            return circle_clause(self.layout(), triples.triple(place));
-        }
-        self.last_clause(place - count)
+    match first_false(stored, assignment) {
+        Some(place) => Err(FirstFalse { clause: place + 1 }),
+        None => Ok(()),
     }
 }
 
 impl TraceClauses {
-    /// Whether the assignment makes the clauses at these places true. If not, the first one that it makes false.
-    fn eval_between(
-        &self,
-        from: usize,
-        to: usize,
-        assignment: &Assignment,
-    ) -> Result<(), FirstFalse>
-        requires rising { from ≤ to }
-        requires within { to ≤ length (clauses_of self.now) }
-        requires so_far { IsModel (value_of assignment.now) (take from (clauses_of self.now)) }
-        ensures model { OnOk result (IsModel (value_of assignment.now) (take to (clauses_of self.now))) }
-        ensures first { IfErr result (λ found. IsFirstFalse (value_of assignment.now) (clauses_of self.now) found.clause) }
+    /// The clause at this place of those of which i is the lowest operation of three, counted from 0.
+    fn clause_from(&self, i: usize, place: usize) -> ListedClause<'_>
+        requires { place < length (blocks.transitivity_from (operation_count self.now) i) }
+        ensures { result ≡ slice_index_or (blocks.transitivity_from (operation_count self.now) i) place [] }
     {
-        for place in from..to {
-            if !assignment.satisfies(self.clause(place).as_slice()) {
+        circle_clause(self.layout(), self.triples().triple(i, place))
+    }
+
+    /// The clause at this place of a piece, counted from 0.
+    fn clause_in<'a>(&'a self, piece: Piece<'a>, place: usize) -> ListedClause<'a>
+        requires { place < length (clauses_in (operation_count self.now) piece) }
+        ensures { result ≡ slice_index_or (clauses_in (operation_count self.now) piece.entry) place [] }
+    {
+        match piece {
+            Piece::Stored(clauses) => ListedClause::lent(&clauses[place]),
+            Piece::TransitivityFrom(i) => self.clause_from(i, place),
+        }
+    }
+
+    /// Whether the assignment makes the clauses true of which i is the lowest operation of three. If not, the first one that it
+    /// makes false.
+    fn eval_from(&self, i: usize, assignment: &Assignment) -> Result<(), FirstFalse>
+        ensures model { OnOk result (IsModel (value_of assignment.now) (blocks.transitivity_from (operation_count self.now) i)) }
+        ensures first { IfErr result (λ found. IsFirstFalse (value_of assignment.now) (blocks.transitivity_from (operation_count self.now) i) found.clause) }
+    {
+        self.is_clause_list();
+        for place in 0..count_transitivity_from(self.layout().operations(), i) {
+            if !assignment.satisfies(self.clause_from(i, place).as_slice()) {
                 return Err(FirstFalse { clause: place + 1 });
             }
         }
         Ok(())
     }
 
-    /// Whether the assignment makes these clauses true, which stand in the list after so many others. If not, the first one that it
-    /// makes false.
-    fn eval_stored(
+    /// Whether the assignment makes the clauses of a piece true. If not, the first of them that it makes false. Where it puts the
+    /// operations in an order, those of transitivity are not looked at.
+    fn eval_piece(
         &self,
-        from: usize,
-        stored: &[Clause],
+        piece: Piece<'_>,
+        in_order: bool,
         assignment: &Assignment,
     ) -> Result<(), FirstFalse>
-        requires there { StandAfter (clauses_of self.now) from stored.now }
-        requires so_far { IsModel (value_of assignment.now) (take from (clauses_of self.now)) }
-        ensures model { OnOk result (IsModel (value_of assignment.now) (take (from + length stored.now) (clauses_of self.now))) }
-        ensures first { IfErr result (λ found. IsFirstFalse (value_of assignment.now) (clauses_of self.now) found.clause) }
+        requires { IsTrue in_order → IsModel (value_of assignment.now) (blocks.transitivity (operation_count self.now)) }
+        ensures model { OnOk result (IsModel (value_of assignment.now) (clauses_in (operation_count self.now) piece.entry)) }
+        ensures first { IfErr result (λ found. IsFirstFalse (value_of assignment.now) (clauses_in (operation_count self.now) piece.entry) found.clause) }
     {
-        self.is_clause_list();
-        few_clauses();
-        match first_false(stored, assignment) {
-            Some(place) => Err(FirstFalse {
-                clause: from + place + 1,
-            }),
-            None => Ok(()),
+        match piece {
+            Piece::Stored(stored) => eval_stored(stored, assignment),
+            Piece::TransitivityFrom(_) if in_order => Ok(()),
+            Piece::TransitivityFrom(i) => self.eval_from(i, assignment),
         }
-    }
-
-    /// Whether the assignment makes the clauses after transitivity true. If not, the first one that it makes false.
-    fn eval_last(&self, from: usize, assignment: &Assignment) -> Result<(), FirstFalse>
-        requires counted { from ≡ length (blocks.program_order self.now ++ blocks.transitivity (operation_count self.now)) }
-        requires so_far { IsModel (value_of assignment.now) (take from (clauses_of self.now)) }
-        ensures model { OnOk result (IsModel (value_of assignment.now) (clauses_of self.now)) }
-        ensures first { IfErr result (λ found. IsFirstFalse (value_of assignment.now) (clauses_of self.now) found.clause) }
-    {
-        self.is_clause_list();
-        few_clauses();
-        let reads = self.reads();
-        let final_values = self.final_values();
-        let after_reads = from + reads.len();
-        let after_finals = after_reads + final_values.len();
-        self.eval_stored(from, reads, assignment)?;
-        self.eval_stored(after_reads, final_values, assignment)?;
-        self.eval_stored(after_finals, self.before(), assignment)
     }
 }
 
@@ -149,24 +114,23 @@ impl ClauseList for TraceClauses {
     }
 
     fn clause(&self, place: usize) -> ListedClause<'_> {
-        let first = self.program_order();
-        if place < first.len() {
-            return ListedClause::lent(&first[place]);
-        }
-        self.later_clause(place - first.len())
+        let k = self.piece_at(place);
+        self.clause_in(self.piece(k), place - self.start(k))
     }
 
     /// Transitivity is looked at clause by clause only if the assignment does not put the operations in an order.
     fn eval(&self, assignment: &Assignment) -> Result<(), FirstFalse> {
         self.is_clause_list();
         few_clauses();
-        let order = self.program_order();
-        let after_circles = order.len() + self.triples().count();
-        self.eval_stored(0, order, assignment)?;
-        if !puts_in_order(self.layout(), assignment) {
-            self.eval_between(order.len(), after_circles, assignment)?;
+        let in_order = puts_in_order(self.layout(), assignment);
+        for k in 0..self.pieces() {
+            if let Err(found) = self.eval_piece(self.piece(k), in_order, assignment) {
+                return Err(FirstFalse {
+                    clause: self.start(k) + found.clause,
+                });
+            }
         }
-        self.eval_last(after_circles, assignment)
+        Ok(())
     }
 
     fn is_formula(&self) {

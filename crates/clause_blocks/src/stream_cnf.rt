@@ -9,7 +9,8 @@ ghost use Rattle.traces.specs.Trace.{operation_count};
 ghost use Rattle.clause_blocks.specs.Clauses.{clauses_of, formula_of};
 ghost use Rattle.clause_blocks.specs.Pieces.{clauses_in};
 
-use crate::trace_clauses::{Piece, TraceClauses};
+use crate::pieces::Piece;
+use crate::trace_clauses::TraceClauses;
 use crate::transitivity::put_transitivity_from;
 use dimacs::{CnfWriter, Failed, Sink, SinkFault};
 use reducer::reduced::Reduced;

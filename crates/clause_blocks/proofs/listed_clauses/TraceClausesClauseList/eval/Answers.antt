@@ -1,36 +1,57 @@
-use Rattle.std.proofs.Common.{rules, ◌≡◌, ◌+◌, ◌≤◌, ◌∙◌, length, take, ap, subst, arith}
+use Rattle.std.proofs.Common.{rules, ◌≡◌, ◌<◌, ◌≤◌, ◌+◌, ◌∙◌, length, refl, sym, ap, subst, arith}
 use Rattle.dimacs.specs.Assignment.{value_of}
-use Rattle.dimacs.specs.Models.{IsModel}
+use Rattle.dimacs.specs.Models.{IsModel, IsFirstFalse}
+use Rattle.dimacs.proofs.ModelLemmas.{no_model}
 use Rattle.traces.specs.Trace.{operation_count}
-use Rattle.clause_blocks.specs.Blocks.{program_order, transitivity}
-use Rattle.clause_blocks.specs.Clauses.{clauses_of}
-use Rattle.clause_blocks.proofs.PlaceLemmas.{transitivity_too, both_within}
+use Rattle.clause_blocks.specs.Clauses.{pieces, clauses_of}
+use Rattle.clause_blocks.specs.Pieces.{clauses_in}
+use Rattle.clause_blocks.proofs.ListLemmas.{piece_at, all_pieces}
+use Rattle.clause_blocks.proofs.PartLemmas.{clauses_to, first_in_piece, first_within, piece_too}
 use Rattle.clause_blocks.proofs.listed_clauses.TraceClausesClauseList.eval.Goals as goal
-use Rattle.clause_blocks.proofs.listed_clauses.TraceClausesClauseList.eval.Goals.{then-not-puts_in_order+in_ok-eval_between, else-not-puts_in_order}
 
-pub overflow_add-after_circles : goal.overflow_add-after_circles
-overflow_add-after_circles c =
+pub overflow_add-result : goal.overflow_add-result
+overflow_add-result c =
     let t = c.args.self.now in
-    let circles : c.count.result ≡ length (transitivity (operation_count t)) = c.count.ensures ∙ ap (λ n. length (transitivity n)) c.triples.ensures in
+    let value = value_of c.args.assignment.now in
+    let found = c.in-Err.found.clause in
+    let same : clauses_in (operation_count t) c.piece.result ≡ piece_at t c.loop-k.k = c.piece.ensures in
+    let high : c.loop-k.k < length (pieces t) = search rules in
+    let there : IsFirstFalse value (clauses_of t) (c.start.result + found) = subst (λ m. IsFirstFalse value (clauses_of t) (m + found)) (sym c.start.ensures)
+    (first_in_piece t value c.loop-k.k found high c.loop-k.invariant (subst (λ l. IsFirstFalse value l found) same c.in-Err.ensures.first)) in
     let few : length (clauses_of t) ≤ 16777216 = c.few_clauses.ensures t c.is_clause_list.ensures.trace c.is_clause_list.ensures.few in
-    omega (arith, few, both_within t (length c.program_order-order.result.now) c.count.result (ap length c.program_order-order.ensures) circles)
+    omega (arith, few, first_within value (clauses_of t) (c.start.result + found) there)
 
-pub eval_between-requires-clause-within : goal.eval_between-requires-clause-within
-eval_between-requires-clause-within c =
+pub returns-in-Err-clause-model : goal.returns-in-Err-clause-model
+returns-in-Err-clause-model c =
     let t = c.args.self.now in
-    both_within t (length c.program_order-order.result.now) c.count.result (ap length c.program_order-order.ensures)
-    (c.count.ensures ∙ ap (λ n. length (transitivity n)) c.triples.ensures)
+    let value = value_of c.args.assignment.now in
+    let found = c.in-Err.found.clause in
+    let same : clauses_in (operation_count t) c.piece.result ≡ piece_at t c.loop-k.k = c.piece.ensures in
+    let high : c.loop-k.k < length (pieces t) = search rules in
+    let there : IsFirstFalse value (clauses_of t) (c.start.result + found) = subst (λ m. IsFirstFalse value (clauses_of t) (m + found)) (sym c.start.ensures)
+    (first_in_piece t value c.loop-k.k found high c.loop-k.invariant (subst (λ l. IsFirstFalse value l found) same c.in-Err.ensures.first)) in
+    (λ no. absurd cc, λ model. absurd (no_model value (clauses_of t) (c.start.result + found) there model))
 
-pub eval_last-requires-clause-so_far : goal.eval_last-requires-clause-so_far
-eval_last-requires-clause-so_far c =
+pub returns-in-Err-clause-first : goal.returns-in-Err-clause-first
+returns-in-Err-clause-first c =
     let t = c.args.self.now in
-    let order = length c.program_order-order.result.now in
-    let long : order ≡ length (program_order t) = ap length c.program_order-order.ensures in
-    let circles : c.count.result ≡ length (transitivity (operation_count t)) = c.count.ensures ∙ ap (λ n. length (transitivity n)) c.triples.ensures in
-    let first : 0 + order ≡ order = omega arith in
-    let so_far : IsModel (value_of c.args.assignment.now) (take order (clauses_of t)) = subst (λ n. IsModel (value_of c.args.assignment.now) (take n (clauses_of t))) first c.in_ok-eval_stored.ensures.model in
-    elim c.if-not-puts_in_order.branch [
-      | then-not-puts_in_order+in_ok-eval_between w ↦ w.in_ok-eval_between.ensures.model
-      | else-not-puts_in_order w ↦ (let true_circles : IsModel (value_of c.args.assignment.now) (transitivity (operation_count t)) = search rules in
-          transitivity_too t order c.count.result long circles (value_of c.args.assignment.now) so_far true_circles)
-    ]
+    let value = value_of c.args.assignment.now in
+    let found = c.in-Err.found.clause in
+    let same : clauses_in (operation_count t) c.piece.result ≡ piece_at t c.loop-k.k = c.piece.ensures in
+    let high : c.loop-k.k < length (pieces t) = search rules in
+    let there : IsFirstFalse value (clauses_of t) (c.start.result + found) = subst (λ m. IsFirstFalse value (clauses_of t) (m + found)) (sym c.start.ensures)
+    (first_in_piece t value c.loop-k.k found high c.loop-k.invariant (subst (λ l. IsFirstFalse value l found) same c.in-Err.ensures.first)) in
+    there
+
+pub loop-k-preserved : goal.loop-k-preserved
+loop-k-preserved c =
+    let t = c.args.self.now in
+    let value = value_of c.args.assignment.now in
+    let same : clauses_in (operation_count t) c.piece.result ≡ piece_at t c.loop-k.k = c.piece.ensures in
+    piece_too t value c.loop-k.k c.loop-k.invariant (subst (IsModel value) same c.in_default.ensures.model)
+
+pub returns-clause-model : goal.returns-clause-model
+returns-clause-model c =
+    let t = c.args.self.now in
+    let end : c.loop-k.k ≡ length (pieces t) = search rules in
+    (λ _. subst (IsModel (value_of c.args.assignment.now)) (ap (clauses_to t) end ∙ all_pieces t) c.loop-k.invariant, λ _. refl)

@@ -1,7 +1,7 @@
 use Rattle.std.proofs.Common.{◌+◌, ◌∙◌, ap, sym}
 use Rattle.traces.specs.Trace.{operation_count}
 use Rattle.clause_blocks.proofs.ListLemmas.{piece_count}
-use Rattle.clause_blocks.proofs.trace_clauses.TraceClauses.pieces.Goals as goal
+use Rattle.clause_blocks.proofs.pieces.Pieces.count.Goals as goal
 
 pub returns : goal.returns
 returns c = ap (λ m. m + 4) (c.operations.ensures ∙ ap operation_count c.layout.ensures) ∙ sym (piece_count c.args.self.now)

@@ -1,0 +1,128 @@
+//! The clause list of a reduced trace, piece by piece. The order of the families stands here and nowhere else.
+
+ghost use Rattle.std.specs.Prelude.{◌≡◌, ◌<◌, ◌≤◌, [], length, slice_index_or, IfOk};
+ghost use Rattle.traces.specs.Trace.{IsTrace, operation_count};
+ghost use Rattle.clause_blocks.specs.Clauses as list;
+ghost use Rattle.clause_blocks.specs.Pieces.{clauses_in};
+
+use crate::before_clauses::push_before_clauses;
+use crate::final_clauses::push_final_clauses;
+use crate::program_order::push_program_order;
+use crate::read_clauses::push_read_clauses;
+use crate::transitivity::count_transitivity_from;
+use dimacs::Clause;
+use reducer::reduced::Reduced;
+use std::alloc::{AllocError, Global};
+use std::marker::Model;
+use var_layout::layout::Layout;
+
+/// A piece of a clause list: clauses that are stored, or those of transitivity of which this operation is the lowest of
+/// three.
+#[derive(Clone, Copy)]
+pub enum Piece<'a> {
+    Stored(&'a [Clause]),
+    TransitivityFrom(usize),
+}
+
+/// The pieces of a trace's clause list. All families but transitivity are stored.
+#[derive(Drop)]
+pub(crate) struct Pieces {
+    layout: Layout,
+    program_order: Vec<Clause>,
+    reads: Vec<Clause>,
+    final_values: Vec<Clause>,
+    before: Vec<Clause>,
+}
+
+impl Model for Pieces {
+    ghost use Rattle.traces.specs.Trace.{TraceValue};
+    ghost use Rattle.clause_blocks.specs.Pieces.{AreStored};
+
+    ghost Value = { TraceValue };
+
+    ghost view = { λ pieces. pieces.layout };
+
+    ghost invariant = { λ pieces. AreStored pieces.layout pieces.program_order.items pieces.reads.items pieces.final_values.items pieces.before.items };
+}
+
+impl Pieces {
+    /// The pieces of the kept trace.
+    pub(crate) fn of(alloc: Global, reduced: &Reduced) -> Result<Pieces, AllocError>
+        ensures { IfOk result (λ pieces. pieces ≡ reduced.now.kept) }
+    {
+        let layout = Layout::of(alloc, reduced)?;
+        let mut program_order = Vec::new(alloc);
+        push_program_order(alloc, &layout, &mut program_order)?;
+        let mut reads = Vec::new(alloc);
+        push_read_clauses(alloc, &layout, &mut reads)?;
+        let mut final_values = Vec::new(alloc);
+        push_final_clauses(alloc, &layout, &mut final_values)?;
+        let mut before = Vec::new(alloc);
+        push_before_clauses(alloc, &layout, &mut before)?;
+        Ok(Pieces {
+            layout,
+            program_order,
+            reads,
+            final_values,
+            before,
+        })
+    }
+
+    /// The trace is one, with 160 operations at most. This says what the pieces keep, and does nothing.
+    #[inline]
+    pub(crate) fn are_of_trace(&self)
+        ensures trace { IsTrace self.now }
+        ensures few { operation_count self.now ≤ 160 }
+    {
+        self.layout.is_layout();
+    }
+
+    /// The variables of the trace.
+    #[inline]
+    pub(crate) fn layout(&self) -> &Layout
+        ensures { result.now ≡ self.now }
+    {
+        &self.layout
+    }
+
+    /// How many pieces there are.
+    pub(crate) fn count(&self) -> usize
+        ensures { result ≡ length (list.pieces self.now) }
+    {
+        self.are_of_trace();
+        self.layout().operations() + 4
+    }
+
+    /// The piece under this number, counted from 0.
+    pub(crate) fn piece(&self, k: usize) -> Piece<'_>
+        requires { k < length (list.pieces self.now) }
+        ensures { clauses_in (operation_count self.now) result ≡ slice_index_or (list.pieces self.now) k [] }
+    {
+        let operations = self.layout().operations();
+        if k == 0 {
+            return Piece::Stored(self.program_order.as_slice());
+        }
+        if k <= operations {
+            return Piece::TransitivityFrom(k - 1);
+        }
+        if k - operations == 1 {
+            return Piece::Stored(self.reads.as_slice());
+        }
+        if k - operations == 2 {
+            return Piece::Stored(self.final_values.as_slice());
+        }
+        Piece::Stored(self.before.as_slice())
+    }
+
+    /// How many clauses there are in the piece under this number.
+    pub(crate) fn clauses_of_piece(&self, k: usize) -> usize
+        requires { k < length (list.pieces self.now) }
+        ensures { result ≡ length (slice_index_or (list.pieces self.now) k []) }
+    {
+        self.are_of_trace();
+        match self.piece(k) {
+            Piece::Stored(clauses) => clauses.len(),
+            Piece::TransitivityFrom(i) => count_transitivity_from(self.layout().operations(), i),
+        }
+    }
+}
