@@ -1,4 +1,4 @@
 pub mod Models
 pub mod Options
 pub mod Results
-pub mod SearchFault
+pub mod SearchCauses

@@ -15,4 +15,4 @@ pub use job_cube::{JobCube, MOST_LITERALS};
 pub use models::is_model_in;
 pub use options::{BadOption, Options};
 pub use outcome::Outcome;
-pub use search_fault::SearchFault;
+pub use search_fault::{SearchCause, SearchFault};

@@ -1,68 +1,38 @@
 //! Why a search has no results.
-ghost use Rattle.std.specs.Prelude.{◌≡◌, Some};
-ghost use Rattle.cube_queue.specs.SearchFault.{number_of, name_of, line_of};
-ghost use Rattle.cube_queue.specs.declared.search_fault.SearchFault.TheVariants.{OutOfMemory};
 
-use std::alloc::{AllocError, AllocFailed};
-use std::fmt;
+use text_lines::fault::Cause;
+use text_lines::plain_fault::PlainFault;
 
-/// Why a search has no results.
+/// What went wrong with a search.
 #[derive(Clone, Copy, Debug, PartialEq, Eq)]
-pub enum SearchFault {
-    /// There was no memory.
-    OutOfMemory,
+pub enum SearchCause {
     /// The way from or to a worker was cut.
     Cut,
     /// A worker could not be started.
     NoThread,
 }
 
-impl SearchFault {
-    /// Its number.
-    pub fn number(self) -> u8
-        ensures { result ≡ number_of self }
-    {
+/// Why a search has no results: what went wrong with it, or that memory ran out.
+pub type SearchFault = PlainFault<SearchCause>;
+
+impl Cause for SearchCause {
+    ghost use Rattle.cube_queue.specs.SearchCauses.{cause_number, cause_name};
+
+    ghost number_of = { cause_number };
+
+    ghost name_of = { cause_name };
+
+    fn number(&self) -> u8 {
         match self {
-            SearchFault::OutOfMemory => 1,
-            SearchFault::Cut => 2,
-            SearchFault::NoThread => 3,
+            SearchCause::Cut => 2,
+            SearchCause::NoThread => 3,
         }
     }
 
-    /// Its name, as the variant is spelled.
-    pub fn name(self) -> &'static str
-        ensures { result.now ≡ name_of self }
-    {
+    fn name(&self) -> &'static str {
         match self {
-            SearchFault::OutOfMemory => "OutOfMemory",
-            SearchFault::Cut => "Cut",
-            SearchFault::NoThread => "NoThread",
+            SearchCause::Cut => "Cut",
+            SearchCause::NoThread => "NoThread",
         }
-    }
-}
-
-impl fmt::Display for SearchFault {
-    ghost output = { λ fault. Some (line_of fault) };
-
-    fn fmt<W: fmt::Write>(&self, f: &mut fmt::Formatter<W>) -> fmt::Result {
-        let number = self.number();
-        let name = self.name();
-        write!(f, "{number} {name}")
-    }
-}
-
-impl From<AllocError> for SearchFault {
-    ghost from_gives = { λ _ fault. fault ≡ OutOfMemory };
-
-    fn from(_error: AllocError) -> SearchFault {
-        SearchFault::OutOfMemory
-    }
-}
-
-impl<T: Drop> From<AllocFailed<T>> for SearchFault {
-    ghost from_gives = { λ _ fault. fault ≡ OutOfMemory };
-
-    fn from(_error: AllocFailed<T>) -> SearchFault {
-        SearchFault::OutOfMemory
     }
 }

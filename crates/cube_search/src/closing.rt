@@ -8,11 +8,12 @@ ghost use Rattle.cube_search.specs.Crew.{seats_of, stops_of, AreAllAt, IsHonestR
 
 use crate::crew::{Member, Returned};
 use crate::site::Site;
-use cube_queue::{SearchFault, Settled};
+use cube_queue::{SearchCause, SearchFault, Settled};
 use job_board::{Account, WorkerSeat};
 use std::alloc::{AllocError, Global};
 use std::sync::Wait;
 use stop_word::StopSeat;
+use text_lines::plain_fault::PlainFault;
 
 /// Whether no member has a job left in its hand.
 fn hold_no_job(members: &[Member]) -> bool
@@ -70,12 +71,12 @@ pub(crate) fn close<R: Wait>(
     } = returned;
     let Site { board, word } = site;
     if !hold_no_job(members.as_slice()) {
-        return Err(SearchFault::Cut);
+        return Err(PlainFault::For(SearchCause::Cut));
     }
     let (seats, stops) = parted(alloc, members)?;
     let account = board.close(rt, dealer, seats, collector);
     if !is_balanced(&account) {
-        return Err(SearchFault::Cut);
+        return Err(PlainFault::For(SearchCause::Cut));
     }
     // What this answers is known by its contract: no worker was shown a number below it.
     let _least = word.close(stops);

@@ -2,10 +2,11 @@
 ghost use Rattle.std.specs.Prelude.{◌≡◌, [], IfOk};
 ghost use Rattle.job_board.specs.Seats.{gathered_by, IsCollectorAt};
 
-use cube_queue::{SearchFault, Settled};
+use cube_queue::{SearchCause, SearchFault, Settled};
 use job_board::{Board, CollectorSeat};
 use std::alloc::Global;
 use std::sync::Wait;
+use text_lines::plain_fault::PlainFault;
 
 /// Gathers so many results, in the order in which they come. `Cut` where the channel ends before.
 pub(crate) fn gather_all<R: Wait>(
@@ -22,7 +23,7 @@ pub(crate) fn gather_all<R: Wait>(
     let mut results = Vec::with_capacity(alloc, count)?;
     for _ in 0..count {
         let Ok(settled) = board.gather(rt, seat) else {
-            return Err(SearchFault::Cut);
+            return Err(PlainFault::For(SearchCause::Cut));
         };
         results.push(settled)?;
     }

@@ -9,11 +9,12 @@ use crate::putting::deal;
 use crate::settler::Settler;
 use crate::site::Site;
 use crate::starting::start_all;
-use cube_queue::{Gate, SearchFault};
+use cube_queue::{Gate, SearchCause, SearchFault};
 use std::alloc::Global;
 use std::sync::Wait;
 use std::thread;
 use std::thread::{Scope, Threads};
+use text_lines::plain_fault::PlainFault;
 
 /// Starts a thread for each member, puts all jobs, gathers their results, and joins the threads. A stop ticket is put for each member
 /// whatever has failed before, so each thread that was started ends.
@@ -40,7 +41,7 @@ fn run_members<'s, E, R: Threads + Wait + Sync, S: Settler + Sync, G: Gate + Syn
     let dealt = deal(alloc, rt, &site.board, &mut dealer, jobs, started.is_ok());
     let handles = started?;
     if !dealt {
-        return Err(SearchFault::Cut);
+        return Err(PlainFault::For(SearchCause::Cut));
     }
     let results = gather_all(alloc, rt, &site.board, &mut collector, count)?;
     let members = join_all(rt, handles)?;

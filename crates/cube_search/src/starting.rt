@@ -8,11 +8,12 @@ use crate::promised::MemberOf;
 use crate::settler::Settler;
 use crate::site::Site;
 use crate::working::work;
-use cube_queue::{Gate, SearchFault};
+use cube_queue::{Gate, SearchCause, SearchFault};
 use std::alloc::Global;
 use std::snapshot::Snapshot;
 use std::sync::Wait;
 use std::thread::{PromisedHandle, Scope};
+use text_lines::plain_fault::PlainFault;
 
 /// Starts a thread in which this member works.
 fn start<'s, E, R: Wait + Sync, S: Settler + Sync, G: Gate + Sync>(
@@ -40,7 +41,7 @@ fn start<'s, E, R: Wait + Sync, S: Settler + Sync, G: Gate + Sync>(
         { work(alloc, rt, site, settler, gate, member) },
     ) {
         Ok(handle) => Ok(handle),
-        Err(_refused) => Err(SearchFault::NoThread),
+        Err(_refused) => Err(PlainFault::For(SearchCause::NoThread)),
     }
 }
 

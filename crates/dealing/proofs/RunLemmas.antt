@@ -7,8 +7,8 @@ use Rattle.cube_queue.specs.declared.outcome.Outcome.{Outcome}
 use Rattle.dealing.specs.declared.event.Event.{Event}
 use Rattle.dealing.specs.declared.event.Event.TheVariants.{Put, Take, Give, Gather}
 use Rattle.dealing.specs.declared.given.Given.{Given}
-use Rattle.dealing.specs.declared.refused.Refused.{Refused}
-use Rattle.dealing.specs.declared.refused.Refused.TheVariants.{NoJob, Busy, HoldsNothing, NoSuchWorker}
+use Rattle.dealing.specs.declared.refused.EventCause.{EventCause}
+use Rattle.dealing.specs.declared.refused.EventCause.TheVariants.{NoJob, Busy, HoldsNothing, NoSuchWorker}
 use Rattle.dealing.specs.Machine.{State, empty_machine, hand_of, refusal_of, after}
 use Rattle.dealing.specs.Run.{run, accepted}
 use Rattle.dealing.specs.Counting.{put_by, taker_in, giver_in, gather_in, puts, takers, gives, gathers, times}
@@ -36,9 +36,9 @@ counted_at takers takers' puts puts' gives gives' gathers gathers' m ts ps gs n 
     (subst (λ (xs : List (ℕ × Outcome)). Counted takers puts xs gathers' m) (sym gs) (subst (λ (k : ℕ). Counted takers puts gives k m) (sym n) c)))
 
 -- what follows for the machine of a possible event
-passed : (b : Bool) (refused : Refused) → (if b then Some refused else None) ≡ None → b ≡ false
-passed true refused e = absurd (cc)
-passed false refused e = refl
+passed : (b : Bool) (cause : EventCause) → (if b then Some cause else None) ≡ None → b ≡ false
+passed true cause e = absurd (cc)
+passed false cause e = refl
 
 passed_take : (a b c : Bool) → (if a then Some NoSuchWorker else if b then Some NoJob else if c then Some Busy else None) ≡ None → (a ≡ false) × (b ≡ false) × (c ≡ false)
 passed_take true b c e = absurd (cc)
@@ -63,9 +63,9 @@ none_of : (hand : Option ℕ) → is_some hand ≡ false → hand ≡ None
 none_of None e = refl
 none_of (Some k) e = absurd (cc)
 
-not_refused : (refusal : Option Refused) → is_some refusal ≡ false → refusal ≡ None
+not_refused : (refusal : Option EventCause) → is_some refusal ≡ false → refusal ≡ None
 not_refused None e = refl
-not_refused (Some refused) e = absurd (cc)
+not_refused (Some cause) e = absurd (cc)
 
 held_of : (hand : Option ℕ) → is_some hand ≡ true → (ticket : ℕ) × (hand ≡ Some ticket)
 held_of None e = absurd (cc)

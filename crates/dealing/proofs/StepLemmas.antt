@@ -2,11 +2,11 @@
 use Rattle.std.proofs.Common.{◌≡◌, ℕ, suc, ◌+◌, ◌<◌, ◌==◌, Bool, Option, None, Some, List, [], ◌∷◌, length, take, drop, sym, ap, subst, length-drop, drop-drop, take-add, if◌then◌else◌, ne_eqb, arith}
 use Rattle.dealing.specs.declared.event.Event.TheVariants.{Gather}
 use Rattle.dealing.specs.declared.given.Given.{Given}
-use Rattle.dealing.specs.declared.refused.Refused.{Refused}
-use Rattle.dealing.specs.declared.refused.Refused.TheVariants.{NoResult}
+use Rattle.dealing.specs.declared.refused.EventCause.{EventCause}
+use Rattle.dealing.specs.declared.refused.EventCause.TheVariants.{NoResult}
 use Rattle.dealing.specs.Machine.{State, refusal_of, after}
 
-abbrev no_result_if : Bool → Option Refused
+abbrev no_result_if : Bool → Option EventCause
 no_result_if b = if b then Some NoResult else None
 
 -- a list that is not empty

@@ -1,4 +1,4 @@
 pub mod Counting
+pub mod EventCauses
 pub mod Machine
-pub mod Refused
 pub mod Run

@@ -6,8 +6,10 @@ use Rattle.cube_queue.specs.declared.outcome.Outcome.{Outcome}
 use Rattle.dealing.specs.declared.event.Event.{Event}
 use Rattle.dealing.specs.declared.event.Event.TheVariants.{Put, Take, Give, Gather}
 use Rattle.dealing.specs.declared.given.Given.{Given}
-use Rattle.dealing.specs.declared.refused.Refused.{Refused}
-use Rattle.dealing.specs.declared.refused.Refused.TheVariants.{OutOfMemory, PutTwice, NoJob, Busy, HoldsNothing, NoResult, NoSuchWorker}
+use Rattle.dealing.specs.declared.refused.EventCause.{EventCause}
+use Rattle.dealing.specs.declared.refused.EventCause.TheVariants.{PutTwice, NoJob, Busy, HoldsNothing, NoResult, NoSuchWorker}
+use Rattle.text_lines.specs.declared.plain_fault.PlainFault.{PlainFault}
+use Rattle.text_lines.specs.declared.plain_fault.PlainFault.TheVariants.{OutOfMemory, For}
 
 -- The tickets in the job queue, its front first. What each worker has in its hand. The outcomes in the result queue, each under
 -- its ticket, its front first. The ledger: a map of tickets to outcomes, as the list of its entries.
@@ -56,7 +58,7 @@ outcome_under ticket ledger = option_map (λ (g : Given). g.outcome) (find (λ (
 
 -- Why an event is refused. Put: the ticket is in the machine. Take: there is no such worker; the job queue is empty; the hand is
 -- not. Give: there is no such worker; its hand is empty. Gather: the result queue is empty.
-abbrev pub refusal_of : State → Event → Option Refused
+abbrev pub refusal_of : State → Event → Option EventCause
 refusal_of m (Put ticket) = if is_among ticket (tickets_in m) then Some PutTwice else None
 refusal_of m (Take worker) =
     if not (nat_lt worker (length m.hands)) then Some NoSuchWorker
@@ -92,7 +94,7 @@ brings_something (Give worker outcome) = true
 brings_something Gather = false
 
 -- One step. A possible event changes the machine, unless there is no memory for what it brings; a refused one does not.
-abbrev pub IsStep : State → Event → Result (Unit {0}) Refused → State → Type 0
+abbrev pub IsStep : State → Event → Result (Unit {0}) (PlainFault EventCause) → State → Type 0
 IsStep m event (Ok _) n = (refusal_of m event ≡ None) × (n ≡ after m event)
 IsStep m event (Err OutOfMemory) n = (refusal_of m event ≡ None) × IsTrue (brings_something event) × (n ≡ m)
-IsStep m event (Err refused) n = (refusal_of m event ≡ Some refused) × (n ≡ m)
+IsStep m event (Err (For cause)) n = (refusal_of m event ≡ Some cause) × (n ≡ m)

@@ -12,4 +12,4 @@ mod refused;
 pub use event::Event;
 pub use given::Given;
 pub use machine::Machine;
-pub use refused::Refused;
+pub use refused::{EventCause, Refused};

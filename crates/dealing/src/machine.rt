@@ -8,11 +8,12 @@ ghost use Rattle.dealing.specs.declared.event.Event.TheVariants.{Put, Take, Give
 use crate::event::Event;
 use crate::given::Given;
 use crate::hands::Hands;
-use crate::refused::Refused;
+use crate::refused::{EventCause, Refused};
 use cube_queue::Outcome;
 use std::alloc::Global;
 use std::collections::VecDeque;
 use std::marker::Model;
+use text_lines::plain_fault::PlainFault;
 
 /// The dealing machine. Its outcomes stand in one list, in the order in which they were given: first those that were gathered,
 /// which are the ledger, and then the result queue.
@@ -108,7 +109,7 @@ impl Machine {
         ensures { IsStep self.old (Put ticket) result self.new }
     {
         if self.has(ticket) {
-            return Err(Refused::PutTwice);
+            return Err(PlainFault::For(EventCause::PutTwice));
         }
         self.jobs.push_back(ticket)?;
         Ok(())
@@ -119,13 +120,13 @@ impl Machine {
         ensures { IsStep self.old (Take worker) result self.new }
     {
         if worker as usize >= self.hands.len() {
-            return Err(Refused::NoSuchWorker);
+            return Err(PlainFault::For(EventCause::NoSuchWorker));
         }
         if self.jobs.is_empty() {
-            return Err(Refused::NoJob);
+            return Err(PlainFault::For(EventCause::NoJob));
         }
         if self.hands.hand(worker).is_some() {
-            return Err(Refused::Busy);
+            return Err(PlainFault::For(EventCause::Busy));
         }
         let front = self.jobs.pop_front();
         self.hands.put(worker, front);
@@ -137,10 +138,10 @@ impl Machine {
         ensures { IsStep self.old (Give worker outcome) result self.new }
     {
         if worker as usize >= self.hands.len() {
-            return Err(Refused::NoSuchWorker);
+            return Err(PlainFault::For(EventCause::NoSuchWorker));
         }
         let Some(ticket) = self.hands.hand(worker) else {
-            return Err(Refused::HoldsNothing);
+            return Err(PlainFault::For(EventCause::HoldsNothing));
         };
         self.given.push(Given { ticket, outcome })?;
         self.hands.put(worker, None);
@@ -152,7 +153,7 @@ impl Machine {
         ensures { IsStep self.old Gather result self.new }
     {
         if self.gathered >= self.given.len() {
-            return Err(Refused::NoResult);
+            return Err(PlainFault::For(EventCause::NoResult));
         }
         self.gathered += 1;
         Ok(())

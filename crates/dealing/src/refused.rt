@@ -1,16 +1,11 @@
 //! Why the dealing machine refuses an event.
-ghost use Rattle.std.specs.Prelude.{◌≡◌, Some};
-ghost use Rattle.dealing.specs.Refused.{number_of, name_of, line_of};
-ghost use Rattle.dealing.specs.declared.refused.Refused.TheVariants.{OutOfMemory};
 
-use std::alloc::AllocFailed;
-use std::fmt;
+use text_lines::fault::Cause;
+use text_lines::plain_fault::PlainFault;
 
-/// Why the dealing machine refuses an event.
+/// What is wrong with an event.
 #[derive(Clone, Copy, Debug, PartialEq, Eq)]
-pub enum Refused {
-    /// There was no memory.
-    OutOfMemory,
+pub enum EventCause {
     /// The ticket was put before.
     PutTwice,
     /// The job queue is empty.
@@ -25,52 +20,35 @@ pub enum Refused {
     NoSuchWorker,
 }
 
-impl Refused {
-    /// Its number.
-    pub fn number(self) -> u8
-        ensures { result ≡ number_of self }
-    {
+/// Why an event is refused: what is wrong with it, or that memory ran out.
+pub type Refused = PlainFault<EventCause>;
+
+impl Cause for EventCause {
+    ghost use Rattle.dealing.specs.EventCauses.{cause_number, cause_name};
+
+    ghost number_of = { cause_number };
+
+    ghost name_of = { cause_name };
+
+    fn number(&self) -> u8 {
         match self {
-            Refused::OutOfMemory => 1,
-            Refused::PutTwice => 2,
-            Refused::NoJob => 3,
-            Refused::Busy => 4,
-            Refused::HoldsNothing => 5,
-            Refused::NoResult => 6,
-            Refused::NoSuchWorker => 7,
+            EventCause::PutTwice => 2,
+            EventCause::NoJob => 3,
+            EventCause::Busy => 4,
+            EventCause::HoldsNothing => 5,
+            EventCause::NoResult => 6,
+            EventCause::NoSuchWorker => 7,
         }
     }
 
-    /// Its name, as the variant is spelled.
-    pub fn name(self) -> &'static str
-        ensures { result.now ≡ name_of self }
-    {
+    fn name(&self) -> &'static str {
         match self {
-            Refused::OutOfMemory => "OutOfMemory",
-            Refused::PutTwice => "PutTwice",
-            Refused::NoJob => "NoJob",
-            Refused::Busy => "Busy",
-            Refused::HoldsNothing => "HoldsNothing",
-            Refused::NoResult => "NoResult",
-            Refused::NoSuchWorker => "NoSuchWorker",
+            EventCause::PutTwice => "PutTwice",
+            EventCause::NoJob => "NoJob",
+            EventCause::Busy => "Busy",
+            EventCause::HoldsNothing => "HoldsNothing",
+            EventCause::NoResult => "NoResult",
+            EventCause::NoSuchWorker => "NoSuchWorker",
         }
-    }
-}
-
-impl fmt::Display for Refused {
-    ghost output = { λ refused. Some (line_of refused) };
-
-    fn fmt<W: fmt::Write>(&self, f: &mut fmt::Formatter<W>) -> fmt::Result {
-        let number = self.number();
-        let name = self.name();
-        write!(f, "{number} {name}")
-    }
-}
-
-impl<T: Drop> From<AllocFailed<T>> for Refused {
-    ghost from_gives = { λ _ refused. refused ≡ OutOfMemory };
-
-    fn from(_error: AllocFailed<T>) -> Refused {
-        Refused::OutOfMemory
     }
 }

@@ -3,6 +3,7 @@ pub mod FirstFault
 pub mod Kept
 pub mod Lines
 pub mod Numbers
+pub mod PlainFault
 pub mod Printed
 pub mod SolverNumber
 pub mod Words

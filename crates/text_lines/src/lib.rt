@@ -8,4 +8,5 @@ pub mod fault;
 pub mod first_fault;
 pub mod lines;
 pub mod numbers;
+pub mod plain_fault;
 pub mod words;

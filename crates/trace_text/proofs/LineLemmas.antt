@@ -12,15 +12,16 @@ use Rattle.text_lines.specs.FirstFault.{IsFaultless}
 use Rattle.text_lines.specs.Lines.{lines_of}
 use Rattle.text_lines.specs.Words.{words_of}
 use Rattle.text_lines.proofs.FaultLemmas.{faultless_push, faultless_nil}
+use Rattle.trace_text.specs.declared.trace_fault.TraceCause.{TraceCause}
 use Rattle.trace_text.specs.declared.trace_fault.TraceCause.TheVariants.{NotAscii, Header}
-use Rattle.trace_text.specs.declared.line_refusal.LineRefusal.{LineRefusal}
-use Rattle.trace_text.specs.declared.line_refusal.LineRefusal.TheVariants.{OutOfMemory, For}
+use Rattle.text_lines.specs.declared.plain_fault.PlainFault.{PlainFault}
+use Rattle.text_lines.specs.declared.plain_fault.PlainFault.TheVariants.{OutOfMemory, For}
 use Rattle.trace_text.specs.declared.trace_reader.TraceReader.{TraceReader}
 use Rattle.trace_text.specs.Header.{header_fault, IsHeaderLine}
 use Rattle.text_lines.specs.Kept.{is_skipped, kept}
 use Rattle.trace_text.specs.Progress.{IsProgress}
 use Rattle.trace_text.specs.Read.{saying, AreSaid, TakesLine, TakesWords, HasHeader, IsAllRead}
-use Rattle.trace_text.specs.LineRefusal.{IsRefusedFor, refusal_at}
+use Rattle.text_lines.specs.PlainFault.{IsRefusedFor, fault_at}
 use Rattle.trace_text.specs.Statement.{Statement, statement_of, words_for}
 use Rattle.trace_text.specs.TraceFault.{trace_line_fault, words_fault, said_fault, statement_fault, statements_of, is_header, is_version_2, is_high, HasTraceFault}
 use Rattle.trace_text.specs.TraceText.{header_line}
@@ -67,7 +68,7 @@ fault_said two before ss words a =
     ∙ ap (λ l. said_fault l (statement_of two words)) (statements_said two ss a.said)
 
 -- a line is refused by its first words
-pub line_refused : (two : Bool) (before : List (List ℕ)) (ss : List Statement) (line : List ℕ) (refusal : LineRefusal) → AreSaid two before ss → is_skipped (words_of line) ≡ false → list_any is_high line ≡ false →
+pub line_refused : (two : Bool) (before : List (List ℕ)) (ss : List Statement) (line : List ℕ) (refusal : PlainFault TraceCause) → AreSaid two before ss → is_skipped (words_of line) ≡ false → list_any is_high line ≡ false →
     IsRefusedFor (said_fault ss (statement_of two (take 8 (words_of line)))) refusal → IsRefusedFor (trace_line_fault before line) refusal
 line_refused two before ss line refusal a s h r = subst (λ f. IsRefusedFor f refusal)
     (ap (said_fault ss) (said_first two (words_of line)) ∙ sym (fault_said two before ss (words_of line) a) ∙ sym (line_fault before line s h)) r
@@ -123,8 +124,8 @@ one_more_line text two next rest old new line after so_far e l t = record {
 }
 
 -- a fault at a line after lines that have none
-pub fault_here : (text : List ℕ) (next : ℕ) (lines : List (List ℕ)) (rest line after : List ℕ) (refusal : LineRefusal) → next ≡ length lines + 1 → lines_of text ≡ lines ++ lines_of rest → IsFaultless trace_line_fault lines → lines_of rest ≡ line ∷ lines_of after →
-    IsRefusedFor (trace_line_fault lines line) refusal → IsRefusal (HasTraceFault text) (refusal_at refusal next)
+pub fault_here : (text : List ℕ) (next : ℕ) (lines : List (List ℕ)) (rest line after : List ℕ) (refusal : PlainFault TraceCause) → next ≡ length lines + 1 → lines_of text ≡ lines ++ lines_of rest → IsFaultless trace_line_fault lines → lines_of rest ≡ line ∷ lines_of after →
+    IsRefusedFor (trace_line_fault lines line) refusal → IsRefusal (HasTraceFault text) (fault_at refusal next)
 fault_here text next lines rest line after OutOfMemory n p f e r = tt
 fault_here text next lines rest line after (For cause) n p f e r = inl (record {
   before = lines;
@@ -136,8 +137,8 @@ fault_here text next lines rest line after (For cause) n p f e r = inl (record {
   first = f;
 })
 
-pub refused_at : (text : List ℕ) (two : Bool) (next : ℕ) (rest : List ℕ) (reader : TraceReader) (line after : List ℕ) (refusal : LineRefusal) (so_far : IsReadSoFar text two next rest reader) → lines_of rest ≡ line ∷ lines_of after →
-    IsRefusedFor (trace_line_fault so_far.lines line) refusal → IsRefusal (HasTraceFault text) (refusal_at refusal next)
+pub refused_at : (text : List ℕ) (two : Bool) (next : ℕ) (rest : List ℕ) (reader : TraceReader) (line after : List ℕ) (refusal : PlainFault TraceCause) (so_far : IsReadSoFar text two next rest reader) → lines_of rest ≡ line ∷ lines_of after →
+    IsRefusedFor (trace_line_fault so_far.lines line) refusal → IsRefusal (HasTraceFault text) (fault_at refusal next)
 refused_at text two next rest reader line after refusal so_far e r = fault_here text next so_far.lines rest line after refusal so_far.counted so_far.parts so_far.faultless e r
 
 -- the header is read
@@ -231,7 +232,7 @@ header_line_read text next rest line after two b e l h =
       room = omega (arith, b.room, l);
     }
 
-pub header_refused : (text : List ℕ) (next : ℕ) (rest line after : List ℕ) (refusal : LineRefusal) → IsBeforeHeader text next rest → lines_of rest ≡ line ∷ lines_of after → IsRefusedFor (header_fault line) refusal → IsRefusal (HasTraceFault text) (refusal_at refusal next)
+pub header_refused : (text : List ℕ) (next : ℕ) (rest line after : List ℕ) (refusal : PlainFault TraceCause) → IsBeforeHeader text next rest → lines_of rest ≡ line ∷ lines_of after → IsRefusedFor (header_fault line) refusal → IsRefusal (HasTraceFault text) (fault_at refusal next)
 header_refused text next rest line after refusal b e r = fault_here text next b.lines rest line after refusal b.counted b.parts b.faultless e
     (subst (λ f. IsRefusedFor f refusal) (ap (λ k. if is_skipped (words_of line) then None else if list_any is_high line then Some NotAscii else words_fault k (words_of line)) (sym b.none)) r)
 

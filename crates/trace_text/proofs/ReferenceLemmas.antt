@@ -9,14 +9,15 @@ use Rattle.text_lines.specs.Words.{words_of}
 use Rattle.text_lines.proofs.FaultLemmas.{faultless_push, faultless_nil}
 use Rattle.traces.specs.declared.operation.Op.{Op}
 use Rattle.traces.specs.declared.operation.Op.TheVariants.{Read as ReadOp, Write as WriteOp, Update as UpdateOp}
-use Rattle.trace_text.specs.declared.line_refusal.LineRefusal.{LineRefusal}
-use Rattle.trace_text.specs.declared.line_refusal.LineRefusal.TheVariants.{OutOfMemory, For}
+use Rattle.text_lines.specs.declared.plain_fault.PlainFault.{PlainFault}
+use Rattle.text_lines.specs.declared.plain_fault.PlainFault.TheVariants.{OutOfMemory, For}
 use Rattle.traces.specs.declared.trace.Process.{Process}
+use Rattle.trace_text.specs.declared.trace_fault.TraceCause.{TraceCause}
 use Rattle.trace_text.specs.Entry.{op_statement}
 use Rattle.trace_text.specs.Gathered.{is_of_process, process_statements}
 use Rattle.text_lines.specs.Kept.{is_skipped}
 use Rattle.trace_text.specs.References.{is_of, fault_of_references, fault_of_line, IsRefusedByReferences}
-use Rattle.trace_text.specs.LineRefusal.{IsRefusedFor, refusal_at}
+use Rattle.text_lines.specs.PlainFault.{IsRefusedFor, fault_at}
 use Rattle.trace_text.specs.Statement.{Statement, Init, Final, Proc, Read, Write, Update, Before, statement_of}
 use Rattle.trace_text.specs.TraceFault.{has_operation, operations_up_to_proc}
 use Rattle.trace_text.proofs.SaidLemmas.{said_first}
@@ -42,8 +43,8 @@ one_more_looked_at two processes text next rest line after h e l f = record {
   room = omega (arith, h.room, l);
 }
 
-pub refused_looking : (two : Bool) (processes : List Process) (text : List ℕ) (next : ℕ) (rest line after : List ℕ) (refusal : LineRefusal) → IsLookedAt two processes text next rest → lines_of rest ≡ line ∷ lines_of after →
-    IsRefusedFor (fault_of_line two processes line) refusal → IsRefusedByReferences two processes text (refusal_at refusal next)
+pub refused_looking : (two : Bool) (processes : List Process) (text : List ℕ) (next : ℕ) (rest line after : List ℕ) (refusal : PlainFault TraceCause) → IsLookedAt two processes text next rest → lines_of rest ≡ line ∷ lines_of after →
+    IsRefusedFor (fault_of_line two processes line) refusal → IsRefusedByReferences two processes text (fault_at refusal next)
 refused_looking two processes text next rest line after OutOfMemory h e r = tt
 refused_looking two processes text next rest line after (For cause) h e r = record {
   before = h.lines;

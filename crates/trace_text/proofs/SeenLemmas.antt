@@ -11,11 +11,11 @@ use Rattle.text_lines.proofs.ListLemmas.{none_passes}
 use Rattle.trace_text.specs.declared.seen.Seen.{Seen}
 use Rattle.trace_text.specs.declared.trace_fault.TraceCause.{TraceCause}
 use Rattle.trace_text.specs.declared.trace_fault.TraceCause.TheVariants.{BadName, BadNumber, LateHeaderLine, OpOutsideProc, InitTwice, FinalTwice, ProcTwice, TooManyProcs, TooManyOps, TooManyLocations, TooManyBefore}
-use Rattle.trace_text.specs.declared.line_refusal.LineRefusal.{LineRefusal}
-use Rattle.trace_text.specs.declared.line_refusal.LineRefusal.TheVariants.{OutOfMemory, For}
+use Rattle.text_lines.specs.declared.plain_fault.PlainFault.{PlainFault}
+use Rattle.text_lines.specs.declared.plain_fault.PlainFault.TheVariants.{OutOfMemory, For}
 use Rattle.trace_text.specs.Entry.{has_numbers, number_fault}
 use Rattle.traces.specs.Names.{is_name}
-use Rattle.trace_text.specs.LineRefusal.{IsRefusedFor}
+use Rattle.text_lines.specs.PlainFault.{IsRefusedFor}
 use Rattle.traces.specs.Locations.{distinct, holds_name}
 use Rattle.traces.proofs.NameLemmas.{bytes_turned}
 use Rattle.traces.proofs.DistinctLemmas.{length_chosen}
@@ -177,7 +177,7 @@ fault_early ss s begun cause b h = early_some (is_value_line s && list_any is_pr
     (late_fault ss s) (ap (λ c. early_fault c s) b ∙ h)
 
 -- where a number is wrong
-pub fault_number : (ss : List Statement) (s : Statement) (begun : Bool) (refusal : LineRefusal) → list_any is_proc ss ≡ begun → early_fault begun s ≡ None → IsRefusedFor (number_fault (has_numbers s)) refusal → IsRefusedFor (statement_fault ss s) refusal
+pub fault_number : (ss : List Statement) (s : Statement) (begun : Bool) (refusal : PlainFault TraceCause) → list_any is_proc ss ≡ begun → early_fault begun s ≡ None → IsRefusedFor (number_fault (has_numbers s)) refusal → IsRefusedFor (statement_fault ss s) refusal
 fault_number ss s begun OutOfMemory b h r = tt
 fault_number ss s begun (For cause) b h r = early_number (is_value_line s && list_any is_proc ss) (is_operation s && not (list_any is_proc ss)) (list_all is_name (names_of s)) (has_numbers s) cause
     (late_fault ss s) (ap (λ c. early_fault c s) b ∙ h) r

@@ -4,14 +4,14 @@ use Rattle.std.specs.Prelude.{Option, Some, None, is_some, IsSome, if◌then◌e
 use Rattle.std.specs.List.{list_any, list_all}
 use Rattle.text_lines.proofs.BoolLemmas.{never_without}
 use Rattle.trace_text.specs.declared.entry.Entry.{Entry}
-use Rattle.trace_text.specs.declared.line_refusal.LineRefusal.{LineRefusal}
+use Rattle.text_lines.specs.declared.plain_fault.PlainFault.{PlainFault}
 use Rattle.trace_text.specs.declared.trace_fault.TraceCause.{TraceCause}
 use Rattle.trace_text.specs.declared.trace_reader.TraceReader.{TraceReader}
 use Rattle.trace_text.specs.Entry.{statement_for, has_numbers, number_fault, entry_fits}
 use Rattle.trace_text.specs.Gathered.{Adds, IsGathered}
 use Rattle.traces.specs.Names.{is_name}
 use Rattle.trace_text.specs.Progress.{IsProgress}
-use Rattle.trace_text.specs.LineRefusal.{IsRefusedFor}
+use Rattle.text_lines.specs.PlainFault.{IsRefusedFor}
 use Rattle.trace_text.specs.Seen.{early_fault, fault_behind, Notes}
 use Rattle.trace_text.specs.Statement.{Statement}
 use Rattle.trace_text.specs.TraceFault.{is_proc, is_operation, is_value_line, names_of, repeats, twice_cause, statement_fault}
@@ -24,11 +24,11 @@ pub refused_early : (ss : List Statement) (r : TraceReader) (s : Statement) (cau
 refused_early ss r s cause p h = fault_early ss s (is_some r.gathered.last) cause p.begun (sym h)
 
 -- a number is wrong
-pub refused_number : (ss : List Statement) (r : TraceReader) (s : Statement) (refusal : LineRefusal) → IsProgress ss r → None ≡ early_fault (is_some r.gathered.last) s → IsRefusedFor (number_fault (has_numbers s)) refusal → IsRefusedFor (statement_fault ss s) refusal
+pub refused_number : (ss : List Statement) (r : TraceReader) (s : Statement) (refusal : PlainFault TraceCause) → IsProgress ss r → None ≡ early_fault (is_some r.gathered.last) s → IsRefusedFor (number_fault (has_numbers s)) refusal → IsRefusedFor (statement_fault ss s) refusal
 refused_number ss r s refusal p h n = fault_number ss s (is_some r.gathered.last) refusal p.begun (sym h) n
 
 -- a fault after the others
-pub refused_late : (ss : List Statement) (r : TraceReader) (s : Statement) (refusal : LineRefusal) → IsProgress ss r → None ≡ early_fault (is_some r.gathered.last) s → has_numbers s ≡ true → IsRefusedFor (fault_behind r.seen s) refusal → IsRefusedFor (statement_fault ss s) refusal
+pub refused_late : (ss : List Statement) (r : TraceReader) (s : Statement) (refusal : PlainFault TraceCause) → IsProgress ss r → None ≡ early_fault (is_some r.gathered.last) s → has_numbers s ≡ true → IsRefusedFor (fault_behind r.seen s) refusal → IsRefusedFor (statement_fault ss s) refusal
 refused_late ss r s refusal p h n f = subst (λ o. IsRefusedFor o refusal) (fault_seen ss r.seen s p.seen ∙ sym (fault_late ss s (is_some r.gathered.last) p.begun (sym h) n)) f
 
 not_outside : (a b c : Bool) → early_of a b c ≡ None → b ≡ false

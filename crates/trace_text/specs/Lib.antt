@@ -4,7 +4,6 @@ pub mod Header
 pub mod Progress
 pub mod Read
 pub mod References
-pub mod LineRefusal
 pub mod Said
 pub mod Seen
 pub mod Statement

@@ -2,17 +2,17 @@
 
 ghost use Rattle.std.specs.Prelude.{◌≡◌, ◌<◌, ◌^◌, ◌&&◌, true, decimal, is_some, IfOk, IfErr, IfSome, Some, None, if◌then◌else◌};
 ghost use Rattle.trace_text.specs.Entry.{source_of, statement_for, op_statement, has_numbers, has_place, number_fault, fits_value, fits_place, origin_fits, op_fits, entry_fits};
-ghost use Rattle.trace_text.specs.LineRefusal.{IsRefusedFor};
+ghost use Rattle.text_lines.specs.PlainFault.{IsRefusedFor};
 ghost use Rattle.trace_text.specs.Said.{said, said_source};
 ghost use Rattle.trace_text.specs.Statement.{Read, Write, Update, Before};
 ghost use Rattle.traces.specs.Place.{place_of};
 ghost use Rattle.trace_text.specs.TraceFault.{is_value, is_place};
 
-use crate::line_refusal::LineRefusal;
 use crate::statement::{ReadsFrom, Statement};
-use crate::trace_fault::TraceCause;
+use crate::trace_fault::{LineRefusal, TraceCause};
 use std::alloc::Global;
 use text_lines::numbers::read_plain;
+use text_lines::plain_fault::PlainFault;
 use traces::name::Name;
 use traces::operation::{Op, OpName, Origin};
 
@@ -62,7 +62,7 @@ fn read_located(alloc: Global, location: &[u8], value: &[u8]) -> Result<(Name, u
     ensures fits { IfOk result (λ located. fits_value located.1 ≡ true) }
 {
     let Some(value) = read_value(value) else {
-        return Err(LineRefusal::For(TraceCause::BadNumber));
+        return Err(PlainFault::For(TraceCause::BadNumber));
     };
     Ok((Name::copy_of(alloc, location)?, value))
 }
@@ -76,7 +76,7 @@ fn read_op_name(alloc: Global, process: &[u8], place: &[u8]) -> Result<OpName, L
     ensures fits { IfOk result (λ name. fits_place name.place ≡ true) }
 {
     let Some(place) = read_place(place) else {
-        return Err(LineRefusal::For(TraceCause::BadNumber));
+        return Err(PlainFault::For(TraceCause::BadNumber));
     };
     Ok(OpName {
         process: Name::copy_of(alloc, process)?,
@@ -134,7 +134,7 @@ fn read_update(
     ensures fits { IfOk result (λ op. op_fits op ≡ true) }
 {
     let Some(read) = read_value(read) else {
-        return Err(LineRefusal::For(TraceCause::BadNumber));
+        return Err(PlainFault::For(TraceCause::BadNumber));
     };
     let (location, left) = read_located(alloc, location, left)?;
     Ok(Op::Update {

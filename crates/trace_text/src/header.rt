@@ -9,17 +9,17 @@ ghost use Rattle.text_lines.specs.Words.{words_of};
 ghost use Rattle.trace_text.specs.Header.{header_fault, IsHeaderLine};
 ghost use Rattle.text_lines.specs.Kept.{is_skipped};
 ghost use Rattle.trace_text.specs.Read.{HasHeader};
-ghost use Rattle.trace_text.specs.LineRefusal.{IsRefusedFor};
+ghost use Rattle.text_lines.specs.PlainFault.{IsRefusedFor};
 ghost use Rattle.trace_text.specs.TraceFault.{is_header, HasTraceFault};
 ghost use Rattle.trace_text.specs.TraceText.{header_line};
 
 use crate::line::has_high_byte;
-use crate::line_refusal::LineRefusal;
-use crate::trace_fault::{TraceCause, TraceFault};
+use crate::trace_fault::{LineRefusal, TraceCause, TraceFault};
 use std::alloc::Global;
 use text_lines::comments::is_skipped_line;
 use text_lines::fault::Fault;
 use text_lines::lines::cut_line;
+use text_lines::plain_fault::PlainFault;
 use text_lines::words::first_words;
 
 /// One word more than a header has.
@@ -66,11 +66,11 @@ fn read_header_line(alloc: Global, line: &[u8]) -> Result<Option<bool>, LineRefu
         return Ok(None);
     }
     if has_high_byte(line) {
-        return Err(LineRefusal::For(TraceCause::NotAscii));
+        return Err(PlainFault::For(TraceCause::NotAscii));
     }
     match version_of(words.as_slice()) {
         Some(two) => Ok(Some(two)),
-        None => Err(LineRefusal::For(TraceCause::Header)),
+        None => Err(PlainFault::For(TraceCause::Header)),
     }
 }
 

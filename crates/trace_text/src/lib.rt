@@ -5,7 +5,6 @@ mod entry;
 mod gathered;
 mod header;
 mod line;
-mod line_refusal;
 mod pair_order;
 mod place;
 mod references;

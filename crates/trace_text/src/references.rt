@@ -5,19 +5,19 @@ ghost use Rattle.std.specs.List.{list_all, list_any};
 ghost use Rattle.std.specs.Str.{bytes_eq};
 ghost use Rattle.text_lines.specs.FirstFault.{IsFaultless};
 ghost use Rattle.text_lines.specs.Lines.{lines_of};
-ghost use Rattle.trace_text.specs.LineRefusal.{IsRefusedFor};
+ghost use Rattle.text_lines.specs.PlainFault.{IsRefusedFor};
 ghost use Rattle.trace_text.specs.References.{is_of, is_among, fault_of_references, fault_of_line, IsRefusedByReferences};
 ghost use Rattle.trace_text.specs.Said.{said, said_source};
 ghost use Rattle.traces.specs.Place.{place_of};
 ghost use Rattle.trace_text.specs.TraceFault.{references_of, references_of_source, is_before_itself};
 
 use crate::entry::read_place;
-use crate::line_refusal::LineRefusal;
 use crate::statement::{ReadsFrom, Statement, read_statement};
-use crate::trace_fault::{TraceCause, TraceFault};
+use crate::trace_fault::{LineRefusal, TraceCause, TraceFault};
 use std::alloc::Global;
 use text_lines::comments::is_skipped_line;
 use text_lines::lines::cut_line;
+use text_lines::plain_fault::PlainFault;
 use text_lines::words::first_words;
 use traces::trace::Process;
 
@@ -91,10 +91,10 @@ fn fault_of_names(processes: &[Process], statement: Statement<'_>) -> Result<(),
     ensures fine { OnOk result (fault_of_references processes.now (Some (said statement.entry)) ≡ None) }
 {
     if !all_are_known(processes, statement) {
-        return Err(LineRefusal::For(TraceCause::NoSuchOp));
+        return Err(PlainFault::For(TraceCause::NoSuchOp));
     }
     if is_of_one(statement) {
-        return Err(LineRefusal::For(TraceCause::BeforeItself));
+        return Err(PlainFault::For(TraceCause::BeforeItself));
     }
     Ok(())
 }

@@ -2,15 +2,15 @@
 
 ghost use Rattle.std.specs.Prelude.{◌≡◌, ◌≤◌, [], List, ℕ, Some, None, false, OnOk, IfErr};
 ghost use Rattle.traces.specs.NameNumbers.{number_of};
-ghost use Rattle.trace_text.specs.LineRefusal.{IsRefusedFor};
+ghost use Rattle.text_lines.specs.PlainFault.{IsRefusedFor};
 ghost use Rattle.trace_text.specs.Said.{said};
 ghost use Rattle.trace_text.specs.Statement.{Init, Final, Proc, Write, Before};
 ghost use Rattle.trace_text.specs.Seen.{has, IsSeen, Notes, NotesLocation, fault_behind, fault_of_location, fault_of_operation};
 
-use crate::line_refusal::LineRefusal;
 use crate::statement::Statement;
-use crate::trace_fault::TraceCause;
+use crate::trace_fault::{LineRefusal, TraceCause};
 use std::alloc::Global;
+use text_lines::plain_fault::PlainFault;
 use traces::name_table::NameTable;
 
 const MOST_PROCESSES: usize = 64;
@@ -74,7 +74,7 @@ impl<'a> Seen<'a> {
             return Ok(());
         }
         if self.location_count >= MOST_LOCATIONS {
-            return Err(LineRefusal::For(TraceCause::TooManyLocations));
+            return Err(PlainFault::For(TraceCause::TooManyLocations));
         }
         self.locations.insert(location, 0)?;
         self.location_count += 1;
@@ -88,7 +88,7 @@ impl<'a> Seen<'a> {
         ensures noted { OnOk result (Notes self.old self.new (Init location.now [])) }
     {
         if has_name(&self.initial, location) {
-            return Err(LineRefusal::For(TraceCause::InitTwice));
+            return Err(PlainFault::For(TraceCause::InitTwice));
         }
         self.initial.insert(location, 0)?;
         self.take_location(location)
@@ -101,7 +101,7 @@ impl<'a> Seen<'a> {
         ensures noted { OnOk result (Notes self.old self.new (Final location.now [])) }
     {
         if has_name(&self.final_values, location) {
-            return Err(LineRefusal::For(TraceCause::FinalTwice));
+            return Err(PlainFault::For(TraceCause::FinalTwice));
         }
         self.final_values.insert(location, 0)?;
         self.take_location(location)
@@ -114,10 +114,10 @@ impl<'a> Seen<'a> {
         ensures noted { OnOk result (Notes self.old self.new (Proc name.now)) }
     {
         if has_name(&self.processes, name) {
-            return Err(LineRefusal::For(TraceCause::ProcTwice));
+            return Err(PlainFault::For(TraceCause::ProcTwice));
         }
         if self.process_count >= MOST_PROCESSES {
-            return Err(LineRefusal::For(TraceCause::TooManyProcs));
+            return Err(PlainFault::For(TraceCause::TooManyProcs));
         }
         self.processes.insert(name, 0)?;
         self.process_count += 1;
@@ -131,7 +131,7 @@ impl<'a> Seen<'a> {
         ensures noted { OnOk result (Notes self.old self.new (Write location.now [])) }
     {
         if self.operation_count >= MOST_OPERATIONS {
-            return Err(LineRefusal::For(TraceCause::TooManyOps));
+            return Err(PlainFault::For(TraceCause::TooManyOps));
         }
         self.operation_count += 1;
         self.take_location(location)
@@ -144,7 +144,7 @@ impl<'a> Seen<'a> {
         ensures noted { OnOk result (Notes self.old self.new (Before [] [] [] [])) }
     {
         if self.before_count >= MOST_BEFORE_LINES {
-            return Err(LineRefusal::For(TraceCause::TooManyBefore));
+            return Err(PlainFault::For(TraceCause::TooManyBefore));
         }
         self.before_count += 1;
         Ok(())

@@ -1,6 +1,7 @@
 //! What may be wrong with the text of a trace.
 
 use text_lines::fault::{Cause, Fault};
+use text_lines::plain_fault::PlainFault;
 
 /// What is wrong with a line of a trace text, or with the whole.
 #[derive(Clone, Copy, Debug, PartialEq, Eq)]
@@ -41,6 +42,9 @@ pub enum TraceCause {
 
 /// Why a text is not read as a trace: its first fault and its line, counted from 1, or that memory ran out.
 pub type TraceFault = Fault<TraceCause>;
+
+/// Why a line is not taken, where the line is known to the caller alone.
+pub(crate) type LineRefusal = PlainFault<TraceCause>;
 
 impl Cause for TraceCause {
     ghost use Rattle.trace_text.specs.TraceCauses.{cause_number, cause_name};

@@ -4,7 +4,7 @@ ghost use Rattle.std.specs.Prelude.{◌≡◌, ◌≤◌, [], ◌∷◌, ◌++�
 ghost use Rattle.text_lines.specs.Fault.{IsRefusal};
 ghost use Rattle.trace_text.specs.Progress.{IsProgress};
 ghost use Rattle.trace_text.specs.Read.{AreSaid, TakesLine, TakesWords, HasHeader, IsAllRead};
-ghost use Rattle.trace_text.specs.LineRefusal.{IsRefusedFor};
+ghost use Rattle.text_lines.specs.PlainFault.{IsRefusedFor};
 ghost use Rattle.trace_text.specs.Said.{said};
 ghost use Rattle.trace_text.specs.Statement.{Statement as Said, statement_of};
 ghost use Rattle.trace_text.specs.TraceFault.{statement_fault, said_fault, trace_line_fault, HasTraceFault};
@@ -15,15 +15,15 @@ use crate::entry::read_entry;
 use crate::gathered::Gathered;
 use crate::header::{Header, read_header};
 use crate::line::has_high_byte;
-use crate::line_refusal::LineRefusal;
 use crate::place::fault_of_place;
 use crate::references::check_references;
 use crate::seen::Seen;
 use crate::statement::{Statement, read_statement};
-use crate::trace_fault::{TraceCause, TraceFault};
+use crate::trace_fault::{LineRefusal, TraceCause, TraceFault};
 use std::alloc::Global;
 use text_lines::comments::is_skipped_line;
 use text_lines::lines::cut_line;
+use text_lines::plain_fault::PlainFault;
 use text_lines::words::first_words;
 use traces::trace::Trace;
 
@@ -55,7 +55,7 @@ impl<'a> TraceReader<'a> {
             (statement_fault ss (said statement.entry) ≡ None) × IsProgress (ss ++ said statement.entry ∷ []) self.new) }
     {
         if let Some(cause) = fault_of_place(self.gathered.has_begun(), statement) {
-            return Err(LineRefusal::For(cause));
+            return Err(PlainFault::For(cause));
         }
         let entry = read_entry(alloc, statement)?;
         self.seen.take(statement)?;
@@ -76,7 +76,7 @@ impl<'a> TraceReader<'a> {
     {
         match read_statement(two, words) {
             Some(statement) => self.take_statement(alloc, statement),
-            None => Err(LineRefusal::For(TraceCause::UnknownLine)),
+            None => Err(PlainFault::For(TraceCause::UnknownLine)),
         }
     }
 
@@ -92,7 +92,7 @@ impl<'a> TraceReader<'a> {
             return Ok(());
         }
         if has_high_byte(line) {
-            return Err(LineRefusal::For(TraceCause::NotAscii));
+            return Err(PlainFault::For(TraceCause::NotAscii));
         }
         self.take_words(alloc, two, words.as_slice())
     }

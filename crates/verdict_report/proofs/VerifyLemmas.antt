@@ -1,10 +1,11 @@
 -- Why nothing is decided of a trace, and what follows from the status where something is.
 use Rattle.std.proofs.Common.{◌≡◌, ℕ, List, [], ◌∷◌, ◌++◌, subst}
 use Rattle.std.specs.Prelude.{Result, Ok, Err}
-use Rattle.cube_queue.specs.declared.search_fault.SearchFault.{SearchFault}
-use Rattle.cube_queue.specs.declared.search_fault.SearchFault.TheVariants.{OutOfMemory as NoMemoryToSearch, Cut, NoThread}
+use Rattle.cube_queue.specs.declared.search_fault.SearchCause.{SearchCause}
 use Rattle.reducer.specs.declared.reduce_fault.ReduceCause.TheVariants.{StillTooLarge}
 use Rattle.schedule_text.specs.ScheduleWritten.{canonical_schedule}
+use Rattle.text_lines.specs.declared.plain_fault.PlainFault.{PlainFault}
+use Rattle.text_lines.specs.declared.plain_fault.PlainFault.TheVariants.{OutOfMemory as NoMemoryToSearch, For}
 use Rattle.traces.specs.Trace.{TraceValue}
 use Rattle.trace_verdict.specs.declared.decision.Decision.{Decision}
 use Rattle.trace_verdict.specs.declared.decision.Decision.TheVariants.{Consistent, Inconsistent, Unknown as NotDecided}
@@ -35,13 +36,12 @@ unreduced text (Reduce StillTooLarge left) r = r
 unreduced text (Decode cause clause) r = absurd r
 unreduced text (Check cause step) r = absurd r
 unreduced text (Cert cause place) r = absurd r
-unreduced text (Search fault) r = absurd r
+unreduced text (Search cause) r = absurd r
 
 -- the search has no results
-pub unsearched : (text : List ℕ) (value : TraceValue) → Admits text value → (fault : SearchFault) → IsSaidOfTrace text (Err (fault_of_search fault))
+pub unsearched : (text : List ℕ) (value : TraceValue) → Admits text value → (fault : PlainFault SearchCause) → IsSaidOfTrace text (Err (fault_of_search fault))
 unsearched text value admitted NoMemoryToSearch = tt
-unsearched text value admitted Cut = (value, admitted)
-unsearched text value admitted NoThread = (value, admitted)
+unsearched text value admitted (For cause) = (value, admitted)
 
 -- what follows from the status of what is decided
 module _ (trace : SourceRun) (text : List ℕ) (handed : HandOut (trace ∷ []) (text ∷ [])) (out : SinkRun) where

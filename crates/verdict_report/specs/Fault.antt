@@ -7,6 +7,8 @@ use Rattle.traces.specs.declared.judgement.Judgement.TheVariants.{Legal, Illegal
 use Rattle.text_lines.specs.Printed.{printed_at}
 use Rattle.text_lines.specs.declared.fault.Fault.{Fault as PartFault}
 use Rattle.text_lines.specs.declared.fault.Fault.TheVariants.{OutOfMemory as NoPartMemory, At}
+use Rattle.text_lines.specs.declared.plain_fault.PlainFault.{PlainFault}
+use Rattle.text_lines.specs.declared.plain_fault.PlainFault.TheVariants.{OutOfMemory as NoMemoryToSearch, For}
 use Rattle.cnf_reader.specs.CnfCauses as cnf
 use Rattle.certificate.specs.CertCause as cert
 use Rattle.lrat_check.specs.LratFault as lrat
@@ -16,9 +18,8 @@ use Rattle.reducer.specs.ReduceCauses as reduce
 use Rattle.schedule_decode.specs.DecodeCauses as decode
 use Rattle.schedule_text.specs.ScheduleCauses as schedule
 use Rattle.trace_text.specs.TraceCauses as trace
-use Rattle.cube_queue.specs.SearchFault as search
-use Rattle.cube_queue.specs.declared.search_fault.SearchFault.{SearchFault}
-use Rattle.cube_queue.specs.declared.search_fault.SearchFault.TheVariants.{OutOfMemory as NoMemoryToSearch, Cut, NoThread}
+use Rattle.cube_queue.specs.SearchCauses as search
+use Rattle.cube_queue.specs.declared.search_fault.SearchCause.{SearchCause}
 use Rattle.verdict_report.specs.declared.fault.Fault.{Fault}
 use Rattle.verdict_report.specs.declared.fault.Fault.TheVariants.{OutOfMemory, Device, InputTooLong, Trace, Schedule, Model, Cnf, Lrat, Reduce, Decode, Check, Cert, Search}
 use Rattle.verdict_report.specs.declared.reading.ReadFault.{ReadFault}
@@ -48,7 +49,7 @@ told (Cnf cause line) = located (codes "cnf") (cnf.cause_number cause) (cnf.caus
 told (Lrat cause line) = located (codes "lrat") (lrat.cause_number cause) (lrat.cause_name cause) line
 told (Reduce cause left) = located (codes "reduce") (reduce.cause_number cause) (reduce.cause_name cause) left
 told (Decode cause clause) = located (codes "decode") (decode.cause_number cause) (decode.cause_name cause) clause
-told (Search fault) = record { area = codes "search"; number = Some (search.number_of fault); name = search.name_of fault; place = None }
+told (Search cause) = record { area = codes "search"; number = Some (search.cause_number cause); name = search.cause_name cause; place = None }
 told (Check cause step) = located (codes "check") (check.fault_number cause) (check.fault_name cause) step
 told (Cert cause place) = located (codes "cert") (cert.cause_number cause) (cert.cause_name cause) place
 
@@ -93,10 +94,9 @@ fault_of_reading SourceFailed = Device
 fault_of_reading TooLong = InputTooLong
 
 -- lack of memory is the engine's own
-abbrev pub fault_of_search : SearchFault → Fault
+abbrev pub fault_of_search : PlainFault SearchCause → Fault
 fault_of_search NoMemoryToSearch = OutOfMemory
-fault_of_search Cut = Search Cut
-fault_of_search NoThread = Search NoThread
+fault_of_search (For cause) = Search cause
 
 abbrev pub fault_of_sink : SinkFault → Fault
 fault_of_sink NoRoom = OutOfMemory

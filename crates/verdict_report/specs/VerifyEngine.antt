@@ -4,7 +4,6 @@ use Rattle.certificate.specs.CertText.{SpellsCertificate}
 use Rattle.certificate.specs.Rechecked.{IsRechecked}
 use Rattle.certificate.specs.declared.certificate.Certificate.{Certificate}
 use Rattle.clause_blocks.specs.Clauses.{clauses_of}
-use Rattle.cube_queue.specs.declared.search_fault.SearchFault.TheVariants.{Cut, NoThread}
 use Rattle.reducer.specs.declared.reduce_fault.ReduceCause.TheVariants.{StillTooLarge}
 use Rattle.reducer.specs.Reduction.{kept_trace}
 use Rattle.schedule_text.specs.ScheduleText.{SpellsSchedule}
@@ -37,8 +36,7 @@ IsSaidOfTrace text (Ok decision) = IsDecidedFrom text decision
 IsSaidOfTrace text (Err OutOfMemory) = ⊤
 IsSaidOfTrace text (Err (Trace cause line)) = HasTraceFault text cause line
 IsSaidOfTrace text (Err (Reduce StillTooLarge left)) = IsTooLarge text left
-IsSaidOfTrace text (Err (Search Cut)) = (value : TraceValue) × Admits text value
-IsSaidOfTrace text (Err (Search NoThread)) = (value : TraceValue) × Admits text value
+IsSaidOfTrace text (Err (Search cause)) = (value : TraceValue) × Admits text value
 IsSaidOfTrace text (Err fault) = ⊥
 
 -- the status that goes with a decision

@@ -4,7 +4,7 @@ ghost use Rattle.std.specs.Prelude.{◌≡◌, Some};
 
 use certificate::CertCause;
 use cnf_reader::CnfCause;
-use cube_queue::SearchFault;
+use cube_queue::SearchCause;
 use lrat_check::lrat_fault::LratCause;
 use lrat_check::refusal::StepFault;
 use model_reader::ModelCause;
@@ -59,7 +59,7 @@ pub enum Fault {
     Cert(CertCause, usize),
     /// Why the search has no results. Want of memory is `OutOfMemory`, as everywhere.
     #[error("search {number} {name}", number = .0.number(), name = .0.name())]
-    Search(SearchFault),
+    Search(SearchCause),
 }
 
 /// What is reported of a fault.
@@ -148,10 +148,10 @@ impl Fault {
             Fault::Decode(cause, clause) => located("decode", cause, *clause),
             Fault::Check(cause, step) => located("check", cause, *step),
             Fault::Cert(cause, place) => located("cert", cause, *place),
-            Fault::Search(fault) => Told {
+            Fault::Search(cause) => Told {
                 area: "search",
-                number: Some(fault.number()),
-                name: fault.name(),
+                number: Some(cause.number()),
+                name: cause.name(),
                 place: None,
             },
         }

@@ -16,6 +16,7 @@ use schedule_decode::decode_fault::DecodeCause;
 use schedule_text::schedule_fault::ScheduleCause;
 use std::alloc::AllocError;
 use text_lines::fault::{Cause, Fault as PartFault};
+use text_lines::plain_fault::PlainFault;
 use trace_text::trace_fault::TraceCause;
 
 /// The causes of a part, which have an area among the faults of engines.
@@ -157,9 +158,8 @@ impl From<SearchFault> for Fault {
 
     fn from(fault: SearchFault) -> Fault {
         match fault {
-            SearchFault::OutOfMemory => Fault::OutOfMemory,
-            SearchFault::Cut => Fault::Search(SearchFault::Cut),
-            SearchFault::NoThread => Fault::Search(SearchFault::NoThread),
+            PlainFault::OutOfMemory => Fault::OutOfMemory,
+            PlainFault::For(cause) => Fault::Search(cause),
         }
     }
 }

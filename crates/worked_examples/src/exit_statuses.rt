@@ -3,7 +3,7 @@
 use crate::expectations::{ample, expect};
 use certificate::CertCause;
 use cnf_reader::CnfCause;
-use cube_queue::SearchFault;
+use cube_queue::SearchCause;
 use dimacs::MemorySink;
 use lrat_check::lrat_fault::LratCause;
 use lrat_check::refusal::StepFault;
@@ -74,12 +74,12 @@ const FAULTS: [(Fault, u8, &str); 14] = [
         "refused: cert 10 Missing at 1\n",
     ),
     (
-        Fault::Search(SearchFault::Cut),
+        Fault::Search(SearchCause::Cut),
         2,
         "refused: search 2 Cut\n",
     ),
     (
-        Fault::Search(SearchFault::NoThread),
+        Fault::Search(SearchCause::NoThread),
         2,
         "refused: search 3 NoThread\n",
     ),

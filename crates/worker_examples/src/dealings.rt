@@ -1,26 +1,27 @@
 //! What no clause says: that events are taken with ample memory, and that the clauses say what was meant.
 
 use cube_queue::Outcome;
-use dealing::{Event, Machine, Refused};
+use dealing::{Event, EventCause, Machine};
 use std::process::Abort;
+use text_lines::plain_fault::PlainFault;
 
 /// Asserts that the machine takes the event.
 fn assert_takes(rt: &impl Abort, machine: &mut Machine, event: Event) {
     assert!(rt; machine.step(event).is_ok());
 }
 
-/// Asserts that the machine refuses the event, by this number.
+/// Asserts that the machine refuses the event for this cause, by this number.
 fn assert_refuses(
     rt: &impl Abort,
     machine: &mut Machine,
     event: Event,
-    refused: Refused,
+    cause: EventCause,
     number: u8,
 ) {
     let Err(found) = machine.step(event) else {
         panic!(rt; "the event is taken");
     };
-    assert!(rt; found == refused, "{number}");
+    assert!(rt; found == PlainFault::For(cause), "{number}");
     assert!(rt; found.number() == number, "{number}");
 }
 
@@ -33,23 +34,29 @@ fn settles_a_job(rt: HostRuntime) {
     assert!(&rt; machine.outcome(0).is_none());
     assert_takes(&rt, &mut machine, Event::Gather);
     assert!(&rt; matches!(machine.outcome(0), Some(Outcome::Open)));
-    assert_refuses(&rt, &mut machine, Event::Take(0), Refused::NoJob, 3);
-    assert_refuses(&rt, &mut machine, Event::Put(0), Refused::PutTwice, 2);
+    assert_refuses(&rt, &mut machine, Event::Take(0), EventCause::NoJob, 3);
+    assert_refuses(&rt, &mut machine, Event::Put(0), EventCause::PutTwice, 2);
     assert!(&rt; matches!(machine.outcome(0), Some(Outcome::Open)));
 }
 
 #[test]
 fn refuses_what_is_not_possible(rt: HostRuntime) {
     let mut machine = Machine::new(rt.alloc(), 1);
-    assert_refuses(&rt, &mut machine, Event::Take(1), Refused::NoSuchWorker, 7);
+    assert_refuses(
+        &rt,
+        &mut machine,
+        Event::Take(1),
+        EventCause::NoSuchWorker,
+        7,
+    );
     let early = Event::Give(0, Outcome::Open);
-    assert_refuses(&rt, &mut machine, early, Refused::HoldsNothing, 5);
-    assert_refuses(&rt, &mut machine, Event::Gather, Refused::NoResult, 6);
+    assert_refuses(&rt, &mut machine, early, EventCause::HoldsNothing, 5);
+    assert_refuses(&rt, &mut machine, Event::Gather, EventCause::NoResult, 6);
     assert_takes(&rt, &mut machine, Event::Put(7));
     assert_takes(&rt, &mut machine, Event::Put(3));
     assert_takes(&rt, &mut machine, Event::Take(0));
-    assert_refuses(&rt, &mut machine, Event::Take(0), Refused::Busy, 4);
-    assert_refuses(&rt, &mut machine, Event::Put(7), Refused::PutTwice, 2);
+    assert_refuses(&rt, &mut machine, Event::Take(0), EventCause::Busy, 4);
+    assert_refuses(&rt, &mut machine, Event::Put(7), EventCause::PutTwice, 2);
 }
 
 #[test]

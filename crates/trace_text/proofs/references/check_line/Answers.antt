@@ -3,7 +3,7 @@ use Rattle.std.specs.Borrow.{Bor}
 use Rattle.std.proofs.lemmas.Result.{on_ok_weaker, IfErr-weaker}
 use Rattle.text_lines.specs.Words.{words_of}
 use Rattle.text_lines.specs.Kept.{is_skipped}
-use Rattle.trace_text.specs.LineRefusal.{IsRefusedFor}
+use Rattle.text_lines.specs.PlainFault.{IsRefusedFor}
 use Rattle.trace_text.specs.Said.{said}
 use Rattle.trace_text.specs.Statement.{statement_of}
 use Rattle.trace_text.proofs.LineLemmas.{skipped_first}

@@ -5,7 +5,7 @@ use Rattle.std.proofs.lemmas.Result.{on_ok_weaker, IfErr-weaker}
 use Rattle.text_lines.specs.Words.{words_of}
 use Rattle.text_lines.specs.Kept.{is_skipped}
 use Rattle.trace_text.specs.Read.{TakesWords}
-use Rattle.trace_text.specs.LineRefusal.{IsRefusedFor}
+use Rattle.text_lines.specs.PlainFault.{IsRefusedFor}
 use Rattle.trace_text.specs.Statement.{statement_of}
 use Rattle.trace_text.specs.TraceFault.{said_fault, is_high}
 use Rattle.trace_text.proofs.LineLemmas.{line_refused, line_taken, skipped_first}
