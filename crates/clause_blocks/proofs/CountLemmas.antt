@@ -4,15 +4,15 @@ use Rattle.std.specs.List.{flat_map, range_with_len}
 use Rattle.std.proofs.lemmas.Bool.{cases_order}
 use Rattle.std.proofs.lemmas.Nat.{mul-le}
 use Rattle.var_layout.specs.OrderVariables.{numbers_above}
-use Rattle.clause_blocks.specs.Blocks.{no_circle, transitivity_from, transitivity}
+use Rattle.clause_blocks.specs.Blocks.{no_cycle, transitivity_from, transitivity}
 
 one_more_pair : (l : ℕ) → 2 + 2 * l ≡ 2 * suc l
 one_more_pair l = omega arith
 
 -- two clauses for each third operation
-pub third_count : (n i j a l : ℕ) → length (flat_map (no_circle n i j) (range_with_len a l)) ≡ 2 * l
+pub third_count : (n i j a l : ℕ) → length (flat_map (no_cycle n i j) (range_with_len a l)) ≡ 2 * l
 third_count n i j a zero = refl
-third_count n i j a (suc l) = length-append (no_circle n i j a) (flat_map (no_circle n i j) (range_with_len (a + 1) l)) ∙ ap (λ m. 2 + m) (third_count n i j (a + 1) l) ∙ one_more_pair l
+third_count n i j a (suc l) = length-append (no_cycle n i j a) (flat_map (no_cycle n i j) (range_with_len (a + 1) l)) ∙ ap (λ m. 2 + m) (third_count n i j (a + 1) l) ∙ one_more_pair l
 
 less_one : (l : ℕ) → suc l - 1 ≡ l
 less_one l = omega arith
@@ -30,11 +30,11 @@ one_more_second : (l : ℕ) → 2 * l + l * (l - 1) ≡ suc l * (suc l - 1)
 one_more_second zero = refl
 one_more_second (suc l) = ap (λ m. 2 * suc l + suc l * m) (less_one l) ∙ second_product l ∙ ap (λ m. suc (suc l) * m) (sym (less_one (suc l)))
 
-second_count : (n i a l : ℕ) → a + l ≡ n → length (flat_map (λ j. flat_map (no_circle n i j) (numbers_above n j)) (range_with_len a l)) ≡ l * (l - 1)
+second_count : (n i a l : ℕ) → a + l ≡ n → length (flat_map (λ j. flat_map (no_cycle n i j) (numbers_above n j)) (range_with_len a l)) ≡ l * (l - 1)
 second_count n i a zero e = refl
 second_count n i a (suc l) e =
     let left : n - (a + 1) ≡ l = omega (arith, e) in
-    length-append (flat_map (no_circle n i a) (numbers_above n a)) (flat_map (λ j. flat_map (no_circle n i j) (numbers_above n j)) (range_with_len (a + 1) l))
+    length-append (flat_map (no_cycle n i a) (numbers_above n a)) (flat_map (λ j. flat_map (no_cycle n i j) (numbers_above n j)) (range_with_len (a + 1) l))
     ∙ (λ p. (third_count n i a (a + 1) (n - (a + 1)) ∙ ap (λ m. 2 * m) left) p + second_count n i (a + 1) l (omega (arith, e)) p)
     ∙ one_more_second l
 
@@ -72,7 +72,7 @@ few_transitivity n few =
 pub none_from : (n i : ℕ) → n ≤ i + 1 → transitivity_from n i ≡ []
 none_from n i high =
     let none : n - (i + 1) ≡ 0 = omega (arith, high) in
-    ap (λ m. flat_map (λ j. flat_map (no_circle n i j) (numbers_above n j)) (range_with_len (i + 1) m)) none
+    ap (λ m. flat_map (λ j. flat_map (no_cycle n i j) (numbers_above n j)) (range_with_len (i + 1) m)) none
 
 from_within : (n i : ℕ) → i + 1 ≤ n → length (transitivity_from n i) ≡ (n - i - 1) * (n - i - 1 - 1)
 from_within n i low =

@@ -24,7 +24,7 @@ use Rattle.var_layout.specs.declared.layout.Chooser.TheVariants.{Read, Final}
 use Rattle.var_layout.proofs.NumberLemmas.{pairs_apart}
 use Rattle.var_layout.proofs.VariableLemmas.{orders_over, choice_over, final_over, void_over}
 use Rattle.var_layout.proofs.WriterLemmas.{writer_within, other_writer}
-use Rattle.clause_blocks.specs.Blocks.{before_clauses, clauses_of_final, clauses_of_read, final_clauses, implies, no_circle, program_order, read_clauses, reads_from, stands_before, transitivity, transitivity_from, void_clauses, writes_last}
+use Rattle.clause_blocks.specs.Blocks.{before_clauses, clauses_of_final, clauses_of_read, final_clauses, implies, no_cycle, program_order, read_clauses, reads_from, stands_before, transitivity, transitivity_from, void_clauses, writes_last}
 use Rattle.clause_blocks.specs.Clauses.{formula_of}
 use Rattle.clause_blocks.specs.FinalClauses.{clauses_at}
 use Rattle.clause_blocks.specs.Ranges.{AreTwo, IsSource}
@@ -97,8 +97,8 @@ module _ (t : TraceValue) (ok : IsTrace t) where
       (λ i d. (let both = shared_within t i (i + 1) (from_filter (λ k. in_one_process t k (k + 1)) (numbers t) i d).1 in
       one is_over (stands_before t i (i + 1)) (before_over i (i + 1) (both.0, both.1, omega arith))))
 
-  circle_over : (i j k : ℕ) → i < j → j < k → k < n → are_over (no_circle n i j k) ≡ true
-  circle_over i j k low middle high =
+  cycle_over : (i j k : ℕ) → i < j → j < k → k < n → are_over (no_cycle n i j k) ≡ true
+  cycle_over i j k low middle high =
       let ij = before_over i j (omega arith, omega arith, omega arith) in
       let jk = before_over j k (omega arith, omega arith, omega arith) in
       let ik = before_over i k (omega arith, omega arith, omega arith) in
@@ -108,9 +108,9 @@ module _ (t : TraceValue) (ok : IsTrace t) where
 
   transitivity_over : are_over (transitivity n) ≡ true
   transitivity_over = all_flat (is_clause_up_to (variable_count t)) (transitivity_from n) (range_with_len 0 n)
-      (λ i a. (let i_in = from_range 0 n i a in all_flat (is_clause_up_to (variable_count t)) (λ j. flat_map (no_circle n i j) (numbers_above n j)) (numbers_above n i)
-      (λ j b. (let j_in = from_range (i + 1) (n - (i + 1)) j b in all_flat (is_clause_up_to (variable_count t)) (no_circle n i j) (numbers_above n j)
-      (λ k c. (let k_in = from_range (j + 1) (n - (j + 1)) k c in circle_over i j k (omega (arith, j_in)) (omega (arith, k_in)) (omega (arith, k_in, j_in, i_in))))))))
+      (λ i a. (let i_in = from_range 0 n i a in all_flat (is_clause_up_to (variable_count t)) (λ j. flat_map (no_cycle n i j) (numbers_above n j)) (numbers_above n i)
+      (λ j b. (let j_in = from_range (i + 1) (n - (i + 1)) j b in all_flat (is_clause_up_to (variable_count t)) (no_cycle n i j) (numbers_above n j)
+      (λ k c. (let k_in = from_range (j + 1) (n - (j + 1)) k c in cycle_over i j k (omega (arith, j_in)) (omega (arith, k_in)) (omega (arith, k_in, j_in, i_in))))))))
 
   source_over : (r v : ℕ) (c : Candidate) → r < n → IsVariable t v → IsSource t r c → are_over (reads_from t r v c) ≡ true
   source_over r v InitialValue within of source = all_map (is_clause_up_to (variable_count t)) (λ w. implies v (stands_before t r w ∷ [])) (other_writers t r)

@@ -1,5 +1,5 @@
 pub mod BeforeLemmas
-pub mod CircleLemmas
+pub mod CycleLemmas
 pub mod CountLemmas
 pub mod FewLemmas
 pub mod FinalLemmas

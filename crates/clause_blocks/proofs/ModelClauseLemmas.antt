@@ -13,7 +13,7 @@ use Rattle.var_layout.specs.declared.candidate.Candidate.{Candidate}
 use Rattle.var_layout.specs.declared.candidate.Candidate.TheVariants.{InitialValue, Writer}
 use Rattle.var_layout.specs.Numbers.{numbers, number_of, others, other_writers, in_one_process}
 use Rattle.var_layout.specs.OrderVariables.{numbers_above, order_lit}
-use Rattle.clause_blocks.specs.Blocks.{stands_before, implies, program_order, no_circle, transitivity_from, transitivity, read_clauses, final_clauses, before_clauses}
+use Rattle.clause_blocks.specs.Blocks.{stands_before, implies, program_order, no_cycle, transitivity_from, transitivity, read_clauses, final_clauses, before_clauses}
 use Rattle.clause_blocks.specs.Clauses.{clauses_of}
 use Rattle.clause_blocks.proofs.ListLemmas.{clause_list}
 use Rattle.clause_blocks.proofs.OrderLiteralLemmas.{negation, lit_negated, turned}
@@ -81,7 +81,7 @@ third_true false true c h e f = absurd (cc)
 third_true false false true h e f = refl
 third_true false false false h e f = absurd (cc)
 
-pub record HasNoCircle (ahead : ℕ → ℕ → Bool) (i j k : ℕ) : Type 0 where
+pub record HasNoCycle (ahead : ℕ → ℕ → Bool) (i j k : ℕ) : Type 0 where
   pub up : ahead i j ≡ true → ahead j k ≡ true → ahead i k ≡ true
   pub down : ahead i j ≡ false → ahead j k ≡ false → ahead i k ≡ false
 
@@ -89,7 +89,7 @@ clash : (b : Bool) → b ≡ true → b ≡ false → ⊥
 clash true h k = cc
 clash false h k = cc
 
-module _ (ahead : ℕ → ℕ → Bool) (n : ℕ) (flips : (i j : ℕ) → i ≢ j → ahead j i ≡ not (ahead i j)) (sides : (i j k : ℕ) → i < j → j < k → k < n → HasNoCircle ahead i j k) where
+module _ (ahead : ℕ → ℕ → Bool) (n : ℕ) (flips : (i j : ℕ) → i ≢ j → ahead j i ≡ not (ahead i j)) (sides : (i j k : ℕ) → i < j → j < k → k < n → HasNoCycle ahead i j k) where
   flipped : (i j : ℕ) → i ≢ j → ahead i j ≡ true → ahead j i ≡ false
   flipped i j d h = flips i j d ∙ ap not h
 
@@ -129,17 +129,17 @@ module _ (ahead : ℕ → ℕ → Bool) (n : ℕ) (flips : (i j : ℕ) → i ≢
 
 -- where each clause of transitivity is true, the order of n operations is transitive
 module _ (value : ℕ → Bool) (n : ℕ) (holds : (c : List ℤ) → Contains (transitivity n) c → makes_some value c ≡ true) where
-  triple_true : (i j k : ℕ) → i < j → j < k → k < n → AreTrue value (no_circle n i j k)
+  triple_true : (i j k : ℕ) → i < j → j < k → k < n → AreTrue value (no_cycle n i j k)
   triple_true i j k h g l = record {
     each = λ c d.
         holds c (to_flat_map (transitivity_from n) (range_with_len 0 n) i c (to_range 0 n i (omega arith) (omega (arith, h, g, l)))
-        (to_flat_map (λ (y : ℕ). flat_map (λ (z : ℕ). no_circle n i y z) (numbers_above n y)) (numbers_above n i) j c
+        (to_flat_map (λ (y : ℕ). flat_map (λ (z : ℕ). no_cycle n i y z) (numbers_above n y)) (numbers_above n i) j c
         (to_range (i + 1) (n - (i + 1)) j (omega (arith, h)) (omega (arith, h, g, l)))
-        (to_flat_map (λ (z : ℕ). no_circle n i j z) (numbers_above n j) k c
+        (to_flat_map (λ (z : ℕ). no_cycle n i j z) (numbers_above n j) k c
         (to_range (j + 1) (n - (j + 1)) k (omega (arith, g)) (omega (arith, h, g, l))) d)));
   }
 
-  triple_sides : (i j k : ℕ) → i < j → j < k → k < n → HasNoCircle (λ x y. makes_true value (order_lit n x y)) i j k
+  triple_sides : (i j k : ℕ) → i < j → j < k → k < n → HasNoCycle (λ x y. makes_true value (order_lit n x y)) i j k
   triple_sides i j k h g l = record {
     up = λ a b. third_true (makes_true value (neg_ℤ (order_lit n i j))) (makes_true value (neg_ℤ (order_lit n j k))) (makes_true value (order_lit n i k))
         (first_true (triple_true i j k h g l))

@@ -4,17 +4,17 @@ use Rattle.std.specs.List.{flat_map, range_with_len}
 use Rattle.dimacs.specs.CnfText.{clause_line}
 use Rattle.dimacs.specs.Sink.{AppendsFront, IsSent}
 use Rattle.var_layout.specs.OrderVariables.{numbers_above}
-use Rattle.clause_blocks.specs.Blocks.{no_circle}
+use Rattle.clause_blocks.specs.Blocks.{no_cycle}
 use Rattle.clause_blocks.proofs.SentLemmas.{sent_then, sent_then_front, front_of_both, flat_split}
 use Rattle.clause_blocks.proofs.StepLemmas.{flat_upto}
 
 -- the two clauses of three operations, by the literals of their pairs
-abbrev pub circle : ℤ → ℤ → ℤ → List (List ℤ)
-circle ij jk ik = (neg_ℤ ij ∷ neg_ℤ jk ∷ ik ∷ []) ∷ (ij ∷ jk ∷ neg_ℤ ik ∷ []) ∷ []
+abbrev pub cycle : ℤ → ℤ → ℤ → List (List ℤ)
+cycle ij jk ik = (neg_ℤ ij ∷ neg_ℤ jk ∷ ik ∷ []) ∷ (ij ∷ jk ∷ neg_ℤ ik ∷ []) ∷ []
 
 -- those of a pair i below j and each operation above j
 abbrev pub of_pair : ℕ → ℕ → ℕ → List (List ℤ)
-of_pair n i j = flat_map (no_circle n i j) (numbers_above n j)
+of_pair n i j = flat_map (no_cycle n i j) (numbers_above n j)
 
 module _ (head : List ℕ) (piece : ℕ → List (List ℤ)) (a : ℕ) where
   -- the lines of what the numbers below k give

@@ -15,7 +15,7 @@ use Rattle.var_layout.specs.declared.candidate.Candidate.{Candidate}
 use Rattle.var_layout.specs.declared.candidate.Candidate.TheVariants.{InitialValue, Writer}
 use Rattle.var_layout.specs.Numbers.{numbers, name_at, number_of, others, other_writers, in_one_process, share_process}
 use Rattle.var_layout.specs.OrderVariables.{numbers_above}
-use Rattle.clause_blocks.specs.Blocks.{stands_before, implies, program_order, no_circle, transitivity_from, transitivity, before_clauses}
+use Rattle.clause_blocks.specs.Blocks.{stands_before, implies, program_order, no_cycle, transitivity_from, transitivity, before_clauses}
 use Rattle.clause_blocks.proofs.ModelClauseLemmas.{Meets, order_by}
 use Rattle.clause_blocks.proofs.OperationNumberLemmas.{get_stands, names_rise, number_within, numbered}
 use Rattle.clause_blocks.proofs.OrderLiteralLemmas.{negation, lit_negated, turned}
@@ -118,13 +118,13 @@ module _ (t : TraceValue) (names : List OpName) (ok : IsTrace t) (legal : IsLega
     side_is : (a b : ℕ) → a ≢ b → a < operation_count t → b < operation_count t → order_by values t a b ≡ ahead_in t names a b
     side_is a b d h l = order_is t names ok legal.interleaving a b d h l
 
-    first_no_circle : (a b : Bool) → order_by values t i j ≡ a → order_by values t j k ≡ b →
+    first_no_cycle : (a b : Bool) → order_by values t i j ≡ a → order_by values t j k ≡ b →
         makes_some values (neg_ℤ (stands_before t i j) ∷ neg_ℤ (stands_before t j k) ∷ stands_before t i k ∷ []) ≡ true
-    first_no_circle false b e f = first_makes values (neg_ℤ (stands_before t i j)) (neg_ℤ (stands_before t j k) ∷ stands_before t i k ∷ []) (lit_negated values (operation_count t) i j ij ∙ ap not e)
-    first_no_circle true false e f =
+    first_no_cycle false b e f = first_makes values (neg_ℤ (stands_before t i j)) (neg_ℤ (stands_before t j k) ∷ stands_before t i k ∷ []) (lit_negated values (operation_count t) i j ij ∙ ap not e)
+    first_no_cycle true false e f =
         rest_makes values (neg_ℤ (stands_before t i j)) (neg_ℤ (stands_before t j k) ∷ stands_before t i k ∷ [])
         (first_makes values (neg_ℤ (stands_before t j k)) (stands_before t i k ∷ []) (lit_negated values (operation_count t) j k jk ∙ ap not f))
-    first_no_circle true true e f =
+    first_no_cycle true true e f =
         rest_makes values (neg_ℤ (stands_before t i j)) (neg_ℤ (stands_before t j k) ∷ stands_before t i k ∷ [])
         (rest_makes values (neg_ℤ (stands_before t j k)) (stands_before t i k ∷ [])
         (first_makes values (stands_before t i k) [] (side_is i k (λ h. omega (arith, h, ij, jk)) (omega (arith, ij, jk, within)) within
@@ -132,13 +132,13 @@ module _ (t : TraceValue) (names : List OpName) (ok : IsTrace t) (legal : IsLega
         (sym (side_is i j (λ h. omega (arith, h, ij)) (omega (arith, ij, jk, within)) (omega (arith, jk, within))) ∙ e)
         (sym (side_is j k (λ h. omega (arith, h, jk)) (omega (arith, jk, within)) within) ∙ f))))
 
-    second_no_circle : (a b : Bool) → order_by values t i j ≡ a → order_by values t j k ≡ b →
+    second_no_cycle : (a b : Bool) → order_by values t i j ≡ a → order_by values t j k ≡ b →
         makes_some values (stands_before t i j ∷ stands_before t j k ∷ neg_ℤ (stands_before t i k) ∷ []) ≡ true
-    second_no_circle true b e f = first_makes values (stands_before t i j) (stands_before t j k ∷ neg_ℤ (stands_before t i k) ∷ []) e
-    second_no_circle false true e f =
+    second_no_cycle true b e f = first_makes values (stands_before t i j) (stands_before t j k ∷ neg_ℤ (stands_before t i k) ∷ []) e
+    second_no_cycle false true e f =
         rest_makes values (stands_before t i j) (stands_before t j k ∷ neg_ℤ (stands_before t i k) ∷ [])
         (first_makes values (stands_before t j k) (neg_ℤ (stands_before t i k) ∷ []) f)
-    second_no_circle false false e f =
+    second_no_cycle false false e f =
         let ji = turned values (operation_count t) i j (λ h. omega (arith, h, ij)) ∙ ap not e in
         let kj = turned values (operation_count t) j k (λ h. omega (arith, h, jk)) ∙ ap not f in
         let ki = schedule_trans t names ok legal.interleaving k j i within (omega (arith, jk, within)) (omega (arith, ij, jk, within))
@@ -149,12 +149,12 @@ module _ (t : TraceValue) (names : List OpName) (ok : IsTrace t) (legal : IsLega
         (rest_makes values (stands_before t j k) (neg_ℤ (stands_before t i k) ∷ [])
         (first_makes values (neg_ℤ (stands_before t i k)) [] (lit_negated values (operation_count t) i k (omega (arith, ij, jk)) ∙ sym (turned values (operation_count t) i k (λ h. omega (arith, h, ij, jk))) ∙ back)))
 
-    no_circle_true : (c : List ℤ) → Contains (no_circle (operation_count t) i j k) c → makes_some values c ≡ true
-    no_circle_true c d =
+    no_cycle_true : (c : List ℤ) → Contains (no_cycle (operation_count t) i j k) c → makes_some values c ≡ true
+    no_cycle_true c d =
         elim (cases_in (neg_ℤ (stands_before t i j) ∷ neg_ℤ (stands_before t j k) ∷ stands_before t i k ∷ []) ((stands_before t i j ∷ stands_before t j k ∷ neg_ℤ (stands_before t i k) ∷ []) ∷ []) c d) [
-          | inl e ↦ subst (λ l. makes_some values l ≡ true) e (first_no_circle (order_by values t i j) (order_by values t j k) refl refl)
+          | inl e ↦ subst (λ l. makes_some values l ≡ true) e (first_no_cycle (order_by values t i j) (order_by values t j k) refl refl)
           | inr rest ↦ elim (cases_in (stands_before t i j ∷ stands_before t j k ∷ neg_ℤ (stands_before t i k) ∷ []) [] c rest) [
-            | inl e ↦ subst (λ l. makes_some values l ≡ true) e (second_no_circle (order_by values t i j) (order_by values t j k) refl refl)
+            | inl e ↦ subst (λ l. makes_some values l ≡ true) e (second_no_cycle (order_by values t i j) (order_by values t j k) refl refl)
             | inr none ↦ absurd (none_in c none)
           ]
         ]
@@ -162,8 +162,8 @@ module _ (t : TraceValue) (names : List OpName) (ok : IsTrace t) (legal : IsLega
   pub transitivity_true : (c : List ℤ) → Contains (transitivity (operation_count t)) c → makes_some values c ≡ true
   transitivity_true c d =
       let first = from_flat_map (transitivity_from (operation_count t)) (numbers t) c d in
-      let second = from_flat_map (λ (y : ℕ). flat_map (λ (z : ℕ). no_circle (operation_count t) first.0 y z) (numbers_above (operation_count t) y)) (numbers_above (operation_count t) first.0) c first.2 in
-      let third = from_flat_map (λ (z : ℕ). no_circle (operation_count t) first.0 second.0 z) (numbers_above (operation_count t) second.0) c second.2 in
+      let second = from_flat_map (λ (y : ℕ). flat_map (λ (z : ℕ). no_cycle (operation_count t) first.0 y z) (numbers_above (operation_count t) y)) (numbers_above (operation_count t) first.0) c first.2 in
+      let third = from_flat_map (λ (z : ℕ). no_cycle (operation_count t) first.0 second.0 z) (numbers_above (operation_count t) second.0) c second.2 in
       let low = from_range (first.0 + 1) (operation_count t - (first.0 + 1)) second.0 second.1 in
       let high = from_range (second.0 + 1) (operation_count t - (second.0 + 1)) third.0 third.1 in
-      no_circle_true first.0 second.0 third.0 (omega (arith, low.0)) (omega (arith, high.0)) (omega (arith, high.0, high.1)) c third.2
+      no_cycle_true first.0 second.0 third.0 (omega (arith, low.0)) (omega (arith, high.0)) (omega (arith, high.0, high.1)) c third.2

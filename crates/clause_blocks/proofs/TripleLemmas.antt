@@ -6,7 +6,7 @@ use Rattle.std.proofs.lemmas.Bool.{cases_order}
 use Rattle.std.proofs.lemmas.Bool.Decides.{nat_tests}
 use Rattle.std.proofs.lemmas.List.FromFn.{length-range_with_len}
 use Rattle.var_layout.specs.OrderVariables.{order_lit}
-use Rattle.clause_blocks.specs.Blocks.{no_circle, transitivity_from}
+use Rattle.clause_blocks.specs.Blocks.{no_cycle, transitivity_from}
 use Rattle.clause_blocks.specs.Triples.{below_middle, clause_of_triple}
 use Rattle.clause_blocks.specs.declared.triple_table.Triple.{Triple}
 use Rattle.clause_blocks.proofs.CountLemmas.{third_count, none_from}
@@ -42,10 +42,10 @@ halves : (r : ℕ) → 2 * (r / 2) + r % 2 ≡ r
 halves r = omega arith
 
 -- which of the two clauses
-one_of_two : (n i j k r : ℕ) (b : Bool) → (b ≡ true → r ≡ 1) → (b ≡ false → r ≡ 0) → get_or (no_circle n i j k) r [] ≡
+one_of_two : (n i j k r : ℕ) (b : Bool) → (b ≡ true → r ≡ 1) → (b ≡ false → r ≡ 0) → get_or (no_cycle n i j k) r [] ≡
     cond b (order_lit n i j ∷ order_lit n j k ∷ neg_ℤ (order_lit n i k) ∷ []) (neg_ℤ (order_lit n i j) ∷ neg_ℤ (order_lit n j k) ∷ order_lit n i k ∷ [])
-one_of_two n i j k r true h g = ap (λ m. get_or (no_circle n i j k) m []) (h refl)
-one_of_two n i j k r false h g = ap (λ m. get_or (no_circle n i j k) m []) (g refl)
+one_of_two n i j k r true h g = ap (λ m. get_or (no_cycle n i j k) m []) (h refl)
+one_of_two n i j k r false h g = ap (λ m. get_or (no_cycle n i j k) m []) (g refl)
 
 -- an operation has few pairs
 few_of_pair : (n j : ℕ) → n ≤ 160 → length (of_pair n 0 j) ≤ 320
@@ -93,9 +93,9 @@ module _ (n i place : ℕ) (inside : place < length (transitivity_from n i)) whe
     place_in_row : place ≡ length (flat_map (of_pair n i) (range_with_len (i + 1) (j - (i + 1)))) + left
     place_in_row = omega (arith, row_before n i j higher, from, rest)
 
-    left_split : left ≡ length (flat_map (no_circle n i j) (range_with_len (j + 1) (j + 1 + left / 2 - (j + 1)))) + left % 2
+    left_split : left ≡ length (flat_map (no_cycle n i j) (range_with_len (j + 1) (j + 1 + left / 2 - (j + 1)))) + left % 2
     left_split =
-        let count : length (flat_map (no_circle n i j) (range_with_len (j + 1) (j + 1 + left / 2 - (j + 1)))) ≡ 2 * (j + 1 + left / 2 - (j + 1)) = third_count n i j (j + 1) (j + 1 + left / 2 - (j + 1)) in
+        let count : length (flat_map (no_cycle n i j) (range_with_len (j + 1) (j + 1 + left / 2 - (j + 1)))) ≡ 2 * (j + 1 + left / 2 - (j + 1)) = third_count n i j (j + 1) (j + 1 + left / 2 - (j + 1)) in
         omega (arith, count, halves left)
 
     clause_there : get_or (transitivity_from n i) place [] ≡ clause_of_triple n (triple_of i j left)
@@ -103,7 +103,7 @@ module _ (n i place : ℕ) (inside : place < length (transitivity_from n i)) whe
         ap (λ m. get_or (transitivity_from n i) m []) place_in_row
         ∙ at_later (of_pair n i) (i + 1) j n left [] higher within left_in
         ∙ ap (λ m. get_or (of_pair n i j) m []) left_split
-        ∙ at_later (no_circle n i j) (j + 1) (j + 1 + left / 2) n (left % 2) [] (omega arith) highest_in (omega arith)
+        ∙ at_later (no_cycle n i j) (j + 1) (j + 1 + left / 2) n (left % 2) [] (omega arith) highest_in (omega arith)
         ∙ one_of_two n i j (j + 1 + left / 2) (left % 2) (nat_eq (left % 2) 1) (λ e. second_one (left % 2) e) (λ e. first_one left e)
 
 -- the same by the table

@@ -30,12 +30,12 @@ abbrev pub program_order : TraceValue → List (List ℤ)
 program_order t = map (λ i. stands_before t i (i + 1) ∷ []) (filter (λ i. in_one_process t i (i + 1)) (numbers t))
 
 -- where i is before j and j before k, i is before k; and where k is before j and j before i, k is before i
-abbrev pub no_circle : ℕ → ℕ → ℕ → ℕ → List (List ℤ)
-no_circle n i j k = (neg_ℤ (order_lit n i j) ∷ neg_ℤ (order_lit n j k) ∷ order_lit n i k ∷ []) ∷ (order_lit n i j ∷ order_lit n j k ∷ neg_ℤ (order_lit n i k) ∷ []) ∷ []
+abbrev pub no_cycle : ℕ → ℕ → ℕ → ℕ → List (List ℤ)
+no_cycle n i j k = (neg_ℤ (order_lit n i j) ∷ neg_ℤ (order_lit n j k) ∷ order_lit n i k ∷ []) ∷ (order_lit n i j ∷ order_lit n j k ∷ neg_ℤ (order_lit n i k) ∷ []) ∷ []
 
 -- transitivity of n operations, by the lowest of three
 abbrev pub transitivity_from : ℕ → ℕ → List (List ℤ)
-transitivity_from n i = flat_map (λ j. flat_map (λ k. no_circle n i j k) (numbers_above n j)) (numbers_above n i)
+transitivity_from n i = flat_map (λ j. flat_map (λ k. no_cycle n i j k) (numbers_above n j)) (numbers_above n i)
 
 abbrev pub transitivity : ℕ → List (List ℤ)
 transitivity n = flat_map (transitivity_from n) (range_with_len 0 n)

@@ -1,5 +1,5 @@
 pub mod Blocks
-pub mod Circles
+pub mod Cycles
 pub mod Clauses
 pub mod Examples
 pub mod FinalClauses

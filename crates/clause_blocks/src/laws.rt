@@ -31,7 +31,7 @@ pub fn transitivity_has_so_many_clauses()
 {}
 
 /// Truth values that put the operations in the order of some ranks make each clause of transitivity true.
-pub fn ranked_without_circle()
+pub fn ranked_without_cycle()
     ensures { (value : ℕ → Bool) (n : ℕ) (rank : ℕ → ℕ) → AreRanks value n rank → IsModel value (transitivity n) }
 {}
 

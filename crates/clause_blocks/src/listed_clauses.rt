@@ -18,7 +18,7 @@ use dimacs::{Assignment, Clause, ClauseList, FirstFalse, ListedClause, first_fal
 use var_layout::layout::Layout;
 
 /// The clause of transitivity that a triple stands for.
-fn circle_clause<'a>(layout: &Layout, triple: Triple) -> ListedClause<'a>
+fn cycle_clause<'a>(layout: &Layout, triple: Triple) -> ListedClause<'a>
     requires first { triple.lowest < triple.middle }
     requires second { triple.middle < triple.highest }
     requires within { triple.highest < operation_count layout.now }
@@ -51,7 +51,7 @@ impl TraceClauses {
         requires { place < length (blocks.transitivity_from (operation_count self.now) i) }
         ensures { result ≡ slice_index_or (blocks.transitivity_from (operation_count self.now) i) place [] }
     {
-        circle_clause(self.layout(), self.triples().triple(i, place))
+        cycle_clause(self.layout(), self.triples().triple(i, place))
     }
 
     /// The clause at this place of a piece, counted from 0.

@@ -4,7 +4,7 @@ ghost use Rattle.std.specs.Prelude.{◌≡◌, ◌<◌, ◌≤◌, ◌*◌, ◌+
 ghost use Rattle.std.specs.List.{filter, flat_map, range_with_len};
 ghost use Rattle.traces.specs.Trace.{operation_count};
 ghost use Rattle.clause_blocks.specs.Blocks as blocks;
-ghost use Rattle.clause_blocks.specs.Circles.{both, circle_at, circle_of, is_above};
+ghost use Rattle.clause_blocks.specs.Cycles.{both, cycle_at, cycle_of, is_above};
 
 use dimacs::Clause;
 use rayon::prelude::*;
@@ -12,25 +12,25 @@ use std::alloc::{AllocError, Global};
 use std::thread::Threads;
 use var_layout::layout::Layout;
 
-/// The two clauses of three operations, which say that they do not stand in a circle, neither way round.
+/// The two clauses of three operations, which say that they do not stand in a cycle, neither way round.
 #[derive(Drop)]
-pub(crate) struct Circle {
+pub(crate) struct Cycle {
     first: Clause,
     second: Clause,
 }
 
-impl Circle {
+impl Cycle {
     /// The two clauses of three operations i, j and k. They need no memory.
-    fn of(alloc: Global, layout: &Layout, i: usize, j: usize, k: usize) -> Circle
+    fn of(alloc: Global, layout: &Layout, i: usize, j: usize, k: usize) -> Cycle
         requires rising { i < j }
         requires above { j < k }
         requires within { k < operation_count layout.now }
-        ensures { result ≡ circle_of (operation_count layout.now) i j k }
+        ensures { result ≡ cycle_of (operation_count layout.now) i j k }
     {
         let ij = layout.order_lit(i, j);
         let jk = layout.order_lit(j, k);
         let ik = layout.order_lit(i, k);
-        Circle {
+        Cycle {
             first: Clause::ternary(alloc, ij.negated(), jk.negated(), ik),
             second: Clause::ternary(alloc, ij, jk, ik.negated()),
         }
@@ -39,14 +39,14 @@ impl Circle {
 
 /// The clauses of operation i and each two above it, by the lower and then by the higher of these. As many threads make them as
 /// `rayon` starts; what is given does not depend on that.
-fn circles_from<R: Threads + Sync>(
+fn cycles_from<R: Threads + Sync>(
     alloc: Global,
     rt: &R,
     layout: &Layout,
     i: usize,
-) -> Result<Vec<Circle>, AllocError>
+) -> Result<Vec<Cycle>, AllocError>
     requires { i < operation_count layout.now }
-    ensures { IfOk result (λ circles. circles.items ≡ map (circle_at (operation_count layout.now) i) (filter (is_above (operation_count layout.now) i) (range_with_len 0 (operation_count layout.now * operation_count layout.now)))) }
+    ensures { IfOk result (λ cycles. cycles.items ≡ map (cycle_at (operation_count layout.now) i) (filter (is_above (operation_count layout.now) i) (range_with_len 0 (operation_count layout.now * operation_count layout.now)))) }
 {
     layout.is_layout();
     let n = layout.operations();
@@ -59,21 +59,21 @@ fn circles_from<R: Threads + Sync>(
             { i < *pair / n && *pair / n < *pair % n },
         )
         .map(
-            |pair: usize| -> Circle
+            |pair: usize| -> Cycle
                 requires { IsTrue (is_above n i pair) × (0 < n) × (n ≡ operation_count layout.now) }
-                ensures { result ≡ circle_at n i pair }
-            { Circle::of(alloc, layout, i, pair / n, pair % n) },
+                ensures { result ≡ cycle_at n i pair }
+            { Cycle::of(alloc, layout, i, pair / n, pair % n) },
         )
         .collect(rt, alloc)
 }
 
 /// Appends the clauses of each three operations, one three after the other.
-fn push_circles(circles: Vec<Circle>, clauses: &mut Vec<Clause>) -> Result<(), AllocError>
-    ensures { OnOk result (clauses.new.items ≡ clauses.old.items ++ flat_map both circles.items) }
+fn push_cycles(cycles: Vec<Cycle>, clauses: &mut Vec<Clause>) -> Result<(), AllocError>
+    ensures { OnOk result (clauses.new.items ≡ clauses.old.items ++ flat_map both cycles.items) }
 {
-    for circle in circles {
-        clauses.push(circle.first)?;
-        clauses.push(circle.second)?;
+    for cycle in cycles {
+        clauses.push(cycle.first)?;
+        clauses.push(cycle.second)?;
     }
     Ok(())
 }
@@ -92,5 +92,5 @@ pub(crate) fn push_transitivity_in_threads<R: Threads + Sync>(
     if layout.operations() <= i {
         return Ok(());
     }
-    push_circles(circles_from(alloc, rt, layout, i)?, clauses)
+    push_cycles(cycles_from(alloc, rt, layout, i)?, clauses)
 }

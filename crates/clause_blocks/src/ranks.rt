@@ -7,7 +7,7 @@ ghost use Rattle.traces.specs.Trace.{operation_count};
 ghost use Rattle.clause_blocks.specs.Blocks as blocks;
 ghost use Rattle.clause_blocks.specs.Ranks.{IsRankedFrom};
 
-use crate::laws::ranked_without_circle;
+use crate::laws::ranked_without_cycle;
 use dimacs::Assignment;
 use var_layout::layout::Layout;
 
@@ -52,11 +52,11 @@ fn agrees_from(layout: &Layout, assignment: &Assignment, ranks: &[u8; 160], i: u
     true
 }
 
-/// Whether the assignment puts the operations in an order, so that no three of them stand in a circle.
+/// Whether the assignment puts the operations in an order, so that no three of them stand in a cycle.
 pub(crate) fn puts_in_order(layout: &Layout, assignment: &Assignment) -> bool
     ensures { IsTrue result → IsModel (value_of assignment.now) (blocks.transitivity (operation_count layout.now)) }
 {
-    ranked_without_circle();
+    ranked_without_cycle();
     let ranks = ranks(layout, assignment);
     for i in 0..layout.operations() {
         if !agrees_from(layout, assignment, &ranks, i) {

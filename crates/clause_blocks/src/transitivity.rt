@@ -1,4 +1,4 @@
-//! Transitivity: the order of the operations has no circle of three.
+//! Transitivity: the order of the operations has no cycle of three.
 
 ghost use Rattle.std.specs.Prelude.{◌≡◌, ◌<◌, ◌≤◌, ◌+◌, ◌++◌, ◌∷◌, [], length, neg_ℤ, OnOk, OnErr};
 ghost use Rattle.std.specs.List.{flat_map};
@@ -6,7 +6,7 @@ ghost use Rattle.dimacs.specs.CnfText.{clause_line};
 ghost use Rattle.dimacs.specs.Sink.{AppendsFront, IsSent};
 ghost use Rattle.traces.specs.Trace.{operation_count};
 ghost use Rattle.var_layout.specs.OrderVariables.{numbers_above};
-ghost use Rattle.clause_blocks.specs.Blocks.{no_circle};
+ghost use Rattle.clause_blocks.specs.Blocks.{no_cycle};
 ghost use Rattle.clause_blocks.specs.Blocks as blocks;
 
 use dimacs::{Clause, CnfWriter, Failed, Lit, Sink};
@@ -14,7 +14,7 @@ use std::alloc::{AllocError, Global};
 use var_layout::layout::Layout;
 
 /// Appends the two clauses of three operations i, j and k, by the literals of their pairs.
-fn push_no_circle(
+fn push_no_cycle(
     alloc: Global,
     ij: Lit,
     jk: Lit,
@@ -38,11 +38,11 @@ fn push_of_pair(
 ) -> Result<(), AllocError>
     requires rising { i < j }
     requires within { j < operation_count layout.now }
-    ensures { OnOk result (clauses.new.items ≡ clauses.old.items ++ flat_map (λ k. no_circle (operation_count layout.now) i j k) (numbers_above (operation_count layout.now) j)) }
+    ensures { OnOk result (clauses.new.items ≡ clauses.old.items ++ flat_map (λ k. no_cycle (operation_count layout.now) i j k) (numbers_above (operation_count layout.now) j)) }
 {
     let ij = layout.order_lit(i, j);
     for k in j + 1..layout.operations() {
-        push_no_circle(
+        push_no_cycle(
             alloc,
             ij,
             layout.order_lit(j, k),
@@ -83,9 +83,9 @@ fn put_of_pair<W: Sink>(
 ) -> Result<(), Failed>
     requires rising { i < j }
     requires within { j < operation_count layout.now }
-    ensures sent { OnOk result (IsSent (W.written sink.old) (W.written sink.new) writer.new (writer.old ++ flat_map clause_line (flat_map (no_circle (operation_count layout.now) i j) (numbers_above (operation_count layout.now) j)))) }
+    ensures sent { OnOk result (IsSent (W.written sink.old) (W.written sink.new) writer.new (writer.old ++ flat_map clause_line (flat_map (no_cycle (operation_count layout.now) i j) (numbers_above (operation_count layout.now) j)))) }
     ensures well { OnOk result (W.failures sink.new ≡ W.failures sink.old) }
-    ensures front { OnErr result (AppendsFront (W.written sink.old) (W.written sink.new) (writer.old ++ flat_map clause_line (flat_map (no_circle (operation_count layout.now) i j) (numbers_above (operation_count layout.now) j)))) }
+    ensures front { OnErr result (AppendsFront (W.written sink.old) (W.written sink.new) (writer.old ++ flat_map clause_line (flat_map (no_cycle (operation_count layout.now) i j) (numbers_above (operation_count layout.now) j)))) }
     ensures failed { OnErr result (W.failures sink.new ≡ W.failures sink.old + 1) }
 {
     let ij = layout.order_lit(i, j);

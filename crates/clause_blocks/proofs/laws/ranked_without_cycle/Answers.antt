@@ -1,5 +1,5 @@
 use Rattle.clause_blocks.proofs.RankLemmas.{ranked_true}
-use Rattle.clause_blocks.proofs.laws.ranked_without_circle.Goals as goal
+use Rattle.clause_blocks.proofs.laws.ranked_without_cycle.Goals as goal
 
 pub returns : goal.returns
 returns c = ranked_true

@@ -4,8 +4,8 @@ use Rattle.std.specs.List.{filter, flat_map, range_with_len}
 use Rattle.std.specs.Prelude.{nat_lt, ◌&&◌}
 use Rattle.std.proofs.lemmas.Bool.Decides.{nat_tests}
 use Rattle.std.proofs.lemmas.Nat.{div-mul-add, mod-mul-add}
-use Rattle.clause_blocks.specs.Blocks.{no_circle, transitivity_from}
-use Rattle.clause_blocks.specs.Circles.{both, circle_at, is_above}
+use Rattle.clause_blocks.specs.Blocks.{no_cycle, transitivity_from}
+use Rattle.clause_blocks.specs.Cycles.{both, cycle_at, is_above}
 use Rattle.clause_blocks.proofs.RangeSentLemmas.{of_pair}
 use Rattle.clause_blocks.proofs.SentLemmas.{flat_parted}
 use Rattle.clause_blocks.proofs.StepLemmas.{flat_more}
@@ -36,7 +36,7 @@ module _ {A : Type 0} where
 module _ (n i : ℕ) where
   -- what operations j and k give, and the pair at a place
   abbrev of_two : ℕ → ℕ → List (List ℤ)
-  of_two j k = cond (nat_lt i j && nat_lt j k) (no_circle n i j k) []
+  of_two j k = cond (nat_lt i j && nat_lt j k) (no_cycle n i j k) []
 
   abbrev of_place : ℕ → List (List ℤ)
   of_place place = of_two (place / n) (place % n)
@@ -78,15 +78,15 @@ module _ (n i : ℕ) where
 
   row_is : (j : ℕ) → i < j → j < n → of_row j ≡ of_pair n i j
   row_is j low within =
-      flat_after (of_two j) (j + 1) n (omega (arith, within)) (λ k h. ap (λ b. cond b (no_circle n i j k) []) (not_rising j k h))
-      ∙ flat_same (of_two j) (no_circle n i j) (j + 1) (n - (j + 1)) (λ k h _. ap (λ b. cond b (no_circle n i j k) []) (rising j k low (omega (arith, h))))
+      flat_after (of_two j) (j + 1) n (omega (arith, within)) (λ k h. ap (λ b. cond b (no_cycle n i j k) []) (not_rising j k h))
+      ∙ flat_same (of_two j) (no_cycle n i j) (j + 1) (n - (j + 1)) (λ k h _. ap (λ b. cond b (no_cycle n i j k) []) (rising j k low (omega (arith, h))))
 
   row_none : (j : ℕ) → j < i + 1 → of_row j ≡ []
-  row_none j low = flat_none (of_two j) 0 n (λ k _. ap (λ b. cond b (no_circle n i j k) []) (not_above j k low))
+  row_none j low = flat_none (of_two j) 0 n (λ k _. ap (λ b. cond b (no_cycle n i j k) []) (not_above j k low))
 
-  pub all_circles : i < n → flat_map both (map (circle_at n i) (filter (is_above n i) (range_with_len 0 (n * n)))) ≡ transitivity_from n i
-  all_circles within =
-      flat_passing both (circle_at n i) (is_above n i) (range_with_len 0 (n * n))
+  pub all_cycles : i < n → flat_map both (map (cycle_at n i) (filter (is_above n i) (range_with_len 0 (n * n)))) ≡ transitivity_from n i
+  all_cycles within =
+      flat_passing both (cycle_at n i) (is_above n i) (range_with_len 0 (n * n))
       ∙ rows n
       ∙ flat_after of_row (i + 1) n (omega (arith, within)) row_none
       ∙ flat_same of_row (of_pair n i) (i + 1) (n - (i + 1)) (λ j low high. row_is j (omega (arith, low)) (omega (arith, high, within)))
