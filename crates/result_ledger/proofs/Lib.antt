@@ -1,7 +1,7 @@
 pub mod AnswerLemmas
 pub mod CoverLemmas
 pub mod DerivationLemmas
-pub mod OrderLemmas
+pub mod EnteredLemmas
 pub mod PieceLemmas
 pub mod RisingLemmas
 pub mod SlotLemmas

@@ -1,3 +1,4 @@
 pub mod Ledger
+pub mod Entered
 pub mod Verdict
 pub mod Pieces

@@ -59,6 +59,13 @@ IsVerdict clauses slots (Inconsistent count) =
 IsVerdict clauses slots (Unknown leaves) =
     HaveNoModelBefore clauses slots (length slots) × AreWithout (HasProofAt clauses slots) (length slots) leaves × (leaves ≢ [])
 
+-- the verdict is a model in the cube of a leaf below this one
+pub record IsConsistentBelow (leaf : ℕ) (verdict : Verdict) : Type 0 where
+  pub lower : ℕ
+  pub truth : List Bool
+  pub below : lower < leaf
+  pub verdict_is : verdict ≡ Consistent lower truth
+
 -- the slots are the same up to the lowest leaf that has a model for its answer, and all of them where none has
 abbrev pub AgreeUpToModel : List (List ℤ) → List Slot → List Slot → Type 0
 AgreeUpToModel clauses first second = (leaf : ℕ) → HaveNoModelBefore clauses first leaf → slice_get first leaf ≡ slice_get second leaf

@@ -1,5 +1,5 @@
 //! Laws of verdicts.
-ghost use Rattle.std.specs.Prelude.{◌≡◌, ◌<◌, ℕ, ℤ, Bool, List, IsTrue, Some};
+ghost use Rattle.std.specs.Prelude.{◌≡◌, ◌<◌, ℕ, ℤ, Bool, List, IsTrue, Some, IsPermutation};
 ghost use Rattle.std.specs.List.{AllZip, list_all, Contains, slice_get};
 ghost use Rattle.cube_queue.specs.Models.{IsModelIn};
 ghost use Rattle.cube_tree.specs.Covers.{Covers};
@@ -8,8 +8,11 @@ ghost use Rattle.dimacs.specs.Formula.{FormulaValue, is_formula};
 ghost use Rattle.dimacs.specs.Literal.{is_clause};
 ghost use Rattle.dimacs.specs.Models.{IsModel};
 ghost use Rattle.cube_queue.specs.declared.job.Settled.{Settled};
-ghost use Rattle.result_ledger.specs.Ledger.{cubes_in, derivations_in, Fills, SplitsCube};
-ghost use Rattle.result_ledger.specs.Verdict.{IsProofIn, IsVerdict, AgreeUpToModel};
+ghost use Rattle.cube_queue.specs.declared.outcome.Outcome.TheVariants.{Skipped};
+ghost use Rattle.cube_queue.specs.Results.{AreResultsOf};
+ghost use Rattle.result_ledger.specs.Entered.{AreEntered, AreEnteredInTurn};
+ghost use Rattle.result_ledger.specs.Ledger.{cubes_in, derivations_in, SplitsCube};
+ghost use Rattle.result_ledger.specs.Verdict.{IsProofIn, IsVerdict, IsConsistentBelow, AgreeUpToModel};
 ghost use Rattle.result_ledger.specs.declared.slot.Slot.{Slot};
 ghost use Rattle.result_ledger.specs.declared.verdict.Verdict.{Verdict};
 ghost use Rattle.result_ledger.specs.declared.verdict.Verdict.TheVariants.{Inconsistent, Unknown};
@@ -21,10 +24,19 @@ pub fn agreeing_ledgers_agree()
         AgreeUpToModel clauses first second → IsVerdict clauses first one → IsVerdict clauses second other → one ≡ other }
 {}
 
-/// Two results that are entered one after the other may as well be entered the other way round: the ledger is then the same.
+/// Results that are entered one after the other may as well be entered in any other order: each of them is then taken too, and the
+/// ledger is the same.
 pub fn entered_in_either_order()
-    ensures { (slots one both : List Slot) (first second : Settled) → Fills slots one first → Fills one both second →
-        (other : List Slot) × Fills slots other second × Fills other both first }
+    ensures { (slots ledger : List Slot) (results reordered : List Settled) → AreEnteredInTurn slots results ledger → IsPermutation results reordered →
+        AreEnteredInTurn slots reordered ledger }
+{}
+
+/// Where all results of a search were entered and one of them is of a leaf that was skipped, the verdict is a model in the cube of a
+/// lower leaf.
+pub fn skipped_only_above_a_model()
+    ensures { (clauses cubes : List (List ℤ)) (which : List ℕ) (results : List Settled) (old new : List Slot) (skipped : Settled) (verdict : Verdict) →
+        AreResultsOf clauses cubes which results → AreEntered old results new → Contains results skipped → skipped.outcome ≡ Skipped →
+        IsVerdict clauses new verdict → IsConsistentBelow skipped.ticket verdict }
 {}
 
 /// Where the cubes cover and the verdict is that the formula is inconsistent, it has no model.

@@ -3,6 +3,7 @@
 
 mod confirming;
 mod derivations;
+mod entering;
 mod entry_fault;
 mod laws;
 mod leaves;
@@ -12,10 +13,11 @@ mod unproved;
 mod verdict;
 
 pub use derivations::Derivations;
+pub use entering::enter_all;
 pub use entry_fault::EntryFault;
 pub use laws::{
-    agreeing_ledgers_agree, inconsistent_has_no_model, proofs_by_leaf, split_tree_splits_a_cube,
-    unknown_holds_all_models,
+    agreeing_ledgers_agree, entered_in_either_order, inconsistent_has_no_model, proofs_by_leaf,
+    skipped_only_above_a_model, split_tree_splits_a_cube, unknown_holds_all_models,
 };
 pub use leaves::Leaves;
 pub use ledger::Ledger;

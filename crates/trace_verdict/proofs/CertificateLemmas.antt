@@ -6,6 +6,7 @@ use Rattle.certificate.proofs.WrittenLemmas.{written_read}
 use Rattle.certificate.specs.CertText.{SpellsCertificate}
 use Rattle.certificate.specs.Rechecked.{IsRechecked}
 use Rattle.clause_blocks.specs.Clauses.{clauses_of}
+use Rattle.cube_queue.specs.Options.{OptionsValue}
 use Rattle.cube_tree.proofs.TreeLemmas.{cubes_counted}
 use Rattle.cube_tree.specs.CubeTree.{cubes_of, leaves}
 use Rattle.lrat_check.specs.Checked.{IsAccepted}
@@ -28,12 +29,12 @@ module _ (clauses : List (List ℤ)) where
       let count = as_many (cubes_of refutation.tree) refutation.derivations h.proofs in
       omega (arith, count, cubes_counted refutation.tree, h.is_tree.few)
 
-pub spelled : (value : TraceValue) (refutation : Refutation) → IsDecided value (Inconsistent refutation) → SpellsCertificate (certificate_text (Inconsistent refutation)) (certificate_in refutation)
-spelled value refutation h =
+pub spelled : (options : OptionsValue) (value : TraceValue) (refutation : Refutation) → IsDecided options value (Inconsistent refutation) → SpellsCertificate (certificate_text (Inconsistent refutation)) (certificate_in refutation)
+spelled options value refutation h =
     let clauses = clauses_of (kept_trace value) in
     written_read refutation.tree refutation.derivations h.0.is_tree (few clauses refutation h.0) h.0.written
 
-pub accepted : (value : TraceValue) (refutation : Refutation) → IsDecided value (Inconsistent refutation) → IsRechecked (clauses_of (kept_trace value)) (certificate_in refutation) (leaves refutation.tree)
-accepted value refutation h =
+pub accepted : (options : OptionsValue) (value : TraceValue) (refutation : Refutation) → IsDecided options value (Inconsistent refutation) → IsRechecked (clauses_of (kept_trace value)) (certificate_in refutation) (leaves refutation.tree)
+accepted options value refutation h =
     let clauses = clauses_of (kept_trace value) in
     proofs_accepted clauses refutation.tree refutation.derivations h.0.proofs

@@ -1,5 +1,5 @@
 -- From the verdict on the formula of a kept trace to what is decided of the whole trace.
-use Rattle.std.proofs.Common.{◌≡◌, ℕ, suc, ◌+◌, ◌<◌, ◌≤◌, ℤ, Bool, true, List, [], ◌∷◌, ◌++◌, length, map, take, get_or, Some, sym, ◌∙◌, ap, subst, arith}
+use Rattle.std.proofs.Common.{◌≡◌, ℕ, suc, ◌+◌, ◌<◌, ◌≤◌, ℤ, Bool, true, false, List, [], ◌∷◌, ◌++◌, length, map, take, get_or, Some, sym, ◌∙◌, ap, subst, arith}
 use Rattle.std.proofs.Math.Seq.{take-suc}
 use Rattle.std.proofs.lemmas.List.{map-append, take_all}
 use Rattle.std.specs.List.{AllZip, list_all, Contains, slice_get}
@@ -15,6 +15,7 @@ use Rattle.reducer.proofs.TraceLemmas.{kept_is_trace}
 use Rattle.traces.specs.Trace.{TraceValue, IsTrace}
 use Rattle.clause_blocks.proofs.ScheduleLawLemmas.{schedule_values}
 use Rattle.clause_blocks.specs.Clauses.{clauses_of, formula_of}
+use Rattle.cube_queue.specs.Options.{OptionsValue}
 use Rattle.cube_tree.specs.Covers.{Covers}
 use Rattle.cube_tree.specs.CubeTree.{CubeTree, cubes_of, IsCubeTree}
 use Rattle.dimacs.specs.Assignment.{makes_all, value_of}
@@ -33,7 +34,8 @@ use Rattle.result_ledger.proofs.CoverLemmas.{no_model_anywhere, model_in_listed}
 use Rattle.result_ledger.proofs.DerivationLemmas.{proofs_by_leaf}
 use Rattle.result_ledger.proofs.SlotLemmas.{cube_at}
 use Rattle.trace_verdict.specs.declared.decision.Decision.TheVariants.{Inconsistent as IsInconsistent, Unknown as IsUnknown}
-use Rattle.trace_verdict.specs.Decision.{IsDecided, AreCubesOf}
+use Rattle.trace_verdict.specs.Decision.{AreCubesLeftOpen, AreCubesOf, AreLeftOpen, HoldModels, IsDecided}
+use Rattle.trace_verdict.specs.Rounds.{HaveEnded}
 
 -- a legal schedule of what is kept becomes one of the whole trace
 pub expanded_legal : (r : ReducedValue) → IsReduced r → (kept schedule : List OpName) → IsLegal r.kept kept → schedule ≡ expansion r.whole kept → IsLegal r.whole schedule
@@ -66,12 +68,6 @@ is_model clauses t slots leaf truth verdict is same h =
     let at : IsVerdict clauses slots (HasModel leaf truth) = subst (λ (v : Verdict). IsVerdict clauses slots v) is h in
     subst (λ (cs : List (List ℤ)). IsModel (value_of truth) cs) same at.0.holds.confirmed.model
 
--- leaves that are listed
-pub listed_within : (clauses : List (List ℤ)) (slots : List Slot) (listed : List ℕ) (verdict : Verdict) → verdict ≡ Unknown listed → IsVerdict clauses slots verdict → (leaf : ℕ) → Contains listed leaf → leaf < length slots
-listed_within clauses slots listed verdict is h leaf among =
-    let at : IsVerdict clauses slots (Unknown listed) = subst (λ (v : Verdict). IsVerdict clauses slots v) is h in
-    (at.1.each leaf among).0
-
 -- a schedule of the whole trace gives a model of the clauses of what is kept of it
 model_of_schedule : (t : TraceValue) → IsTrace t → (names : List OpName) → IsLegal t names → (truth : ℕ → Bool) × IsModel truth (clauses_of (kept_trace t))
 model_of_schedule t ok names legal =
@@ -85,14 +81,16 @@ all_accepted clauses [] (steps ∷ derivations) h = absurd h
 all_accepted clauses (cube ∷ cubes) [] h = absurd h
 all_accepted clauses (cube ∷ cubes) (steps ∷ derivations) h = (h.0.accepted, all_accepted clauses cubes derivations h.1)
 
--- where nothing more is known, all models are in the cubes of the tree
-pub nothing_known : (value : TraceValue) (tree : CubeTree) → Covers (cubes_of tree) → IsDecided value (IsUnknown (cubes_of tree))
-nothing_known value tree covers truth model =
-    let meets = covers truth in
-    (meets.cube, subst (λ (cs : List (List ℤ)). Contains cs meets.cube) (sym meets.parts) (in_middle meets.before meets.cube meets.after), meets.met)
+-- what a verdict that is open leaves open
+pub open_leaves : (tree : CubeTree) (slots : List Slot) (verdict : Verdict) (listed : List ℕ) → verdict ≡ Unknown listed → (cubes : List (List ℤ)) → AreCubesOf slots listed cubes → AreCubesLeftOpen tree slots verdict cubes
+open_leaves tree slots verdict listed is cubes are = subst (λ (v : Verdict). AreCubesLeftOpen tree slots v cubes) (sym is) are
+
+pub all_leaves : (tree : CubeTree) (slots : List Slot) (verdict : Verdict) (count : ℕ) → verdict ≡ Inconsistent count → list_all (λ steps. list_all is_lrat_step steps) (derivations_in slots) ≡ false →
+    (cubes : List (List ℤ)) → cubes ≡ cubes_of tree → AreCubesLeftOpen tree slots verdict cubes
+all_leaves tree slots verdict count is none cubes all = subst (λ (v : Verdict). AreCubesLeftOpen tree slots v cubes) (sym is) (none, all)
 
 module _ (r : ReducedValue) (ok : IsReduced r) (f : FormulaValue) (f_is : f ≡ formula_of r.kept) (fine : is_formula f ≡ true)
-    (tree : CubeTree) (slots : List Slot) (same : cubes_in slots ≡ cubes_of tree) (clean : list_all is_clause (cubes_in slots) ≡ true) (covers : Covers (cubes_of tree)) where
+    (tree : CubeTree) (slots : List Slot) (same : cubes_in slots ≡ cubes_of tree) (clean : list_all is_clause (cubes_in slots) ≡ true) (covers : Covers (cubes_of tree)) (options : OptionsValue) where
   clauses_are : f.clauses ≡ clauses_of (kept_trace r.whole)
   clauses_are = ap (λ (x : FormulaValue). x.clauses) f_is ∙ ap clauses_of ok.reduction
 
@@ -100,7 +98,7 @@ module _ (r : ReducedValue) (ok : IsReduced r) (f : FormulaValue) (f_is : f ≡ 
   slots_cover = subst Covers (sym same) covers
 
   pub inconsistent : (count : ℕ) (derivations : List (List Step)) → IsCubeTree tree → derivations ≡ derivations_in slots → IsVerdict f.clauses slots (Inconsistent count) →
-      list_all (λ steps. list_all is_lrat_step steps) derivations ≡ true → IsDecided r.whole (IsInconsistent (record { tree = tree; derivations = derivations }))
+      list_all (λ steps. list_all is_lrat_step steps) derivations ≡ true → IsDecided options r.whole (IsInconsistent (record { tree = tree; derivations = derivations }))
   inconsistent count derivations is_tree are h written =
       let by_leaf : AllZip (IsProofIn f.clauses) (cubes_in slots) (derivations_in slots) = proofs_by_leaf f.clauses slots count h in
       let here : AllZip (IsProofIn f.clauses) (cubes_of tree) derivations = subst (λ (ds : List (List Step)). AllZip (IsProofIn f.clauses) (cubes_of tree) ds) (sym are) (subst (λ (cs : List (List ℤ)). AllZip (IsProofIn f.clauses) cs (derivations_in slots)) same by_leaf) in (
@@ -110,11 +108,41 @@ module _ (r : ReducedValue) (ok : IsReduced r) (f : FormulaValue) (f_is : f ≡ 
             no_model_anywhere f slots count fine clean slots_cover h model.0 (subst (λ (cs : List (List ℤ)). IsModel model.0 cs) (sym clauses_are) model.1),
       )
 
-  pub unknown : (listed : List ℕ) (cubes : List (List ℤ)) → IsVerdict f.clauses slots (Unknown listed) → AreCubesOf slots listed cubes → IsDecided r.whole (IsUnknown cubes)
-  unknown listed cubes h are value model =
+  -- the cubes that the verdict leaves open
+  left_open : IsCubeTree tree → (verdict : Verdict) → HaveEnded r.kept options slots verdict → (cubes : List (List ℤ)) → AreCubesLeftOpen tree slots verdict cubes → AreLeftOpen (kept_trace r.whole) options cubes
+  left_open is_tree verdict ended cubes are = record {
+    tree = tree;
+    is_tree = is_tree;
+    slots = slots;
+    slots_of_tree = same;
+    verdict = verdict;
+    ended = subst (λ (t : TraceValue). HaveEnded t options slots verdict) ok.reduction ended;
+    open_are = are;
+  }
+
+  -- where derivations cannot be written, all models are in the cubes of the tree
+  pub unwritten : IsCubeTree tree → (verdict : Verdict) → HaveEnded r.kept options slots verdict → (cubes : List (List ℤ)) → cubes ≡ cubes_of tree → AreCubesLeftOpen tree slots verdict cubes → IsDecided options r.whole (IsUnknown cubes)
+  unwritten is_tree verdict ended cubes all are = (
+    λ truth model.
+        let meets = covers truth in
+        let listed : Contains (cubes_of tree) meets.cube = subst (λ (cs : List (List ℤ)). Contains cs meets.cube) (sym meets.parts) (in_middle meets.before meets.cube meets.after) in
+        (meets.cube, subst (λ (cs : List (List ℤ)). Contains cs meets.cube) (sym all) listed, meets.met),
+    left_open is_tree verdict ended cubes are,
+  )
+
+  -- all models are in the cubes of the leaves without an accepted derivation
+  holds_models : (listed : List ℕ) (cubes : List (List ℤ)) → IsVerdict f.clauses slots (Unknown listed) → AreCubesOf slots listed cubes → HoldModels (clauses_of (kept_trace r.whole)) cubes
+  holds_models listed cubes h are value model =
       let (leaf, slot, within, there, holds) = model_in_listed f slots listed fine clean slots_cover h value (subst (λ (cs : List (List ℤ)). IsModel value cs) (sym clauses_are) model) in
       let some_cube : Contains (map (slice_get (cubes_in slots)) listed) (Some slot.cube) =
       subst (λ c. Contains (map (slice_get (cubes_in slots)) listed) c) (cube_at slots leaf slot there) (to_map (slice_get (cubes_in slots)) listed leaf within) in
       let (cube, among, is) = from_map Some cubes (Some slot.cube) (subst (λ cs. Contains cs (Some slot.cube)) (sym are) some_cube) in
       let cubes_same : cube ≡ slot.cube = cc is in
       (cube, among, subst (λ (c : List ℤ). makes_all value c ≡ true) (sym cubes_same) holds.inside)
+
+  pub unknown : IsCubeTree tree → (verdict : Verdict) (listed : List ℕ) → verdict ≡ Unknown listed → HaveEnded r.kept options slots verdict → IsVerdict f.clauses slots verdict →
+      (cubes : List (List ℤ)) → AreCubesOf slots listed cubes → IsDecided options r.whole (IsUnknown cubes)
+  unknown is_tree verdict listed is ended h cubes are = (
+    holds_models listed cubes (subst (λ (v : Verdict). IsVerdict f.clauses slots v) is h) are,
+    left_open is_tree verdict ended cubes (open_leaves tree slots verdict listed is cubes are),
+  )

@@ -1,3 +1,4 @@
 pub mod CertificateLemmas
 pub mod DecideLemmas
 pub mod GrownLemmas
+pub mod RoundLemmas

@@ -9,3 +9,12 @@ pub(crate) struct Decided {
     pub(crate) ledger: Ledger,
     pub(crate) verdict: Verdict,
 }
+
+/// How a search goes on after a round.
+#[derive(Drop)]
+pub(crate) enum Next {
+    /// It has ended here, since there are no new leaves.
+    Ended(Decided),
+    /// One more round was made.
+    Searched(Decided),
+}

@@ -1,13 +1,13 @@
 //! From a reduced trace to what is decided of it.
 ghost use Rattle.std.specs.Prelude.{◌≡◌, ◌<◌, ℕ, length, IfOk};
 ghost use Rattle.std.specs.List.{Contains};
-ghost use Rattle.clause_blocks.specs.Clauses.{clauses_of};
 ghost use Rattle.cube_tree.specs.CubeTree.{cubes_of};
 ghost use Rattle.dimacs.specs.Assignment.{value_of};
 ghost use Rattle.schedule_decode.specs.Decode.{IsModelOfKept};
 ghost use Rattle.traces.specs.Legal.{IsLegal};
-ghost use Rattle.trace_verdict.specs.Decision.{IsDecided, AreCubesOf};
-ghost use Rattle.trace_verdict.specs.Rounds.{IsConfirmed};
+ghost use Rattle.result_ledger.specs.Ledger.{cubes_in};
+ghost use Rattle.trace_verdict.specs.Decision.{IsDecided, NamesOpen, AreCubesOf};
+ghost use Rattle.trace_verdict.specs.Rounds.{HaveEnded};
 
 use crate::cubes::Cubes;
 use crate::decided::Decided;
@@ -75,11 +75,14 @@ fn decision_of(
     alloc: Global,
     reduced: &Reduced,
     clauses: &TraceClauses,
+    _options: &Options,
     decided: Decided,
 ) -> Result<Decision, AllocError>
     requires clauses { clauses.now ≡ reduced.now.kept }
-    requires confirmed { IsConfirmed (clauses_of clauses.now) decided }
-    ensures { IfOk result (λ decision. IsDecided reduced.now.whole decision) }
+    requires cubes { cubes_in decided.ledger ≡ cubes_of decided.tree }
+    requires ended { HaveEnded clauses.now _options.now decided.ledger decided.verdict }
+    ensures decided { IfOk result (λ decision. IsDecided _options.now reduced.now.whole decision) }
+    ensures named { IfOk result (λ decision. NamesOpen decided decision) }
 {
     let _kept = reduced.kept();
     clauses.is_formula();
@@ -121,12 +124,12 @@ pub fn decide<R: Threads + Wait + Sync, G: Gate + Sync>(
     options: &Options,
     gate: &G,
 ) -> Result<Decision, SearchFault>
-    ensures { IfOk result (λ decision. IsDecided reduced.now.whole decision) }
+    ensures { IfOk result (λ decision. IsDecided options.now reduced.now.whole decision) }
 {
     let clauses = TraceClauses::of(alloc, reduced)?;
     let readings = readings_of(alloc, clauses.layout())?;
     let guide = guide_to_order(clauses.layout()).with_readings(&readings);
     let prepared = Preparation::of(alloc, &clauses, guide)?;
     let decided = search_in_rounds(alloc, rt, &clauses, &prepared, options, gate)?;
-    Ok(decision_of(alloc, reduced, &clauses, decided)?)
+    Ok(decision_of(alloc, reduced, &clauses, options, decided)?)
 }

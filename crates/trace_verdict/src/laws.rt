@@ -2,6 +2,7 @@
 ghost use Rattle.certificate.specs.CertText.{SpellsCertificate};
 ghost use Rattle.certificate.specs.Rechecked.{IsRechecked};
 ghost use Rattle.clause_blocks.specs.Clauses.{clauses_of};
+ghost use Rattle.cube_queue.specs.Options.{OptionsValue};
 ghost use Rattle.cube_tree.specs.CubeTree.{leaves};
 ghost use Rattle.reducer.specs.Reduction.{kept_trace};
 ghost use Rattle.traces.specs.Trace.{TraceValue};
@@ -12,8 +13,8 @@ ghost use Rattle.trace_verdict.specs.declared.refutation.Refutation.{Refutation}
 /// The text that is written of a trace without a legal schedule spells its certificate, and that is accepted for the clauses of what is
 /// kept of the trace: it can be read back, and checked again.
 pub fn certificate_is_accepted()
-    ensures spelled { (value : TraceValue) (refutation : Refutation) → IsDecided value (Inconsistent refutation) →
+    ensures spelled { (options : OptionsValue) (value : TraceValue) (refutation : Refutation) → IsDecided options value (Inconsistent refutation) →
         SpellsCertificate (certificate_text (Inconsistent refutation)) (certificate_in refutation) }
-    ensures accepted { (value : TraceValue) (refutation : Refutation) → IsDecided value (Inconsistent refutation) →
+    ensures accepted { (options : OptionsValue) (value : TraceValue) (refutation : Refutation) → IsDecided options value (Inconsistent refutation) →
         IsRechecked (clauses_of (kept_trace value)) (certificate_in refutation) (leaves refutation.tree) }
 {}

@@ -1,53 +1,61 @@
 //! The rounds of a search: the leaves of a tree are searched, and those that stay open are split.
-ghost use Rattle.std.specs.Prelude.{◌≡◌, IfOk};
+ghost use Rattle.std.specs.Prelude.{◌≡◌, IfOk, length, map};
 ghost use Rattle.clause_blocks.specs.Clauses.{clauses_of};
 ghost use Rattle.cube_queue.specs.Results.{AreLeaves};
 ghost use Rattle.cube_tree.specs.CubeTree.{cubes_of};
-ghost use Rattle.result_ledger.specs.Ledger.{cubes_in};
-ghost use Rattle.trace_verdict.specs.Rounds.{KeepAnswers, IsAfterRound, IsConfirmed};
+ghost use Rattle.result_ledger.specs.Ledger.{cubes_in, empty_slot, HasAnswerAt};
+ghost use Rattle.result_ledger.specs.Verdict.{AreWithout};
+ghost use Rattle.trace_verdict.specs.Rounds.{AreOfUnanswered, HaveEnded, IsConfirmed, IsNext, IsSearched, first_tree, variables_of};
 
-use crate::decided::Decided;
+use crate::decided::{Decided, Next};
 use crate::splitting::split_all;
 use clause_blocks::trace_clauses::TraceClauses;
 use cube_queue::{Gate, MOST_LITERALS, Options, SearchFault, Settled};
 use cube_search::search;
 use cube_tree::{Tree, grow};
-use result_ledger::{Ledger, Verdict};
+use result_ledger::{Ledger, Verdict, enter_all};
 use solver::Preparation;
 use std::alloc::{AllocError, Global};
 use std::sync::Wait;
 use std::thread::Threads;
 
-/// Enters the result. One that the ledger refuses is dropped, and its leaf stays as it was.
-fn enter_one(ledger: &mut Ledger, settled: Settled)
-    ensures cubes { cubes_in ledger.new ≡ cubes_in ledger.old }
-    ensures answers { KeepAnswers ledger.old ledger.new }
-{
-    match ledger.enter(settled) {
-        Ok(()) => {}
-        Err(_) => {}
-    }
-}
-
-/// Enters the results. What was answered before stays.
-fn enter_all(ledger: &mut Ledger, results: Vec<Settled>)
-    ensures cubes { cubes_in ledger.new ≡ cubes_in ledger.old }
-    ensures answers { KeepAnswers ledger.old ledger.new }
-{
-    for settled in results {
-        enter_one(ledger, settled);
-    }
-}
-
-/// The leaves of the tree that have no answer.
-fn open_leaves(alloc: Global, _tree: &Tree, ledger: &Ledger) -> Result<Vec<u32>, AllocError>
+/// The leaves of the tree that have no answer, rising.
+fn unanswered(alloc: Global, _tree: &Tree, ledger: &Ledger) -> Result<Vec<u32>, AllocError>
     requires { cubes_in ledger.now ≡ cubes_of _tree.now }
-    ensures { IfOk result (λ leaves. AreLeaves (cubes_of _tree.now) leaves.items) }
+    ensures leaves { IfOk result (λ leaves. AreWithout (HasAnswerAt ledger.now) (length ledger.now) leaves.items) }
+    ensures asked { IfOk result (λ leaves. AreLeaves (cubes_of _tree.now) leaves.items) }
 {
     ledger.unanswered(alloc)
 }
 
-/// Searches the leaves that have no answer, and confirms what was answered for all of them. What was answered before stays.
+/// The results of the leaves that have no answer.
+fn search_unanswered<R: Threads + Wait + Sync, G: Gate + Sync>(
+    alloc: Global,
+    rt: &R,
+    clauses: &TraceClauses,
+    prepared: &Preparation,
+    tree: &Tree,
+    ledger: &Ledger,
+    options: &Options,
+    gate: &G,
+) -> Result<Vec<Settled>, SearchFault>
+    requires { cubes_in ledger.now ≡ cubes_of tree.now }
+    ensures { IfOk result (λ results. AreOfUnanswered (clauses_of clauses.now) ledger.now results.items) }
+{
+    let which = unanswered(alloc, tree, ledger)?;
+    search(
+        alloc,
+        rt,
+        clauses,
+        prepared,
+        tree,
+        which.as_slice(),
+        options,
+        gate,
+    )
+}
+
+/// Searches the leaves that have no answer, enters what is found, and confirms what was answered for all leaves.
 fn search_open<R: Threads + Wait + Sync, G: Gate + Sync>(
     alloc: Global,
     rt: &R,
@@ -60,19 +68,9 @@ fn search_open<R: Threads + Wait + Sync, G: Gate + Sync>(
 ) -> Result<Decided, SearchFault>
     requires { cubes_in ledger ≡ cubes_of tree }
     ensures confirmed { IfOk result (λ decided. IsConfirmed (clauses_of clauses.now) decided) }
-    ensures answers { IfOk result (λ decided. KeepAnswers ledger decided.ledger) }
+    ensures searched { IfOk result (λ decided. IsSearched (clauses_of clauses.now) ledger decided.ledger) }
 {
-    let which = open_leaves(alloc, &tree, &ledger)?;
-    let results = search(
-        alloc,
-        rt,
-        clauses,
-        prepared,
-        &tree,
-        which.as_slice(),
-        options,
-        gate,
-    )?;
+    let results = search_unanswered(alloc, rt, clauses, prepared, &tree, &ledger, options, gate)?;
     let mut ledger = ledger;
     enter_all(&mut ledger, results);
     let verdict = ledger.confirm(alloc, rt, clauses, options.workers())?;
@@ -83,7 +81,24 @@ fn search_open<R: Threads + Wait + Sync, G: Gate + Sync>(
     })
 }
 
-/// One more round, where the verdict is open: the open leaves are split, and the new leaves are searched.
+/// The first round: the leaves of the first tree are searched.
+fn search_first<R: Threads + Wait + Sync, G: Gate + Sync>(
+    alloc: Global,
+    rt: &R,
+    clauses: &TraceClauses,
+    prepared: &Preparation,
+    options: &Options,
+    gate: &G,
+) -> Result<Decided, SearchFault>
+    ensures confirmed { IfOk result (λ decided. IsConfirmed (clauses_of clauses.now) decided) }
+    ensures searched { IfOk result (λ decided. IsSearched (clauses_of clauses.now) (map empty_slot (cubes_of (first_tree clauses.now options.now.split))) decided.ledger) }
+{
+    let tree = grow(alloc, clauses.layout(), options.split())?;
+    let ledger = Ledger::new(alloc, &tree)?;
+    search_open(alloc, rt, clauses, prepared, tree, ledger, options, gate)
+}
+
+/// One more round, where the verdict is open and some open leaf can be split: the open leaves are split, and the new ones are searched.
 fn search_again<R: Threads + Wait + Sync, G: Gate + Sync>(
     alloc: Global,
     rt: &R,
@@ -93,10 +108,9 @@ fn search_again<R: Threads + Wait + Sync, G: Gate + Sync>(
     decided: Decided,
     options: &Options,
     gate: &G,
-) -> Result<Decided, SearchFault>
+) -> Result<Next, SearchFault>
     requires { IsConfirmed (clauses_of clauses.now) decided }
-    ensures confirmed { IfOk result (λ after. IsConfirmed (clauses_of clauses.now) after) }
-    ensures round { IfOk result (λ after. IsAfterRound variables.now decided.ledger after.ledger) }
+    ensures { IfOk result (λ next. IsNext (clauses_of clauses.now) variables.now decided next) }
 {
     let Decided {
         tree,
@@ -104,22 +118,30 @@ fn search_again<R: Threads + Wait + Sync, G: Gate + Sync>(
         verdict,
     } = decided;
     let Verdict::Unknown(open) = &verdict else {
-        return Ok(Decided {
+        return Ok(Next::Ended(Decided {
             tree,
             ledger,
             verdict,
-        });
+        }));
     };
     let before = ledger.leaves();
     let (tree, ledger) = split_all(alloc, variables, tree, ledger, open.as_slice())?;
     if ledger.leaves() == before {
-        return Ok(Decided {
+        return Ok(Next::Ended(Decided {
             tree,
             ledger,
             verdict,
-        });
+        }));
     }
-    search_open(alloc, rt, clauses, prepared, tree, ledger, options, gate)
+    let after = search_open(alloc, rt, clauses, prepared, tree, ledger, options, gate)?;
+    Ok(Next::Searched(after))
+}
+
+/// The variables on which leaves are split: as many as a cube can have literals, so that one of them is not in a cube that may be split.
+fn split_variables(alloc: Global, clauses: &TraceClauses) -> Result<Vec<u32>, AllocError>
+    ensures { IfOk result (λ variables. variables.items ≡ variables_of clauses.now) }
+{
+    clauses.layout().first_splits(alloc, MOST_LITERALS)
 }
 
 /// Searches in rounds, at most as many as the options say.
@@ -131,16 +153,13 @@ pub(crate) fn search_in_rounds<R: Threads + Wait + Sync, G: Gate + Sync>(
     options: &Options,
     gate: &G,
 ) -> Result<Decided, SearchFault>
-    ensures { IfOk result (λ decided. IsConfirmed (clauses_of clauses.now) decided) }
+    ensures cubes { IfOk result (λ decided. cubes_in decided.ledger ≡ cubes_of decided.tree) }
+    ensures ended { IfOk result (λ decided. HaveEnded clauses.now options.now decided.ledger decided.verdict) }
 {
-    let layout = clauses.layout();
-    // A cube that may be split has fewer literals, so one of these variables is not among them where there are so many.
-    let variables = layout.first_splits(alloc, MOST_LITERALS)?;
-    let tree = grow(alloc, layout, options.split())?;
-    let ledger = Ledger::new(alloc, &tree)?;
-    let mut decided = search_open(alloc, rt, clauses, prepared, tree, ledger, options, gate)?;
+    let variables = split_variables(alloc, clauses)?;
+    let mut decided = search_first(alloc, rt, clauses, prepared, options, gate)?;
     for _round in 1..options.rounds() {
-        decided = search_again(
+        match search_again(
             alloc,
             rt,
             clauses,
@@ -149,7 +168,10 @@ pub(crate) fn search_in_rounds<R: Threads + Wait + Sync, G: Gate + Sync>(
             decided,
             options,
             gate,
-        )?;
+        )? {
+            Next::Ended(last) => return Ok(last),
+            Next::Searched(next) => decided = next,
+        }
     }
     Ok(decided)
 }

@@ -1,9 +1,10 @@
 //! Open leaves are split.
-ghost use Rattle.std.specs.Prelude.{◌≡◌, ◌≤◌, ◌&&◌, not, IfOk, IfSome};
+ghost use Rattle.std.specs.Prelude.{◌≡◌, ◌<◌, ◌≤◌, ◌&&◌, ℕ, length, not, IfOk, IfSome};
+ghost use Rattle.std.specs.List.{Contains};
 ghost use Rattle.cube_tree.specs.CubeTree.{cubes_of, is_variable};
 ghost use Rattle.result_ledger.specs.Ledger.{cubes_in};
 ghost use Rattle.trace_verdict.specs.Rounds as rounds;
-ghost use Rattle.trace_verdict.specs.Rounds.{IsGrown};
+ghost use Rattle.trace_verdict.specs.Rounds.{AreAfterSplits, IsSplitIfPossible};
 
 use cube_tree::laws::split_changes_one_leaf;
 use cube_tree::{Tree, split_leaf};
@@ -38,7 +39,7 @@ fn next_variable(variables: &[u32], cube: &[Lit]) -> Option<u32>
 }
 
 /// The tree and its ledger with this leaf split on the first of the variables that its cube does not have. They stay as they
-/// are where there is no such leaf or no such variable, or where the tree may not grow.
+/// are where there is no such variable, or where the tree may not grow.
 fn split_one(
     alloc: Global,
     variables: &[u32],
@@ -46,12 +47,11 @@ fn split_one(
     ledger: Ledger,
     leaf: u32,
 ) -> Result<(Tree, Ledger), AllocError>
-    requires { cubes_in ledger ≡ cubes_of tree }
-    ensures { IfOk result (λ after. IsGrown variables.now ledger after.0 after.1) }
+    requires cubes { cubes_in ledger ≡ cubes_of tree }
+    requires leaf { leaf < length ledger }
+    ensures cubes { IfOk result (λ after. cubes_in after.1 ≡ cubes_of after.0) }
+    ensures split { IfOk result (λ after. IsSplitIfPossible variables.now leaf ledger after.1) }
 {
-    if leaf >= ledger.leaves() {
-        return Ok((tree, ledger));
-    }
     let Some(variable) = next_variable(variables, ledger.cube(leaf)) else {
         return Ok((tree, ledger));
     };
@@ -75,21 +75,17 @@ pub(crate) fn split_all(
     ledger: Ledger,
     leaves: &[u32],
 ) -> Result<(Tree, Ledger), AllocError>
-    requires { cubes_in ledger ≡ cubes_of tree }
-    ensures { IfOk result (λ after. IsGrown variables.now ledger after.0 after.1) }
+    requires cubes { cubes_in ledger ≡ cubes_of tree }
+    requires leaves { (leaf : ℕ) → Contains leaves.now leaf → leaf < length ledger }
+    ensures cubes { IfOk result (λ after. cubes_in after.1 ≡ cubes_of after.0) }
+    ensures split { IfOk result (λ after. AreAfterSplits variables.now leaves.now 0 ledger after.1) }
 {
     let before = ledger.leaves();
     let mut tree = tree;
     let mut ledger = ledger;
     for leaf in leaves {
         let more = ledger.leaves() - before;
-        let (next_tree, next_ledger) = split_one(
-            alloc,
-            variables,
-            tree,
-            ledger,
-            leaf.saturating_add(more),
-        )?;
+        let (next_tree, next_ledger) = split_one(alloc, variables, tree, ledger, *leaf + more)?;
         tree = next_tree;
         ledger = next_ledger;
     }

@@ -4,6 +4,7 @@ use Rattle.std.specs.Prelude.{Result, Ok, Err}
 use Rattle.certificate.specs.CertText.{SpellsCertificate}
 use Rattle.certificate.specs.Rechecked.{IsRechecked}
 use Rattle.clause_blocks.specs.Clauses.{clauses_of}
+use Rattle.cube_queue.specs.Options.{OptionsValue}
 use Rattle.cube_tree.specs.CubeTree.{leaves}
 use Rattle.dimacs.specs.declared.sink_fault.SinkFault.{SinkFault}
 use Rattle.dimacs.specs.declared.sink_fault.SinkFault.TheVariants.{OutOfMemory as NoRoom, Device as SinkFails}
@@ -28,9 +29,9 @@ use Rattle.verdict_report.specs.VerifyEngine.{Certifies, IsDecidedFrom, IsRunOfC
 nothing_is_front : (out : SinkRun) (text : List ℕ) → TakesNothing out → AppendsFront out.before out.now text
 nothing_is_front out text none = record { front = []; back = text; parts = refl; appended = none.0 ∙ sym (append-nil out.before) }
 
-module _ (trace : SourceRun) (cert out : SinkRun) (text : List ℕ) (handed : HandOut (trace ∷ []) (text ∷ [])) (decision : Decision) (decided : IsDecidedFrom text decision) where
+module _ (trace : SourceRun) (cert out : SinkRun) (text : List ℕ) (handed : HandOut (trace ∷ []) (text ∷ [])) (options : OptionsValue) (decision : Decision) (decided : IsDecidedFrom options text decision) where
   reads : Reads (of_one IsSaidOfTrace) (trace ∷ []) (Ok decision)
-  reads = record { texts = text ∷ []; handed = handed; is_said = decided }
+  reads = record { texts = text ∷ []; handed = handed; is_said = (options, decided) }
 
   -- the certificate is cut off
   pub cert_cut_off : (fault : SinkFault) → AppendsFront cert.before cert.now (certificate_text decision) → cert.failures_now ≡ cert.failures_before + failures_told fault → TakesNothing out →
@@ -57,9 +58,10 @@ module _ (trace : SourceRun) (cert out : SinkRun) (text : List ℕ) (handed : Ha
 
 -- what the laws say of a certificate that is written
 module _ (trace : SourceRun) (cert : SinkRun) (text : List ℕ) (handed : HandOut (trace ∷ []) (text ∷ []))
-    (spells : (value : TraceValue) (refutation : Refutation) → IsDecided value (Inconsistent refutation) → SpellsCertificate (certificate_text (Inconsistent refutation)) (certificate_in refutation))
-    (accepted : (value : TraceValue) (refutation : Refutation) → IsDecided value (Inconsistent refutation) → IsRechecked (clauses_of (kept_trace value)) (certificate_in refutation) (leaves refutation.tree)) where
-  pub certifies : (decision : Decision) → IsDecidedFrom text decision → cert.now ≡ cert.before ++ certificate_text decision → (status : Status) → status ≡ status_of_decision decision → status ≡ No → Certifies trace cert
+    (options : OptionsValue)
+    (spells : (options : OptionsValue) (value : TraceValue) (refutation : Refutation) → IsDecided options value (Inconsistent refutation) → SpellsCertificate (certificate_text (Inconsistent refutation)) (certificate_in refutation))
+    (accepted : (options : OptionsValue) (value : TraceValue) (refutation : Refutation) → IsDecided options value (Inconsistent refutation) → IsRechecked (clauses_of (kept_trace value)) (certificate_in refutation) (leaves refutation.tree)) where
+  pub certifies : (decision : Decision) → IsDecidedFrom options text decision → cert.now ≡ cert.before ++ certificate_text decision → (status : Status) → status ≡ status_of_decision decision → status ≡ No → Certifies trace cert
   certifies (Consistent names) decided whole status is so = absurd (let wrong : Yes ≡ No = sym is ∙ so in cc)
   certifies (Inconsistent refutation) decided whole status is so = record {
     text = text;
@@ -69,15 +71,15 @@ module _ (trace : SourceRun) (cert : SinkRun) (text : List ℕ) (handed : HandOu
     written = certificate_text (Inconsistent refutation);
     whole = whole;
     certificate = certificate_in refutation;
-    spelled = spells decided.value refutation decided.decided;
+    spelled = spells options decided.value refutation decided.decided;
     count = leaves refutation.tree;
-    accepted = accepted decided.value refutation decided.decided;
+    accepted = accepted options decided.value refutation decided.decided;
     none_legal = decided.decided.1;
   }
   certifies (NotDecided cubes) decided whole status is so = absurd (let wrong : Unknown ≡ No = sym is ∙ so in cc)
 
   -- the answer is the one for what is decided
-  pub certified : (decision : Decision) → IsDecidedFrom text decision → cert.now ≡ cert.before ++ certificate_text decision → (out : SinkRun) (result : Result Status Fault) →
+  pub certified : (decision : Decision) → IsDecidedFrom options text decision → cert.now ≡ cert.before ++ certificate_text decision → (out : SinkRun) (result : Result Status Fault) →
       IsRunOfWriting (report decision) (status_of_decision decision) out result → result ≡ Ok No → Certifies trace cert
   certified decision decided whole out result w so =
       let at : IsRunOfWriting (report decision) (status_of_decision decision) out (Ok No) = subst (λ (r : Result Status Fault). IsRunOfWriting (report decision) (status_of_decision decision) out r) so w in

@@ -2,6 +2,7 @@
 use Rattle.std.proofs.Common.{◌≡◌, ℕ, List, [], ◌∷◌, ◌++◌, subst}
 use Rattle.std.specs.Prelude.{Result, Ok, Err}
 use Rattle.cube_queue.specs.declared.search_fault.SearchCause.{SearchCause}
+use Rattle.cube_queue.specs.Options.{OptionsValue}
 use Rattle.reducer.specs.declared.reduce_fault.ReduceCause.TheVariants.{StillTooLarge}
 use Rattle.schedule_text.specs.ScheduleWritten.{canonical_schedule}
 use Rattle.text_lines.specs.declared.plain_fault.PlainFault.{PlainFault}
@@ -19,7 +20,7 @@ use Rattle.verdict_report.specs.Engine.{HandOut, IsRunOfWriting}
 use Rattle.verdict_report.specs.Fault.{fault_of_search}
 use Rattle.verdict_report.specs.RecheckEngine.{HandsOutUnschedulable}
 use Rattle.verdict_report.specs.Runs.{SourceRun, SinkRun}
-use Rattle.verdict_report.specs.VerifyEngine.{IsDecidedFrom, IsSaidOfTrace, TellsSchedule, status_of_decision}
+use Rattle.verdict_report.specs.VerifyEngine.{IsDecidedFrom, IsSaidOfTrace, TellsOpen, TellsSchedule, status_of_decision}
 use Rattle.verdict_report.proofs.LegalTextLemmas.{spells}
 
 -- the text is not reduced
@@ -44,8 +45,8 @@ unsearched text value admitted NoMemoryToSearch = tt
 unsearched text value admitted (For cause) = (value, admitted)
 
 -- what follows from the status of what is decided
-module _ (trace : SourceRun) (text : List ℕ) (handed : HandOut (trace ∷ []) (text ∷ [])) (out : SinkRun) where
-  tells : (decision : Decision) → IsDecidedFrom text decision → out.now ≡ out.before ++ report decision → Yes ≡ status_of_decision decision → TellsSchedule trace out
+module _ (options : OptionsValue) (trace : SourceRun) (text : List ℕ) (handed : HandOut (trace ∷ []) (text ∷ [])) (out : SinkRun) where
+  tells : (decision : Decision) → IsDecidedFrom options text decision → out.now ≡ out.before ++ report decision → Yes ≡ status_of_decision decision → TellsSchedule trace out
   tells (Consistent names) decided whole is = record {
     text = text;
     handed = handed.0.0;
@@ -61,7 +62,7 @@ module _ (trace : SourceRun) (text : List ℕ) (handed : HandOut (trace ∷ []) 
   tells (Inconsistent refutation) decided whole is = absurd (let wrong : Yes ≡ No = is in cc)
   tells (NotDecided cubes) decided whole is = absurd (let wrong : Yes ≡ Unknown = is in cc)
 
-  has_none : (decision : Decision) → IsDecidedFrom text decision → No ≡ status_of_decision decision → HandsOutUnschedulable trace
+  has_none : (decision : Decision) → IsDecidedFrom options text decision → No ≡ status_of_decision decision → HandsOutUnschedulable trace
   has_none (Consistent names) decided is = absurd (let wrong : No ≡ Yes = is in cc)
   has_none (Inconsistent refutation) decided is = record {
     text = text;
@@ -73,7 +74,21 @@ module _ (trace : SourceRun) (text : List ℕ) (handed : HandOut (trace ∷ []) 
   }
   has_none (NotDecided cubes) decided is = absurd (let wrong : No ≡ Unknown = is in cc)
 
-  module _ (decision : Decision) (decided : IsDecidedFrom text decision) (result : Result Status Fault) (w : IsRunOfWriting (report decision) (status_of_decision decision) out result) where
+  tells_open : (decision : Decision) → IsDecidedFrom options text decision → out.now ≡ out.before ++ report decision → Unknown ≡ status_of_decision decision → TellsOpen options trace out
+  tells_open (Consistent names) decided whole is = absurd (let wrong : Unknown ≡ Yes = is in cc)
+  tells_open (Inconsistent refutation) decided whole is = absurd (let wrong : Unknown ≡ No = is in cc)
+  tells_open (NotDecided cubes) decided whole is = record {
+    text = text;
+    handed = handed.0.0;
+    value = decided.value;
+    admitted = decided.admitted;
+    cubes = cubes;
+    whole = whole;
+    left_open = decided.decided.1;
+    models = decided.decided.0;
+  }
+
+  module _ (decision : Decision) (decided : IsDecidedFrom options text decision) (result : Result Status Fault) (w : IsRunOfWriting (report decision) (status_of_decision decision) out result) where
     -- of the answer that the trace is consistent
     pub consistent : result ≡ Ok Yes → TellsSchedule trace out
     consistent so =
@@ -85,3 +100,9 @@ module _ (trace : SourceRun) (text : List ℕ) (handed : HandOut (trace ∷ []) 
     inconsistent so =
         let at : IsRunOfWriting (report decision) (status_of_decision decision) out (Ok No) = subst (λ (r : Result Status Fault). IsRunOfWriting (report decision) (status_of_decision decision) out r) so w in
         has_none decision decided at.0
+
+    -- of the answer that nothing is decided
+    pub unknown : result ≡ Ok Unknown → TellsOpen options trace out
+    unknown so =
+        let at : IsRunOfWriting (report decision) (status_of_decision decision) out (Ok Unknown) = subst (λ (r : Result Status Fault). IsRunOfWriting (report decision) (status_of_decision decision) out r) so w in
+        tells_open decision decided at.1.0 at.0

@@ -1,9 +1,10 @@
 -- What the engine that decides traces answers and writes.
-use Rattle.std.specs.Prelude.{◌≡◌, ⊤, ℕ, List, [], ◌∷◌, ◌++◌, codes, Result, Ok, Err}
+use Rattle.std.specs.Prelude.{◌≡◌, ⊤, ℕ, ℤ, List, [], ◌∷◌, ◌++◌, codes, Result, Ok, Err}
 use Rattle.certificate.specs.CertText.{SpellsCertificate}
 use Rattle.certificate.specs.Rechecked.{IsRechecked}
 use Rattle.certificate.specs.declared.certificate.Certificate.{Certificate}
 use Rattle.clause_blocks.specs.Clauses.{clauses_of}
+use Rattle.cube_queue.specs.Options.{OptionsValue}
 use Rattle.reducer.specs.declared.reduce_fault.ReduceCause.TheVariants.{StillTooLarge}
 use Rattle.reducer.specs.Reduction.{kept_trace}
 use Rattle.schedule_text.specs.ScheduleText.{SpellsSchedule}
@@ -14,7 +15,7 @@ use Rattle.trace_text.specs.TraceFault.{HasTraceFault}
 use Rattle.trace_text.specs.TraceText.{SpellsTrace}
 use Rattle.trace_verdict.specs.declared.decision.Decision.{Decision}
 use Rattle.trace_verdict.specs.declared.decision.Decision.TheVariants.{Consistent, Inconsistent, Unknown as NotDecided}
-use Rattle.trace_verdict.specs.Decision.{IsDecided, certificate_text, report}
+use Rattle.trace_verdict.specs.Decision.{AreLeftOpen, HoldModels, IsDecided, certificate_text, report}
 use Rattle.verdict_report.specs.declared.fault.Fault.{Fault}
 use Rattle.verdict_report.specs.declared.fault.Fault.TheVariants.{OutOfMemory, Trace, Reduce, Search}
 use Rattle.verdict_report.specs.declared.status.Status.{Status}
@@ -24,15 +25,15 @@ use Rattle.verdict_report.specs.Engine.{AtOnce, InPieces, IsRunOfEngine, of_one}
 use Rattle.verdict_report.specs.RecheckEngine.{HasNoSchedule}
 use Rattle.verdict_report.specs.Runs.{SourceRun, SinkRun, HandsOut}
 
--- the text spells an admitted trace, of which this is decided
-pub record IsDecidedFrom (text : List ℕ) (decision : Decision) : Type 0 where
+-- the text spells an admitted trace, of which this is decided by a search with these options
+pub record IsDecidedFrom (options : OptionsValue) (text : List ℕ) (decision : Decision) : Type 0 where
   pub value : TraceValue
   pub admitted : Admits text value
-  pub decided : IsDecided value decision
+  pub decided : IsDecided options value decision
 
--- what is said of the text: what is decided of its trace, or why nothing is; a search that has no results refuses no other texts
+-- what is said of the text: what is decided of its trace, by some search, or why nothing is; a search that has no results refuses no other texts
 abbrev pub IsSaidOfTrace : List ℕ → Result Decision Fault → Type 0
-IsSaidOfTrace text (Ok decision) = IsDecidedFrom text decision
+IsSaidOfTrace text (Ok decision) = (options : OptionsValue) × IsDecidedFrom options text decision
 IsSaidOfTrace text (Err OutOfMemory) = ⊤
 IsSaidOfTrace text (Err (Trace cause line)) = HasTraceFault text cause line
 IsSaidOfTrace text (Err (Reduce StillTooLarge left)) = IsTooLarge text left
@@ -74,6 +75,18 @@ pub record TellsSchedule (trace : SourceRun) (out : SinkRun) : Type 0 where
   pub names : List OpName
   pub told : SpellsSchedule schedule names
   pub legal : IsLegal value names
+
+-- the source handed out the text of a trace, and the sink took the report of the cubes that a search with these options leaves open; all
+-- models of the clauses of what is kept of the trace are in them
+pub record TellsOpen (options : OptionsValue) (trace : SourceRun) (out : SinkRun) : Type 0 where
+  pub text : List ℕ
+  pub handed : HandsOut trace text
+  pub value : TraceValue
+  pub admitted : Admits text value
+  pub cubes : List (List ℤ)
+  pub whole : out.now ≡ out.before ++ report (NotDecided cubes)
+  pub left_open : AreLeftOpen (kept_trace value) options cubes
+  pub models : HoldModels (clauses_of (kept_trace value)) cubes
 
 -- the source handed out the text of a trace that has no legal schedule, and the sink took that of a certificate, which is accepted for
 -- the clauses of what is kept of the trace

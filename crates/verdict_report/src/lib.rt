@@ -25,7 +25,7 @@ pub use judge_engine::run_judge;
 pub use lrat_engine::run_lrat;
 pub use reading::{INPUT_LIMIT, ReadFault, read_whole};
 pub use recheck_engine::run_recheck;
-pub use refusal_line::write_fault;
+pub use refusal_line::{fault_line, write_fault};
 pub use refused_parts::Part;
 pub use short_source::ShortSource;
 pub use source::Source;

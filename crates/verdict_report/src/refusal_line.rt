@@ -1,12 +1,20 @@
 //! The line that reports a refusal.
 
-ghost use Rattle.std.specs.Prelude.{◌≡◌, ◌++◌, OnOk, OnErr};
+ghost use Rattle.std.specs.Prelude.{◌≡◌, ◌++◌, IfOk, OnOk, OnErr, string_bytes};
 ghost use Rattle.dimacs.specs.Sink.{AppendsFront};
 ghost use Rattle.verdict_report.specs.Fault.{line_of, CountsSinkFailures};
 
 use crate::fault::Fault;
 use dimacs::{Sink, SinkFault, write_whole};
-use std::alloc::Global;
+use std::alloc::{AllocError, Global};
+
+/// The line that reports the fault, as `refused: trace 13 TooManyOps at 4099`.
+pub fn fault_line(alloc: Global, fault: &Fault) -> Result<String, AllocError>
+    ensures { IfOk result (λ line. string_bytes line ≡ line_of fault.now) }
+{
+    let told = fault.told();
+    format!(in alloc; "refused: {told}\n")
+}
 
 /// Writes the line that reports the fault, as `refused: trace 13 TooManyOps at 4099`.
 pub fn write_fault<W: Sink>(alloc: Global, fault: &Fault, out: &mut W) -> Result<(), SinkFault>
@@ -18,7 +26,6 @@ pub fn write_fault<W: Sink>(alloc: Global, fault: &Fault, out: &mut W) -> Result
         // This one takes no memory.
         return Ok(write_whole(out, b"refused: memory\n")?);
     }
-    let told = fault.told();
-    let line = format!(in alloc; "refused: {told}\n")?;
+    let line = fault_line(alloc, fault)?;
     Ok(write_whole(out, line.as_bytes())?)
 }

@@ -1,12 +1,12 @@
 //! The engine that decides whether a trace has a legal schedule, from bytes to bytes.
 
-ghost use Rattle.std.specs.Prelude.{◌≡◌, Ok};
+ghost use Rattle.std.specs.Prelude.{◌≡◌, IfOk, Ok};
 ghost use Rattle.trace_verdict.specs.Decision.{report};
 ghost use Rattle.verdict_report.specs.Engine.{IsRunOfWriting};
 ghost use Rattle.verdict_report.specs.RecheckEngine.{HandsOutUnschedulable};
 ghost use Rattle.verdict_report.specs.Runs.{source_run, sink_run};
-ghost use Rattle.verdict_report.specs.VerifyEngine.{Certifies, IsRunOfVerify, IsRunOfCertifiedVerify, IsSaidOfTrace, TellsSchedule, status_of_decision};
-ghost use Rattle.verdict_report.specs.declared.status.Status.TheVariants.{No, Yes};
+ghost use Rattle.verdict_report.specs.VerifyEngine.{Certifies, IsRunOfVerify, IsDecidedFrom, IsRunOfCertifiedVerify, IsSaidOfTrace, TellsOpen, TellsSchedule, status_of_decision};
+ghost use Rattle.verdict_report.specs.declared.status.Status.TheVariants.{No, Unknown, Yes};
 
 use crate::admitted::reduce_text;
 use crate::fault::Fault;
@@ -23,7 +23,8 @@ use trace_verdict::{Decision, decide, report_of, write_certificate};
 
 /// Decides whether the trace that the source hands out has a legal schedule, and writes the report: CONSISTENT and a legal
 /// schedule of the whole trace; INCONSISTENT, where each cube of some tree is refuted by a derivation that is accepted, so that
-/// there is no legal schedule; or UNKNOWN and cubes in which all models of the trace's clauses are.
+/// there is no legal schedule; or UNKNOWN and the cubes of those leaves of the last round's tree that have no accepted derivation, in
+/// which all models of the trace's clauses are.
 ///
 /// The first refusal stands: of a source that fails, an input past the limit, the trace's text, a trace of which more than
 /// 160 operations are kept, the search, lack of memory, or the sink. Before the last a prefix of the report may have been
@@ -44,6 +45,9 @@ pub fn run_verify<R: Threads + Wait + Sync, T: Source, G: Gate + Sync, W: Sink>(
         (source_run T.handed_out T.is_at_end T.failures trace.old trace.new)
         (sink_run W.written W.failures out.old out.new) }
     ensures inconsistent { result ≡ Ok No → HandsOutUnschedulable (source_run T.handed_out T.is_at_end T.failures trace.old trace.new) }
+    ensures unknown { result ≡ Ok Unknown → TellsOpen options.now
+        (source_run T.handed_out T.is_at_end T.failures trace.old trace.new)
+        (sink_run W.written W.failures out.old out.new) }
 {
     let text = read_one(alloc, trace)?;
     let decision = decide_text(alloc, rt, text.as_slice(), options, gate)?;
@@ -75,6 +79,9 @@ pub fn run_certified_verify<R: Threads + Wait + Sync, T: Source, G: Gate + Sync,
     ensures certified { result ≡ Ok No → Certifies
         (source_run T.handed_out T.is_at_end T.failures trace.old trace.new)
         (sink_run C.written C.failures cert.old cert.new) }
+    ensures unknown { result ≡ Ok Unknown → TellsOpen options.now
+        (source_run T.handed_out T.is_at_end T.failures trace.old trace.new)
+        (sink_run W.written W.failures out.old out.new) }
 {
     certificate_is_accepted();
     let text = read_one(alloc, trace)?;
@@ -91,7 +98,8 @@ fn decide_text<R: Threads + Wait + Sync, G: Gate + Sync>(
     options: &Options,
     gate: &G,
 ) -> Result<Decision, Fault>
-    ensures { IsSaidOfTrace text.now result }
+    ensures said { IsSaidOfTrace text.now result }
+    ensures decided { IfOk result (λ decision. IsDecidedFrom options.now text.now decision) }
 {
     let reduced = reduce_text(alloc, text)?;
     Ok(decide(alloc, rt, &reduced, options, gate)?)

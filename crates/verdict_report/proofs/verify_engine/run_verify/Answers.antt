@@ -5,7 +5,7 @@ use Rattle.verdict_report.specs.Engine.{AtOnce, of_one}
 use Rattle.verdict_report.specs.Runs.{SourceRun, SinkRun, source_run, sink_run}
 use Rattle.verdict_report.specs.VerifyEngine.{IsSaidOfTrace, status_of_decision, texts_of_decision}
 use Rattle.verdict_report.proofs.EngineLemmas.{unread, refused, written}
-use Rattle.verdict_report.proofs.VerifyLemmas.{consistent, inconsistent}
+use Rattle.verdict_report.proofs.VerifyLemmas.{consistent, inconsistent, unknown}
 use Rattle.verdict_report.proofs.verify_engine.run_verify.Goals as goal
 
 pub returns-clause-run : goal.returns-clause-run
@@ -32,10 +32,16 @@ pub returns-clause-consistent : goal.returns-clause-consistent
 returns-clause-consistent g c =
     let trace : SourceRun = source_run g.T.Source.handed_out g.T.Source.is_at_end g.T.Source.failures c.args.trace.now c.read_one.new.source in
     let out : SinkRun = sink_run g.W.Sink.written g.W.Sink.failures c.args.out.now c.write_report.new.out in
-    consistent trace c.in_ok-text.text.items (search rules) out c.in_ok-decision.decision (search rules) c.write_report.result c.write_report.ensures
+    consistent c.args.options.now trace c.in_ok-text.text.items (search rules) out c.in_ok-decision.decision (search rules) c.write_report.result c.write_report.ensures
 
 pub returns-clause-inconsistent : goal.returns-clause-inconsistent
 returns-clause-inconsistent g c =
     let trace : SourceRun = source_run g.T.Source.handed_out g.T.Source.is_at_end g.T.Source.failures c.args.trace.now c.read_one.new.source in
     let out : SinkRun = sink_run g.W.Sink.written g.W.Sink.failures c.args.out.now c.write_report.new.out in
-    inconsistent trace c.in_ok-text.text.items (search rules) out c.in_ok-decision.decision (search rules) c.write_report.result c.write_report.ensures
+    inconsistent c.args.options.now trace c.in_ok-text.text.items (search rules) out c.in_ok-decision.decision (search rules) c.write_report.result c.write_report.ensures
+
+pub returns-clause-unknown : goal.returns-clause-unknown
+returns-clause-unknown g c =
+    let trace : SourceRun = source_run g.T.Source.handed_out g.T.Source.is_at_end g.T.Source.failures c.args.trace.now c.read_one.new.source in
+    let out : SinkRun = sink_run g.W.Sink.written g.W.Sink.failures c.args.out.now c.write_report.new.out in
+    unknown c.args.options.now trace c.in_ok-text.text.items (search rules) out c.in_ok-decision.decision (search rules) c.write_report.result c.write_report.ensures
