@@ -4,9 +4,9 @@ use Rattle.verdict_report.specs.Runs.{SourceRun, source_run}
 use Rattle.vsc.specs.declared.file_source.FileSource.{FileSource}
 
 -- the path of the file
-abbrev pub path_of : {R : Type 0} → FileSource R → List ℕ
+abbrev pub path_of : FileSource → List ℕ
 path_of source = source.path.now
 
 -- what it did, from before to now
-abbrev pub file_run : {R : Type 0} → FileSource R → FileSource R → SourceRun
+abbrev pub file_run : FileSource → FileSource → SourceRun
 file_run before now = source_run (λ s. s.handed_out.bytes) (λ s. s.is_at_end) (λ s. s.failures.count) before now

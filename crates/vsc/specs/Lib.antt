@@ -1,4 +1,3 @@
-pub mod Commands
-pub mod ExitStatus
 pub mod FileSink
 pub mod FileSource
+pub mod SystemHost

@@ -1,9 +1,9 @@
 //! A file as a sink.
-ghost use Rattle.std.specs.Prelude.{◌≡◌, [], IfOk};
+ghost use Rattle.std.specs.Prelude.{◌≡◌, ◌+◌, [], IfOk, OnErr, OnOk};
 ghost use Rattle.vsc.specs.FileSink.{path_to};
 
 use crate::stream_sink::StreamSink;
-use dimacs::{Failed, Sink};
+use dimacs::{Failed, FailureCount, Sink};
 use std::fs::File;
 use std::rt::Files;
 
@@ -15,19 +15,27 @@ pub struct FileSink<'a> {
 }
 
 impl<'a> FileSink<'a> {
-    /// Makes the file at this path, or empties it.
-    pub fn create<R: Files<File = File>>(rt: &R, path: &'a str) -> Result<FileSink<'a>, Failed>
+    /// Makes the file at this path, or empties it. An error is a failure of the system, which is counted.
+    pub fn create<R: Files<File = File>>(
+        rt: &R,
+        path: &'a str,
+        failures: &mut FailureCount,
+    ) -> Result<FileSink<'a>, Failed>
         ensures path { IfOk result (λ sink. path_to sink ≡ path.now) }
         ensures written { IfOk result (λ sink. ⟦<FileSink<'a> as Sink>⟧.written sink ≡ []) }
         ensures failures { IfOk result (λ sink. ⟦<FileSink<'a> as Sink>⟧.failures sink ≡ 0) }
+        ensures well { OnOk result (failures.new.count ≡ failures.old.count) }
+        ensures failed { OnErr result (failures.new.count ≡ failures.old.count + 1) }
     {
-        match File::create(rt, path) {
-            Ok(file) => Ok(FileSink {
-                path,
-                stream: StreamSink::new(file),
-            }),
-            Err(_) => Err(Failed),
-        }
+        // An opening that a signal interrupts is tried again within.
+        let Ok(file) = File::create(rt, path) else {
+            failures.rise();
+            return Err(Failed);
+        };
+        Ok(FileSink {
+            path,
+            stream: StreamSink::new(file),
+        })
     }
 }
 

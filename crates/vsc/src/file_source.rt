@@ -4,15 +4,15 @@ ghost use Rattle.vsc.specs.FileSource.{path_of};
 
 use dimacs::{Failed, FailureCount, Transcript};
 use std::fs::File;
-use std::io::Read;
+use std::io::{ErrorKind, Read};
 use std::rt::Files;
 use verdict_report::Source;
 
 /// A file of the system, read from its beginning. It is opened at the first read, so that inputs are opened and
 /// read one after another; a file that cannot be opened fails that read.
 #[derive(Drop)]
-pub struct FileSource<'a, R> {
-    rt: &'a R,
+pub struct FileSource<'a> {
+    rt: &'a HostRuntime,
     path: &'a str,
     file: Option<File>,
     handed_out: Transcript,
@@ -20,13 +20,13 @@ pub struct FileSource<'a, R> {
     failures: FailureCount,
 }
 
-impl<'a, R: Files<File = File>> FileSource<'a, R> {
+impl<'a> FileSource<'a> {
     /// The file at this path, of which nothing is read yet.
-    pub fn new(rt: &'a R, path: &'a str) -> FileSource<'a, R>
+    pub fn new(rt: &'a HostRuntime, path: &'a str) -> FileSource<'a>
         ensures path { path_of result ≡ path.now }
-        ensures handed_out { ⟦<FileSource<'a, R> as Source>⟧.handed_out result ≡ [] }
-        ensures is_at_end { ⟦<FileSource<'a, R> as Source>⟧.is_at_end result ≡ false }
-        ensures failures { ⟦<FileSource<'a, R> as Source>⟧.failures result ≡ 0 }
+        ensures handed_out { ⟦<FileSource<'a> as Source>⟧.handed_out result ≡ [] }
+        ensures is_at_end { ⟦<FileSource<'a> as Source>⟧.is_at_end result ≡ false }
+        ensures failures { ⟦<FileSource<'a> as Source>⟧.failures result ≡ 0 }
     {
         FileSource {
             rt,
@@ -37,6 +37,20 @@ impl<'a, R: Files<File = File>> FileSource<'a, R> {
             failures: FailureCount::new(),
         }
     }
+}
+
+/// Reads from the open file. A read that a signal interrupts is tried again.
+fn read_open(file: &mut File, buffer: &mut [u8]) -> Result<usize, Failed>
+    ensures { IfOk result (λ count. count ≤ length buffer.old) }
+{
+    for _ in 0..u64::MAX {
+        match file.read(buffer) {
+            Ok(count) => return Ok(count),
+            Err(error) if error.kind() != ErrorKind::Interrupted => return Err(Failed),
+            Err(_) => {}
+        }
+    }
+    Err(Failed)
 }
 
 /// Reads from the file at this path, which is opened where it is not open yet.
@@ -50,18 +64,19 @@ fn read_file<R: Files<File = File>>(
     ensures is_open { OnOk result (IsSome file.new) }
 {
     if file.is_none() {
+        // An opening that a signal interrupts is tried again within.
         match File::open(rt, path) {
             Ok(opened) => *file = Some(opened),
             Err(_) => return Err(Failed),
         }
     }
     match file {
-        Some(file) => file.read(buffer).map_err(|_| Failed),
+        Some(file) => read_open(file, buffer),
         None => Err(Failed),
     }
 }
 
-impl<'a, R: Files<File = File>> Source for FileSource<'a, R> {
+impl Source for FileSource<'_> {
     ghost handed_out = { λ s. s.handed_out.bytes };
 
     ghost is_at_end = { λ s. s.is_at_end };

@@ -1,8 +1,8 @@
 //! A stream of the system as a sink.
-ghost use Rattle.std.specs.Prelude.{◌≡◌, []};
+ghost use Rattle.std.specs.Prelude.{◌≡◌, ◌<◌, ◌≤◌, [], length, IfOk};
 
 use dimacs::{Failed, FailureCount, Sink, Transcript};
-use std::io::Write;
+use std::io::{ErrorKind, Write};
 
 /// A writer of the system: a standard stream or an open file. It keeps no byte back.
 #[derive(Drop)]
@@ -26,21 +26,33 @@ impl<W: Write> StreamSink<W> {
     }
 }
 
+/// Writes the first bytes of the slice, at least one where there is one, and says how many. A write that a signal interrupts is tried
+/// again.
+fn write_some<W: Write>(stream: &mut W, bytes: &[u8]) -> Result<usize, Failed>
+    ensures within { IfOk result (λ count. count ≤ length bytes.now) }
+    ensures some { 0 < length bytes.now → IfOk result (λ count. 0 < count) }
+{
+    for _ in 0..u64::MAX {
+        match stream.write(bytes) {
+            Ok(count) if count > 0 || bytes.is_empty() => return Ok(count),
+            Err(error) if error.kind() == ErrorKind::Interrupted => {}
+            _ => return Err(Failed),
+        }
+    }
+    Err(Failed)
+}
+
 impl<W: Write> Sink for StreamSink<W> {
     ghost written = { λ s. s.written.bytes };
 
     ghost failures = { λ s. s.failures.count };
 
     fn write(&mut self, bytes: &[u8]) -> Result<usize, Failed> {
-        match self.stream.write(bytes) {
-            Ok(count) if count > 0 || bytes.is_empty() => {
-                self.written.extend(&bytes[..count]);
-                Ok(count)
-            }
-            _ => {
-                self.failures.rise();
-                Err(Failed)
-            }
-        }
+        let Ok(count) = write_some(&mut self.stream, bytes) else {
+            self.failures.rise();
+            return Err(Failed);
+        };
+        self.written.extend(&bytes[..count]);
+        Ok(count)
     }
 }

@@ -1,0 +1,5 @@
+//! Tests of what a command line does, over files in memory.
+#![tactic(auto)]
+
+#[cfg(test)]
+mod commands;

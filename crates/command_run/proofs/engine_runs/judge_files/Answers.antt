@@ -1,0 +1,13 @@
+use Rattle.verdict_report.specs.Runs.{source_run}
+use Rattle.command_run.proofs.RunLemmas.{reads_file}
+use Rattle.command_run.proofs.engine_runs.judge_files.Goals as goal
+
+pub returns : goal.returns
+returns g c = record {
+  first = source_run g.H.Input.Source.handed_out g.H.Input.Source.is_at_end g.H.Input.Source.failures c.source-trace.result c.run_judge.new.trace;
+  between = c.source-trace.new.self;
+  reads_first = reads_file c.source-trace.result c.run_judge.new.trace c.source-trace.ensures.opens c.source-trace.ensures.handed_out c.source-trace.ensures.is_at_end c.source-trace.ensures.failures;
+  second = source_run g.H.Input.Source.handed_out g.H.Input.Source.is_at_end g.H.Input.Source.failures c.source-schedule.result c.run_judge.new.schedule;
+  reads_second = reads_file c.source-schedule.result c.run_judge.new.schedule c.source-schedule.ensures.opens c.source-schedule.ensures.handed_out c.source-schedule.ensures.is_at_end c.source-schedule.ensures.failures;
+  runs = c.run_judge.ensures;
+}

@@ -1,0 +1,193 @@
+-- What a command does: the engine that it runs, on which files and with which options, what its standard streams take, and its exit
+-- status.
+use Rattle.std.specs.Borrow.{Bor}
+use Rattle.std.specs.Prelude.{◌≡◌, ◌≢◌, ◌⊎◌, ℕ, Bool, false, true, List, [], Option, None, Some, Result, Ok, Err, IfSome, codes}
+use Rattle.clap.specs.Words.{takes}
+use Rattle.clap.specs.declared.error.kind.ErrorKind.{ErrorKind}
+use Rattle.clap.specs.declared.error.kind.ErrorKind.TheVariants.{OutOfMemory as NoMemoryToRead}
+use Rattle.command_line.specs.CommandLine.{Asks, IsFaultOf, IsFaultless, vsc_app}
+use Rattle.command_line.specs.LineFault.{is_answer, text_on_memory}
+use Rattle.command_line.specs.declared.line.Line.{Line}
+use Rattle.command_line.specs.declared.line.Line.TheVariants.{Cnf, Decode, Judge, Lrat, Recheck, Verify}
+use Rattle.command_line.specs.declared.line.SearchNumbers.{SearchNumbers}
+use Rattle.verdict_report.specs.declared.fault.Fault.{Fault}
+use Rattle.verdict_report.specs.declared.fault.Fault.TheVariants.{Device, OutOfMemory}
+use Rattle.verdict_report.specs.declared.status.Status.{Status}
+use Rattle.verdict_report.specs.CnfEngine.{IsRunOfCnf}
+use Rattle.verdict_report.specs.DecodeEngine.{IsRunOfDecode}
+use Rattle.verdict_report.specs.Engine.{FailsBehindFront, TakesNothing, TakesWhole}
+use Rattle.verdict_report.specs.Fault.{exit_status_of, line_of}
+use Rattle.verdict_report.specs.JudgeEngine.{IsRunOfJudge}
+use Rattle.verdict_report.specs.LratEngine.{IsRunOfLrat}
+use Rattle.verdict_report.specs.RecheckEngine.{IsRunOfRecheck}
+use Rattle.verdict_report.specs.Runs.{SourceRun, SinkRun}
+use Rattle.verdict_report.specs.VerifyEngine.{IsRunOfCertifiedVerify, IsRunOfVerify}
+use Rattle.command_run.specs.declared.search.Search.{Search}
+use Rattle.command_run.specs.HostCalls.{HostCalls}
+
+-- ---- engines on files
+
+-- the file at this path was handed out to be read between the two hosts, and this is what it then did as a source
+pub record ReadsFile {H I O : Type 0} (calls : HostCalls H I O) (read : I → I → SourceRun) (from : H) (path : List ℕ) (run : SourceRun) (to : H) : Type 0 where
+  pub before : I
+  pub after : I
+  pub opened : calls.opens from path before to
+  pub run_is : run ≡ read before after
+  pub no_byte_before : run.before ≡ []
+  pub not_at_end_before : run.was_at_end ≡ false
+  pub no_failure_before : run.failures_before ≡ 0
+
+-- an engine of one file, or of two, was run on the files at these paths, which were asked for in this order, and nothing else was
+pub record RunsOnFile {H I O : Type 0} (calls : HostCalls H I O) (read : I → I → SourceRun) (IsRun : SourceRun → SinkRun → Result Status Fault → Type 0) (from : H) (path : List ℕ) (out : SinkRun) (outcome : Result Status Fault) (to : H) : Type 0 where
+  pub file : SourceRun
+  pub reads : ReadsFile calls read from path file to
+  pub runs : IsRun file out outcome
+
+pub record RunsOnFiles {H I O : Type 0} (calls : HostCalls H I O) (read : I → I → SourceRun) (IsRun : SourceRun → SourceRun → SinkRun → Result Status Fault → Type 0) (from : H) (first_path second_path : List ℕ) (out : SinkRun) (outcome : Result Status Fault) (to : H) : Type 0 where
+  pub first : SourceRun
+  pub between : H
+  pub reads_first : ReadsFile calls read from first_path first between
+  pub second : SourceRun
+  pub reads_second : ReadsFile calls read between second_path second to
+  pub runs : IsRun first second out outcome
+
+-- the host was told of this search, and the engine that decides traces was run on the file at this path
+pub record RunsSearch {H I O : Type 0} (calls : HostCalls H I O) (read : I → I → SourceRun) (from : H) (trace : List ℕ) (search : Search) (out : SinkRun) (outcome : Result Status Fault) (to : H) : Type 0 where
+  pub file : SourceRun
+  pub between : H
+  pub reads : ReadsFile calls read from trace file between
+  pub searches : calls.searches between search to
+  pub runs : IsRunOfVerify file out outcome
+
+-- the same, where the file at another path, which was made or emptied first, took the certificate
+pub record RunsWithCertificate {H I O : Type 0} (calls : HostCalls H I O) (read : I → I → SourceRun) (wrote : O → O → SinkRun) (from : H) (trace cert : List ℕ) (search : Search) (out : SinkRun) (outcome : Result Status Fault) (to : H) : Type 0 where
+  pub before : O
+  pub after : O
+  pub made : H
+  pub makes : calls.makes from cert before made
+  pub no_byte_before : (wrote before after).before ≡ []
+  pub no_failure_before : (wrote before after).failures_before ≡ 0
+  pub file : SourceRun
+  pub opened : H
+  pub reads : ReadsFile calls read made trace file opened
+  pub searched : H
+  pub searches : calls.searches opened search searched
+  pub runs : IsRunOfCertifiedVerify file (wrote before after) out outcome
+  pub closes : calls.closes searched after to
+
+-- that, or the file for the certificate could not be made: then nothing was read, and nothing written
+abbrev pub RunsCertified : {H I O : Type 0} → HostCalls H I O → (I → I → SourceRun) → (O → O → SinkRun) → H → List ℕ → List ℕ → Search → SinkRun → Result Status Fault → H → Type 0
+RunsCertified calls read wrote from trace cert search out outcome to =
+    ((outcome ≡ Err Device) × TakesNothing out × calls.fails_to_make from cert to)
+    ⊎ RunsWithCertificate calls read wrote from trace cert search out outcome to
+
+-- the engine that decides traces was run, with a certificate if there is a path for it
+abbrev pub RunsVerify : {H I O : Type 0} → HostCalls H I O → (I → I → SourceRun) → (O → O → SinkRun) → H → List ℕ → Option (Bor (List ℕ)) → Search → SinkRun → Result Status Fault → H → Type 0
+RunsVerify calls read wrote from trace None search out outcome to = RunsSearch calls read from trace search out outcome to
+RunsVerify calls read wrote from trace (Some cert) search out outcome to =
+    RunsCertified calls read wrote from trace cert.now search out outcome to
+
+-- the search of these numbers, with its progress reported or not
+abbrev pub search_of : SearchNumbers → Bool → Search
+search_of numbers progress = record {
+  options = record { workers = numbers.workers; split = numbers.split; budget = numbers.budget; rounds = numbers.rounds };
+  tells_progress = progress;
+}
+
+-- the engine that the line asks for was run on the files of its paths and with its options: what standard output took, the outcome, and
+-- the host before and after
+abbrev pub RunsLine : {H I O : Type 0} → HostCalls H I O → (I → I → SourceRun) → (O → O → SinkRun) → H → Line → SinkRun → Result Status Fault → H → Type 0
+RunsLine calls read wrote from (Judge trace schedule) out outcome to = RunsOnFiles calls read IsRunOfJudge from trace.now schedule.now out outcome to
+RunsLine calls read wrote from (Cnf trace workers) out outcome to = RunsOnFile calls read IsRunOfCnf from trace.now out outcome to
+RunsLine calls read wrote from (Decode trace model) out outcome to = RunsOnFiles calls read IsRunOfDecode from trace.now model.now out outcome to
+RunsLine calls read wrote from (Lrat cnf proof) out outcome to = RunsOnFiles calls read IsRunOfLrat from cnf.now proof.now out outcome to
+RunsLine calls read wrote from (Recheck trace cert) out outcome to = RunsOnFiles calls read IsRunOfRecheck from trace.now cert.now out outcome to
+RunsLine calls read wrote from (Verify trace cert numbers progress) out outcome to =
+    RunsVerify calls read wrote from trace.now cert (search_of numbers progress) out outcome to
+
+-- ---- standard streams and exit statuses
+
+-- the stream took this text and nothing else, or a prefix of it, and then failed
+abbrev pub Takes : SinkRun → List ℕ → Type 0
+Takes stream text = TakesWhole stream text ⊎ FailsBehindFront stream text
+
+-- what standard error takes of a refusal: its line, or that there was no memory for this line
+abbrev pub TellsFault : SinkRun → Fault → Type 0
+TellsFault err fault = Takes err (line_of fault) ⊎ Takes err (line_of OutOfMemory)
+
+-- of an outcome that is no refusal it takes nothing
+abbrev pub TellsOutcome : SinkRun → Result Status Fault → Type 0
+TellsOutcome err (Ok status) = TakesNothing err
+TellsOutcome err (Err fault) = TellsFault err fault
+
+-- the line was run: standard output took what the engine wrote, standard error the line of a refusal, and the status is that of the outcome
+pub record EndsRun {H I O : Type 0} (calls : HostCalls H I O) (read : I → I → SourceRun) (wrote : O → O → SinkRun) (from : H) (line : Line) (out err : SinkRun) (status : ℕ) (to : H) : Type 0 where
+  pub outcome : Result Status Fault
+  pub runs : RunsLine calls read wrote from line out outcome to
+  pub tells : TellsOutcome err outcome
+  pub status_is : status ≡ exit_status_of outcome
+
+-- the stream took this text whole, and the status is the given one, or it failed behind a prefix of it, and the status is 4
+abbrev pub Prints : SinkRun → List ℕ → ℕ → ℕ → Type 0
+Prints stream text status found = (TakesWhole stream text × (found ≡ status)) ⊎ (FailsBehindFront stream text × (found ≡ 4))
+
+-- whether the files at two paths are one: the paths are the same, or else the host says that the files are
+abbrev pub IsOneFile : {H I O : Type 0} → HostCalls H I O → H → List ℕ → List ℕ → Bool → H → Type 0
+IsOneFile calls from first second one to =
+    ((first ≡ second) × (one ≡ true) × (to ≡ from)) ⊎ ((first ≢ second) × calls.compares from first second one to)
+
+-- whether the line asks for a certificate in the file of its trace
+abbrev pub Overwrites : {H I O : Type 0} → HostCalls H I O → H → Line → Bool → H → Type 0
+Overwrites calls from (Verify trace (Some cert) numbers progress) overwrites to = IsOneFile calls from cert.now trace.now overwrites to
+Overwrites calls from line overwrites to = (overwrites ≡ false) × (to ≡ from)
+
+-- what is printed if it does
+abbrev pub overwrites_line : List ℕ
+overwrites_line = codes "error: --cert names the file of TRACE\n"
+
+-- the line was refused with that, or it was run
+abbrev pub EndsCompared : {H I O : Type 0} → HostCalls H I O → (I → I → SourceRun) → (O → O → SinkRun) → H → Line → Bool → (out err : SinkRun) → ℕ → H → Type 0
+EndsCompared calls read wrote from line true out err status to = TakesNothing out × Prints err overwrites_line 2 status × (to ≡ from)
+EndsCompared calls read wrote from line false out err status to = EndsRun calls read wrote from line out err status to
+
+-- what is done for a line
+pub record EndsLine {H I O : Type 0} (calls : HostCalls H I O) (read : I → I → SourceRun) (wrote : O → O → SinkRun) (from : H) (line : Line) (out err : SinkRun) (status : ℕ) (to : H) : Type 0 where
+  pub overwrites : Bool
+  pub compared : H
+  pub compares : Overwrites calls from line overwrites compared
+  pub ends : EndsCompared calls read wrote compared line overwrites out err status to
+
+-- this is the text of a fault of the command line, as far as it is known
+abbrev pub IsTextOf : ErrorKind → List ℕ → Type 0
+IsTextOf kind text = IfSome (text_on_memory kind) (λ known. text ≡ known)
+
+-- The help or the version was printed on standard output, with the status 0, and any other text of a fault of the command line on standard
+-- error, with the status 2; or there was no memory for the text, which was said on standard error. The other stream took nothing.
+abbrev pub PrintsFault : Bool → (text : List ℕ) → (out err : SinkRun) → ℕ → Type 0
+PrintsFault true text out err status = Prints out text 0 status × TakesNothing err
+PrintsFault false text out err status = Prints err text 2 status × TakesNothing out
+
+abbrev pub EndsFault : ErrorKind → (out err : SinkRun) → ℕ → Type 0
+EndsFault kind out err status =
+    ((text : List ℕ) × IsTextOf kind text × PrintsFault (is_answer kind) text out err status)
+    ⊎ (TakesNothing out × Prints err (line_of OutOfMemory) 2 status)
+
+-- the words ask for a line, which was run
+pub record RunsWords {H I O : Type 0} (calls : HostCalls H I O) (read : I → I → SourceRun) (wrote : O → O → SinkRun) (from : H) (words : List (List ℕ)) (out err : SinkRun) (status : ℕ) (to : H) : Type 0 where
+  pub line : Line
+  pub asks : Asks words line
+  pub faultless : IsFaultless words
+  pub ends : EndsLine calls read wrote from line out err status to
+
+-- `clap` finds a fault in the words, or there was no memory to read them: nothing was asked of the host
+pub record RefusesWords {H : Type 0} (from : H) (words : List (List ℕ)) (out err : SinkRun) (status : ℕ) (to : H) : Type 0 where
+  pub kind : ErrorKind
+  pub fault : IsFaultOf words kind
+  pub memory : takes vsc_app words ≡ true → kind ≡ NoMemoryToRead
+  pub ends : EndsFault kind out err status
+  pub untouched : to ≡ from
+
+-- what the program does for the words of a command line
+abbrev pub EndsWords : {H I O : Type 0} → HostCalls H I O → (I → I → SourceRun) → (O → O → SinkRun) → H → List (List ℕ) → (out err : SinkRun) → ℕ → H → Type 0
+EndsWords calls read wrote from words out err status to =
+    RunsWords calls read wrote from words out err status to ⊎ RefusesWords from words out err status to

@@ -1,0 +1,197 @@
+//! The engine that a line names, on the files of its paths.
+ghost use Rattle.command_line.specs.CommandLine.{IsWithinRanges};
+ghost use Rattle.command_run.specs.CommandRun.{RunsCertified, RunsLine, RunsOnFile, RunsOnFiles, RunsSearch, RunsVerify};
+ghost use Rattle.verdict_report.specs.CnfEngine.{IsRunOfCnf};
+ghost use Rattle.verdict_report.specs.DecodeEngine.{IsRunOfDecode};
+ghost use Rattle.verdict_report.specs.JudgeEngine.{IsRunOfJudge};
+ghost use Rattle.verdict_report.specs.LratEngine.{IsRunOfLrat};
+ghost use Rattle.verdict_report.specs.RecheckEngine.{IsRunOfRecheck};
+ghost use Rattle.verdict_report.specs.Runs.{source_run, sink_run};
+
+use crate::host::Host;
+use crate::search::{Search, certify, decide};
+use command_line::Line;
+use cube_queue::Gate;
+use dimacs::Sink;
+use std::alloc::Global;
+use std::sync::Wait;
+use std::thread::Threads;
+use verdict_report::{Fault, Status, run_cnf, run_decode, run_judge, run_lrat, run_recheck};
+
+/// Judges the files at these paths, and writes the answer to the standard output.
+fn judge_files<'p, H: Host<'p>, W: Sink>(
+    alloc: Global,
+    host: &mut H,
+    trace: &'p str,
+    schedule: &'p str,
+    out: &mut W,
+) -> Result<Status, Fault>
+    ensures { RunsOnFiles H.calls (source_run H.Input.handed_out H.Input.is_at_end H.Input.failures) IsRunOfJudge
+        host.old trace.now schedule.now (sink_run W.written W.failures out.old out.new) result host.new }
+{
+    let mut trace = host.source(trace);
+    let mut schedule = host.source(schedule);
+    run_judge(alloc, &mut trace, &mut schedule, out)
+}
+
+/// Writes the clause list of the trace in the file at this path to the standard output.
+fn translate_file<'p, H: Host<'p>, W: Sink>(
+    alloc: Global,
+    host: &mut H,
+    trace: &'p str,
+    out: &mut W,
+) -> Result<Status, Fault>
+    ensures { RunsOnFile H.calls (source_run H.Input.handed_out H.Input.is_at_end H.Input.failures) IsRunOfCnf
+        host.old trace.now (sink_run W.written W.failures out.old out.new) result host.new }
+{
+    let mut trace = host.source(trace);
+    run_cnf(alloc, &mut trace, out)
+}
+
+/// Writes the schedule of the trace in one file by the model in the other to the standard output.
+fn decode_files<'p, H: Host<'p>, W: Sink>(
+    alloc: Global,
+    host: &mut H,
+    trace: &'p str,
+    model: &'p str,
+    out: &mut W,
+) -> Result<Status, Fault>
+    ensures { RunsOnFiles H.calls (source_run H.Input.handed_out H.Input.is_at_end H.Input.failures) IsRunOfDecode
+        host.old trace.now model.now (sink_run W.written W.failures out.old out.new) result host.new }
+{
+    let mut trace = host.source(trace);
+    let mut model = host.source(model);
+    run_decode(alloc, &mut trace, &mut model, out)
+}
+
+/// Checks the proof in one file for the formula in the other, and writes the answer to the standard output.
+fn check_files<'p, H: Host<'p>, W: Sink>(
+    alloc: Global,
+    host: &mut H,
+    cnf: &'p str,
+    proof: &'p str,
+    out: &mut W,
+) -> Result<Status, Fault>
+    ensures { RunsOnFiles H.calls (source_run H.Input.handed_out H.Input.is_at_end H.Input.failures) IsRunOfLrat
+        host.old cnf.now proof.now (sink_run W.written W.failures out.old out.new) result host.new }
+{
+    let mut cnf = host.source(cnf);
+    let mut proof = host.source(proof);
+    run_lrat(alloc, &mut cnf, &mut proof, out)
+}
+
+/// Checks the certificate in one file for the trace in the other, and writes the answer to the standard output.
+fn recheck_files<'p, H: Host<'p>, W: Sink>(
+    alloc: Global,
+    host: &mut H,
+    trace: &'p str,
+    cert: &'p str,
+    out: &mut W,
+) -> Result<Status, Fault>
+    ensures { RunsOnFiles H.calls (source_run H.Input.handed_out H.Input.is_at_end H.Input.failures) IsRunOfRecheck
+        host.old trace.now cert.now (sink_run W.written W.failures out.old out.new) result host.new }
+{
+    let mut trace = host.source(trace);
+    let mut cert = host.source(cert);
+    run_recheck(alloc, &mut trace, &mut cert, out)
+}
+
+/// Decides whether the trace in the file at this path has a legal schedule, and writes the report to the standard output.
+fn decide_file<'p, R: Threads + Wait + Sync, G: Gate + Sync, H: Host<'p>, W: Sink>(
+    alloc: Global,
+    rt: &R,
+    progress: &G,
+    host: &mut H,
+    trace: &'p str,
+    search: &Search,
+    out: &mut W,
+) -> Result<Status, Fault>
+    ensures { RunsSearch H.calls (source_run H.Input.handed_out H.Input.is_at_end H.Input.failures)
+        host.old trace.now search.now (sink_run W.written W.failures out.old out.new) result host.new }
+{
+    let mut trace = host.source(trace);
+    decide(alloc, rt, progress, host, &mut trace, search, out)
+}
+
+/// The same, with a certificate. Its file is made or emptied before the trace is opened, and `Device` is answered if that is not
+/// possible.
+fn certify_file<'p, R: Threads + Wait + Sync, G: Gate + Sync, H: Host<'p>, W: Sink>(
+    alloc: Global,
+    rt: &R,
+    progress: &G,
+    host: &mut H,
+    trace: &'p str,
+    cert: &'p str,
+    search: &Search,
+    out: &mut W,
+) -> Result<Status, Fault>
+    ensures { RunsCertified H.calls (source_run H.Input.handed_out H.Input.is_at_end H.Input.failures)
+        (sink_run H.Output.written H.Output.failures)
+        host.old trace.now cert.now search.now (sink_run W.written W.failures out.old out.new) result host.new }
+{
+    let Ok(mut file) = host.create(cert) else {
+        return Err(Fault::Device);
+    };
+    let mut trace = host.source(trace);
+    let outcome = certify(
+        alloc, rt, progress, host, &mut trace, search, &mut file, out,
+    );
+    host.close(file);
+    outcome
+}
+
+/// Decides whether the trace in the file at this path has a legal schedule, and writes the certificate to a file if one is asked for.
+fn verify_file<'p, R: Threads + Wait + Sync, G: Gate + Sync, H: Host<'p>, W: Sink>(
+    alloc: Global,
+    rt: &R,
+    progress: &G,
+    host: &mut H,
+    trace: &'p str,
+    cert: Option<&'p str>,
+    search: &Search,
+    out: &mut W,
+) -> Result<Status, Fault>
+    ensures { RunsVerify H.calls (source_run H.Input.handed_out H.Input.is_at_end H.Input.failures)
+        (sink_run H.Output.written H.Output.failures)
+        host.old trace.now cert.entry search.now (sink_run W.written W.failures out.old out.new) result host.new }
+{
+    match cert {
+        Some(cert) => certify_file(alloc, rt, progress, host, trace, cert, search, out),
+        None => decide_file(alloc, rt, progress, host, trace, search, out),
+    }
+}
+
+/// Runs the engine that the line names.
+///
+/// A command is added here by a function as [`judge_files`] and an arm for its line, and in `specs/CommandRun.antt` by a line of
+/// `RunsLine`.
+pub(crate) fn run_engine<'p, R: Threads + Wait + Sync, G: Gate + Sync, H: Host<'p>, W: Sink>(
+    alloc: Global,
+    rt: &R,
+    progress: &G,
+    host: &mut H,
+    line: Line<'p>,
+    out: &mut W,
+) -> Result<Status, Fault>
+    requires { IsWithinRanges line }
+    ensures { RunsLine H.calls (source_run H.Input.handed_out H.Input.is_at_end H.Input.failures)
+        (sink_run H.Output.written H.Output.failures)
+        host.old line.entry (sink_run W.written W.failures out.old out.new) result host.new }
+{
+    match line {
+        Line::Judge { trace, schedule } => judge_files(alloc, host, trace, schedule, out),
+        Line::Cnf { trace, .. } => translate_file(alloc, host, trace, out),
+        Line::Decode { trace, model } => decode_files(alloc, host, trace, model, out),
+        Line::Lrat { cnf, proof } => check_files(alloc, host, cnf, proof, out),
+        Line::Recheck { trace, cert } => recheck_files(alloc, host, trace, cert, out),
+        Line::Verify {
+            trace,
+            cert,
+            numbers,
+            progress: tells_progress,
+        } => {
+            let search = Search::new(numbers, tells_progress);
+            verify_file(alloc, rt, progress, host, trace, cert, &search, out)
+        }
+    }
+}

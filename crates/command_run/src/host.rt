@@ -1,0 +1,48 @@
+//! The host of a command: what is outside of the program.
+ghost use Rattle.std.specs.Prelude.{◌≡◌, [], false, IfOk, OnErr};
+ghost use Rattle.command_run.specs.HostCalls.{HostCalls};
+
+use crate::search::Search;
+use dimacs::{Failed, Sink};
+use verdict_report::Source;
+
+/// What a command asks of the outside beside its two standard streams: files. It is told of each search, too.
+///
+/// A run over any host says in its contract what it asked of it, as a chain of `calls` from the host before to the host after, and
+/// that is all that it asked.
+pub trait Host<'p> {
+    /// A file that is read.
+    type Input: Source + Drop;
+
+    /// A file that is written.
+    type Output: Sink + Drop;
+
+    /// What the calls say of the host before and after them.
+    ghost calls: { HostCalls Self Self.Input Self.Output };
+
+    /// Hands out the file at this path, of which nothing is read yet. A file that cannot be opened fails when it is read.
+    fn source(&mut self, path: &'p str) -> Self::Input
+        ensures opens { calls.opens self.old path.now result self.new }
+        ensures handed_out { Self.Input.handed_out result ≡ [] }
+        ensures is_at_end { Self.Input.is_at_end result ≡ false }
+        ensures failures { Self.Input.failures result ≡ 0 };
+
+    /// Makes the file at this path, or empties it.
+    fn create(&mut self, path: &'p str) -> Result<Self::Output, Failed>
+        ensures makes { IfOk result (λ file. calls.makes self.old path.now file self.new) }
+        ensures written { IfOk result (λ file. Self.Output.written file ≡ []) }
+        ensures failures { IfOk result (λ file. Self.Output.failures file ≡ 0) }
+        ensures failed { OnErr result (calls.fails_to_make self.old path.now self.new) };
+
+    /// Takes back a file that is written.
+    fn close(&mut self, file: Self::Output)
+        ensures { calls.closes self.old file self.new };
+
+    /// Whether there is a file at both paths, and it is the same one.
+    fn is_same_file(&mut self, first: &str, second: &str) -> bool
+        ensures { calls.compares self.old first.now second.now result self.new };
+
+    /// Is told of a search before it is run.
+    fn begin_search(&mut self, search: &Search)
+        ensures { calls.searches self.old search.now self.new };
+}

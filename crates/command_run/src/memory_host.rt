@@ -1,0 +1,95 @@
+//! A host in memory, for tests.
+ghost use Rattle.command_run.specs.MemoryHost.{memory_calls};
+
+use crate::host::Host;
+use crate::search::Search;
+use dimacs::{Failed, MemorySink};
+use std::alloc::Global;
+use verdict_report::ShortSource;
+
+/// Files that are slices, and one that may be made. It keeps the file that was made, after it was given back, and the last
+/// search of which it was told.
+#[derive(Drop)]
+pub struct MemoryHost<'p> {
+    alloc: Global,
+    files: &'p [(&'p str, &'p [u8])],
+    most: usize,
+    can_make: bool,
+    made: Option<MemorySink>,
+    searched: Option<Search>,
+}
+
+impl<'p> MemoryHost<'p> {
+    /// A host that has these files, each with its path, and that hands out at most so many bytes of them a call.
+    pub fn new(alloc: Global, files: &'p [(&'p str, &'p [u8])], most: usize) -> MemoryHost<'p> {
+        MemoryHost {
+            alloc,
+            files,
+            most,
+            can_make: true,
+            made: None,
+            searched: None,
+        }
+    }
+
+    /// The same host, where no file can be made.
+    pub fn read_only(mut self) -> MemoryHost<'p> {
+        self.can_make = false;
+        self
+    }
+
+    /// What the file that was made has taken, after it was given back.
+    pub fn made(&self) -> Option<&[u8]> {
+        self.made.as_ref().map(|file| file.as_slice())
+    }
+
+    /// The last search of which it was told.
+    pub fn searched(&self) -> Option<Search> {
+        self.searched
+    }
+
+    /// The bytes of the file at this path.
+    fn bytes_at(&self, path: &str) -> Option<&'p [u8]> {
+        for (name, bytes) in self.files {
+            if *name == path {
+                return Some(*bytes);
+            }
+        }
+        None
+    }
+}
+
+impl<'p> Host<'p> for MemoryHost<'p> {
+    type Input = ShortSource<'p>;
+
+    type Output = MemorySink;
+
+    ghost calls = { memory_calls };
+
+    fn source(&mut self, path: &'p str) -> ShortSource<'p> {
+        match self.bytes_at(path) {
+            Some(bytes) => ShortSource::new(bytes, self.most),
+            None => ShortSource::new(b"", 1).failing_at(1),
+        }
+    }
+
+    fn create(&mut self, _path: &'p str) -> Result<MemorySink, Failed> {
+        if self.can_make {
+            Ok(MemorySink::new(self.alloc))
+        } else {
+            Err(Failed)
+        }
+    }
+
+    fn close(&mut self, file: MemorySink) {
+        self.made = Some(file);
+    }
+
+    fn is_same_file(&mut self, _first: &str, _second: &str) -> bool {
+        false
+    }
+
+    fn begin_search(&mut self, search: &Search) {
+        self.searched = Some(*search);
+    }
+}

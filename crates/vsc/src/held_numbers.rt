@@ -1,0 +1,24 @@
+//! The numbers of the standard streams.
+use std::fs::File;
+use std::rt::Files;
+
+/// Files under the numbers of those standard streams that the caller has closed. Without them the system would give such a number to the
+/// next file that is opened, as that of a certificate, which would then take what is meant for the stream. They are open for reading
+/// alone, so that what is written to such a stream fails.
+#[derive(Drop)]
+pub struct HeldNumbers {
+    input: Option<File>,
+    output: Option<File>,
+    error: Option<File>,
+}
+
+impl HeldNumbers {
+    /// Takes the three lowest numbers that are free. If no file can be opened, there is none that would get such a number.
+    pub fn take<R: Files<File = File>>(rt: &R) -> HeldNumbers {
+        HeldNumbers {
+            input: File::open(rt, "/").ok(),
+            output: File::open(rt, "/").ok(),
+            error: File::open(rt, "/").ok(),
+        }
+    }
+}

@@ -1,0 +1,53 @@
+//! The system as the host of a command.
+use crate::file_sink::FileSink;
+use crate::file_source::FileSource;
+use command_run::{Host, Search};
+use dimacs::{Failed, FailureCount};
+use std::fs::metadata;
+use std::os::unix::fs::MetadataExt;
+
+/// The files of the system.
+#[derive(Drop)]
+pub struct SystemHost<'a> {
+    rt: &'a HostRuntime,
+    failures: FailureCount,
+}
+
+impl<'a> SystemHost<'a> {
+    /// The system as a host.
+    pub fn new(rt: &'a HostRuntime) -> SystemHost<'a> {
+        SystemHost {
+            rt,
+            failures: FailureCount::new(),
+        }
+    }
+}
+
+impl<'a> Host<'a> for SystemHost<'a> {
+    ghost use Rattle.vsc.specs.SystemHost.{system_calls};
+
+    type Input = FileSource<'a>;
+
+    type Output = FileSink<'a>;
+
+    ghost calls = { system_calls };
+
+    fn source(&mut self, path: &'a str) -> FileSource<'a> {
+        FileSource::new(self.rt, path)
+    }
+
+    fn create(&mut self, path: &'a str) -> Result<FileSink<'a>, Failed> {
+        FileSink::create(self.rt, path, &mut self.failures)
+    }
+
+    fn close(&mut self, _file: FileSink<'a>) {}
+
+    fn is_same_file(&mut self, first: &str, second: &str) -> bool {
+        match (metadata(self.rt, first), metadata(self.rt, second)) {
+            (Ok(first), Ok(second)) => first.dev() == second.dev() && first.ino() == second.ino(),
+            _ => false,
+        }
+    }
+
+    fn begin_search(&mut self, _search: &Search) {}
+}
