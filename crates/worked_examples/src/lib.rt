@@ -1,5 +1,6 @@
 //! Tests of calls that no command reaches, and of devices that move few bytes a call or fail: lines and words, sinks and
-//! sources, traces and schedules, and the engine that judges. `tests/examples` has what a command answers to a text.
+//! sources, traces and schedules, the engine that judges, and verdicts of workers that are held. `tests/examples` has what a command
+//! answers to a text.
 #![tactic(auto)]
 
 #[cfg(test)]
@@ -12,6 +13,8 @@ mod exit_statuses;
 mod expectations;
 #[cfg(test)]
 mod failing_devices;
+#[cfg(test)]
+mod held_verdicts;
 #[cfg(test)]
 mod lines_and_words;
 #[cfg(test)]
