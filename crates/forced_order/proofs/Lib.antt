@@ -1,0 +1,3 @@
+pub mod ForcedLemmas
+pub mod RisingLemmas
+pub mod RowLemmas

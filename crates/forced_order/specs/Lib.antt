@@ -1,0 +1,5 @@
+pub mod Forced
+pub mod Order
+pub mod Raised
+pub mod Rising
+pub mod Rows

@@ -1,0 +1,18 @@
+//! Laws of the forced order.
+
+ghost use Rattle.std.specs.Prelude.{Bool, List};
+ghost use Rattle.traces.specs.declared.operation.OpName.{OpName};
+ghost use Rattle.traces.specs.Interleaving.{StandsBefore};
+ghost use Rattle.traces.specs.Legal.{IsLegal};
+ghost use Rattle.traces.specs.Trace.{TraceValue};
+ghost use Rattle.forced_order.specs.Order.{IsForced, IsObeyed, IsWithinForced};
+
+/// Every legal schedule keeps the forced order.
+pub fn forced_stands()
+    ensures { (t : TraceValue) (names : List OpName) (m n : OpName) → IsLegal t names → IsForced t m n → StandsBefore names m n }
+{}
+
+/// Every legal schedule obeys an order that says no more than the forced order.
+pub fn forced_is_obeyed()
+    ensures { (t : TraceValue) (ordered : OpName → OpName → Bool) → IsWithinForced t ordered → IsObeyed t ordered }
+{}

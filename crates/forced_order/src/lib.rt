@@ -1,0 +1,11 @@
+//! The order that program order and the before pairs of a trace force on its operations.
+#![tactic(auto)]
+
+pub mod laws;
+pub mod numbered;
+pub mod order;
+mod pairs;
+mod raising;
+mod rising;
+pub mod rows;
+mod walk;

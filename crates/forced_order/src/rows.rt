@@ -1,0 +1,195 @@
+//! Rows of places: what is known of each operation of a trace.
+
+use crate::numbered::Numbered;
+use std::alloc::{AllocError, Global};
+use std::marker::Model;
+
+/// What is known of one operation: for each process the last place there that stands before it, or 0.
+#[derive(Drop)]
+pub struct Row {
+    places: Vec<u16>,
+}
+
+impl Model for Row {
+    ghost use Rattle.std.specs.Prelude.{List, ℕ};
+
+    ghost Value = { List ℕ };
+
+    ghost view = { λ row. row.places.items };
+}
+
+impl Row {
+    ghost use Rattle.std.specs.Prelude.{◌≡◌, ℕ, IfOk, slice_index_or};
+    ghost use Rattle.forced_order.specs.Raised.{IsRowRaised};
+
+    /// A row of so many zeros.
+    fn zeros(alloc: Global, width: usize) -> Result<Row, AllocError>
+        ensures { IfOk result (λ row. (q : ℕ) → slice_index_or row q 0 ≡ 0) }
+    {
+        let mut places = Vec::with_capacity(alloc, width)?;
+        for _ in 0..width {
+            places.push(0)?;
+        }
+        Ok(Row { places })
+    }
+
+    /// The last place of the process, or 0.
+    fn last(&self, process: u16) -> u16
+        ensures { result ≡ slice_index_or self.now process 0 }
+    {
+        let k = process as usize;
+        if k < self.places.len() {
+            self.places[k]
+        } else {
+            0
+        }
+    }
+
+    /// Raises the place of the process to this one, and says whether it was lower.
+    fn raise(&mut self, process: u16, place: u16) -> bool
+        ensures { IsRowRaised self.old self.new process place }
+    {
+        let k = process as usize;
+        if k < self.places.len() && self.places[k] < place {
+            self.places[k] = place;
+            true
+        } else {
+            false
+        }
+    }
+}
+
+/// The rows of one process by place.
+#[derive(Drop)]
+pub struct ProcessRows {
+    rows: Vec<Row>,
+}
+
+impl Model for ProcessRows {
+    ghost use Rattle.std.specs.Prelude.{List, ℕ};
+
+    ghost Value = { List (List ℕ) };
+
+    ghost view = { λ rows. rows.rows.items };
+}
+
+impl ProcessRows {
+    ghost use Rattle.std.specs.Prelude.{◌≡◌, ℕ, [], IfOk, slice_index_or};
+    ghost use Rattle.forced_order.specs.Raised.{AreRowsRaised};
+
+    /// So many rows of so many zeros.
+    fn zeros(alloc: Global, count: usize, width: usize) -> Result<ProcessRows, AllocError>
+        ensures { IfOk result (λ rows. (k q : ℕ) → slice_index_or (slice_index_or rows k []) q 0 ≡ 0) }
+    {
+        let mut rows = Vec::with_capacity(alloc, count)?;
+        for _ in 0..count {
+            rows.push(Row::zeros(alloc, width)?)?;
+        }
+        Ok(ProcessRows { rows })
+    }
+
+    /// The last place of the process before the operation at this place, or 0.
+    fn last(&self, at: u16, process: u16) -> u16
+        ensures { result ≡ slice_index_or (slice_index_or self.now at []) process 0 }
+    {
+        let k = at as usize;
+        if k < self.rows.len() {
+            self.rows[k].last(process)
+        } else {
+            0
+        }
+    }
+
+    /// Raises the place of the process in the row of the operation at this place.
+    fn raise(&mut self, at: u16, process: u16, place: u16) -> bool
+        ensures { AreRowsRaised self.old self.new at process place }
+    {
+        let k = at as usize;
+        if k < self.rows.len() {
+            self.rows[k].raise(process, place)
+        } else {
+            false
+        }
+    }
+}
+
+/// The rows of all processes of a trace.
+#[derive(Drop)]
+pub struct OrderRows {
+    processes: Vec<ProcessRows>,
+}
+
+impl Model for OrderRows {
+    ghost use Rattle.forced_order.specs.Rows.{OrderValue};
+
+    ghost Value = { OrderValue };
+
+    ghost view = { λ rows. rows.processes.items };
+}
+
+impl OrderRows {
+    ghost use Rattle.std.specs.Prelude.{◌≡◌, ℕ, IfOk};
+    ghost use Rattle.traces.specs.Trace.{TraceValue};
+    ghost use Rattle.forced_order.specs.Forced.{IsForcedByNumber, AreForced};
+    ghost use Rattle.forced_order.specs.Raised.{IsRaised};
+    ghost use Rattle.forced_order.specs.Rows.{last_before};
+    ghost use Rattle.forced_order.specs.declared.numbered.Numbered.{Numbered as Named};
+
+    /// No rows.
+    pub fn none(alloc: Global) -> OrderRows
+        ensures { (n : Named) (q : ℕ) → last_before result n q ≡ 0 }
+    {
+        OrderRows {
+            processes: Vec::new(alloc),
+        }
+    }
+
+    /// For each process so many rows, of zeros.
+    pub fn zeros(alloc: Global, counts: &[usize]) -> Result<OrderRows, AllocError>
+        ensures { IfOk result (λ rows. (n : Named) (q : ℕ) → last_before rows n q ≡ 0) }
+    {
+        let mut processes = Vec::with_capacity(alloc, counts.len())?;
+        for count in counts {
+            processes.push(ProcessRows::zeros(alloc, *count, counts.len())?)?;
+        }
+        Ok(OrderRows { processes })
+    }
+
+    /// The last place of the process that stands before the operation; 0 if none does.
+    pub fn last_before(&self, n: Numbered, process: u16) -> u16
+        ensures { result ≡ last_before self.now n process }
+    {
+        let k = n.process as usize;
+        if k < self.processes.len() {
+            self.processes[k].last(n.place, process)
+        } else {
+            0
+        }
+    }
+
+    /// Raises the place of the process in the row of the operation, and says whether it was lower.
+    fn raise(&mut self, n: Numbered, process: u16, place: u16) -> bool
+        ensures { IsRaised self.old self.new n process place }
+    {
+        let k = n.process as usize;
+        if k < self.processes.len() {
+            self.processes[k].raise(n.place, process, place)
+        } else {
+            false
+        }
+    }
+
+    /// Raises the row of the second operation to what follows if the first stands before it, and says whether it was lower.
+    pub fn raise_from(&mut self, first: Numbered, second: Numbered) -> bool
+        ensures { (t : TraceValue) → IsForcedByNumber t first second → AreForced t self.old → AreForced t self.new }
+    {
+        let mut rose = self.raise(second, first.process, first.place);
+        for process in 0..64 {
+            let place = self.last_before(first, process);
+            if self.raise(second, process, place) {
+                rose = true;
+            }
+        }
+        rose
+    }
+}

@@ -1,0 +1,193 @@
+//! A walk over the operations of a trace, each after those that are forced to stand before it, as far as pairs are not cyclic.
+//!
+//! Nothing rests on it but how soon the rows are complete.
+
+use crate::numbered::Numbered;
+use std::alloc::{AllocError, Global};
+
+/// A step of the forced order.
+#[derive(Clone, Copy, Drop)]
+pub enum Step {
+    /// From the operation to the next of its process.
+    Next(Numbered),
+    /// From the first of the pair under this number to the second.
+    Pair(usize),
+}
+
+/// How far the walk has come in one process.
+#[derive(Drop)]
+struct Front {
+    /// For each place, how many pairs put an operation before it from which the walk has not yet gone on.
+    waits: Vec<u16>,
+    /// The last place that was visited, or 0.
+    visited: u16,
+    /// The number of the next pair from an operation of this process.
+    next_pair: usize,
+}
+
+impl Front {
+    /// Whether an operation is left that waits for no other, or for others too where `forced`.
+    fn may_visit(&self, forced: bool) -> bool {
+        let next = self.visited as usize + 1;
+        next < self.waits.len() && (forced || self.waits[next] == 0)
+    }
+
+    fn add_wait(&mut self, place: u16) {
+        let k = place as usize;
+        if k < self.waits.len() {
+            self.waits[k] = self.waits[k].saturating_add(1);
+        }
+    }
+
+    fn remove_wait(&mut self, place: u16) {
+        let k = place as usize;
+        if k < self.waits.len() {
+            self.waits[k] = self.waits[k].saturating_sub(1);
+        }
+    }
+}
+
+/// The walk: its fronts, and the steps that were made.
+#[derive(Drop)]
+struct Walk<'a> {
+    pairs: &'a [(Numbered, Numbered)],
+    fronts: Vec<Front>,
+    steps: Vec<Step>,
+}
+
+/// The number of the first pair whose first operation is of this process, or of no pair.
+fn first_pair_of(pairs: &[(Numbered, Numbered)], process: usize) -> usize {
+    pairs
+        .iter()
+        .position(|pair| pair.0.process as usize == process)
+        .unwrap_or(pairs.len())
+}
+
+impl<'a> Walk<'a> {
+    /// A walk before its first step, over so many places of each process.
+    fn new(
+        alloc: Global,
+        counts: &[usize],
+        pairs: &'a [(Numbered, Numbered)],
+    ) -> Result<Walk<'a>, AllocError> {
+        let mut fronts = Vec::with_capacity(alloc, counts.len())?;
+        for k in 0..counts.len() {
+            fronts.push(Front {
+                waits: vec![in alloc; 0; counts[k]]?,
+                visited: 0,
+                next_pair: first_pair_of(pairs, k),
+            })?;
+        }
+        let mut walk = Walk {
+            pairs,
+            fronts,
+            steps: Vec::new(alloc),
+        };
+        for pair in pairs {
+            walk.add_wait(pair.1);
+        }
+        Ok(walk)
+    }
+
+    fn add_wait(&mut self, n: Numbered) {
+        let k = n.process as usize;
+        if k < self.fronts.len() {
+            self.fronts[k].add_wait(n.place);
+        }
+    }
+
+    fn remove_wait(&mut self, n: Numbered) {
+        let k = n.process as usize;
+        if k < self.fronts.len() {
+            self.fronts[k].remove_wait(n.place);
+        }
+    }
+
+    fn may_visit(&self, process: usize, forced: bool) -> bool {
+        process < self.fronts.len() && self.fronts[process].may_visit(forced)
+    }
+
+    /// Goes on to the next operation of the process.
+    fn advance(&mut self, process: usize) -> Numbered {
+        let mut place = 0;
+        if process < self.fronts.len() {
+            place = self.fronts[process].visited.saturating_add(1);
+            self.fronts[process].visited = place;
+        }
+        Numbered {
+            process: (process & 0xffff) as u16,
+            place,
+        }
+    }
+
+    /// The next pair, if it is one from this operation.
+    fn take_pair(&mut self, n: Numbered) -> Option<usize> {
+        let pairs = self.pairs;
+        let process = n.process as usize;
+        if process < self.fronts.len() {
+            let k = self.fronts[process].next_pair;
+            if k < pairs.len() && pairs[k].0.process == n.process && pairs[k].0.place == n.place {
+                self.fronts[process].next_pair = k + 1;
+                return Some(k);
+            }
+        }
+        None
+    }
+
+    /// Visits the next operation of the process, and makes the steps from it.
+    fn visit(&mut self, process: usize) -> Result<(), AllocError> {
+        let pairs = self.pairs;
+        let n = self.advance(process);
+        self.steps.push(Step::Next(n))?;
+        for _ in 0..pairs.len() {
+            let Some(k) = self.take_pair(n) else {
+                break;
+            };
+            self.steps.push(Step::Pair(k))?;
+            if k < pairs.len() {
+                self.remove_wait(pairs[k].1);
+            }
+        }
+        Ok(())
+    }
+
+    /// Visits operations of each process as long as they wait for no other, and says whether there was one.
+    fn go_on(&mut self) -> Result<bool, AllocError> {
+        let before = self.steps.len();
+        for process in 0..self.fronts.len() {
+            for _ in 0..u16::MAX {
+                if !self.may_visit(process, false) {
+                    break;
+                }
+                self.visit(process)?;
+            }
+        }
+        Ok(self.steps.len() > before)
+    }
+
+    /// Visits an operation that waits for others, as all that are left do, and says whether there is one.
+    fn break_cycle(&mut self) -> Result<bool, AllocError> {
+        for process in 0..self.fronts.len() {
+            if self.may_visit(process, true) {
+                self.visit(process)?;
+                return Ok(true);
+            }
+        }
+        Ok(false)
+    }
+}
+
+/// The steps of a walk over all operations.
+pub fn steps_of(
+    alloc: Global,
+    counts: &[usize],
+    pairs: &[(Numbered, Numbered)],
+) -> Result<Vec<Step>, AllocError> {
+    let mut walk = Walk::new(alloc, counts, pairs)?;
+    for _ in 0..u16::MAX {
+        if !walk.go_on()? && !walk.break_cycle()? {
+            break;
+        }
+    }
+    Ok(walk.steps)
+}

@@ -1,0 +1,4 @@
+mod Examples
+pub mod DerivedLemmas
+pub mod PartLemmas
+pub mod TraceLemmas

@@ -1,0 +1,37 @@
+//! Laws of parts.
+
+ghost use Rattle.std.specs.Prelude.{◌≡◌, ◌≢◌, true, Bool, List, IsSome};
+ghost use Rattle.traces.specs.declared.operation.OpName.{OpName};
+ghost use Rattle.traces.specs.Interleaving.{StandsBefore};
+ghost use Rattle.traces.specs.Legal.{IsLegal};
+ghost use Rattle.traces.specs.Trace.{TraceValue, IsTrace, operation_at};
+ghost use Rattle.part_law.specs.Derived.{IsDerived};
+ghost use Rattle.restriction.specs.Left.{restricted};
+ghost use Rattle.forced_order.specs.Order.{Obeys, IsObeyed};
+ghost use Rattle.part_law.specs.Part.{stays, part};
+
+/// A legal schedule of a trace that obeys the order, restricted to what remains, is a legal schedule of the part.
+pub fn restriction_is_legal()
+    ensures { (t : TraceValue) (ordered : OpName → OpName → Bool) (chosen : OpName → Bool) (names : List OpName) → IsTrace t → IsLegal t names → Obeys t names ordered → IsLegal (part t ordered chosen) (restricted (stays t ordered chosen) names) }
+{}
+
+/// A trace has no legal schedule if some part of it has none, made by an order that every legal schedule of the trace obeys.
+pub fn unschedulable_where_a_part_is()
+    ensures { (t : TraceValue) (ordered : OpName → OpName → Bool) (chosen : OpName → Bool) → IsTrace t → IsObeyed t ordered → ((names : List OpName) → IsLegal (part t ordered chosen) names → ⊥) → (names : List OpName) → IsLegal t names → ⊥ }
+{}
+
+/// A part of a trace is a trace.
+pub fn part_is_a_trace()
+    ensures { (t : TraceValue) (ordered : OpName → OpName → Bool) (chosen : OpName → Bool) → IsTrace t → IsTrace (part t ordered chosen) }
+{}
+
+/// If a part has no legal schedule that is made by an order which every legal schedule obeys that puts n before m, then every legal
+/// schedule puts m before n.
+pub fn refuted_order_is_turned()
+    ensures { (t : TraceValue) (ordered : OpName → OpName → Bool) (chosen : OpName → Bool) (m n : OpName) → IsTrace t → IsSome (operation_at t m) → IsSome (operation_at t n) → m ≢ n → ((names : List OpName) → IsLegal t names → StandsBefore names n m → Obeys t names ordered) → ((names : List OpName) → IsLegal (part t ordered chosen) names → ⊥) → (names : List OpName) → IsLegal t names → StandsBefore names m n }
+{}
+
+/// A legal schedule that obeys an order also keeps what follows from it and from the only possible source of a reading operation.
+pub fn derived_stands()
+    ensures { (t : TraceValue) (ordered : OpName → OpName → Bool) (names : List OpName) (m n : OpName) → IsTrace t → IsLegal t names → Obeys t names ordered → IsDerived t ordered m n → StandsBefore names m n }
+{}

@@ -1,0 +1,44 @@
+-- What remains of processes and schedules where a function says what stays of each operation, and the new names of what remains.
+use Rattle.std.specs.Prelude.{List, length, map, Option, Bool, is_some}
+use Rattle.std.specs.List.{filter, filter_map}
+use Rattle.traces.specs.declared.operation.Op.{Op}
+use Rattle.traces.specs.declared.operation.Op.TheVariants.{Read, Write, Update}
+use Rattle.traces.specs.declared.operation.OpName.{OpName}
+use Rattle.traces.specs.declared.operation.Origin.{Origin}
+use Rattle.traces.specs.declared.operation.Origin.TheVariants.{Any, Initial, Operation}
+use Rattle.traces.specs.declared.trace.Process.{Process}
+use Rattle.traces.specs.Trace.{first_names}
+
+-- something stays of the operation
+abbrev pub is_left : (OpName → Option Op) → OpName → Bool
+is_left stays n = is_some (stays n)
+
+-- the new name: its place is how many operations remain of its process up to it
+abbrev pub new_name : (OpName → Option Op) → OpName → OpName
+new_name stays n = record { process = n.process; place = length (filter (is_left stays) (first_names n.process n.place)) }
+
+abbrev pub new_origin : (OpName → Option Op) → Origin → Origin
+new_origin stays Any = Any
+new_origin stays Initial = Initial
+new_origin stays (Operation n) = Operation (new_name stays n)
+
+-- the operation with the new name of its origin
+abbrev pub new_op : (OpName → Option Op) → Op → Op
+new_op stays (Read location value origin) = Read location value (new_origin stays origin)
+new_op stays (Write location value) = Write location value
+new_op stays (Update location read left origin) = Update location read left (new_origin stays origin)
+
+abbrev pub new_pair : (OpName → Option Op) → OpName × OpName → OpName × OpName
+new_pair stays pair = (new_name stays pair.0, new_name stays pair.1)
+
+-- the names of the operations of a process, in program order
+abbrev pub names_of : Process → List OpName
+names_of p = first_names p.name (length p.operations)
+
+-- the process with what remains of it
+abbrev pub left_process : (OpName → Option Op) → Process → Process
+left_process stays p = record { name = p.name; operations = map (new_op stays) (filter_map stays (names_of p)) }
+
+-- a schedule, restricted to what remains, under the new names
+abbrev pub restricted : (OpName → Option Op) → List OpName → List OpName
+restricted stays names = map (new_name stays) (filter (is_left stays) names)

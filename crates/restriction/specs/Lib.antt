@@ -1,0 +1,3 @@
+pub mod LastWriter
+pub mod Left
+pub mod Restriction

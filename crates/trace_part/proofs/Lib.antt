@@ -1,0 +1,10 @@
+pub mod ChoiceLemmas
+pub mod CountLemmas
+pub mod ForwardLemmas
+pub mod LatestLemmas
+pub mod PairRowLemmas
+pub mod PartOfLemmas
+pub mod RowLemmas
+pub mod ToldLemmas
+pub mod ToldStepLemmas
+pub mod WriterTableLemmas

@@ -1,0 +1,31 @@
+use Rattle.std.proofs.Common.{◌≡◌, Bool, map, ap, ◌∙◌}
+use Rattle.traces.specs.declared.operation.OpName.{OpName}
+use Rattle.traces.specs.Judgement.{has_come}
+use Rattle.traces.specs.Trace.{TraceValue}
+use Rattle.forced_order.specs.Rows.{ordered_by}
+use Rattle.part_law.specs.Part.{stays, part}
+use Rattle.trace_part.specs.Chosen.{has}
+use Rattle.trace_part.specs.TraceParts.{left_places}
+use Rattle.trace_part.proofs.ForwardLemmas.{forward_among}
+use Rattle.trace_part.proofs.part.part_by.Goals as goal
+
+pub selected_part-requires : goal.selected_part-requires
+selected_part-requires c = record {
+  selection = record {
+    table = c.in_ok-writers.ensures;
+    forward = λ location. forward_among c.args.trace.now c.is_trace.ensures c.args.order c.requires.forward (has c.in_ok-set.set) location;
+  };
+}
+
+pub returns-clause-part : goal.returns-clause-part
+returns-clause-part c =
+    let t : TraceValue = c.args.trace.now in
+    let ordered : OpName → OpName → Bool = ordered_by t c.args.order in
+    let same : has c.in_ok-set.set ≡ has_come c.args.names.now = λ i n. c.in_ok-set.ensures.chosen n i in
+    record {
+      choice = c.in_ok-set.ensures.choice;
+      ordered = ordered_by c.args.trace.now c.args.order;
+      within = c.requires.sound;
+      trace_is = c.in_ok-selected_part.ensures.trace ∙ ap (part t ordered) same;
+      places_are = c.in_ok-selected_part.ensures.places ∙ ap (λ (chosen : OpName → Bool). map (left_places (stays t ordered chosen)) t.processes) same;
+    }

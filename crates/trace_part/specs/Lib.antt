@@ -1,0 +1,9 @@
+pub mod Choice
+pub mod Chosen
+pub mod Latest
+pub mod PartCauses
+pub mod Rows
+pub mod Selections
+pub mod Told
+pub mod TraceParts
+pub mod WriterTables

@@ -1,0 +1,89 @@
+//! What remains of the processes, with the old names of origins.
+
+ghost use Rattle.std.specs.Prelude.{◌≡◌, ◌≤◌, length, map, take, Some, IfOk};
+ghost use Rattle.std.specs.List.{filter, filter_map, slice_get};
+ghost use Rattle.traces.specs.declared.operation.OpName.{OpName as Named};
+ghost use Rattle.restriction.specs.Left.{is_left, names_of};
+ghost use Rattle.trace_part.specs.Rows.{IsLeftOf, AreLeft};
+ghost use Rattle.trace_part.specs.Selections.{IsSelection, stays_in};
+
+use crate::selection::Selection;
+use crate::staying::stays_at;
+use std::alloc::{AllocError, Global};
+use std::marker::Model;
+use traces::operation::Op;
+use traces::trace::Process;
+
+/// What remains of a process: the old places, and the operations.
+#[derive(Drop)]
+pub struct Left {
+    places: Vec<u16>,
+    ops: Vec<Op>,
+}
+
+impl Model for Left {
+    ghost use Rattle.std.specs.Prelude.{◌≤◌, length};
+    ghost use Rattle.trace_part.specs.Rows.{LeftValue};
+
+    ghost Value = { LeftValue };
+
+    ghost view = { λ left. record { places = left.places.items; ops = left.ops.items } };
+
+    ghost invariant = { λ left. length left.places.items ≤ 4096 };
+}
+
+impl Left {
+    ghost use Rattle.std.specs.Prelude.{◌≡◌, ◌≤◌, length};
+
+    /// The old places of what remains.
+    pub fn places(&self) -> &[u16]
+        ensures places { result.now ≡ self.now.places }
+        ensures few { length result.now ≤ 4096 }
+    {
+        self.places.as_slice()
+    }
+
+    /// The operations.
+    pub fn ops(&self) -> &[Op]
+        ensures { result.now ≡ self.now.ops }
+    {
+        self.ops.as_slice()
+    }
+}
+
+/// What remains of a process.
+fn left_of<'a>(
+    alloc: Global,
+    selection: &Selection<'a>,
+    process: &'a Process,
+    number: u16,
+) -> Result<Left, AllocError>
+    requires selection { IsSelection selection.now }
+    requires listed { slice_get selection.now.trace.now.processes number ≡ Some process.now }
+    requires few { length process.now.operations ≤ 4096 }
+    ensures { IfOk result (λ left. IsLeftOf (stays_in selection.now) process.now left) }
+{
+    let mut places = Vec::new(alloc);
+    let mut ops = Vec::new(alloc);
+    for k in 0..process.operations.as_slice().len() {
+        if let Some(op) = stays_at(alloc, selection, process, number, k)? {
+            places.push((k + 1) as u16)?;
+            ops.push(op)?;
+        }
+    }
+    Ok(Left { places, ops })
+}
+
+/// What remains of each process.
+pub fn all_left<'a>(alloc: Global, selection: &Selection<'a>) -> Result<Vec<Left>, AllocError>
+    requires selection { IsSelection selection.now }
+    ensures { IfOk result (λ all. AreLeft selection.now.trace.now (stays_in selection.now) all.items) }
+{
+    selection.trace.is_trace();
+    let processes = selection.trace.processes();
+    let mut all = Vec::new(alloc);
+    for k in 0..processes.len() {
+        all.push(left_of(alloc, selection, &processes[k], k as u16)?)?;
+    }
+    Ok(all)
+}

@@ -1,0 +1,78 @@
+//! The names that remain, by numbers.
+
+ghost use Rattle.std.specs.Prelude.{◌≡◌, length, map, Option, IfOk};
+ghost use Rattle.traces.specs.declared.operation.Op.{Op as Old};
+ghost use Rattle.traces.specs.declared.operation.OpName.{OpName as Named};
+ghost use Rattle.trace_part.specs.Rows.{Leaves, row_at_place};
+ghost use Rattle.trace_part.specs.Told.{groups_of};
+
+use crate::left::Left;
+use crate::renamed::count_up_to;
+use forced_order::numbered::Numbered;
+use std::alloc::{AllocError, Global};
+use std::marker::Model;
+use traces::trace::Trace;
+
+/// A name that remains, by numbers, and its place in the part.
+#[derive(Clone, Copy, Drop)]
+pub struct LeftName {
+    pub name: Numbered,
+    pub new: u16,
+}
+
+/// The names that remain of a process.
+#[derive(Drop)]
+pub struct LeftNames {
+    names: Vec<LeftName>,
+}
+
+impl Model for LeftNames {
+    ghost use Rattle.std.specs.Prelude.{List};
+    ghost use Rattle.trace_part.specs.declared.left_names.LeftName.{LeftName};
+
+    ghost Value = { List LeftName };
+
+    ghost view = { λ left. left.names.items };
+}
+
+impl LeftNames {
+    ghost use Rattle.std.specs.Prelude.{◌≡◌};
+
+    /// The names as a slice.
+    pub fn as_slice(&self) -> &[LeftName]
+        ensures { result.now ≡ self.now }
+    {
+        self.names.as_slice()
+    }
+}
+
+/// The names that remain of the process of this number.
+fn names_in(alloc: Global, left: &Left, number: u16) -> Result<LeftNames, AllocError>
+    ensures { IfOk result (λ names. names ≡ map (row_at_place number left.now.places) left.now.places) }
+{
+    let places = left.places();
+    let mut names = Vec::new(alloc);
+    for k in 0..places.len() {
+        names.push(LeftName {
+            name: Numbered {
+                process: number,
+                place: places[k],
+            },
+            new: count_up_to(places, places[k]),
+        })?;
+    }
+    Ok(LeftNames { names })
+}
+
+/// The names that remain of each process.
+pub fn left_groups(alloc: Global, trace: &Trace, all: &[Left]) -> Result<Vec<LeftNames>, AllocError>
+    requires { length all.now ≡ length trace.now.processes }
+    ensures { IfOk result (λ groups. (stays : Named → Option Old) → Leaves trace.now stays all.now → groups.items ≡ groups_of trace.now stays) }
+{
+    trace.is_trace();
+    let mut groups = Vec::new(alloc);
+    for k in 0..all.len() {
+        groups.push(names_in(alloc, &all[k], k as u16)?)?;
+    }
+    Ok(groups)
+}

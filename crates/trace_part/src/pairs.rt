@@ -1,0 +1,178 @@
+//! The before pairs of a part.
+
+ghost use Rattle.std.specs.Prelude.{◌≡◌, ◌<◌, ◌+◌, ◌++◌, length, map, take, Option, Some, IfOk, OnOk};
+ghost use Rattle.std.specs.List.{filter, find, slice_get};
+ghost use Rattle.std.specs.Option.{option_copied};
+ghost use Rattle.traces.specs.declared.operation.Op.{Op as Old};
+ghost use Rattle.traces.specs.declared.operation.OpName.{OpName as Named};
+ghost use Rattle.traces.specs.declared.trace.Process.{Process as Listed};
+ghost use Rattle.restriction.specs.Left.{new_pair};
+ghost use Rattle.forced_order.specs.Rows.{ordered_by, stands_by};
+ghost use Rattle.part_law.specs.Part.{is_told, left_pairs};
+ghost use Rattle.trace_part.specs.Rows.{Leaves};
+ghost use Rattle.trace_part.specs.Told as told;
+ghost use Rattle.trace_part.specs.declared.left_names.LeftName.{LeftName as Row};
+
+use crate::left::Left;
+use crate::left_names::{LeftName, LeftNames, left_groups};
+use forced_order::order::Order;
+use std::alloc::{AllocError, Global};
+use traces::name::Name;
+use traces::operation::OpName;
+use traces::trace::Trace;
+
+fn find_after<'a>(order: &Order, m: LeftName, group: &'a [LeftName]) -> Option<&'a LeftName>
+    ensures { option_copied result ≡ find (λ (n : Row). stands_by order.now m.name n.name) group.now }
+{
+    group.iter().find(|n| order.stands(m.name, n.name))
+}
+
+/// The first of the names that the order puts after m.
+fn first_after(order: &Order, m: LeftName, group: &[LeftName]) -> Option<LeftName>
+    ensures { result ≡ find (λ (n : Row). stands_by order.now m.name n.name) group.now }
+{
+    find_after(order, m, group).copied()
+}
+
+/// Whether the order puts this name, if there is one, before n.
+fn is_before(order: &Order, next: Option<LeftName>, n: LeftName) -> bool
+    ensures { result ≡ told.is_before order.now next n }
+{
+    match next {
+        Some(next) => order.stands(next.name, n.name),
+        None => false,
+    }
+}
+
+/// Whether the pair of m and n is told, where n is the first of its process that the order puts after m.
+fn is_told(order: &Order, m: LeftName, next: Option<LeftName>, n: LeftName) -> bool
+    ensures { result ≡ told.is_told_first order.now m next n }
+{
+    m.name.process != n.name.process && !is_before(order, next, n)
+}
+
+/// Appends the told pair of m and one of the names of a process, if there is one. The name after m in its process is `next`.
+fn push_told_in(
+    pairs: &mut Vec<(LeftName, LeftName)>,
+    order: &Order,
+    m: LeftName,
+    next: Option<LeftName>,
+    group: &[LeftName],
+) -> Result<(), AllocError>
+    ensures { OnOk result (pairs.new.items ≡ pairs.old.items ++ told.told_in order.now m next group.now) }
+{
+    match first_after(order, m, group) {
+        Some(n) => {
+            if is_told(order, m, next, n) {
+                pairs.push((m, n))?;
+            }
+            Ok(())
+        }
+        None => Ok(()),
+    }
+}
+
+/// Appends the told pairs of which m is the first.
+fn push_told_of(
+    pairs: &mut Vec<(LeftName, LeftName)>,
+    order: &Order,
+    m: LeftName,
+    next: Option<LeftName>,
+    groups: &[LeftNames],
+) -> Result<(), AllocError>
+    ensures { OnOk result (pairs.new.items ≡ pairs.old.items ++ told.told_of order.now m next groups.now) }
+{
+    for k in 0..groups.len() {
+        push_told_in(pairs, order, m, next, groups[k].as_slice())?;
+    }
+    Ok(())
+}
+
+/// The name after this one in the list.
+fn next_name(group: &[LeftName], k: usize) -> Option<LeftName>
+    requires within { k < length group.now }
+    ensures { result ≡ slice_get group.now (k + 1) }
+{
+    group.get(k + 1).copied()
+}
+
+/// Appends the told pairs of which a name of this process is the first.
+fn push_told_from(
+    pairs: &mut Vec<(LeftName, LeftName)>,
+    order: &Order,
+    group: &[LeftName],
+    groups: &[LeftNames],
+) -> Result<(), AllocError>
+    ensures { OnOk result (pairs.new.items ≡ pairs.old.items ++ told.told_from order.now groups.now group.now) }
+{
+    for k in 0..group.len() {
+        push_told_of(pairs, order, group[k], next_name(group, k), groups)?;
+    }
+    Ok(())
+}
+
+/// The told pairs of these names, which are grouped by process.
+fn told_pairs(
+    alloc: Global,
+    order: &Order,
+    groups: &[LeftNames],
+) -> Result<Vec<(LeftName, LeftName)>, AllocError>
+    ensures { IfOk result (λ pairs. pairs.items ≡ told.told_pairs order.now groups.now) }
+{
+    let mut pairs = Vec::new(alloc);
+    for k in 0..groups.len() {
+        push_told_from(&mut pairs, order, groups[k].as_slice(), groups)?;
+    }
+    Ok(pairs)
+}
+
+/// The name of a row in the part.
+fn new_name(alloc: Global, trace: &Trace, row: LeftName) -> Result<OpName, AllocError>
+    ensures { IfOk result (λ new. (p : Listed) → slice_get trace.now.processes row.name.process ≡ Some p → new ≡ record { process = p.name; place = row.new }) }
+{
+    let number = row.name.process as usize;
+    if number < trace.processes().len() {
+        Ok(OpName {
+            process: Name::copy_of(alloc, trace.processes()[number].name.as_bytes())?,
+            place: row.new,
+        })
+    } else {
+        Err(AllocError)
+    }
+}
+
+/// The names of a pair of rows in the part.
+fn new_names(
+    alloc: Global,
+    trace: &Trace,
+    pair: &(LeftName, LeftName),
+) -> Result<(OpName, OpName), AllocError>
+    ensures first { IfOk result (λ new. (p : Listed) → slice_get trace.now.processes pair.now.0.name.process ≡ Some p → new.0 ≡ record { process = p.name; place = pair.now.0.new }) }
+    ensures second { IfOk result (λ new. (p : Listed) → slice_get trace.now.processes pair.now.1.name.process ≡ Some p → new.1 ≡ record { process = p.name; place = pair.now.1.new }) }
+{
+    let first = new_name(alloc, trace, pair.0)?;
+    let second = new_name(alloc, trace, pair.1)?;
+    Ok((first, second))
+}
+
+/// The pairs that are told, 4,096 at most.
+pub fn pairs_left(
+    alloc: Global,
+    trace: &Trace,
+    order: &Order,
+    all: &[Left],
+) -> Result<Vec<(OpName, OpName)>, AllocError>
+    requires { length all.now ≡ length trace.now.processes }
+    ensures { IfOk result (λ pairs. (stays : Named → Option Old) → Leaves trace.now stays all.now → pairs.items ≡ map (new_pair stays) (take 4096 (filter (is_told trace.now (ordered_by trace.now order.now) stays) (left_pairs trace.now stays)))) }
+{
+    trace.is_trace();
+    let groups = left_groups(alloc, trace, all)?;
+    let told = told_pairs(alloc, order, groups.as_slice())?;
+    let few = told.as_slice();
+    let count = few.len().min(4096);
+    let mut pairs = Vec::new(alloc);
+    for k in 0..count {
+        pairs.push(new_names(alloc, trace, &few[k])?)?;
+    }
+    Ok(pairs)
+}

@@ -1,0 +1,115 @@
+//! The part of a trace that some chosen operations make up.
+
+ghost use Rattle.std.specs.Prelude.{◌≡◌, map, IfOk, IfErr};
+ghost use Rattle.text_lines.specs.Fault.{IsRefusal};
+ghost use Rattle.text_lines.specs.FirstFault.{IsFirstFault};
+ghost use Rattle.forced_order.specs.Order.{IsClosedForward};
+ghost use Rattle.forced_order.specs.Rows.{ordered_by, IsSoundOrder};
+ghost use Rattle.part_law.specs.Part as value;
+ghost use Rattle.trace_part.specs.Choice.{fault_of_choice};
+ghost use Rattle.trace_part.specs.Selections.{IsSelection, ordered_in, chosen_in, stays_in};
+ghost use Rattle.trace_part.specs.TraceParts.{IsPart, left_places};
+
+use crate::choice::chosen_ops;
+use crate::finals::{finals_left, initial_copied};
+use crate::left::{Left, all_left};
+use crate::pairs::pairs_left;
+use crate::part_fault::PartFault;
+use crate::renamed::new_processes;
+use crate::selection::Selection;
+use crate::writer_table::writer_table;
+use forced_order::order::Order;
+use std::alloc::{AllocError, Global};
+use std::marker::Model;
+use traces::operation::OpName;
+use traces::trace::Trace;
+
+/// A part of a trace, and where its operations stand in the whole.
+#[derive(Drop)]
+pub struct Part {
+    trace: Trace,
+    left: Vec<Left>,
+}
+
+impl Model for Part {
+    ghost use Rattle.std.specs.Prelude.{map};
+    ghost use Rattle.trace_part.specs.Rows.{LeftValue};
+    ghost use Rattle.trace_part.specs.TraceParts.{PartValue};
+
+    ghost Value = { PartValue };
+
+    ghost view = { λ p. record { trace = p.trace; places = map (λ (left : LeftValue). left.places) p.left.items } };
+}
+
+impl Part {
+    ghost use Rattle.std.specs.Prelude.{◌≡◌, [], slice_index_or};
+
+    /// The part.
+    pub fn trace(&self) -> &Trace
+        ensures { result.now ≡ self.now.trace }
+    {
+        &self.trace
+    }
+
+    /// The place in the whole of each operation that remains of the process of this number; none if there is no such process.
+    pub fn places(&self, process: usize) -> &[u16]
+        ensures { result.now ≡ slice_index_or self.now.places process [] }
+    {
+        match self.left.get(process) {
+            Some(left) => left.places(),
+            None => &[],
+        }
+    }
+}
+
+/// The part that the selected operations make up.
+fn selected_part<'a>(alloc: Global, selection: &Selection<'a>) -> Result<Part, AllocError>
+    requires selection { IsSelection selection.now }
+    ensures trace { IfOk result (λ made. made.trace ≡ value.part selection.now.trace.now (ordered_in selection.now) (chosen_in selection.now)) }
+    ensures places { IfOk result (λ made. made.places ≡ map (left_places (stays_in selection.now)) selection.now.trace.now.processes) }
+{
+    let trace = selection.trace;
+    trace.is_trace();
+    let left = all_left(alloc, selection)?;
+    let processes = new_processes(alloc, trace, left.as_slice())?;
+    let initial = initial_copied(alloc, trace)?;
+    let finals = finals_left(alloc, selection)?;
+    let before = pairs_left(alloc, trace, &selection.order, left.as_slice())?;
+    let trace = Trace::new(processes, initial, finals, before);
+    Ok(Part { trace, left })
+}
+
+/// The part of the trace that these operations make up, by an order that says no more than the forced one. Each name must be that of
+/// an operation of the trace, and none may stand twice; how the names are ordered says nothing.
+pub fn part_by(
+    alloc: Global,
+    trace: &Trace,
+    order: Order,
+    names: &[OpName],
+) -> Result<Part, PartFault>
+    requires sound { IsSoundOrder trace.now order }
+    requires forward { IsClosedForward trace.now (ordered_by trace.now order) }
+    ensures part { IfOk result (IsPart trace.now names.now) }
+    ensures refused { IfErr result (IsRefusal (λ cause place. IsFirstFault (fault_of_choice trace.now) names.now place cause)) }
+{
+    trace.is_trace();
+    let set = chosen_ops(alloc, trace, names)?;
+    let writers = writer_table(alloc, trace, &set)?;
+    let selection = Selection {
+        trace,
+        order,
+        set,
+        writers,
+    };
+    Ok(selected_part(alloc, &selection)?)
+}
+
+/// The part of the trace that these operations make up, by its forced order. Each name must be that of an operation of the trace, and
+/// none may stand twice; how the names are ordered says nothing.
+pub fn part_of(alloc: Global, trace: &Trace, names: &[OpName]) -> Result<Part, PartFault>
+    ensures part { IfOk result (IsPart trace.now names.now) }
+    ensures refused { IfErr result (IsRefusal (λ cause place. IsFirstFault (fault_of_choice trace.now) names.now place cause)) }
+{
+    let order = Order::of_trace(alloc, trace)?;
+    part_by(alloc, trace, order, names)
+}

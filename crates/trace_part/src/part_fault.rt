@@ -1,0 +1,37 @@
+//! Why no part is made.
+
+use text_lines::fault::{Cause, Fault};
+
+/// What is wrong with the names of a choice.
+#[derive(Clone, Copy, Debug, PartialEq, Eq)]
+pub enum PartCause {
+    /// The trace has no operation of this name.
+    UnknownOp,
+    /// An earlier name is the same.
+    RepeatedOp,
+}
+
+/// Why no part is made: a cause and the place of the name among the names, or that memory ran out.
+pub type PartFault = Fault<PartCause>;
+
+impl Cause for PartCause {
+    ghost use Rattle.trace_part.specs.PartCauses.{cause_number, cause_name};
+
+    ghost number_of = { cause_number };
+
+    ghost name_of = { cause_name };
+
+    fn number(&self) -> u8 {
+        match self {
+            PartCause::UnknownOp => 2,
+            PartCause::RepeatedOp => 3,
+        }
+    }
+
+    fn name(&self) -> &'static str {
+        match self {
+            PartCause::UnknownOp => "UnknownOp",
+            PartCause::RepeatedOp => "RepeatedOp",
+        }
+    }
+}

@@ -1,0 +1,151 @@
+//! Whether all operations are chosen from which a value may be read.
+
+ghost use Rattle.std.specs.Prelude.{◌≡◌, ◌<◌, ◌+◌, ◌++◌, ◌||◌, not, length, IfOk, OnOk};
+ghost use Rattle.std.specs.List.{list_any, list_all, slice_get};
+ghost use Rattle.std.specs.Option.{option_copied};
+ghost use Rattle.traces.specs.Judgement.{is_held};
+ghost use Rattle.forced_order.specs.Rows.{stands_by};
+ghost use Rattle.trace_part.specs.Latest as latest;
+ghost use Rattle.trace_part.specs.Latest.{AreLatest, IsForwardAmong};
+ghost use Rattle.trace_part.specs.Rows as rows;
+ghost use Rattle.trace_part.specs.declared.writers.Writer.{Writer as Row};
+
+use crate::writers::Writer;
+use forced_order::numbered::Numbered;
+use forced_order::order::Order;
+use std::alloc::{AllocError, Global};
+
+/// Whether the writer leaves this value.
+pub fn leaves(writer: &Writer, value: u64) -> bool
+    ensures { result ≡ is_held writer.now.value value }
+{
+    match writer.value {
+        Some(left) => left == value,
+        None => false,
+    }
+}
+
+/// Whether both are the same operation.
+fn is_same(first: Numbered, second: Numbered) -> bool
+    ensures { result ≡ rows.is_same first second }
+{
+    first.process == second.process && first.place == second.place
+}
+
+/// The writer after this one in the list.
+fn next_writer(writers: &[Writer], k: usize) -> Option<&Writer>
+    requires within { k < length writers.now }
+    ensures { option_copied result ≡ slice_get writers.now (k + 1) }
+{
+    writers.get(k + 1)
+}
+
+/// Whether the next writer takes the writer's place: it is of the same process, no earlier, and stands before the reader too.
+fn follows(order: &Order, writer: &Writer, next: Option<&Writer>, reader: Numbered) -> bool
+    ensures { result ≡ latest.follows_by order.now reader writer.now (option_copied next.entry) }
+{
+    match next {
+        Some(next) => {
+            next.name.process == writer.name.process
+                && writer.name.place <= next.name.place
+                && order.stands(next.name, reader)
+        }
+        None => false,
+    }
+}
+
+/// Whether the writer stands before the reader, and the next one does not take its place.
+fn is_latest(order: &Order, writer: &Writer, next: Option<&Writer>, reader: Numbered) -> bool
+    ensures { result ≡ latest.is_latest order.now reader writer.now (option_copied next.entry) }
+{
+    order.stands(writer.name, reader) && !follows(order, writer, next, reader)
+}
+
+/// Appends the writer's name if it stands before the reader and the next one does not take its place.
+fn push_latest(
+    names: &mut Vec<Numbered>,
+    order: &Order,
+    writer: &Writer,
+    next: Option<&Writer>,
+    reader: Numbered,
+) -> Result<(), AllocError>
+    ensures { OnOk result (names.new.items ≡ names.old.items ++ latest.latest_of order.now reader writer.now (option_copied next.entry)) }
+{
+    if is_latest(order, writer, next, reader) {
+        names.push(writer.name)?;
+    }
+    Ok(())
+}
+
+/// The last writers of the processes that stand before the reader.
+fn latest_before(
+    alloc: Global,
+    order: &Order,
+    writers: &[Writer],
+    reader: Numbered,
+) -> Result<Vec<Numbered>, AllocError>
+    ensures { IfOk result (λ names. AreLatest order.now writers.now reader names.items) }
+{
+    let mut names = Vec::new(alloc);
+    for k in 0..writers.len() {
+        push_latest(
+            &mut names,
+            order,
+            &writers[k],
+            next_writer(writers, k),
+            reader,
+        )?;
+    }
+    Ok(names)
+}
+
+/// Whether the writer stands before one of these.
+fn is_overwritten(order: &Order, names: &[Numbered], first: Numbered) -> bool
+    ensures { result ≡ list_any (stands_by order.now first) names.now }
+{
+    names.iter().any(|x| order.stands(first, *x))
+}
+
+/// Whether the reader may read this value from the writer.
+fn may_be_source(
+    order: &Order,
+    names: &[Numbered],
+    writer: &Writer,
+    reader: Numbered,
+    value: u64,
+) -> bool
+    ensures { result ≡ latest.is_source_by order.now names.now reader value writer.now }
+{
+    leaves(writer, value)
+        && !is_same(writer.name, reader)
+        && !order.stands(reader, writer.name)
+        && !is_overwritten(order, names, writer.name)
+}
+
+/// Whether all writers are chosen from which the reader may read this value.
+fn are_sources_chosen(
+    order: &Order,
+    writers: &[Writer],
+    names: &[Numbered],
+    reader: Numbered,
+    value: u64,
+) -> bool
+    ensures { result ≡ list_all (λ (w : Row). w.chosen || not (latest.is_source_by order.now names.now reader value w)) writers.now }
+{
+    writers.iter().all(|w| w.chosen || !may_be_source(order, names, w, reader, value))
+}
+
+/// Whether all writers of a location are chosen from which the reader may read this value there.
+pub fn sources_chosen(
+    alloc: Global,
+    order: &Order,
+    writers: &[Writer],
+    reader: Numbered,
+    value: u64,
+) -> Result<bool, AllocError>
+    requires forward { IsForwardAmong order.now writers.now }
+    ensures { IfOk result (λ all. all ≡ list_all (λ (w : Row). w.chosen || not (rows.row_is_source order.now writers.now reader value w)) writers.now) }
+{
+    let names = latest_before(alloc, order, writers, reader)?;
+    Ok(are_sources_chosen(order, writers, names.as_slice(), reader, value))
+}

@@ -1,0 +1,92 @@
+//! The writers of a location by numbers.
+
+ghost use Rattle.std.specs.Prelude.{◌≡◌, ◌<◌, ◌≤◌, ◌+◌, ◌++◌, length, IfOk, OnOk};
+ghost use Rattle.trace_part.specs.Chosen.{has};
+ghost use Rattle.trace_part.specs.Rows.{left_there, row_in, rows_in, rows_of};
+
+use crate::op_set::OpSet;
+use forced_order::numbered::Numbered;
+use std::alloc::{AllocError, Global};
+use traces::operation::Op;
+use traces::trace::{Process, Trace};
+
+/// A writer of some location: what it leaves there, and whether it is chosen.
+#[derive(Drop)]
+pub struct Writer {
+    pub name: Numbered,
+    pub value: Option<u64>,
+    pub chosen: bool,
+}
+
+/// What the operation leaves at the location, if it writes there.
+fn left_at(op: &Op, location: &[u8]) -> Option<u64>
+    ensures { result ≡ left_there location.now op.now }
+{
+    if op.location().as_bytes() == location {
+        op.value_left()
+    } else {
+        None
+    }
+}
+
+/// The operation at a place as a row, if it writes the location.
+fn row_at<'a>(
+    set: &OpSet<'a>,
+    process: &'a Process,
+    number: u16,
+    k: usize,
+    location: &[u8],
+) -> Option<Writer>
+    requires within { k < length process.now.operations }
+    requires few { length process.now.operations ≤ 4096 }
+    ensures { result ≡ row_in process.now number (has set.now) location.now (record { process = process.now.name; place = k + 1 }) }
+{
+    match left_at(&process.operations.as_slice()[k], location) {
+        Some(left) => Some(Writer {
+            name: Numbered {
+                process: number,
+                place: (k + 1) as u16,
+            },
+            value: Some(left),
+            chosen: set.contains(process.name.as_bytes(), k + 1),
+        }),
+        None => None,
+    }
+}
+
+/// Appends the rows of a process.
+fn push_rows<'a>(
+    rows: &mut Vec<Writer>,
+    set: &OpSet<'a>,
+    process: &'a Process,
+    number: u16,
+    location: &[u8],
+) -> Result<(), AllocError>
+    requires few { length process.now.operations ≤ 4096 }
+    ensures { OnOk result (rows.new.items ≡ rows.old.items ++ rows_in process.now number (has set.now) location.now) }
+{
+    for k in 0..process.operations.as_slice().len() {
+        if let Some(row) = row_at(set, process, number, k, location) {
+            rows.push(row)?;
+        }
+    }
+    Ok(())
+}
+
+/// The writers of the location.
+pub fn writers_of<'a>(
+    alloc: Global,
+    trace: &'a Trace,
+    set: &OpSet<'a>,
+    location: &[u8],
+) -> Result<Vec<Writer>, AllocError>
+    ensures { IfOk result (λ rows. rows.items ≡ rows_of trace.now (has set.now) location.now) }
+{
+    trace.is_trace();
+    let processes = trace.processes();
+    let mut rows = Vec::new(alloc);
+    for k in 0..processes.len() {
+        push_rows(&mut rows, set, &processes[k], k as u16, location)?;
+    }
+    Ok(rows)
+}
