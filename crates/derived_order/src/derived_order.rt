@@ -1,0 +1,345 @@
+//! What stands before what in each legal schedule.
+
+use crate::finding_sources::{hider, initial_numbers, later_writer, sources_of};
+use numbered_log::{Budget, Log, NOBODY, Rows, WriterPlaces};
+use order_closure::tables::{at, size};
+use source_reasons::{Concerned, Edge, NO_EDGE, Reason, Reasons, Sources, Waiting};
+use std::alloc::{AllocError, Global};
+
+/// Why work on an order ends before it is done.
+#[derive(Clone, Copy)]
+pub enum Halt {
+    OutOfMemory,
+    /// The contradiction is kept in the order.
+    Contradiction,
+}
+
+impl From<AllocError> for Halt {
+    fn from(_error: AllocError) -> Halt {
+        Halt::OutOfMemory
+    }
+}
+
+/// What contradicts itself.
+#[derive(Clone, Copy)]
+pub enum Contradiction {
+    /// Nothing yet.
+    None,
+    /// The pair would be added, and its second operation stands before its first one.
+    Cycle(Edge),
+    /// The reader has no possible source.
+    NoSource(u32),
+}
+
+/// How far saturation came.
+#[derive(Clone, Copy, PartialEq, Eq)]
+pub enum Outcome {
+    /// Nothing more follows.
+    Saturated,
+    /// There is a contradiction.
+    Contradicted,
+    /// The budget is spent.
+    Spent,
+}
+
+/// How much there was when a decision was taken.
+#[derive(Clone, Copy)]
+struct Level {
+    changes: usize,
+    drops: usize,
+    edges: u32,
+    lemmas: u32,
+}
+
+/// The order that program order, the pairs of a trace, its reads and decisions force, with a reason for all that was derived.
+#[derive(Drop)]
+pub struct DerivedOrder<'a> {
+    pub(crate) log: &'a Log,
+    pub(crate) rows: Rows,
+    pub(crate) writers: WriterPlaces,
+    pub(crate) sources: Sources,
+    pub(crate) concerned: Concerned,
+    pub(crate) reasons: Reasons,
+    pub(crate) waiting: Waiting,
+    pub(crate) budget: Budget,
+    pub(crate) contradiction: Contradiction,
+    /// The time, which passes with each pair that is added and each source that is dropped.
+    pub(crate) now: u32,
+    levels: Vec<Level>,
+    /// For each process a place: before what a reader stands, and after what.
+    pub(crate) lows: Vec<u32>,
+    pub(crate) highs: Vec<u32>,
+}
+
+impl<'a> DerivedOrder<'a> {
+    /// The order that program order and the pairs of the log force, and the sources that are possible by it. If the pairs are cyclic,
+    /// that is its contradiction, and no source was looked for.
+    pub fn new(
+        alloc: Global,
+        log: &'a Log,
+        budget: Budget,
+    ) -> Result<DerivedOrder<'a>, AllocError> {
+        let readers = log.count().wrapping_add(log.locations());
+        let mut order = DerivedOrder {
+            log,
+            rows: Rows::new(alloc, log)?,
+            writers: WriterPlaces::new(alloc, log)?,
+            sources: Sources::new(alloc),
+            concerned: Concerned::none(alloc, readers)?,
+            reasons: Reasons::new(alloc, log.count())?,
+            waiting: Waiting::new(alloc, readers)?,
+            budget,
+            contradiction: Contradiction::None,
+            now: 0,
+            levels: Vec::new(alloc),
+            lows: vec![in alloc; 0; log.processes() as usize]?,
+            highs: vec![in alloc; 0; log.processes() as usize]?,
+        };
+        if order.add_pairs()? {
+            order.find_sources(alloc, readers)?;
+        }
+        Ok(order)
+    }
+
+    /// Adds the pairs of the log. Whether there is no cycle.
+    fn add_pairs(&mut self) -> Result<bool, AllocError> {
+        let log = self.log;
+        for pair in log.pairs() {
+            match self.add(pair.first, pair.second, Reason::Given) {
+                Ok(()) => {}
+                Err(Halt::OutOfMemory) => return Err(AllocError),
+                Err(Halt::Contradiction) => return Ok(false),
+            }
+        }
+        self.waiting.clear();
+        Ok(true)
+    }
+
+    /// Finds the sources of all readers, which all are to be looked at.
+    fn find_sources(&mut self, alloc: Global, readers: u32) -> Result<(), AllocError> {
+        self.sources = sources_of(alloc, self.log, &self.rows, &self.writers)?;
+        let initial = initial_numbers(alloc, self.log)?;
+        self.concerned = Concerned::of(alloc, &self.sources, readers, initial.as_slice())?;
+        for reader in 0..readers {
+            if self.sources.is_bound(reader) {
+                self.waiting.add(reader);
+            }
+        }
+        let looked = readers.wrapping_add(self.sources.count());
+        self.budget
+            .spend(looked.wrapping_mul(self.rows.width()) as u64);
+        Ok(())
+    }
+
+    /// The log.
+    pub fn log(&self) -> &'a Log {
+        self.log
+    }
+
+    /// The possible sources.
+    pub fn sources(&self) -> &Sources {
+        &self.sources
+    }
+
+    /// The next and the previous writers.
+    pub fn writers(&self) -> &WriterPlaces {
+        &self.writers
+    }
+
+    /// The pairs that were added, with their reasons.
+    pub fn reasons(&self) -> &Reasons {
+        &self.reasons
+    }
+
+    /// What contradicts itself.
+    pub fn contradiction(&self) -> Contradiction {
+        self.contradiction
+    }
+
+    /// Whether it contradicts itself.
+    pub fn is_contradicted(&self) -> bool {
+        !matches!(self.contradiction, Contradiction::None)
+    }
+
+    /// The time after all that has happened.
+    pub fn later(&self) -> u32 {
+        self.now.wrapping_add(1)
+    }
+
+    /// What is left of the budget.
+    pub fn budget(&self) -> Budget {
+        self.budget
+    }
+
+    /// Takes these steps out of the budget.
+    pub fn spend(&mut self, steps: u64) {
+        self.budget.spend(steps);
+    }
+
+    /// Whether one operation stands before the other.
+    #[inline(always)]
+    pub fn stands_before(&self, first: u32, second: u32) -> bool {
+        self.rows.stands_before(self.log, first, second)
+    }
+
+    /// The place of the process's first operation that stands after this one.
+    #[inline(always)]
+    pub fn after(&self, number: u32, process: u32) -> u32 {
+        self.rows.after(number, process)
+    }
+
+    /// The place of the process's last operation that stands before this one, or 0.
+    #[inline(always)]
+    pub fn before(&self, number: u32, process: u32) -> u32 {
+        self.rows.before(number, process)
+    }
+
+    /// A writer of the reader's location that stands between the two operations.
+    pub fn hider(&self, source: u32, reader: u32) -> Option<u32> {
+        hider(self.log, &self.rows, &self.writers, source, reader)
+    }
+
+    /// A writer of the location that stands after this operation.
+    pub fn later_writer(&self, location: u32, source: u32) -> Option<u32> {
+        later_writer(self.log, &self.rows, &self.writers, location, source)
+    }
+
+    /// The number of the final value of the location among the readers.
+    pub fn final_reader(&self, location: u32) -> u32 {
+        self.log.count().wrapping_add(location)
+    }
+
+    /// How many decisions stand.
+    pub fn decisions(&self) -> u32 {
+        size(self.levels.as_slice())
+    }
+
+    /// Adds the pair of which the first operation is to stand before the second.
+    pub fn add(&mut self, first: u32, second: u32, reason: Reason) -> Result<(), Halt> {
+        self.now = self.now.wrapping_add(1);
+        let edge = Edge {
+            first,
+            second,
+            reason,
+            time: self.now,
+            next: NOBODY,
+        };
+        if first == second || self.stands_before(second, first) {
+            self.contradiction = Contradiction::Cycle(edge);
+            return Err(Halt::Contradiction);
+        }
+        if self.stands_before(first, second) {
+            return Ok(());
+        }
+        self.reasons.add(edge)?;
+        self.rows.begin_pair(self.log, first, second);
+        for process in 0..self.rows.width() {
+            self.raise_process(second, process)?;
+            self.lower_process(first, process)?;
+        }
+        Ok(())
+    }
+
+    /// Raises the rows of the process's operations that stand after the second one of a new pair, or are it, up to the first that has
+    /// all of that already.
+    fn raise_process(&mut self, second: u32, process: u32) -> Result<(), AllocError> {
+        let operation = self.log.operation(second);
+        let mut from = self.rows.after(second, process);
+        if process == operation.process {
+            from = operation.place;
+        }
+        for place in from..self.log.length(process).wrapping_add(1) {
+            let number = self.log.number(process, place);
+            self.budget.spend(self.rows.width() as u64);
+            if !self.rows.raise(number)? {
+                break;
+            }
+            self.concern(number);
+        }
+        Ok(())
+    }
+
+    /// The same the other way.
+    fn lower_process(&mut self, first: u32, process: u32) -> Result<(), AllocError> {
+        let operation = self.log.operation(first);
+        let mut from = self.rows.before(first, process);
+        if process == operation.process {
+            from = operation.place;
+        }
+        for back in 0..from {
+            let number = self.log.number(process, from.wrapping_sub(back));
+            self.budget.spend(self.rows.width() as u64);
+            if !self.rows.lower(number)? {
+                break;
+            }
+            self.concern(number);
+        }
+        Ok(())
+    }
+
+    /// The row of the operation has changed, so all readers that look at it are to be looked at.
+    #[inline(always)]
+    fn concern(&mut self, number: u32) {
+        if self.sources.is_bound(number) {
+            self.waiting.add(number);
+        }
+        for place in self.concerned.begin(number)..self.concerned.begin(number.wrapping_add(1)) {
+            let reader = self.concerned.reader(place);
+            self.waiting.add(reader);
+        }
+    }
+
+    /// Decides that the first operation stands before the second.
+    pub fn decide(&mut self, first: u32, second: u32) -> Result<(), Halt> {
+        let level = Level {
+            changes: self.rows.keep_changes(),
+            drops: self.sources.keep_drops(),
+            edges: self.reasons.count(),
+            lemmas: self.reasons.lemmas(),
+        };
+        self.add_level(level)?;
+        self.add(first, second, Reason::Decision(self.decisions()))
+    }
+
+    fn add_level(&mut self, level: Level) -> Result<(), AllocError> {
+        self.levels.push(level)?;
+        Ok(())
+    }
+
+    /// The pair that was decided as the decision of this number, counted from 1.
+    pub fn decision(&self, number: u32) -> Edge {
+        let nothing = Level {
+            changes: 0,
+            drops: 0,
+            edges: NOBODY,
+            lemmas: 0,
+        };
+        let level = at(self.levels.as_slice(), number.wrapping_sub(1), nothing);
+        if level.edges == NOBODY {
+            return NO_EDGE;
+        }
+        self.reasons.edge(level.edges)
+    }
+
+    /// Takes back all decisions but so many, with all that followed.
+    pub fn take_back(&mut self, decisions: u32) {
+        for _ in decisions..self.decisions() {
+            let Some(level) = self.levels.pop() else {
+                break;
+            };
+            let keeps = !self.levels.is_empty();
+            self.rows.take_back(level.changes, keeps);
+            self.sources.take_back(level.drops, keeps);
+            self.reasons.take_back(level.edges, level.lemmas);
+        }
+        self.contradiction = Contradiction::None;
+        self.waiting.clear();
+    }
+
+    /// Adds that the second operation stands before the first since the contrary, with these decisions, leads into a contradiction
+    /// among these operations.
+    pub fn learn(&mut self, pair: Edge, operations: &[u32], decisions: &[u32]) -> Result<(), Halt> {
+        let lemma = self.reasons.add_lemma(operations, decisions)?;
+        self.add(pair.second, pair.first, Reason::Lemma(lemma))
+    }
+}

@@ -1,0 +1,293 @@
+//! What follows from possible sources, until nothing more follows.
+
+use crate::derived_order::{Contradiction, DerivedOrder, Halt, Outcome};
+use crate::finding_sources::{hider, later_writer};
+use numbered_log::NOBODY;
+use order_closure::tables::{at, put, size};
+use source_reasons::{Fate, Reason};
+use std::alloc::AllocError;
+
+/// A place before which nothing is known to stand.
+const FAR: u32 = u32::MAX;
+
+impl<'a> DerivedOrder<'a> {
+    /// Derives what follows, until nothing more does.
+    pub fn saturate(&mut self) -> Result<Outcome, AllocError> {
+        if self.is_contradicted() {
+            return Ok(Outcome::Contradicted);
+        }
+        let halted = self.look_at_waiting();
+        let is_spent = self.budget.is_spent();
+        self.waiting.clear();
+        match halted {
+            Ok(()) if is_spent => Ok(Outcome::Spent),
+            Ok(()) => Ok(Outcome::Saturated),
+            Err(Halt::Contradiction) => Ok(Outcome::Contradicted),
+            Err(Halt::OutOfMemory) => Err(AllocError),
+        }
+    }
+
+    fn look_at_waiting(&mut self) -> Result<(), Halt> {
+        for _ in 0..self.budget.left() {
+            let Some(reader) = self.waiting.take() else {
+                break;
+            };
+            if self.budget.is_spent() {
+                break;
+            }
+            self.look_at(reader)?;
+        }
+        Ok(())
+    }
+
+    /// Derives what follows from the sources of this reader.
+    fn look_at(&mut self, reader: u32) -> Result<(), Halt> {
+        if reader >= self.log.count() {
+            return self.look_at_last(reader);
+        }
+        self.drop_sources(reader)?;
+        if self.sources.living(reader) == 0 {
+            self.contradiction = Contradiction::NoSource(reader);
+            return Err(Halt::Contradiction);
+        }
+        self.find_bounds(reader);
+        self.add_bounds(reader)?;
+        if let Some(only) = self.sources.only(reader) {
+            self.put_writers_before(reader, only)?;
+            self.take_from_others(reader, only)?;
+        }
+        Ok(())
+    }
+
+    /// Says that a source of the reader is not possible.
+    fn drop_source(&mut self, reader: u32, place: u32, fate: Fate) -> Result<(), AllocError> {
+        self.now = self.now.wrapping_add(1);
+        self.sources.drop_source(reader, place, fate, self.now)?;
+        self.waiting.add(reader);
+        Ok(())
+    }
+
+    /// Drops the sources that are not possible any more.
+    fn drop_sources(&mut self, reader: u32) -> Result<(), AllocError> {
+        for place in self.sources.begin(reader)..self.sources.end(reader) {
+            let source = self.sources.source(place);
+            if source.is_possible() {
+                self.budget.spend(self.rows.width() as u64);
+                if let Some(fate) = self.fate_of(reader, source.operation) {
+                    self.drop_source(reader, place, fate)?;
+                }
+            }
+        }
+        Ok(())
+    }
+
+    /// Why this is no source of the reading operation, if it is none.
+    #[inline(always)]
+    fn fate_of(&self, reader: u32, source: u32) -> Option<Fate> {
+        if source == NOBODY {
+            return match self.earlier_writer(reader) {
+                Some(writer) => Some(Fate::Hidden(writer)),
+                None => None,
+            };
+        }
+        if self.stands_before(reader, source) {
+            return Some(Fate::ComesLater);
+        }
+        match hider(self.log, &self.rows, &self.writers, source, reader) {
+            Some(writer) => Some(Fate::Hidden(writer)),
+            None => None,
+        }
+    }
+
+    /// A writer of the reader's location that stands before it.
+    fn earlier_writer(&self, reader: u32) -> Option<u32> {
+        let location = self.log.operation(reader).location;
+        for process in 0..self.rows.width() {
+            let place = self.writers.next(self.log, process, location, 1);
+            if place <= self.rows.before(reader, process) {
+                return Some(self.log.number(process, place));
+            }
+        }
+        None
+    }
+
+    /// Finds for each process the last place that stands before all sources of the reader or is one, and the first place of a writer
+    /// that stands after all of them.
+    fn find_bounds(&mut self, reader: u32) {
+        for process in 0..self.rows.width() {
+            put(self.lows.as_mut_slice(), process, FAR);
+            put(self.highs.as_mut_slice(), process, 0);
+        }
+        let is_alone = self.sources.living(reader) == 1;
+        for place in self.sources.begin(reader)..self.sources.end(reader) {
+            let source = self.sources.source(place);
+            if source.is_possible() {
+                self.budget.spend(self.rows.width() as u64);
+                let is_useful = self.widen_bounds(reader, source.operation);
+                if !is_useful && !is_alone {
+                    break;
+                }
+            }
+        }
+    }
+
+    /// Widens the bounds by one more source. Whether they still say more than the rows of the reader.
+    #[inline(always)]
+    fn widen_bounds(&mut self, reader: u32, source: u32) -> bool {
+        let location = self.log.operation(reader).location;
+        let operation = self.log.operation(source);
+        let mut is_useful = false;
+        for process in 0..self.rows.width() {
+            let mut before = 0;
+            let mut from = 1;
+            if source != NOBODY {
+                before = self.rows.before(source, process);
+                if operation.process == process {
+                    before = operation.place;
+                }
+                from = self.rows.after(source, process);
+            }
+            let low = at(self.lows.as_slice(), process, 0).min(before);
+            put(self.lows.as_mut_slice(), process, low);
+            let after = self.rows.after(reader, process);
+            let mut high = at(self.highs.as_slice(), process, FAR);
+            if high < after {
+                let next = self.writers.next(self.log, process, location, from);
+                if self.log.number(process, next) == reader {
+                    // An update does not stand before itself.
+                    high = self.log.length(process).wrapping_add(1);
+                } else {
+                    high = high.max(next);
+                }
+                put(self.highs.as_mut_slice(), process, high);
+            }
+            is_useful |= low > self.rows.before(reader, process) || high < after;
+        }
+        is_useful
+    }
+
+    /// Adds what the bounds say.
+    fn add_bounds(&mut self, reader: u32) -> Result<(), Halt> {
+        for process in 0..self.rows.width() {
+            let low = at(self.lows.as_slice(), process, FAR);
+            if low != FAR && low > self.rows.before(reader, process) {
+                let first = self.log.number(process, low);
+                self.add(first, reader, Reason::BeforeSources(reader))?;
+            }
+            let high = at(self.highs.as_slice(), process, 0);
+            if high > 0
+                && high <= self.log.length(process)
+                && high < self.rows.after(reader, process)
+            {
+                let second = self.log.number(process, high);
+                self.add(reader, second, Reason::AfterSources(reader))?;
+            }
+        }
+        Ok(())
+    }
+
+    /// The writers that stand before the reader stand before its only source.
+    fn put_writers_before(&mut self, reader: u32, only: u32) -> Result<(), Halt> {
+        if only == NOBODY {
+            return Ok(());
+        }
+        let location = self.log.operation(reader).location;
+        for process in 0..self.rows.width() {
+            let before = self.rows.before(reader, process);
+            let place = self.writers.previous(self.log, process, location, before);
+            if place != 0 {
+                let writer = self.log.number(process, place);
+                if writer != only && !self.stands_before(writer, only) {
+                    self.add(writer, only, Reason::BeforeOnlySource(reader))?;
+                }
+            }
+        }
+        Ok(())
+    }
+
+    /// No other update reads the only source of an update.
+    fn take_from_others(&mut self, reader: u32, only: u32) -> Result<(), AllocError> {
+        let operation = self.log.operation(reader);
+        if !operation.writes {
+            return Ok(());
+        }
+        let mut number = only;
+        if only == NOBODY {
+            number = self.log.count().wrapping_add(operation.location);
+        }
+        for place in self.concerned.begin(number)..self.concerned.begin(number.wrapping_add(1)) {
+            let other = self.concerned.reader(place);
+            if other != reader && other < self.log.count() && self.log.operation(other).writes {
+                self.take_source(other, only, reader)?;
+            }
+        }
+        Ok(())
+    }
+
+    /// The source of the reader is taken by an update.
+    fn take_source(&mut self, reader: u32, operation: u32, update: u32) -> Result<(), AllocError> {
+        for place in self.sources.begin(reader)..self.sources.end(reader) {
+            let source = self.sources.source(place);
+            if source.operation == operation && source.is_possible() {
+                self.drop_source(reader, place, Fate::Taken(update))?;
+            }
+        }
+        Ok(())
+    }
+
+    /// Derives what follows from the writers that may be the last one of a location.
+    fn look_at_last(&mut self, reader: u32) -> Result<(), Halt> {
+        let location = reader.wrapping_sub(self.log.count());
+        for place in self.sources.begin(reader)..self.sources.end(reader) {
+            let source = self.sources.source(place);
+            if source.is_possible() {
+                self.budget.spend(self.rows.width() as u64);
+                let later = later_writer(
+                    self.log,
+                    &self.rows,
+                    &self.writers,
+                    location,
+                    source.operation,
+                );
+                if let Some(writer) = later {
+                    self.drop_source(reader, place, Fate::Hidden(writer))?;
+                }
+            }
+        }
+        if self.sources.living(reader) == 0 {
+            self.contradiction = Contradiction::NoSource(reader);
+            return Err(Halt::Contradiction);
+        }
+        match self.sources.only(reader) {
+            Some(only) => self.put_all_before(reader, location, only),
+            None => Ok(()),
+        }
+    }
+
+    /// All other writers of the location stand before its only possible last one.
+    fn put_all_before(&mut self, reader: u32, location: u32, only: u32) -> Result<(), Halt> {
+        for process in 0..self.rows.width() {
+            let length = self.log.length(process);
+            let place = self.writers.previous(self.log, process, location, length);
+            if place != 0 {
+                let writer = self.log.number(process, place);
+                if writer != only && !self.stands_before(writer, only) {
+                    self.add(writer, only, Reason::BeforeLast(reader))?;
+                }
+            }
+        }
+        Ok(())
+    }
+
+    /// How many readers have more than one possible source.
+    pub fn undecided(&self) -> u32 {
+        let mut count: u32 = 0;
+        for reader in 0..self.sources.readers() {
+            let living = self.sources.living(reader);
+            if living > 1 {
+                count = count.wrapping_add(1);
+            }
+        }
+        count
+    }
+}

@@ -1,0 +1,43 @@
+//! How much work is left.
+
+/// A number of steps that may still be taken. A step is a look at an entry of a table, more or less.
+#[derive(Clone, Copy)]
+pub struct Budget {
+    left: u64,
+}
+
+impl Budget {
+    /// So many steps.
+    pub fn new(steps: u64) -> Budget {
+        Budget { left: steps }
+    }
+
+    /// Takes these steps away, as far as they are there.
+    #[inline(always)]
+    pub fn spend(&mut self, steps: u64) {
+        self.left = self.left.saturating_sub(steps);
+    }
+
+    /// Whether no step is left.
+    #[inline(always)]
+    pub fn is_spent(&self) -> bool {
+        self.left == 0
+    }
+
+    /// How many steps are left.
+    pub fn left(&self) -> u64 {
+        self.left
+    }
+
+    /// Takes away at most so many steps, which are a budget of their own. What is not spent of it comes back by `give_back`.
+    pub fn share(&mut self, most: u64) -> Budget {
+        let steps = self.left.min(most);
+        self.left = self.left.saturating_sub(steps);
+        Budget { left: steps }
+    }
+
+    /// Takes back what is left of a share.
+    pub fn give_back(&mut self, share: Budget) {
+        self.left = self.left.saturating_add(share.left);
+    }
+}

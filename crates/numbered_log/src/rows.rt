@@ -1,0 +1,193 @@
+//! What stands before what, as rows of places.
+
+use crate::log::Log;
+use order_closure::tables::{at, put};
+use std::alloc::{AllocError, Global};
+
+/// An entry of a row as it was.
+#[derive(Clone, Copy)]
+struct Change {
+    entry: u32,
+    old: u16,
+    is_after: bool,
+}
+
+/// For each operation two rows with a place for each process: the first of its operations that stands after this one, and the last one
+/// that stands before it.
+///
+/// Since a process is a chain, these rows say of each two operations whether one stands before the other, in as many entries as
+/// there are operations times processes.
+#[derive(Drop)]
+pub struct Rows {
+    width: u32,
+    /// The place after the last where nothing stands after the operation.
+    after: Vec<u16>,
+    /// 0 where nothing stands before it.
+    before: Vec<u16>,
+    changes: Vec<Change>,
+    keeps_changes: bool,
+    /// What all that stand after a new pair have before them at least.
+    floor: Vec<u16>,
+    /// What all that stand before a new pair have after them at most.
+    ceiling: Vec<u16>,
+}
+
+/// The place as an entry of a row. A process has 4,096 operations at most.
+#[inline(always)]
+fn entry_of(place: u32) -> u16 {
+    (place & 0xffff) as u16
+}
+
+impl Rows {
+    /// The rows of program order alone.
+    pub fn new(alloc: Global, log: &Log) -> Result<Rows, AllocError> {
+        let width = log.processes();
+        let entries = log.count().wrapping_mul(width) as usize;
+        let mut rows = Rows {
+            width,
+            after: vec![in alloc; 0; entries]?,
+            before: vec![in alloc; 0; entries]?,
+            changes: Vec::new(alloc),
+            keeps_changes: false,
+            floor: vec![in alloc; 0; width as usize]?,
+            ceiling: vec![in alloc; 0; width as usize]?,
+        };
+        for number in 0..log.count() {
+            rows.set_program_order(log, number);
+        }
+        Ok(rows)
+    }
+
+    fn set_program_order(&mut self, log: &Log, number: u32) {
+        let operation = log.operation(number);
+        let base = number.wrapping_mul(self.width);
+        for process in 0..self.width {
+            let entry = base.wrapping_add(process);
+            let mut after = log.length(process).wrapping_add(1);
+            if process == operation.process {
+                after = operation.place.wrapping_add(1);
+                let before = entry_of(operation.place.wrapping_sub(1));
+                put(self.before.as_mut_slice(), entry, before);
+            }
+            put(self.after.as_mut_slice(), entry, entry_of(after));
+        }
+    }
+
+    /// The place of the process's first operation that stands after this one.
+    #[inline(always)]
+    pub fn after(&self, number: u32, process: u32) -> u32 {
+        let entry = number.wrapping_mul(self.width).wrapping_add(process);
+        at(self.after.as_slice(), entry, 0) as u32
+    }
+
+    /// The place of the process's last operation that stands before this one, or 0.
+    #[inline(always)]
+    pub fn before(&self, number: u32, process: u32) -> u32 {
+        let entry = number.wrapping_mul(self.width).wrapping_add(process);
+        at(self.before.as_slice(), entry, 0) as u32
+    }
+
+    /// Whether one operation stands before the other.
+    #[inline(always)]
+    pub fn stands_before(&self, log: &Log, first: u32, second: u32) -> bool {
+        let other = log.operation(second);
+        self.after(first, other.process) <= other.place
+    }
+
+    /// How many entries a row has.
+    #[inline(always)]
+    pub fn width(&self) -> u32 {
+        self.width
+    }
+
+    /// Notes what a new pair says of the operations around it.
+    pub fn begin_pair(&mut self, log: &Log, first: u32, second: u32) {
+        for process in 0..self.width {
+            let before = entry_of(self.before(first, process));
+            put(self.floor.as_mut_slice(), process, before);
+            let after = entry_of(self.after(second, process));
+            put(self.ceiling.as_mut_slice(), process, after);
+        }
+        let first = log.operation(first);
+        put(
+            self.floor.as_mut_slice(),
+            first.process,
+            entry_of(first.place),
+        );
+        let second = log.operation(second);
+        put(
+            self.ceiling.as_mut_slice(),
+            second.process,
+            entry_of(second.place),
+        );
+    }
+
+    /// Raises what stands before this operation, which stands after the new pair. Whether anything changed.
+    pub fn raise(&mut self, number: u32) -> Result<bool, AllocError> {
+        let base = number.wrapping_mul(self.width);
+        let mut has_changed = false;
+        for process in 0..self.width {
+            let entry = base.wrapping_add(process);
+            let old = at(self.before.as_slice(), entry, 0);
+            let floor = at(self.floor.as_slice(), process, 0);
+            if old < floor {
+                if self.keeps_changes {
+                    let is_after = false;
+                    self.changes.push(Change {
+                        entry,
+                        old,
+                        is_after,
+                    })?;
+                }
+                put(self.before.as_mut_slice(), entry, floor);
+                has_changed = true;
+            }
+        }
+        Ok(has_changed)
+    }
+
+    /// Lowers what stands after this operation, which stands before the new pair. Whether anything changed.
+    pub fn lower(&mut self, number: u32) -> Result<bool, AllocError> {
+        let base = number.wrapping_mul(self.width);
+        let mut has_changed = false;
+        for process in 0..self.width {
+            let entry = base.wrapping_add(process);
+            let old = at(self.after.as_slice(), entry, 0);
+            let ceiling = at(self.ceiling.as_slice(), process, 0);
+            if old > ceiling {
+                if self.keeps_changes {
+                    let is_after = true;
+                    self.changes.push(Change {
+                        entry,
+                        old,
+                        is_after,
+                    })?;
+                }
+                put(self.after.as_mut_slice(), entry, ceiling);
+                has_changed = true;
+            }
+        }
+        Ok(has_changed)
+    }
+
+    /// How many changes are kept. From now on each change is kept, so that it can be taken back.
+    pub fn keep_changes(&mut self) -> usize {
+        self.keeps_changes = true;
+        self.changes.len()
+    }
+
+    /// Takes back all changes but so many, the last ones first. Where no change is left, none is kept from now on.
+    pub fn take_back(&mut self, left: usize, keeps_changes: bool) {
+        self.keeps_changes = keeps_changes;
+        for _ in left..self.changes.len() {
+            let Some(change) = self.changes.pop() else {
+                break;
+            };
+            if change.is_after {
+                put(self.after.as_mut_slice(), change.entry, change.old);
+            } else {
+                put(self.before.as_mut_slice(), change.entry, change.old);
+            }
+        }
+    }
+}

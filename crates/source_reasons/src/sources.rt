@@ -1,0 +1,234 @@
+//! The possible sources of reading operations and of final values.
+
+use order_closure::tables::{at, put, size};
+use std::alloc::{AllocError, Global};
+
+/// Whether a possible source is still one, and why not.
+#[derive(Clone, Copy)]
+pub enum Fate {
+    /// It is.
+    Possible,
+    /// The reader stands before it.
+    ComesLater,
+    /// This writer of the location comes between the two. A final value is read after all operations.
+    Hidden(u32),
+    /// This update reads it, and no two updates read the same write.
+    Taken(u32),
+}
+
+/// A possible source of a reader.
+#[derive(Clone, Copy)]
+pub struct Source {
+    /// The writer, or `NOBODY` for the initial value.
+    pub operation: u32,
+    pub fate: Fate,
+    /// When it got its fate.
+    pub time: u32,
+}
+
+impl Source {
+    /// Whether it is possible.
+    #[inline(always)]
+    pub fn is_possible(&self) -> bool {
+        matches!(self.fate, Fate::Possible)
+    }
+}
+
+/// The number of living sources of what is no reader, or of a reader whose sources were too many to be kept.
+pub const UNBOUND: u32 = u32::MAX;
+
+/// A source that was dropped, and its reader.
+#[derive(Clone, Copy)]
+struct Dropped {
+    source: u32,
+    reader: u32,
+}
+
+/// For each reader its possible sources. Readers have numbers: an operation its own, and the final value of a location the location's
+/// number after those of all operations.
+#[derive(Drop)]
+pub struct Sources {
+    sources: Vec<Source>,
+    /// For each reader where its sources begin, and where all end.
+    begins: Vec<u32>,
+    /// For each reader how many of its sources are possible.
+    living: Vec<u32>,
+    dropped: Vec<Dropped>,
+    keeps_drops: bool,
+}
+
+/// What stands at a place where there is no source.
+const NOTHING: Source = Source {
+    operation: 0,
+    fate: Fate::ComesLater,
+    time: 0,
+};
+
+/// So many sources are kept in all, which is memory for some 50 MB. Readers for which there is no room are unbound.
+const MOST_SOURCES: usize = 1 << 21;
+
+impl Sources {
+    /// No reader.
+    pub fn new(alloc: Global) -> Sources {
+        Sources {
+            sources: Vec::new(alloc),
+            begins: Vec::new(alloc),
+            living: Vec::new(alloc),
+            dropped: Vec::new(alloc),
+            keeps_drops: false,
+        }
+    }
+
+    /// Begins the next reader.
+    pub fn begin_reader(&mut self) -> Result<(), AllocError> {
+        self.begins.push(size(self.sources.as_slice()))?;
+        Ok(())
+    }
+
+    /// Adds a source to the reader at hand. Whether there is room for it.
+    pub fn add(&mut self, operation: u32) -> Result<bool, AllocError> {
+        if self.sources.len() >= MOST_SOURCES {
+            return Ok(false);
+        }
+        self.sources.push(Source {
+            operation,
+            fate: Fate::Possible,
+            time: 0,
+        })?;
+        Ok(true)
+    }
+
+    /// Ends the reader at hand, which has the sources that were added.
+    pub fn end_reader(&mut self) -> Result<(), AllocError> {
+        let begin = at(self.begins.as_slice(), size(self.living.as_slice()), 0);
+        let count = size(self.sources.as_slice()).wrapping_sub(begin);
+        self.living.push(count)?;
+        Ok(())
+    }
+
+    /// Ends the number at hand, which is no reader that has to have one of some sources.
+    pub fn end_unbound(&mut self) -> Result<(), AllocError> {
+        let begin = at(self.begins.as_slice(), size(self.living.as_slice()), 0);
+        self.sources.truncate(begin as usize);
+        self.living.push(UNBOUND)?;
+        Ok(())
+    }
+
+    /// How many numbers there are.
+    pub fn readers(&self) -> u32 {
+        size(self.living.as_slice())
+    }
+
+    /// How many sources all readers have.
+    pub fn count(&self) -> u32 {
+        size(self.sources.as_slice())
+    }
+
+    /// Where the reader's sources begin.
+    #[inline(always)]
+    pub fn begin(&self, reader: u32) -> u32 {
+        at(
+            self.begins.as_slice(),
+            reader,
+            size(self.sources.as_slice()),
+        )
+    }
+
+    /// Where the reader's sources end.
+    #[inline(always)]
+    pub fn end(&self, reader: u32) -> u32 {
+        self.begin(reader.wrapping_add(1))
+    }
+
+    /// The source at this place.
+    #[inline(always)]
+    pub fn source(&self, place: u32) -> Source {
+        at(self.sources.as_slice(), place, NOTHING)
+    }
+
+    /// How many sources of the reader are possible, or `UNBOUND`.
+    #[inline(always)]
+    pub fn living(&self, reader: u32) -> u32 {
+        at(self.living.as_slice(), reader, UNBOUND)
+    }
+
+    /// Whether the number is of a reader that has to have one of its sources.
+    #[inline(always)]
+    pub fn is_bound(&self, reader: u32) -> bool {
+        self.living(reader) != UNBOUND
+    }
+
+    /// The reader's only possible source. The initial value is named by `NOBODY`.
+    pub fn only(&self, reader: u32) -> Option<u32> {
+        if self.living(reader) != 1 {
+            return None;
+        }
+        for place in self.begin(reader)..self.end(reader) {
+            let source = self.source(place);
+            if source.is_possible() {
+                return Some(source.operation);
+            }
+        }
+        None
+    }
+
+    /// Whether this is a possible source of the reader.
+    pub fn may_be(&self, reader: u32, operation: u32) -> bool {
+        for place in self.begin(reader)..self.end(reader) {
+            let source = self.source(place);
+            if source.operation == operation {
+                return source.is_possible();
+            }
+        }
+        false
+    }
+
+    /// Says that the source at this place, one of the reader's, is not possible.
+    pub fn drop_source(
+        &mut self,
+        reader: u32,
+        place: u32,
+        fate: Fate,
+        time: u32,
+    ) -> Result<(), AllocError> {
+        let source = self.source(place);
+        let changed = Source {
+            operation: source.operation,
+            fate,
+            time,
+        };
+        put(self.sources.as_mut_slice(), place, changed);
+        let living = self.living(reader).wrapping_sub(1);
+        put(self.living.as_mut_slice(), reader, living);
+        if self.keeps_drops {
+            let source = place;
+            self.dropped.push(Dropped { source, reader })?;
+        }
+        Ok(())
+    }
+
+    /// How many drops are kept. From now on each is kept, so that it can be taken back.
+    pub fn keep_drops(&mut self) -> usize {
+        self.keeps_drops = true;
+        self.dropped.len()
+    }
+
+    /// Takes back all drops but so many.
+    pub fn take_back(&mut self, left: usize, keeps_drops: bool) {
+        self.keeps_drops = keeps_drops;
+        for _ in left..self.dropped.len() {
+            let Some(dropped) = self.dropped.pop() else {
+                break;
+            };
+            let source = self.source(dropped.source);
+            let changed = Source {
+                operation: source.operation,
+                fate: Fate::Possible,
+                time: 0,
+            };
+            put(self.sources.as_mut_slice(), dropped.source, changed);
+            let living = self.living(dropped.reader).wrapping_add(1);
+            put(self.living.as_mut_slice(), dropped.reader, living);
+        }
+    }
+}

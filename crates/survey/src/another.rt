@@ -1,0 +1,83 @@
+//! Another contradiction of the same trace, whose core may be smaller.
+
+use crate::part::{Chosen, part_of};
+use crate::shrinking::Core;
+use derived_order::{DerivedOrder, Outcome};
+use numbered_log::Budget;
+use order_closure::tables::at;
+use order_walk::Explanation;
+use std::alloc::{AllocError, Global};
+
+/// A core of so many operations is small enough.
+pub const SMALL: u32 = 10;
+
+/// So often another contradiction is looked for at most.
+const MOST_TRIES: u32 = 60;
+
+/// A core that is found in a part of the trace. What the part loses, no part of it finds again, so the core is one of the whole.
+fn core_within<'a>(
+    alloc: Global,
+    forced: &'a DerivedOrder<'a>,
+    within: &Chosen,
+    budget: &mut Budget,
+) -> Result<Option<Core<'a>>, AllocError> {
+    let operations = within.all(alloc)?;
+    let part = part_of(alloc, forced, operations.as_slice(), within)?;
+    let mut order = DerivedOrder::new(alloc, &part.log, *budget)?;
+    let outcome = order.saturate()?;
+    *budget = order.budget();
+    if outcome != Outcome::Contradicted {
+        return Ok(None);
+    }
+    let mut explanation = Explanation::new(alloc, &order)?;
+    explanation.explain(&order)?;
+    budget.spend(explanation.steps());
+    let mut found = Vec::new(alloc);
+    for operation in &explanation.operations(alloc)? {
+        found.push(at(part.numbers.as_slice(), *operation, 0))?;
+    }
+    let mut core = Core::new(alloc, forced, found)?;
+    core.close(budget)?;
+    if !core.is_refuted(budget)? {
+        return Ok(None);
+    }
+    core.shrink(budget)?;
+    Ok(Some(core))
+}
+
+/// Looks for other contradictions as long as the core has more than ten operations: leaves out one of its operations from the whole
+/// trace, and goes on from a smaller core.
+pub fn smaller_core<'a>(
+    alloc: Global,
+    forced: &'a DerivedOrder<'a>,
+    core: Core<'a>,
+    budget: &mut Budget,
+) -> Result<Core<'a>, AllocError> {
+    let mut best = core;
+    let mut within = Chosen::none(alloc, forced.log().count())?;
+    for operation in 0..forced.log().count() {
+        within.set(operation, true);
+    }
+    let mut place: u32 = 0;
+    for _ in 0..MOST_TRIES {
+        if place >= best.count() || best.count() <= SMALL || budget.is_spent() {
+            break;
+        }
+        let operation = at(best.operations(), place, 0);
+        within.set(operation, false);
+        let mut is_smaller = false;
+        if let Some(core) = core_within(alloc, forced, &within, budget)? {
+            if core.count() < best.count() {
+                best = core;
+                is_smaller = true;
+            }
+        }
+        if is_smaller {
+            place = 0;
+        } else {
+            within.set(operation, true);
+            place = place.wrapping_add(1);
+        }
+    }
+    Ok(best)
+}

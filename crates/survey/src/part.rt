@@ -1,0 +1,276 @@
+//! What is left of a log on some of its operations.
+//!
+//! Where this is not the part that is made of the trace, the answer is of no use, and nothing worse.
+
+use derived_order::DerivedOrder;
+use numbered_log::{Log, NOBODY, Operation, Origin, Pair};
+use order_closure::tables::{at, put, size};
+use std::alloc::{AllocError, Global};
+
+/// Some of the operations of a log.
+#[derive(Drop)]
+pub struct Chosen {
+    is_chosen: Vec<bool>,
+}
+
+impl Chosen {
+    /// None of so many operations.
+    pub fn none(alloc: Global, operations: u32) -> Result<Chosen, AllocError> {
+        Ok(Chosen {
+            is_chosen: vec![in alloc; false; operations as usize]?,
+        })
+    }
+
+    /// Whether the operation is chosen.
+    #[inline(always)]
+    pub fn has(&self, operation: u32) -> bool {
+        at(self.is_chosen.as_slice(), operation, false)
+    }
+
+    /// Chooses the operation, or no longer.
+    #[inline(always)]
+    pub fn set(&mut self, operation: u32, is_chosen: bool) {
+        put(self.is_chosen.as_mut_slice(), operation, is_chosen);
+    }
+
+    /// Those of these operations that are chosen.
+    pub fn among(&self, alloc: Global, operations: &[u32]) -> Result<Vec<u32>, AllocError> {
+        let mut chosen = Vec::new(alloc);
+        for operation in operations {
+            if self.has(*operation) {
+                chosen.push(*operation)?;
+            }
+        }
+        Ok(chosen)
+    }
+
+    /// All that are chosen, by rising numbers.
+    pub fn all(&self, alloc: Global) -> Result<Vec<u32>, AllocError> {
+        let mut chosen = Vec::new(alloc);
+        for operation in 0..size(self.is_chosen.as_slice()) {
+            if self.has(operation) {
+                chosen.push(operation)?;
+            }
+        }
+        Ok(chosen)
+    }
+}
+
+/// A part of a log.
+#[derive(Drop)]
+pub struct Part {
+    pub log: Log,
+    /// For each operation of the part its number in the whole.
+    pub numbers: Vec<u32>,
+}
+
+/// The numbers in the part, by those in the whole.
+#[derive(Drop)]
+struct Renaming {
+    operations: Vec<u32>,
+    locations: Vec<u32>,
+    /// The other way round, for locations.
+    old_locations: Vec<u32>,
+}
+
+/// The part of these operations, which stand by rising numbers and are those that are chosen. The order is the one that program order and
+/// pairs force, before anything else was derived.
+pub fn part_of(
+    alloc: Global,
+    order: &DerivedOrder<'_>,
+    operations: &[u32],
+    chosen: &Chosen,
+) -> Result<Part, AllocError> {
+    let log = order.log();
+    let mut renaming = Renaming {
+        operations: vec![in alloc; NOBODY; log.count() as usize]?,
+        locations: vec![in alloc; NOBODY; log.locations() as usize]?,
+        old_locations: Vec::new(alloc),
+    };
+    renaming.number_locations(log, operations)?;
+    let mut part = Part {
+        log: Log::new(alloc, size(renaming.old_locations.as_slice()))?,
+        numbers: Vec::new(alloc),
+    };
+    part.set_values(order, &renaming, operations, chosen);
+    part.add_operations(order, &mut renaming, operations, chosen)?;
+    part.rename_origins(&renaming);
+    if !log.pairs().is_empty() {
+        part.add_pairs(alloc, order, &renaming)?;
+    }
+    Ok(part)
+}
+
+impl Renaming {
+    /// Gives a number to each location on which one of the operations works.
+    fn number_locations(&mut self, log: &Log, operations: &[u32]) -> Result<(), AllocError> {
+        for number in operations {
+            let location = log.operation(*number).location;
+            if at(self.locations.as_slice(), location, 0) == NOBODY {
+                let new_number = size(self.old_locations.as_slice());
+                put(self.locations.as_mut_slice(), location, new_number);
+                self.old_locations.push(location)?;
+            }
+        }
+        Ok(())
+    }
+
+    /// The number of the operation in the part, or `NOBODY`.
+    fn operation(&self, number: u32) -> u32 {
+        at(self.operations.as_slice(), number, NOBODY)
+    }
+}
+
+/// Whether all possible sources of the reader are chosen.
+pub fn has_all_sources(order: &DerivedOrder<'_>, reader: u32, chosen: &Chosen) -> bool {
+    if !order.sources().is_bound(reader) {
+        return false;
+    }
+    for place in order.sources().begin(reader)..order.sources().end(reader) {
+        let operation = order.sources().source(place).operation;
+        if operation != NOBODY && !chosen.has(operation) {
+            return false;
+        }
+    }
+    true
+}
+
+/// Whether one of the operations writes the location.
+fn has_writer(log: &Log, operations: &[u32], location: u32) -> bool {
+    for number in operations {
+        let operation = log.operation(*number);
+        if operation.writes && operation.location == location {
+            return true;
+        }
+    }
+    false
+}
+
+/// Whether the reading operation still reads.
+fn keeps_read(order: &DerivedOrder<'_>, number: u32, chosen: &Chosen) -> bool {
+    match order.log().operation(number).origin {
+        Origin::Any => has_all_sources(order, number, chosen),
+        Origin::Initial => true,
+        Origin::Operation(origin) => chosen.has(origin) && order.log().operation(origin).writes,
+    }
+}
+
+impl Part {
+    /// Keeps all initial values of the locations, and the final values whose possible last writers are all chosen, where some writer of
+    /// the location is.
+    fn set_values(
+        &mut self,
+        order: &DerivedOrder<'_>,
+        renaming: &Renaming,
+        operations: &[u32],
+        chosen: &Chosen,
+    ) {
+        let log = order.log();
+        for location in 0..size(renaming.old_locations.as_slice()) {
+            let old = at(renaming.old_locations.as_slice(), location, 0);
+            self.log.set_initial(location, log.initial(old));
+            if log.last(old).is_some()
+                && has_all_sources(order, order.final_reader(old), chosen)
+                && has_writer(log, operations, old)
+            {
+                self.log.set_last(location, log.last(old));
+            }
+        }
+    }
+
+    /// Adds what is left of the operations.
+    fn add_operations(
+        &mut self,
+        order: &DerivedOrder<'_>,
+        renaming: &mut Renaming,
+        operations: &[u32],
+        chosen: &Chosen,
+    ) -> Result<(), AllocError> {
+        let log = order.log();
+        let mut process = log.operation(at(operations, 0, 0)).process;
+        for number in operations {
+            let operation = log.operation(*number);
+            if operation.process != process && !self.numbers.is_empty() {
+                self.log.end_process()?;
+            }
+            process = operation.process;
+            let reads = operation.reads && keeps_read(order, *number, chosen);
+            if reads || operation.writes {
+                let new_number = size(self.numbers.as_slice());
+                put(renaming.operations.as_mut_slice(), *number, new_number);
+                self.numbers.push(*number)?;
+                self.log.add_operation(Operation {
+                    location: at(renaming.locations.as_slice(), operation.location, 0),
+                    reads,
+                    ..operation
+                })?;
+            }
+        }
+        self.log.end_process()
+    }
+
+    /// Names origins by their numbers in the part.
+    fn rename_origins(&mut self, renaming: &Renaming) {
+        for number in 0..self.log.count() {
+            let operation = self.log.operation(number);
+            if let Origin::Operation(origin) = operation.origin {
+                let mut changed = Origin::Any;
+                if operation.reads {
+                    changed = Origin::Operation(renaming.operation(origin));
+                }
+                self.log.set_origin(number, changed);
+            }
+        }
+    }
+
+    /// Adds pairs of the nearest operations that are left.
+    fn add_pairs(
+        &mut self,
+        alloc: Global,
+        order: &DerivedOrder<'_>,
+        renaming: &Renaming,
+    ) -> Result<(), AllocError> {
+        let log = order.log();
+        let mut nearest = vec![in alloc; NOBODY; log.count() as usize]?;
+        let mut last = NOBODY;
+        for number in 0..log.count() {
+            if log.operation(number).place == 1 {
+                last = NOBODY;
+            }
+            if renaming.operation(number) != NOBODY {
+                last = renaming.operation(number);
+            }
+            put(nearest.as_mut_slice(), number, last);
+        }
+        for process in 0..log.processes() {
+            self.add_pairs_of(order, process, nearest.as_slice())?;
+        }
+        Ok(())
+    }
+
+    /// Adds the pairs whose first operation is of this process.
+    fn add_pairs_of(
+        &mut self,
+        order: &DerivedOrder<'_>,
+        process: u32,
+        nearest: &[u32],
+    ) -> Result<(), AllocError> {
+        let log = order.log();
+        let mut last = NOBODY;
+        for second in 0..self.log.count() {
+            let old = at(self.numbers.as_slice(), second, 0);
+            if self.log.operation(second).place == 1 {
+                last = NOBODY;
+            }
+            let place = order.before(old, process);
+            if place != 0 && log.operation(old).process != process {
+                let first = at(nearest, log.number(process, place), NOBODY);
+                if first != NOBODY && (last == NOBODY || first > last) {
+                    self.log.add_pair(Pair { first, second })?;
+                    last = first;
+                }
+            }
+        }
+        Ok(())
+    }
+}

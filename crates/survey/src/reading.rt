@@ -1,0 +1,176 @@
+//! A trace as a log of numbers, and names by number.
+
+use numbered_log::{Log, NOBODY, Operation, Origin, Pair};
+use order_closure::tables::{at, size};
+use std::alloc::{AllocError, Global};
+use traces::name::Name;
+use traces::name_table::NameTable;
+use traces::operation::{Op, OpName, Origin as Told};
+use traces::trace::{Process, Trace};
+
+/// The number in a table, which has fewer names than that.
+fn number_in(table: &NameTable<'_>, name: &Name) -> u32 {
+    match table.get(name.as_bytes()) {
+        Some(number) => (number & 0xffff_ffff) as u32,
+        None => NOBODY,
+    }
+}
+
+/// Names of locations, which get numbers in the order in which they come.
+#[derive(Drop)]
+struct Locations<'a> {
+    table: NameTable<'a>,
+    count: u32,
+}
+
+impl<'a> Locations<'a> {
+    /// Gives the location a number, unless it has one.
+    fn enter(&mut self, name: &'a Name) -> Result<(), AllocError> {
+        if self.table.get(name.as_bytes()).is_none() {
+            self.table.insert(name.as_bytes(), self.count as u64)?;
+            self.count = self.count.wrapping_add(1);
+        }
+        Ok(())
+    }
+}
+
+/// The locations on which operations work, or of which a final value is known.
+fn locations_of(alloc: Global, trace: &Trace) -> Result<Locations<'_>, AllocError> {
+    let mut locations = Locations {
+        table: NameTable::new(alloc),
+        count: 0,
+    };
+    for process in trace.processes() {
+        for op in process.operations.as_slice() {
+            locations.enter(op.location())?;
+        }
+    }
+    for value in trace.final_values() {
+        locations.enter(&value.0)?;
+    }
+    Ok(locations)
+}
+
+/// What operations are named by.
+#[derive(Drop)]
+struct Starts<'a> {
+    processes: NameTable<'a>,
+    /// For each process the number of its first operation.
+    starts: Vec<u32>,
+}
+
+impl<'a> Starts<'a> {
+    fn of(alloc: Global, trace: &'a Trace) -> Result<Starts<'a>, AllocError> {
+        let mut starts = Starts {
+            processes: NameTable::new(alloc),
+            starts: Vec::new(alloc),
+        };
+        let mut start: u32 = 0;
+        for process in trace.processes() {
+            let number = size(starts.starts.as_slice());
+            starts
+                .processes
+                .insert(process.name.as_bytes(), number as u64)?;
+            starts.starts.push(start)?;
+            start = start.wrapping_add(size(process.operations.as_slice()));
+        }
+        Ok(starts)
+    }
+
+    /// The number of the operation of this name.
+    fn number(&self, name: &OpName) -> u32 {
+        let process = number_in(&self.processes, &name.process);
+        let start = at(self.starts.as_slice(), process, NOBODY);
+        start.wrapping_add(name.place as u32).wrapping_sub(1)
+    }
+
+    fn origin(&self, origin: &Told) -> Origin {
+        match origin {
+            Told::Any => Origin::Any,
+            Told::Initial => Origin::Initial,
+            Told::Operation(name) => Origin::Operation(self.number(name)),
+        }
+    }
+
+    /// The operation, without its process and place.
+    fn operation(&self, location: u32, op: &Op) -> Operation {
+        let origin = match op {
+            Op::Read { origin, .. } => self.origin(origin),
+            Op::Write { .. } => Origin::Any,
+            Op::Update { origin, .. } => self.origin(origin),
+        };
+        let needed = op.value_read();
+        let left = op.value_left();
+        Operation {
+            process: 0,
+            place: 0,
+            location,
+            reads: needed.is_some(),
+            writes: left.is_some(),
+            needed: value_or_nothing(needed),
+            left: value_or_nothing(left),
+            origin,
+        }
+    }
+}
+
+/// The value, or 0 where nobody asks for it.
+fn value_or_nothing(value: Option<u64>) -> u64 {
+    match value {
+        Some(value) => value,
+        None => 0,
+    }
+}
+
+/// The trace as numbers.
+pub fn log_of(alloc: Global, trace: &Trace) -> Result<Log, AllocError> {
+    let locations = locations_of(alloc, trace)?;
+    let starts = Starts::of(alloc, trace)?;
+    let mut log = Log::new(alloc, locations.count)?;
+    for value in trace.initial() {
+        log.set_initial(number_in(&locations.table, &value.0), Some(value.1));
+    }
+    for value in trace.final_values() {
+        log.set_last(number_in(&locations.table, &value.0), Some(value.1));
+    }
+    for process in trace.processes() {
+        for op in process.operations.as_slice() {
+            let location = number_in(&locations.table, op.location());
+            log.add_operation(starts.operation(location, op))?;
+        }
+        log.end_process()?;
+    }
+    for pair in trace.before() {
+        let first = starts.number(&pair.0);
+        let second = starts.number(&pair.1);
+        log.add_pair(Pair { first, second })?;
+    }
+    Ok(log)
+}
+
+/// The name of an operation of this process.
+fn name_at(alloc: Global, process: &Process, place: u32) -> Result<OpName, AllocError> {
+    Ok(OpName {
+        process: Name::copy_of(alloc, process.name.as_bytes())?,
+        place: (place & 0xffff) as u16,
+    })
+}
+
+/// The names of these operations.
+pub fn names_of(
+    alloc: Global,
+    trace: &Trace,
+    log: &Log,
+    operations: &[u32],
+) -> Result<Vec<OpName>, AllocError> {
+    let mut names = Vec::with_capacity(alloc, operations.len())?;
+    let processes = trace.processes();
+    for number in operations {
+        let operation = log.operation(*number);
+        let process = operation.process as usize;
+        if process < processes.len() {
+            names.push(name_at(alloc, &processes[process], operation.place)?)?;
+        }
+    }
+    Ok(names)
+}

@@ -1,0 +1,296 @@
+//! Smaller cores.
+
+use crate::part::{Chosen, Part, has_all_sources, part_of};
+use derived_order::{DerivedOrder, Outcome};
+use numbered_log::{Budget, Origin};
+use order_closure::tables::{at, piece, size};
+use order_walk::{Ending, Walk};
+use std::alloc::{AllocError, Global};
+
+/// A set of operations whose part has no legal schedule, as far as saturation tells.
+#[derive(Drop)]
+pub struct Core<'a> {
+    alloc: Global,
+    /// The order that program order and pairs force on the whole.
+    forced: &'a DerivedOrder<'a>,
+    operations: Vec<u32>,
+    chosen: Chosen,
+    /// Whether a part that saturation does not refute is walked over.
+    walks: bool,
+}
+
+/// So many steps a walk over a part may take.
+const WALK: u64 = 4_000_000;
+
+impl<'a> Core<'a> {
+    /// The core of these operations, which stand by rising numbers.
+    pub fn new(
+        alloc: Global,
+        forced: &'a DerivedOrder<'a>,
+        operations: Vec<u32>,
+    ) -> Result<Core<'a>, AllocError> {
+        let mut chosen = Chosen::none(alloc, forced.log().count())?;
+        for operation in &operations {
+            chosen.set(*operation, true);
+        }
+        Ok(Core {
+            alloc,
+            forced,
+            operations,
+            chosen,
+            walks: false,
+        })
+    }
+
+    /// The operations, by rising numbers.
+    pub fn operations(&self) -> &[u32] {
+        self.operations.as_slice()
+    }
+
+    /// How many they are.
+    pub fn count(&self) -> u32 {
+        size(self.operations.as_slice())
+    }
+
+    /// Whether saturation finds a contradiction in the part.
+    pub fn is_refuted(&self, budget: &mut Budget) -> Result<bool, AllocError> {
+        let part = part_of(
+            self.alloc,
+            self.forced,
+            self.operations.as_slice(),
+            &self.chosen,
+        )?;
+        budget.spend(self.operations.len() as u64);
+        if self.walks {
+            return self.is_refuted_by_walk(&part, budget);
+        }
+        let mut order = DerivedOrder::new(self.alloc, &part.log, *budget)?;
+        let outcome = order.saturate()?;
+        *budget = order.budget();
+        Ok(outcome == Outcome::Contradicted)
+    }
+
+    /// Whether a walk over the part ends in a contradiction.
+    fn is_refuted_by_walk(&self, part: &Part, budget: &mut Budget) -> Result<bool, AllocError> {
+        let share = budget.share(WALK);
+        let order = DerivedOrder::new(self.alloc, &part.log, share)?;
+        let mut walk = Walk::new(self.alloc, order)?;
+        let ending = walk.run()?;
+        budget.give_back(walk.order().budget());
+        Ok(ending == Ending::Contradicted)
+    }
+
+    /// From now on parts are walked over, since saturation alone does not refute the core.
+    pub fn refute_by_walks(&mut self) {
+        self.walks = true;
+    }
+
+    /// Adds writers by which writers of the core are hidden from readers of the core: without them these would be sources in the part.
+    pub fn close(&mut self, budget: &mut Budget) -> Result<(), AllocError> {
+        for _ in 0..self.forced.log().count() {
+            let before = self.count();
+            for place in 0..before {
+                let reader = at(self.operations.as_slice(), place, 0);
+                if self.forced.log().operation(reader).reads {
+                    self.close_reader(reader, budget);
+                }
+            }
+            for location in 0..self.forced.log().locations() {
+                if self.forced.log().last(location).is_some() {
+                    self.close_last(location, budget);
+                }
+            }
+            self.operations = self.chosen.all(self.alloc)?;
+            if self.count() == before || budget.is_spent() {
+                break;
+            }
+        }
+        Ok(())
+    }
+
+    /// Adds the origin of the reader, or writers that hide others from it.
+    fn close_reader(&mut self, reader: u32, budget: &mut Budget) {
+        let operation = self.forced.log().operation(reader);
+        match operation.origin {
+            Origin::Initial => {}
+            Origin::Operation(origin) => self.chosen.set(origin, true),
+            Origin::Any => {
+                if has_all_sources(self.forced, reader, &self.chosen) {
+                    for place in 0..self.count() {
+                        let writer = at(self.operations.as_slice(), place, 0);
+                        let source = self.forced.log().operation(writer);
+                        if source.writes
+                            && source.location == operation.location
+                            && source.left == operation.needed
+                            && writer != reader
+                        {
+                            self.hide(reader, writer, budget);
+                        }
+                    }
+                }
+            }
+        }
+    }
+
+    /// Adds a writer that hides this one from the reader, if there is one and none is chosen.
+    fn hide(&mut self, reader: u32, writer: u32, budget: &mut Budget) {
+        let forced = self.forced;
+        budget.spend(forced.log().processes() as u64);
+        if forced.stands_before(reader, writer) {
+            return;
+        }
+        let location = forced.log().operation(reader).location;
+        for process in 0..forced.log().processes() {
+            let from = forced.after(writer, process);
+            let to = forced.before(reader, process);
+            if self.has_chosen_writer(process, location, from, to) {
+                return;
+            }
+        }
+        if let Some(found) = forced.hider(writer, reader) {
+            self.chosen.set(found, true);
+        }
+    }
+
+    /// Whether a writer of the location in the process, from one place up to another, is chosen.
+    fn has_chosen_writer(&self, process: u32, location: u32, from: u32, to: u32) -> bool {
+        let log = self.forced.log();
+        let mut place = from;
+        for _ in 0..log.length(process) {
+            if place > to {
+                break;
+            }
+            place = self.forced.writers().next(log, process, location, place);
+            if place > to || place > log.length(process) {
+                break;
+            }
+            if self.chosen.has(log.number(process, place)) {
+                return true;
+            }
+            place = place.wrapping_add(1);
+        }
+        false
+    }
+
+    /// Adds writers that come after others which may not be the last one of the location.
+    fn close_last(&mut self, location: u32, budget: &mut Budget) {
+        let forced = self.forced;
+        let log = forced.log();
+        if !has_all_sources(forced, forced.final_reader(location), &self.chosen) {
+            return;
+        }
+        for place in 0..self.count() {
+            let writer = at(self.operations.as_slice(), place, 0);
+            let source = log.operation(writer);
+            budget.spend(1);
+            if source.writes
+                && source.location == location
+                && Some(source.left) == log.last(location)
+                && !self.has_chosen_after(writer, location)
+            {
+                if let Some(found) = forced.later_writer(location, writer) {
+                    self.chosen.set(found, true);
+                }
+            }
+        }
+    }
+
+    /// Whether a writer of the location that stands after this one is chosen.
+    fn has_chosen_after(&self, writer: u32, location: u32) -> bool {
+        let log = self.forced.log();
+        for process in 0..log.processes() {
+            let from = self.forced.after(writer, process);
+            if self.has_chosen_writer(process, location, from, log.length(process)) {
+                return true;
+            }
+        }
+        false
+    }
+
+    /// Leaves out these operations, if what is left is still refuted. Whether it is.
+    fn leave_out(&mut self, operations: &[u32], budget: &mut Budget) -> Result<bool, AllocError> {
+        if operations.is_empty() || budget.is_spent() {
+            return Ok(false);
+        }
+        for operation in operations {
+            self.chosen.set(*operation, false);
+        }
+        let left = self.chosen.among(self.alloc, self.operations.as_slice())?;
+        let all = std::mem::replace(&mut self.operations, left);
+        if self.is_refuted(budget)? {
+            return Ok(true);
+        }
+        for operation in operations {
+            self.chosen.set(*operation, true);
+        }
+        self.operations = all;
+        Ok(false)
+    }
+
+    /// The operations of the process.
+    fn of_process(&self, process: u32) -> Result<Vec<u32>, AllocError> {
+        let mut group = Vec::new(self.alloc);
+        for operation in &self.operations {
+            if self.forced.log().operation(*operation).process == process {
+                group.push(*operation)?;
+            }
+        }
+        Ok(group)
+    }
+
+    /// The operations on the location.
+    fn on_location(&self, location: u32) -> Result<Vec<u32>, AllocError> {
+        let mut group = Vec::new(self.alloc);
+        for operation in &self.operations {
+            if self.forced.log().operation(*operation).location == location {
+                group.push(*operation)?;
+            }
+        }
+        Ok(group)
+    }
+
+    /// Leaves out operations as long as what is left is refuted: those of a process, those on a location, halves, quarters and so on, and
+    /// each by itself.
+    pub fn shrink(&mut self, budget: &mut Budget) -> Result<(), AllocError> {
+        let log = self.forced.log();
+        for process in 0..log.processes() {
+            let group = self.of_process(process)?;
+            self.leave_out(group.as_slice(), budget)?;
+        }
+        for location in 0..log.locations() {
+            let group = self.on_location(location)?;
+            self.leave_out(group.as_slice(), budget)?;
+        }
+        let mut width = self.count() / 2;
+        for _ in 0..32 {
+            if width <= 1 {
+                break;
+            }
+            self.leave_out_pieces(width, budget)?;
+            width = width.wrapping_add(1) / 2;
+        }
+        for _ in 0..log.count() {
+            let before = self.count();
+            self.leave_out_pieces(1, budget)?;
+            if self.count() == before || budget.is_spent() {
+                break;
+            }
+        }
+        Ok(())
+    }
+
+    /// Leaves out what can be left out of the pieces of so many operations.
+    fn leave_out_pieces(&mut self, width: u32, budget: &mut Budget) -> Result<(), AllocError> {
+        let all = Vec::from_slice(self.alloc, self.operations.as_slice())?;
+        let mut from: u32 = 0;
+        for _ in 0..size(all.as_slice()) {
+            if from >= size(all.as_slice()) {
+                break;
+            }
+            let to = from.wrapping_add(width).min(size(all.as_slice()));
+            self.leave_out(piece(all.as_slice(), from, to), budget)?;
+            from = to;
+        }
+        Ok(())
+    }
+}
