@@ -8,7 +8,7 @@ import tempfile
 
 HERE = os.path.dirname(os.path.realpath(__file__))
 ROOT = os.path.dirname(HERE)
-SECONDS = 60
+SECONDS = 300
 REFUSED = (2, b"refused: memory\n")
 NO_THREAD = (2, b"refused: search 3 NoThread\n")
 DEVICE = (4, b"refused: device\n")
