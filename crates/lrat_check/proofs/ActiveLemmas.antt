@@ -2,19 +2,15 @@
 use Rattle.std.proofs.Common.{◌≡◌, ℕ, zero, suc, ◌-◌, ◌<◌, ◌≤◌, Bool, true, false, cond, List, [], ◌∷◌, ◌++◌, length, map, get_or, refl, ap, sym, ◌∙◌, ◌||◌, arith}
 use Rattle.std.specs.Prelude.{ℤ, Option, Some, None}
 use Rattle.std.specs.List.{slice_get}
-use Rattle.std.specs.Option.{option_map, option_or}
+use Rattle.std.specs.Option.{option_or}
 use Rattle.lrat_check.specs.Active.{at_start}
-
-pub map_cond : {A B : Type 0} (f : A → B) (b : Bool) (x y : Option A) → option_map f (cond b x y) ≡ cond b (option_map f x) (option_map f y)
-map_cond f true x y = refl
-map_cond f false x y = refl
 
 -- what is kept is hidden under the id, and another clause is added there, or none
 pub inserted : (b : Bool) (kept added : Option (List ℤ)) (clause : List ℤ) → option_or (cond (b || false) None kept) (cond b (Some clause) added) ≡ cond b (Some clause) (option_or kept added)
 inserted true kept added clause = refl
 inserted false kept added clause = refl
 
-pub removed : (b : Bool) (kept added : Option (List ℤ)) → option_or (cond (b || false) None kept) (cond b None added) ≡ cond (b || false) None (option_or kept added)
+pub removed : (b : Bool) (kept added : Option (List ℤ)) → option_or (cond (b || false) None kept) (cond (b || false) None added) ≡ cond (b || false) None (option_or kept added)
 removed true kept added = refl
 removed false kept added = refl
 

@@ -1,12 +1,14 @@
 -- Steps, one after the other.
-use Rattle.std.proofs.Common.{◌≡◌, ℕ, ◌+◌, true, false, List, [], ◌∷◌, ◌<◌, length, drop, drop-cons, get_or, add-one, refl, sym, ◌∙◌, subst, inl, inr}
-use Rattle.std.specs.Prelude.{ℤ, Option}
+use Rattle.std.proofs.Common.{◌≡◌, ℕ, ◌+◌, Bool, true, false, eqb, List, [], ◌∷◌, ◌<◌, length, drop, drop-cons, get_or, add-one, refl, sym, ◌∙◌, subst, inl, inr}
+use Rattle.std.specs.Prelude.{ℤ, Option, None}
 use Rattle.std.specs.Prelude.{Result, Ok, Err, IfErr}
 use Rattle.std.specs.Result.{IsErrAnd}
 use Rattle.lrat_check.specs.declared.checker.Accepted.{Accepted}
-use Rattle.lrat_check.specs.Active.{after, at_start}
+use Rattle.lrat_check.specs.Active.{after, at_start, with_clause}
 use Rattle.lrat_check.specs.Checked.{IsRight, IsWrong, ends, Accepts, Refuses, IsRefused}
+use Rattle.lrat_check.specs.Justified.{IsJustified}
 use Rattle.lrat_check.specs.declared.derivation.Step.{Step}
+use Rattle.lrat_check.specs.declared.derivation.Step.TheVariants.{Addition}
 use Rattle.lrat_check.specs.declared.refusal.StepFault.{StepFault}
 use Rattle.lrat_check.specs.declared.refusal.StepFault.TheVariants.{NoEmptyClause}
 use Rattle.text_lines.specs.declared.fault.Fault.{Fault}
@@ -49,6 +51,12 @@ pub walk_over : (start : ℕ → Option (List ℤ)) (steps : List Step) (active 
     IsWalked start steps active next left → left ≡ [] → Refuses start 1 steps NoEmptyClause next
 walk_over start steps active next left h e =
     h.refuses NoEmptyClause next (subst (λ (l : List Step). Refuses active next l NoEmptyClause next) (sym e) (refl, refl))
+
+-- a clause was added
+pub step_added : (old new : ℕ → Option (List ℤ)) (step : Step) (id : ℕ) (literals hints : List ℤ) (ended : Bool) → step ≡ Addition id literals hints → old id ≡ None → IsJustified old literals hints →
+    ended ≡ eqb (length literals) 0 → ((other : ℕ) → new other ≡ with_clause id literals old other) → IsRight old step × (ended ≡ ends step) × ((other : ℕ) → new other ≡ after old step other)
+step_added old new step id literals hints ended e free justified last adds =
+    subst (λ (s : Step). IsRight old s × (ended ≡ ends s) × ((other : ℕ) → new other ≡ after old s other)) (sym e) ((free, justified), last, adds)
 
 -- the next step
 pub next_step : (steps : List Step) (i : ℕ) (step : Step) → i < length steps → step ≡ get_or steps i step → drop i steps ≡ step ∷ drop (i + 1) steps

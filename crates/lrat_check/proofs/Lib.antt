@@ -1,6 +1,8 @@
 pub mod PropagationLemmas
 pub mod RefuteLemmas
+pub mod TrailLemmas
 pub mod ActiveLemmas
+pub mod AddedLemmas
 pub mod CheckLemmas
 pub mod CountLemmas
 pub mod KeptLemmas

@@ -1,8 +1,8 @@
 -- The clauses that are active, as they are stored.
-use Rattle.std.specs.Prelude.{ℕ, ℤ, List, Option, None, ◌==◌, nat_le, if◌then◌else◌}
-use Rattle.std.specs.HashMap.{get_by}
-use Rattle.std.specs.Option.{option_map, option_or}
+use Rattle.std.specs.Prelude.{ℕ, ℤ, List, Option, None, nat_le, if◌then◌else◌}
+use Rattle.std.specs.Option.{option_or}
 use Rattle.lrat_check.specs.Active.{at_start}
+use Rattle.lrat_check.specs.AddedAt.{held_at, row_at}
 use Rattle.lrat_check.specs.Marks.{marked_at}
 use Rattle.lrat_check.specs.declared.active_clauses.ActiveClauses.{ActiveClauses}
 
@@ -12,7 +12,7 @@ kept_at clauses active id = if marked_at active.hidden.items id then None else a
 
 -- the clause that a step has added under an id, if one has
 abbrev pub added_at : ActiveClauses → ℕ → Option (List ℤ)
-added_at active id = option_map (λ clause. clause.now) (get_by (λ other. id == other) active.added)
+added_at active = held_at active.added
 
 -- the clause that is active under an id beside this formula's clauses, if one is
 abbrev pub clause_at : List (List ℤ) → ActiveClauses → ℕ → Option (List ℤ)
@@ -21,3 +21,11 @@ clause_at clauses active id = option_or (kept_at clauses active id) (added_at ac
 -- of these clauses those whose id is at most this one
 abbrev pub up_to : ℕ → (ℕ → Option (List ℤ)) → ℕ → Option (List ℤ)
 up_to last active id = if nat_le id last then active id else None
+
+-- the clause that is active under an id and does not stand in the tree of those added, with an id before this one if a step added it
+abbrev pub early_at : List (List ℤ) → ActiveClauses → ℕ → ℕ → Option (List ℤ)
+early_at clauses active next id = option_or (kept_at clauses active id) (if nat_le next id then None else row_at active.added id)
+
+-- the same, whatever its id
+abbrev pub in_front : List (List ℤ) → ActiveClauses → ℕ → Option (List ℤ)
+in_front clauses active id = option_or (kept_at clauses active id) (row_at active.added id)

@@ -1,4 +1,5 @@
 pub mod Active
+pub mod AddedAt
 pub mod Checked
 pub mod ClauseAt
 pub mod Counted
@@ -20,3 +21,4 @@ pub mod Refusal
 pub mod Refuted
 pub mod Sound
 pub mod Standing
+pub mod Trail

@@ -1,5 +1,5 @@
 -- Clauses under a list of literals that are true.
-use Rattle.std.specs.Prelude.{◌≡◌, ◌≢◌, ℤ, neg_ℤ, Bool, true, false, List}
+use Rattle.std.specs.Prelude.{◌≡◌, ◌≢◌, ℤ, neg_ℤ, Bool, true, false, List, ◌++◌}
 use Rattle.std.specs.List.{list_any, list_all}
 use Rattle.std.specs.Ordering.{int_eq}
 
@@ -34,3 +34,7 @@ pub record HasTwoUnfalsified (trues clause : List ℤ) : Type 0 where
   pub other_among : has clause other ≡ true
   pub one_unfalsified : is_falsified trues one ≡ false
   pub other_unfalsified : is_falsified trues other ≡ false
+
+-- literals that are true, where no others are true than these and further ones that became so after them
+abbrev pub Extends : List ℤ → List ℤ → Type 0
+Extends trues first = (more : List ℤ) × (trues ≡ first ++ more)

@@ -2,14 +2,14 @@
 
 ghost use Rattle.std.specs.Prelude.{◌≡◌, ◌+◌, ℕ, ℤ, List, Some, None, MatchOption, OnOk, is_some, [], ◌∷◌};
 ghost use Rattle.lrat_check.specs.Active.{at_start, with_clause, without};
-ghost use Rattle.lrat_check.specs.ClauseAt.{clause_at, kept_at, up_to};
+ghost use Rattle.lrat_check.specs.ClauseAt.{clause_at, early_at, in_front, kept_at, up_to};
 ghost use Rattle.lrat_check.specs.Counts.{AreCounts};
 
+use crate::added_clauses::AddedClauses;
 use crate::literal_counts::LiteralCounts;
 use crate::marks::{make_room, marked_at};
 use dimacs::{Clause, ClauseList, ListedClause, Lit};
 use std::alloc::{AllocError, Global};
-use std::collections::HashMap;
 
 /// What makes clauses active beside the formula: the cube, which of the clauses that were active at the start are hidden,
 /// and the clauses that steps have added, by their ids. The formula's own clauses are in no table, since their ids are their
@@ -18,7 +18,7 @@ use std::collections::HashMap;
 pub struct ActiveClauses<'a> {
     cube: &'a [Lit],
     hidden: Vec<bool>,
-    added: HashMap<u64, &'a Clause>,
+    added: AddedClauses<'a>,
 }
 
 /// The clause that is active under this id at the start, if one is.
@@ -53,7 +53,7 @@ impl<'a> ActiveClauses<'a> {
         ActiveClauses {
             cube,
             hidden: Vec::new(alloc),
-            added: HashMap::new(alloc),
+            added: AddedClauses::new(alloc),
         }
     }
 
@@ -78,7 +78,7 @@ impl<'a> ActiveClauses<'a> {
         if let Some(clause) = self.kept(formula, id) {
             return Some(clause);
         }
-        match self.added.get(&id) {
+        match self.added.get(id) {
             Some(clause) => Some(ListedClause::lent(clause)),
             None => None,
         }
@@ -116,8 +116,7 @@ impl<'a> ActiveClauses<'a> {
             clause_at (F.formula formula.now).clauses self.new other ≡ with_clause id clause.now (clause_at (F.formula formula.now).clauses self.old) other) }
     {
         self.hide(formula, id)?;
-        self.added.insert(id, clause)?;
-        Ok(())
+        self.added.insert(id, clause)
     }
 
     /// Takes away the clause of this id, if it is active.
@@ -126,7 +125,7 @@ impl<'a> ActiveClauses<'a> {
             clause_at (F.formula formula.now).clauses self.new other ≡ without (id ∷ []) (clause_at (F.formula formula.now).clauses self.old) other) }
     {
         self.hide(formula, id)?;
-        let _clause = self.added.remove(&id);
+        self.added.remove(id);
         Ok(())
     }
 
@@ -170,6 +169,66 @@ impl<'a> ActiveClauses<'a> {
         Ok(())
     }
 
+    /// Whether a clause is active under this id that does not stand in the tree of those added.
+    fn is_in_front<F: ClauseList>(&self, formula: &F, id: u64) -> bool
+        ensures { result ≡ is_some (in_front (F.formula formula.now).clauses self.now id) }
+    {
+        self.is_kept(formula, id) || self.added.row(id).is_some()
+    }
+
+    /// Counts the clause in the row at this place, if it is active, where those before it are counted.
+    fn count_row<F: ClauseList>(
+        &self,
+        formula: &F,
+        place: usize,
+        counts: &mut LiteralCounts,
+    ) -> Result<(), AllocError>
+        ensures { OnOk result (
+            AreCounts (early_at (F.formula formula.now).clauses self.now (self.now.added.first + place)) counts.old →
+            AreCounts (early_at (F.formula formula.now).clauses self.now (self.now.added.first + place + 1)) counts.new) }
+    {
+        let Some(id) = self.added.first.checked_add(place as u64) else {
+            return Err(AllocError);
+        };
+        if self.is_kept(formula, id) {
+            return Ok(());
+        }
+        match self.added.row(id) {
+            Some(clause) => counts.add(clause.as_slice()),
+            None => Ok(()),
+        }
+    }
+
+    /// Counts the clauses that stand in rows, where those of the start are counted.
+    fn count_rows<F: ClauseList>(
+        &self,
+        formula: &F,
+        counts: &mut LiteralCounts,
+    ) -> Result<(), AllocError>
+        ensures { OnOk result (AreCounts (kept_at (F.formula formula.now).clauses self.now) counts.old → AreCounts (in_front (F.formula formula.now).clauses self.now) counts.new) }
+    {
+        for place in 0..self.added.rows.len() {
+            (&*self).count_row(&*formula, place, counts)?;
+        }
+        Ok(())
+    }
+
+    /// Counts the clauses that stand in the tree, where the others are counted.
+    fn count_late<F: ClauseList>(
+        &self,
+        formula: &F,
+        counts: &mut LiteralCounts,
+    ) -> Result<(), AllocError>
+        ensures { OnOk result (AreCounts (in_front (F.formula formula.now).clauses self.now) counts.old → AreCounts (clause_at (F.formula formula.now).clauses self.now) counts.new) }
+    {
+        for (id, clause) in self.added.late.iter() {
+            if !self.is_in_front(&*formula, *id) {
+                counts.add(clause.as_slice())?;
+            }
+        }
+        Ok(())
+    }
+
     /// Counts the clauses that steps have added, where the others are counted.
     pub fn count_added<F: ClauseList>(
         &self,
@@ -178,11 +237,7 @@ impl<'a> ActiveClauses<'a> {
     ) -> Result<(), AllocError>
         ensures { OnOk result (AreCounts (kept_at (F.formula formula.now).clauses self.now) counts.old → AreCounts (clause_at (F.formula formula.now).clauses self.now) counts.new) }
     {
-        for (id, clause) in self.added.iter() {
-            if !self.is_kept(&*formula, *id) {
-                counts.add(clause.as_slice())?;
-            }
-        }
-        Ok(())
+        self.count_rows(formula, counts)?;
+        self.count_late(formula, counts)
     }
 }

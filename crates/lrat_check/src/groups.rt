@@ -1,9 +1,10 @@
 //! Groups of hints: each is for an active clause that holds the negation of the added clause's first literal, the pivot.
 
-ghost use Rattle.std.specs.Prelude.{◌≡◌, List, ℤ, neg_ℤ, IfOk, MatchBool, MatchResult};
+ghost use Rattle.std.specs.Prelude.{◌≡◌, List, ℤ, neg_ℤ, take, IfOk, MatchBool, MatchResult, OnOk};
 ghost use Rattle.lrat_check.specs.ClauseAt.{clause_at};
 ghost use Rattle.lrat_check.specs.Counts.{IsCount, times_at};
 ghost use Rattle.lrat_check.specs.Hints.{first_hints, groups_of};
+ghost use Rattle.lrat_check.specs.Propagation.{Extends};
 ghost use Rattle.lrat_check.specs.Rat.{IsSettled, IsUnsettled, AreSettled, AreUnsettled, HasAllGroups, LacksGroup};
 ghost use Rattle.text_lines.specs.Fault.{IsRefusalAt};
 
@@ -11,27 +12,29 @@ use crate::active_clauses::ActiveClauses;
 use crate::hint_groups::cut_group;
 use crate::literal_counts::times;
 use crate::propagation::propagate;
-use crate::rat::{assume_others, holds, other_holds, restore};
+use crate::rat::{assume_others, holds, other_holds};
 use crate::refusal::{Refusal, StepFault};
-use crate::true_literals::TrueLiterals;
+use crate::true_literals::{TrueLiterals, keep_first};
 use dimacs::{ClauseList, Lit};
 use std::alloc::{AllocError, Global};
-use std::collections::HashSet;
+use std::collections::BTreeSet;
 
-/// Looks whether the group of this id and these hints settles its clause, where these literals are true after the first hints.
+/// Looks whether the group of this id and these hints settles its clause, where the first of the true literals, of this count, were
+/// true after the first hints. The later ones are taken back, so a group costs no more than what it makes true itself.
 fn settle<F: ClauseList>(
     formula: &F,
     active: &ActiveClauses,
     trues: &mut TrueLiterals,
     pivot: Lit,
-    reached: &[Lit],
+    count: usize,
     id: u64,
     hints: &[i64],
     number: usize,
 ) -> Result<(), Refusal>
-    ensures { MatchResult result
-        (λ _. IsSettled (clause_at (F.formula formula.now).clauses active.now) pivot reached.now (record { id = id; hints = first_hints hints.now }))
-        (λ refusal. IsRefusalAt (λ fault. IsUnsettled (clause_at (F.formula formula.now).clauses active.now) pivot reached.now (record { id = id; hints = first_hints hints.now }) fault) number refusal) }
+    ensures kept { OnOk result (Extends trues.new (take count trues.old)) }
+    ensures settled { MatchResult result
+        (λ _. IsSettled (clause_at (F.formula formula.now).clauses active.now) pivot (take count trues.old) (record { id = id; hints = first_hints hints.now }))
+        (λ refusal. IsRefusalAt (λ fault. IsUnsettled (clause_at (F.formula formula.now).clauses active.now) pivot (take count trues.old) (record { id = id; hints = first_hints hints.now }) fault) number refusal) }
 {
     let Some(clause) = active.get(formula, id) else {
         return Err(Refusal::At(StepFault::UnknownHint, number));
@@ -39,7 +42,7 @@ fn settle<F: ClauseList>(
     if !holds(clause.as_slice(), pivot.negated()) {
         return Err(Refusal::At(StepFault::NotOpposed, number));
     }
-    restore(trues, reached)?;
+    keep_first(trues, count);
     if other_holds(trues, pivot, clause.as_slice()) {
         return Ok(());
     }
@@ -51,23 +54,23 @@ fn settle<F: ClauseList>(
     }
 }
 
-/// Looks whether all groups among the hints settle their clauses, in order.
+/// Looks whether all groups among the hints settle their clauses, in order, where these literals are true after the first hints.
 pub fn settle_all<F: ClauseList>(
     formula: &F,
     active: &ActiveClauses,
     trues: &mut TrueLiterals,
     pivot: Lit,
-    reached: &[Lit],
     hints: &[i64],
     number: usize,
 ) -> Result<(), Refusal>
     ensures { MatchResult result
-        (λ _. AreSettled (clause_at (F.formula formula.now).clauses active.now) pivot reached.now (groups_of hints.now))
-        (λ refusal. IsRefusalAt (λ fault. AreUnsettled (clause_at (F.formula formula.now).clauses active.now) pivot reached.now (groups_of hints.now) fault) number refusal) }
+        (λ _. AreSettled (clause_at (F.formula formula.now).clauses active.now) pivot trues.old (groups_of hints.now))
+        (λ refusal. IsRefusalAt (λ fault. AreUnsettled (clause_at (F.formula formula.now).clauses active.now) pivot trues.old (groups_of hints.now) fault) number refusal) }
 {
+    let count = trues.len();
     let mut rest = hints;
     while let Some((id, after)) = cut_group(rest) {
-        settle(formula, active, trues, pivot, reached, id, after, number)?;
+        settle(formula, active, trues, pivot, count, id, after, number)?;
         rest = after;
     }
     Ok(())
@@ -103,7 +106,7 @@ pub fn has_all<F: ClauseList>(
     }
     let negation = pivot.negated();
     let mut left = count;
-    let mut seen = HashSet::new(alloc);
+    let mut seen = BTreeSet::new(alloc);
     let mut rest = hints;
     while let Some((id, after)) = cut_group(rest) {
         if seen.insert(id)? {

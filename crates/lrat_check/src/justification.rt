@@ -57,17 +57,7 @@ fn oppose<F: ClauseList>(
         return Err(Refusal::At(without_pivot(hints), number));
     }
     let pivot = clause[0];
-    let mut reached = Vec::new(alloc);
-    reached.extend_from_slice(trues.as_slice())?;
-    settle_all(
-        formula,
-        &active.clauses,
-        trues,
-        pivot,
-        reached.as_slice(),
-        hints,
-        number,
-    )?;
+    settle_all(formula, &active.clauses, trues, pivot, hints, number)?;
     let count = active.count_of(alloc, formula, pivot.negated())?;
     if has_all(alloc, formula, &active.clauses, pivot, count, hints)? {
         Ok(())

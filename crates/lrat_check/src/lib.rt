@@ -2,6 +2,7 @@
 #![tactic(auto)]
 
 mod active_clauses;
+mod added_clauses;
 pub mod checker;
 mod counted_clauses;
 pub mod derivation;

@@ -1,8 +1,7 @@
 //! Marks of literals.
 
-ghost use Rattle.std.specs.Prelude.{◌≡◌, ◌<◌, ℕ, ℤ, ◌&&◌, ◌==◌, not, vec_len, OnOk};
+ghost use Rattle.std.specs.Prelude.{◌≡◌, ◌<◌, ℕ, ◌&&◌, ◌==◌, not, true, vec_len, if◌then◌else◌, OnOk};
 ghost use Rattle.lrat_check.specs.Marks.{place_of, marked_at};
-ghost use Rattle.lrat_check.specs.Propagation.{has};
 
 use dimacs::Lit;
 use std::alloc::AllocError;
@@ -37,20 +36,19 @@ pub fn make_room(marks: &mut Vec<bool>, place: usize) -> Result<(), AllocError>
     Ok(())
 }
 
+/// Makes a mark at this place of the table.
+pub fn mark_at(marks: &mut Vec<bool>, place: usize)
+    requires { place < vec_len marks.now }
+    ensures { (k : ℕ) → marked_at marks.new.items k ≡ (if place == k then true else marked_at marks.old.items k) }
+{
+    marks[place] = true;
+}
+
 /// Takes the mark at this place away.
-fn unmark_at(marks: &mut Vec<bool>, place: usize)
+pub fn unmark_at(marks: &mut Vec<bool>, place: usize)
     ensures { (k : ℕ) → marked_at marks.new.items k ≡ (marked_at marks.old.items k && not (k == place)) }
 {
     if place < marks.len() {
         marks[place] = false;
-    }
-}
-
-/// Takes the marks of these literals away.
-pub fn unmark(marks: &mut Vec<bool>, literals: &[Lit])
-    ensures { (z : ℤ) → marked_at marks.new.items (place_of z) ≡ (marked_at marks.old.items (place_of z) && not (has literals.now z)) }
-{
-    for literal in literals {
-        unmark_at(marks, place_of(*literal));
     }
 }

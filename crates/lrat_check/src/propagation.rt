@@ -1,10 +1,10 @@
 //! Unit propagation along hints.
 
-ghost use Rattle.std.specs.Prelude.{◌≡◌, ◌≢◌, [], ◌∷◌, ◌++◌, ℕ, List, ℤ, false, Some, None, IfOk, MatchBool, MatchOption, MatchResult};
+ghost use Rattle.std.specs.Prelude.{◌≡◌, ◌≢◌, [], ◌∷◌, ◌++◌, ℕ, List, ℤ, false, Some, None, IfOk, MatchBool, MatchOption, MatchResult, OnOk};
 ghost use Rattle.lrat_check.specs.ClauseAt.{clause_at};
 ghost use Rattle.lrat_check.specs.Hints.{first_hints};
 ghost use Rattle.lrat_check.specs.Justified.{IsImplied, IsUnjustified};
-ghost use Rattle.lrat_check.specs.Propagation.{is_falsified, is_tautology};
+ghost use Rattle.lrat_check.specs.Propagation.{Extends, is_falsified, is_tautology};
 ghost use Rattle.lrat_check.specs.Rat.{Reaches};
 ghost use Rattle.lrat_check.specs.Refuted.{Refutes, FailsToRefute, negated};
 ghost use Rattle.lrat_check.specs.declared.refusal.StepFault.TheVariants.{NoConflict};
@@ -13,7 +13,7 @@ ghost use Rattle.text_lines.specs.Fault.{IsRefusalAt};
 
 use crate::active_clauses::ActiveClauses;
 use crate::refusal::{Refusal, StepFault};
-use crate::true_literals::TrueLiterals;
+use crate::true_literals::{TrueLiterals, keep_first};
 use dimacs::{ClauseList, Lit, are_literals};
 use std::alloc::AllocError;
 
@@ -89,7 +89,7 @@ fn assume_negation(trues: &mut TrueLiterals, clause: &[Lit]) -> Result<bool, All
     ensures { IfOk result (λ is_tautology. IsAssumed clause.now trues.new is_tautology) }
 {
     are_literals(clause);
-    trues.clear();
+    keep_first(trues, 0);
     for literal in clause {
         let negation = literal.negated();
         if trues.falsify(negation) {
@@ -109,7 +109,8 @@ pub fn propagate<F: ClauseList>(
     hints: &[i64],
     number: usize,
 ) -> Result<bool, Refusal>
-    ensures { MatchResult result
+    ensures kept { OnOk result (Extends trues.new trues.old) }
+    ensures refuted { MatchResult result
         (λ refuted. MatchBool refuted
         (Refutes (clause_at (F.formula formula.now).clauses active.now) trues.old (first_hints hints.now))
         (Reaches (clause_at (F.formula formula.now).clauses active.now) trues.old (first_hints hints.now) trues.new))

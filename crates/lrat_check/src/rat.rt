@@ -52,17 +52,6 @@ pub fn other_holds(trues: &TrueLiterals, pivot: Lit, clause: &[Lit]) -> bool
     found
 }
 
-/// Makes these literals true, and no other one.
-pub fn restore(trues: &mut TrueLiterals, literals: &[Lit]) -> Result<(), AllocError>
-    ensures { OnOk result (trues.new ≡ literals.now) }
-{
-    trues.clear();
-    for literal in literals {
-        trues.push(*literal)?;
-    }
-    Ok(())
-}
-
 /// Makes the literal's negation true, unless the literal is the pivot's negation.
 fn assume_other(trues: &mut TrueLiterals, pivot: Lit, literal: Lit) -> Result<(), AllocError>
     ensures { OnOk result (trues.new ≡ trues.old ++ negated (others pivot (literal ∷ []))) }

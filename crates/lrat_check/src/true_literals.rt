@@ -1,31 +1,38 @@
 //! The literals that are true while hints are looked at.
 
-ghost use Rattle.std.specs.Prelude.{◌≡◌, [], ◌∷◌, ◌++◌, OnOk};
+ghost use Rattle.std.specs.Prelude.{◌≡◌, [], ◌∷◌, ◌++◌, ◌-◌, length, take, OnOk};
 ghost use Rattle.lrat_check.specs.Propagation.{has, is_falsified};
 
-use crate::marks::{make_room, marked_at, place_of, unmark};
+use crate::marks::{make_room, mark_at, marked_at, place_of, unmark_at};
 use dimacs::Lit;
 use std::alloc::{AllocError, Global};
 use std::marker::Model;
 
-/// The literals that are true, in the order in which they became so. A table has a mark for each of them, so that a look
-/// takes the same time however many there are.
+/// A literal that became true, and whether it was not true before.
+#[derive(Clone, Copy)]
+struct TrueLiteral {
+    literal: Lit,
+    is_new: bool,
+}
+
+/// The literals that are true, in the order in which they became so; one that was true already may have become so again. A table
+/// has a mark for each of them, so that a look takes the same time however many there are. The last ones can be taken back in the
+/// time that it took to make them true.
 #[derive(Drop)]
 pub struct TrueLiterals {
-    trail: Vec<Lit>,
+    trail: Vec<TrueLiteral>,
     marks: Vec<bool>,
 }
 
 impl Model for TrueLiterals {
-    ghost use Rattle.std.specs.Prelude.{◌≡◌, List, ℤ};
-    ghost use Rattle.lrat_check.specs.Marks.{place_of, marked_at};
-    ghost use Rattle.lrat_check.specs.Propagation.{has};
+    ghost use Rattle.std.specs.Prelude.{List, ℤ};
+    ghost use Rattle.lrat_check.specs.Trail.{literals_of, IsTrail};
 
     ghost Value = { List ℤ };
 
-    ghost view = { λ trues. trues.trail.items };
+    ghost view = { λ trues. literals_of trues.trail.items };
 
-    ghost invariant = { λ trues. (z : ℤ) → marked_at trues.marks.items (place_of z) ≡ has trues.trail.items z };
+    ghost invariant = { λ trues. IsTrail trues.trail.items trues.marks.items };
 }
 
 impl TrueLiterals {
@@ -53,11 +60,11 @@ impl TrueLiterals {
         marked_at(self.marks.as_slice(), place_of(literal))
     }
 
-    /// The literals that are true, in the order in which they became so.
-    pub fn as_slice(&self) -> &[Lit]
-        ensures { result.now ≡ self.now }
+    /// How many have become true.
+    pub fn len(&self) -> usize
+        ensures { result ≡ length self.now }
     {
-        self.trail.as_slice()
+        self.trail.len()
     }
 
     /// Makes the literal true.
@@ -66,16 +73,29 @@ impl TrueLiterals {
     {
         let place = place_of(literal);
         make_room(&mut self.marks, place)?;
-        self.trail.push(literal)?;
-        self.marks[place] = true;
+        let is_new = !marked_at(self.marks.as_slice(), place);
+        self.trail.push(TrueLiteral { literal, is_new })?;
+        mark_at(&mut self.marks, place);
         Ok(())
     }
 
-    /// Makes no literal true.
-    pub fn clear(&mut self)
-        ensures { self.new ≡ [] }
+    /// Takes the last one back.
+    fn undo(&mut self)
+        ensures { self.new ≡ take (length self.old - 1) self.old }
     {
-        unmark(&mut self.marks, self.trail.as_slice());
-        self.trail.clear();
+        if let Some(last) = self.trail.pop() {
+            if last.is_new {
+                unmark_at(&mut self.marks, place_of(last.literal));
+            }
+        }
+    }
+}
+
+/// Makes no literal true but the first ones, of this count.
+pub fn keep_first(trues: &mut TrueLiterals, count: usize)
+    ensures { trues.new ≡ take count trues.old }
+{
+    while trues.len() > count {
+        trues.undo();
     }
 }

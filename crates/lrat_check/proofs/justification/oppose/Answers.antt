@@ -1,4 +1,4 @@
-use Rattle.std.proofs.Common.{◌≡◌, ◌<◌, ℤ, Bool, List, length, refl, subst, neg_ℤ, MatchBool, rules}
+use Rattle.std.proofs.Common.{◌≡◌, ◌<◌, ℤ, Bool, length, refl, subst, neg_ℤ, MatchBool, rules}
 use Rattle.lrat_check.specs.ClauseAt.{clause_at}
 use Rattle.lrat_check.specs.Counts.{IsCount}
 use Rattle.lrat_check.specs.Hints.{groups_of}
@@ -20,8 +20,7 @@ returns-then-branch-clause-rat g c = λ h.
     let groups = groups_of c.args.hints.now in
     let pivot = c.index-clause-0.result in
     let long : 0 < length c.args.clause.now = search rules in
-    let same : c.as_slice-2.result.now ≡ c.args.trues.now = search rules in
-    let settled : AreSettled active pivot c.args.trues.now groups = subst (λ (r : List ℤ). AreSettled active pivot r groups) same c.in_ok-settle_all.ensures in
+    let settled : AreSettled active pivot c.args.trues.now groups = c.in_ok-settle_all.ensures in
     let negation : c.negated.result ≡ neg_ℤ pivot = search rules in
     let count = subst (λ (z : ℤ). IsCount active z c.in_ok-count.count) negation (c.in_ok-count.ensures.count h) in
     let decided : MatchBool c.in_ok-has_all.field-0 (HasAllGroups active pivot groups) (LacksGroup active pivot groups) =
@@ -30,15 +29,14 @@ returns-then-branch-clause-rat g c = λ h.
     let all = subst (λ (b : Bool). MatchBool b (HasAllGroups active pivot groups) (LacksGroup active pivot groups)) c.if-branch.true decided in
     rat_shows active groups c.args.trues.now c.args.clause.now pivot long c.index-clause-0.is settled all
 
-pub returns-clause-rat : goal.returns-clause-rat
-returns-clause-rat g c = λ h.
+pub returns-else-branch-clause-rat : goal.returns-else-branch-clause-rat
+returns-else-branch-clause-rat g c = λ h.
     let clauses = (g.F.ClauseList.formula c.args.formula.now).clauses in
     let active = clause_at clauses c.args.active.now.clauses in
     let groups = groups_of c.args.hints.now in
     let pivot = c.index-clause-0.result in
     let long : 0 < length c.args.clause.now = search rules in
-    let same : c.as_slice-2.result.now ≡ c.args.trues.now = search rules in
-    let settled : AreSettled active pivot c.args.trues.now groups = subst (λ (r : List ℤ). AreSettled active pivot r groups) same c.in_ok-settle_all.ensures in
+    let settled : AreSettled active pivot c.args.trues.now groups = c.in_ok-settle_all.ensures in
     let negation : c.negated.result ≡ neg_ℤ pivot = search rules in
     let count = subst (λ (z : ℤ). IsCount active z c.in_ok-count.count) negation (c.in_ok-count.ensures.count h) in
     let decided : MatchBool c.in_ok-has_all.field-0 (HasAllGroups active pivot groups) (LacksGroup active pivot groups) =
