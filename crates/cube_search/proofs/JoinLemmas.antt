@@ -7,9 +7,10 @@ use Rattle.std.proofs.lemmas.Slice.Zip.{AllZip-long}
 use Rattle.cube_queue.specs.Results.{AreLeaves}
 use Rattle.job_board.specs.declared.seats.WorkerSeat.{WorkerSeat}
 use Rattle.job_board.specs.Hands.{ticket_in}
-use Rattle.job_board.specs.Seats.{given_by, IsWorkerAt, AreWorkersAt}
+use Rattle.job_board.specs.Seats.{put_by, given_by, IsWorkerAt, AreWorkersAt}
 use Rattle.stop_word.specs.Seats.{SeatValue, known_by, AreAllSeats}
 use Rattle.stop_word.specs.WordRule.{parts_in}
+use Rattle.cube_search.proofs.CountLemmas.{jobs_counted}
 use Rattle.cube_search.specs.Workers.{IsHonest, HasWorked}
 use Rattle.cube_search.specs.Crew.{seats_of, stops_of, AreJobsOf, IsCrewAt, HasRun, AreAllAt, IsHonestRun}
 use Rattle.cube_search.specs.declared.crew.Crew.{Crew}
@@ -99,6 +100,7 @@ module _ (clauses : List (List ℤ)) (site : Site) where
     workers_at = workers_kept crew.members.items returned.members.items ran.worked began.workers_at;
     stops_at = stops_kept crew.members.items returned.members.items ran.worked began.stops_at;
     results_are = ran.results_are;
+    all_gathered = ran.all_gathered ∙ sym (jobs_counted site.board.cubes crew.jobs.items (put_by returned.dealer) began.low ran.dealt);
   }
 
   -- the run of a crew that was given the jobs of these leaves

@@ -1,5 +1,7 @@
 pub mod AnswerLemmas
+pub mod CountLemmas
 pub mod CrewLemmas
+pub mod FaultLemmas
 pub mod HandleLemmas
 pub mod JobLemmas
 pub mod JoinLemmas

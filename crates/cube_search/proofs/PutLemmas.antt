@@ -1,7 +1,7 @@
 -- The order in which jobs and stop tickets are put.
-use Rattle.std.proofs.Common.{◌≡◌, ℕ, ◌+◌, ◌<◌, ◌≤◌, List, [], ◌∷◌, ◌++◌, sym, ◌∙◌, ap, subst, append_assoc, arith}
+use Rattle.std.proofs.Common.{◌≡◌, ℕ, ◌+◌, ◌<◌, ◌≤◌, List, [], ◌∷◌, ◌++◌, length, sym, ◌∙◌, ap, subst, append_assoc, arith}
 use Rattle.std.specs.List.{All, AllPairs}
-use Rattle.std.proofs.lemmas.List.{append-nil}
+use Rattle.std.proofs.lemmas.List.{append-nil, length-append}
 use Rattle.std.proofs.lemmas.List.Elements.{All-nil, All-cons, All-head, All-tail, All-push, All-weaker}
 use Rattle.cube_queue.specs.declared.job.Job.{Job}
 use Rattle.cube_search.specs.Crew.{WithStops}
@@ -26,16 +26,18 @@ put_low cubes jobs yielded rest put low is so =
     let small = λ (j : Job). j.ticket < cubes in
     subst (All small) (sym so) (all_front small yielded rest (subst (All small) is low))
 
--- What was put are these jobs, and then stop tickets. All of it is below this number.
+-- What was put are these jobs, and then as many stop tickets as this number is past the cubes. All of it is below this number.
 pub record ArePutBelow (cubes next : ℕ) (jobs put : List Job) : Type 0 where
   pub dealt : WithStops cubes jobs put
   pub low : All (λ (job : Job). job.ticket < next) put
+  pub long : length put + cubes ≡ length jobs + next
 
 -- no stop ticket was put yet
 pub no_stop : (cubes next : ℕ) (jobs : List Job) → All (λ (job : Job). job.ticket < cubes) jobs → next ≡ cubes → ArePutBelow cubes next jobs jobs
 no_stop cubes next jobs low is = record {
   dealt = ([], sym (append-nil jobs), All-nil (λ (job : Job). cubes ≤ job.ticket));
   low = subst (λ (n : ℕ). All (λ (job : Job). job.ticket < n) jobs) (sym is) low;
+  long = omega (arith, is);
 }
 
 -- the next stop ticket was put
@@ -53,4 +55,5 @@ one_stop cubes next after jobs before put stop so past ticket more is =
           (All (λ (job : Job). job.ticket < after))
           (sym is)
           (All-push (λ (job : Job). job.ticket < after) before stop (All-weaker (λ (job : Job). job.ticket < next) (λ (job : Job). job.ticket < after) (λ (job : Job) low. omega (arith, low, more)) before so.low) (omega (arith, ticket, more)));
+      long = omega (arith, so.long, more, ap length is, length-append before (stop ∷ []));
     }

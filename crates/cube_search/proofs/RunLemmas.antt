@@ -1,6 +1,7 @@
 -- The results of an honest run.
-use Rattle.std.proofs.Common.{◌≡◌, ℕ, ◌≤◌, ℤ, List, map, None, ◌∙◌, ap, subst, arith}
+use Rattle.std.proofs.Common.{◌≡◌, ℕ, ◌≤◌, ℤ, List, [], ◌∷◌, map, None, ◌∙◌, ap, subst, arith}
 use Rattle.std.specs.List.{All, Contains}
+use Rattle.std.proofs.lemmas.List.Elements.{All-nil, All-cons, All-head, All-tail}
 use Rattle.std.proofs.lemmas.Simd.{map-map}
 use Rattle.cube_queue.specs.declared.job.Settled.{Settled}
 use Rattle.cube_queue.specs.declared.outcome.Outcome.TheVariants.{Skipped}
@@ -8,6 +9,7 @@ use Rattle.cube_queue.specs.Results.{AreResultsOf, HasModelBelow}
 use Rattle.job_board.specs.Accounts.{AreAnswersTo}
 use Rattle.job_board.specs.Hands.{ticket_in}
 use Rattle.job_board.specs.Merge.{IsMergeOf}
+use Rattle.job_board.specs.declared.seats.WorkerSeat.{WorkerSeat}
 use Rattle.job_board.specs.Seats.{put_by, given_by, gathered_by}
 use Rattle.stop_word.specs.declared.views.View.{View}
 use Rattle.stop_word.specs.Seats.{SeatValue, known_by}
@@ -18,6 +20,14 @@ use Rattle.cube_search.specs.declared.crew.Member.{Member}
 use Rattle.cube_search.specs.declared.crew.Returned.{Returned}
 use Rattle.cube_search.specs.declared.site.Site.{Site}
 use Rattle.cube_search.proofs.AnswerLemmas.{are_results, model_below}
+
+-- no member has a job left in its hand
+pub hands_empty : (members : List Member) → All (λ (seat : WorkerSeat). ticket_in seat.hand ≡ None) (seats_of members) → All (λ (m : Member). ticket_in m.seat.hand ≡ None) members
+hands_empty [] empty = All-nil (λ (m : Member). ticket_in m.seat.hand ≡ None)
+hands_empty (m ∷ members) empty =
+    All-cons (λ (n : Member). ticket_in n.seat.hand ≡ None) m members
+    (All-head (λ (seat : WorkerSeat). ticket_in seat.hand ≡ None) m.seat (seats_of members) empty)
+    (hands_empty members (All-tail (λ (seat : WorkerSeat). ticket_in seat.hand ≡ None) m.seat (seats_of members) empty))
 
 abbrev member_gave : Member → List Settled
 member_gave m = given_by m.seat

@@ -5,6 +5,7 @@ use Rattle.cube_queue.specs.declared.job.Job.{Job}
 use Rattle.cube_queue.specs.Results.{AreLeaves}
 use Rattle.job_board.specs.declared.seats.WorkerSeat.{WorkerSeat}
 use Rattle.job_board.specs.Hands.{ticket_in}
+use Rattle.job_board.specs.Pairs.{of_jobs, below}
 use Rattle.job_board.specs.Seats.{put_by, given_by, gathered_by, IsDealerAt, IsCollectorAt, AreWorkersAt}
 use Rattle.stop_word.specs.Seats.{SeatValue, AreAllSeats}
 use Rattle.cube_search.specs.Workers.{IsHonest, IsReady, HasWorked}
@@ -44,21 +45,24 @@ pub record IsCrewAt (site : Site) (crew : Crew) : Type 0 where
   pub workers_at : AreWorkersAt site.board (seats_of crew.members.items)
   pub stops_at : AreAllSeats site.word (stops_of crew.members.items)
 
--- All jobs of the crew were put, and then stop tickets; the results are those that were gathered; each member has worked.
+-- All jobs of the crew were put, and then stop tickets; the results are those that were gathered, as many as the jobs; each member has
+-- worked.
 pub record HasRun (clauses : List (List ℤ)) (site : Site) (crew : Crew) (returned : Returned) : Type 0 where
   pub dealer_at : IsDealerAt site.board returned.dealer
   pub dealt : WithStops site.board.cubes crew.jobs.items (put_by returned.dealer)
   pub collector_at : IsCollectorAt site.board returned.collector
   pub results_are : returned.results.items ≡ gathered_by returned.collector
+  pub all_gathered : length returned.results.items ≡ length crew.jobs.items
   pub worked : AllZip (HasWorked clauses site) crew.members.items returned.members.items
 
--- all seats at this site, and the results that were gathered
+-- all seats at this site, and the results that were gathered, as many as jobs were put
 pub record AreAllAt (site : Site) (returned : Returned) : Type 0 where
   pub dealer_at : IsDealerAt site.board returned.dealer
   pub collector_at : IsCollectorAt site.board returned.collector
   pub workers_at : AreWorkersAt site.board (seats_of returned.members.items)
   pub stops_at : AreAllSeats site.word (stops_of returned.members.items)
   pub results_are : returned.results.items ≡ gathered_by returned.collector
+  pub all_gathered : length returned.results.items ≡ length (below site.board.cubes (of_jobs (put_by returned.dealer)))
 
 -- What was put were the jobs of these leaves and then stop tickets, and each member in whose hand no job is left was honest.
 pub record IsHonestRun (clauses cubes : List (List ℤ)) (which : List ℕ) (site : Site) (returned : Returned) : Type 0 where

@@ -1,2 +1,3 @@
 pub mod Workers
 pub mod Crew
+pub mod Faults

@@ -1,31 +1,15 @@
 //! A search is closed: what its workers gave is looked at once all have ended.
-ghost use Rattle.std.specs.Prelude.{◌≡◌, ℕ, ℤ, List, IsTrue, None, IfOk};
-ghost use Rattle.std.specs.List.{All};
+ghost use Rattle.std.specs.Prelude.{◌≡◌, ℕ, ℤ, List, IfOk};
 ghost use Rattle.cube_queue.specs.Results.{AreResultsOf};
-ghost use Rattle.job_board.specs.Accounts.{IsBalanced};
-ghost use Rattle.job_board.specs.Hands.{ticket_in};
 ghost use Rattle.cube_search.specs.Crew.{seats_of, stops_of, AreAllAt, IsHonestRun};
 
 use crate::crew::{Member, Returned};
 use crate::site::Site;
-use cube_queue::{SearchCause, SearchFault, Settled};
-use job_board::{Account, WorkerSeat};
+use cube_queue::Settled;
+use job_board::WorkerSeat;
 use std::alloc::{AllocError, Global};
 use std::sync::Wait;
 use stop_word::StopSeat;
-use text_lines::plain_fault::PlainFault;
-
-/// Whether no member has a job left in its hand.
-fn hold_no_job(members: &[Member]) -> bool
-    ensures { IsTrue result → All (λ m. ticket_in m.seat.hand ≡ None) members.now }
-{
-    for member in members {
-        if member.seat.holds().is_some() {
-            return false;
-        }
-    }
-    true
-}
 
 /// The members' seats at the board, and those at the stop word, in the order of the members.
 fn parted(
@@ -45,21 +29,14 @@ fn parted(
     Ok((seats, stops))
 }
 
-/// Whether all jobs that were put were taken, and their results given and gathered.
-fn is_balanced(account: &Account) -> bool
-    ensures { IsTrue result → IsBalanced account.now }
-{
-    account.taken == account.put && account.given == account.put && account.gathered == account.put
-}
-
 /// The results that were gathered. Where the jobs of these leaves were put, and each worker was honest, they are the results of these
-/// leaves. It answers `Cut` where a job or a result was left on the way.
+/// leaves. It needs no look at the account: as many were gathered as were put, so none was left on the way.
 pub(crate) fn close<R: Wait>(
     alloc: Global,
     rt: &R,
     site: Site,
     returned: Returned,
-) -> Result<Vec<Settled>, SearchFault>
+) -> Result<Vec<Settled>, AllocError>
     requires { AreAllAt site returned }
     ensures { (clauses cubes : List (List ℤ)) (which : List ℕ) → IsHonestRun clauses cubes which site returned → IfOk result (λ results. AreResultsOf clauses cubes which results.items) }
 {
@@ -70,15 +47,9 @@ pub(crate) fn close<R: Wait>(
         results,
     } = returned;
     let Site { board, word } = site;
-    if !hold_no_job(members.as_slice()) {
-        return Err(PlainFault::For(SearchCause::Cut));
-    }
     let (seats, stops) = parted(alloc, members)?;
-    let account = board.close(rt, dealer, seats, collector);
-    if !is_balanced(&account) {
-        return Err(PlainFault::For(SearchCause::Cut));
-    }
-    // What this answers is known by its contract: no worker was shown a number below it.
+    // What these two answer is known by their contracts: the four numbers are equal, and no worker was shown a number below the least.
+    let _account = board.close(rt, dealer, seats, collector);
     let _least = word.close(stops);
     Ok(results)
 }

@@ -1,6 +1,8 @@
 //! Results are gathered.
-ghost use Rattle.std.specs.Prelude.{◌≡◌, [], IfOk};
+ghost use Rattle.std.specs.Prelude.{◌≡◌, ◌⊎◌, ◌<◌, [], length, IfOk, IfErr};
+ghost use Rattle.cube_queue.specs.declared.search_fault.SearchCause.TheVariants.{Cut};
 ghost use Rattle.job_board.specs.Seats.{gathered_by, IsCollectorAt};
+ghost use Rattle.text_lines.specs.declared.plain_fault.PlainFault.TheVariants.{OutOfMemory, For};
 
 use cube_queue::{SearchCause, SearchFault, Settled};
 use job_board::{Board, CollectorSeat};
@@ -19,6 +21,8 @@ pub(crate) fn gather_all<R: Wait>(
     requires { IsCollectorAt board.now seat.old × (gathered_by seat.old ≡ []) }
     ensures seat { IsCollectorAt board.now seat.new }
     ensures results { IfOk result (λ results. results.items ≡ gathered_by seat.new) }
+    ensures all { IfOk result (λ results. length results.items ≡ count) }
+    ensures fault { IfErr result (λ fault. (fault ≡ OutOfMemory) ⊎ ((fault ≡ For Cut) × (length (gathered_by seat.new) < count))) }
 {
     let mut results = Vec::with_capacity(alloc, count)?;
     for _ in 0..count {

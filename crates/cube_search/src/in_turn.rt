@@ -5,11 +5,11 @@ ghost use Rattle.cube_tree.specs.CubeTree.{cubes_of};
 
 use crate::leaf_jobs::job_of;
 use crate::settling::{is_model_result, settle_job};
-use cube_queue::{Gate, SearchFault, Settled};
+use cube_queue::{Gate, Settled};
 use cube_tree::{Tree, cubes};
 use dimacs::ClauseList;
 use solver::Preparation;
-use std::alloc::Global;
+use std::alloc::{AllocError, Global};
 
 /// Whether the last of the results is a model of the formula that makes its cube true.
 fn ends_in_model<L: ClauseList>(formula: &L, results: &[Settled]) -> bool
@@ -37,7 +37,7 @@ pub(crate) fn search_in_turn<L: ClauseList, G: Gate>(
     which: &[u32],
     budget: u64,
     gate: &G,
-) -> Result<Vec<Settled>, SearchFault>
+) -> Result<Vec<Settled>, AllocError>
     requires { AreLeaves (cubes_of tree.now) which.now }
     ensures { IfOk result (λ results. AreResultsOf (L.formula formula.now).clauses (cubes_of tree.now) which.now results.items) }
 {

@@ -6,14 +6,14 @@ ghost use Rattle.cube_search.specs.Workers.{HasWorked};
 use crate::crew::Member;
 use crate::promised::MemberOf;
 use crate::settler::Settler;
-use cube_queue::SearchFault;
+use std::alloc::AllocError;
 use std::thread::{PromisedHandle, Threads, join_promised};
 
 /// All members, in the order of their handles, once each thread has ended.
 pub(crate) fn join_all<R: Threads, S: Settler>(
     rt: &R,
     handles: Vec<PromisedHandle<Member, MemberOf<S>>>,
-) -> Result<Vec<Member>, SearchFault>
+) -> Result<Vec<Member>, AllocError>
     ensures { IfOk result (λ members. AllZip (λ handle member. HasWorked (S.clauses handle.promise.settler.value) handle.promise.site.value handle.promise.member.value member) handles.items members.items) }
 {
     let members = join_promised(rt, handles)?;

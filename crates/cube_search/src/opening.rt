@@ -44,7 +44,7 @@ pub(crate) fn open(
     requires rising { AllPairs (λ a b. a.ticket < b.ticket) jobs.items }
     requires low { All (λ job. job.ticket < cubes) jobs.items }
     ensures crew { IfOk result (λ r. IsCrewAt r.0 r.1) }
-    ensures cubes { IfOk result (λ r. r.0.board.cubes ≡ cubes) }
+    ensures board { IfOk result (λ r. (r.0.board.workers ≡ workers) × (r.0.board.cubes ≡ cubes)) }
     ensures jobs { IfOk result (λ r. r.1.jobs.items ≡ jobs.items) }
 {
     let (board, dealer, seats, collector) = Board::open(alloc, workers, cubes, 2 * workers)?;

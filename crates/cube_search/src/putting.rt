@@ -1,5 +1,5 @@
 //! Jobs are put, and then the stop tickets.
-ghost use Rattle.std.specs.Prelude.{◌≡◌, ◌<◌, ◌≤◌, [], IsTrue};
+ghost use Rattle.std.specs.Prelude.{◌≡◌, ◌+◌, ◌<◌, ◌≤◌, [], length, IsTrue, IsFalse};
 ghost use Rattle.std.specs.List.{All, AllPairs};
 ghost use Rattle.job_board.specs.Seats.{put_by, IsDealerAt};
 ghost use Rattle.cube_search.specs.Crew.{WithStops};
@@ -17,6 +17,7 @@ fn put_jobs<R: Wait>(rt: &R, board: &Board, seat: &mut DealerSeat, jobs: Vec<Job
     ensures seat { IsDealerAt board.now seat.new }
     ensures low { All (λ job. job.ticket < board.now.cubes) (put_by seat.new) }
     ensures put { IsTrue result → put_by seat.new ≡ jobs.items }
+    ensures fewer { IsFalse result → length (put_by seat.new) < length jobs.items }
 {
     for job in jobs {
         match board.put(rt, seat, job) {
@@ -27,13 +28,20 @@ fn put_jobs<R: Wait>(rt: &R, board: &Board, seat: &mut DealerSeat, jobs: Vec<Job
     true
 }
 
-/// Puts one stop ticket for each worker, and says whether all were put. It ends at the first that comes back.
-fn put_stops<R: Wait>(alloc: Global, rt: &R, board: &Board, seat: &mut DealerSeat) -> bool
+/// Puts one stop ticket for each worker, and says whether all were put. It ends at the first that comes back. It takes no memory.
+pub(crate) fn put_stops<R: Wait>(
+    alloc: Global,
+    rt: &R,
+    board: &Board,
+    seat: &mut DealerSeat,
+) -> bool
     requires seat { IsDealerAt board.now seat.old }
     requires low { All (λ job. job.ticket < board.now.cubes) (put_by seat.old) }
     requires few { (board.now.cubes ≤ 1024) × (board.now.workers ≤ 8) }
     ensures seat { IsDealerAt board.now seat.new }
-    ensures put { IsTrue result → WithStops board.now.cubes (put_by seat.old) (put_by seat.new) }
+    ensures put { WithStops board.now.cubes (put_by seat.old) (put_by seat.new) }
+    ensures all { IsTrue result → length (put_by seat.new) ≡ length (put_by seat.old) + board.now.workers }
+    ensures fewer { IsFalse result → length (put_by seat.new) < length (put_by seat.old) + board.now.workers }
 {
     let cubes = board.cubes();
     for worker in 0..board.workers() {
@@ -46,15 +54,14 @@ fn put_stops<R: Wait>(alloc: Global, rt: &R, board: &Board, seat: &mut DealerSea
     true
 }
 
-/// Puts these jobs where all workers were begun, and in any case the stop tickets: without them a worker that was begun waits for
-/// ever. It says whether all were put. It takes no memory.
+/// Puts these jobs, and in any case the stop tickets: without them a worker waits for ever. It says whether all were put. It takes no
+/// memory.
 pub(crate) fn deal<R: Wait>(
     alloc: Global,
     rt: &R,
     board: &Board,
     seat: &mut DealerSeat,
     jobs: Vec<Job>,
-    begun: bool,
 ) -> bool
     requires seat { IsDealerAt board.now seat.old × (put_by seat.old ≡ []) }
     requires rising { AllPairs (λ a b. a.ticket < b.ticket) jobs.items }
@@ -62,12 +69,9 @@ pub(crate) fn deal<R: Wait>(
     requires few { (board.now.cubes ≤ 1024) × (board.now.workers ≤ 8) }
     ensures seat { IsDealerAt board.now seat.new }
     ensures put { IsTrue result → WithStops board.now.cubes jobs.items (put_by seat.new) }
+    ensures fewer { IsFalse result → length (put_by seat.new) < length jobs.items + board.now.workers }
 {
-    let dealt = if begun {
-        put_jobs(rt, board, seat, jobs)
-    } else {
-        false
-    };
+    let dealt = put_jobs(rt, board, seat, jobs);
     let stopped = put_stops(alloc, rt, board, seat);
     dealt && stopped
 }

@@ -1,11 +1,12 @@
 //! A search is run in threads.
-ghost use Rattle.std.specs.Prelude.{IfOk};
+ghost use Rattle.std.specs.Prelude.{IfOk, IfErr};
 ghost use Rattle.cube_search.specs.Crew.{IsCrewAt, HasRun};
+ghost use Rattle.cube_search.specs.Faults.{IsFaultAt};
 
 use crate::crew::{Crew, Returned};
 use crate::gathering::gather_all;
 use crate::joining::join_all;
-use crate::putting::deal;
+use crate::putting::{deal, put_stops};
 use crate::settler::Settler;
 use crate::site::Site;
 use crate::starting::start_all;
@@ -17,7 +18,7 @@ use std::thread::{Scope, Threads};
 use text_lines::plain_fault::PlainFault;
 
 /// Starts a thread for each member, puts all jobs, gathers their results, and joins the threads. A stop ticket is put for each member
-/// whatever has failed before, so each thread that was started ends.
+/// whatever has failed before, so each thread that was started ends. No job is put where one could not be started.
 fn run_members<'s, E, R: Threads + Wait + Sync, S: Settler + Sync, G: Gate + Sync>(
     alloc: Global,
     rt: &'s R,
@@ -28,7 +29,8 @@ fn run_members<'s, E, R: Threads + Wait + Sync, S: Settler + Sync, G: Gate + Syn
     crew: Crew,
 ) -> Result<Returned, SearchFault>
     requires { IsCrewAt site.now crew }
-    ensures { IfOk result (λ returned. HasRun (S.clauses settler.entry.now) site.entry.now crew returned) }
+    ensures returned { IfOk result (λ returned. HasRun (S.clauses settler.entry.now) site.entry.now crew returned) }
+    ensures fault { IfErr result (λ fault. IsFaultAt site.entry.now.board crew.jobs.items fault) }
 {
     let Crew {
         mut dealer,
@@ -37,10 +39,14 @@ fn run_members<'s, E, R: Threads + Wait + Sync, S: Settler + Sync, G: Gate + Syn
         jobs,
     } = crew;
     let count = jobs.len();
-    let started = start_all(alloc, rt, scope, site, settler, gate, members);
-    let dealt = deal(alloc, rt, &site.board, &mut dealer, jobs, started.is_ok());
-    let handles = started?;
-    if !dealt {
+    let handles = match start_all(alloc, rt, scope, site, settler, gate, members) {
+        Ok(handles) => handles,
+        Err(fault) => {
+            put_stops(alloc, rt, &site.board, &mut dealer);
+            return Err(fault);
+        }
+    };
+    if !deal(alloc, rt, &site.board, &mut dealer, jobs) {
         return Err(PlainFault::For(SearchCause::Cut));
     }
     let results = gather_all(alloc, rt, &site.board, &mut collector, count)?;
@@ -63,14 +69,16 @@ pub(crate) fn run<R: Threads + Wait + Sync, S: Settler + Sync, G: Gate + Sync>(
     crew: Crew,
 ) -> Result<Returned, SearchFault>
     requires { IsCrewAt site.now crew }
-    ensures { IfOk result (λ returned. HasRun (S.clauses settler.now) site.now crew returned) }
+    ensures returned { IfOk result (λ returned. HasRun (S.clauses settler.now) site.now crew returned) }
+    ensures fault { IfErr result (λ fault. IsFaultAt site.now.board crew.jobs.items fault) }
 {
     thread::scope(
         thread::scope_env(),
         rt,
         move |scope| -> Result<Returned, SearchFault>
             requires { IsCrewAt site.now crew }
-            ensures { IfOk result (λ returned. HasRun (S.clauses settler.entry.now) site.entry.now crew returned) }
+            ensures returned { IfOk result (λ returned. HasRun (S.clauses settler.entry.now) site.entry.now crew returned) }
+            ensures fault { IfErr result (λ fault. IsFaultAt site.entry.now.board crew.jobs.items fault) }
         { run_members(alloc, rt, scope, site, settler, gate, crew) },
     )
 }

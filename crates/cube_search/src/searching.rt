@@ -1,6 +1,7 @@
 //! The search that settles the leaves of a tree.
-ghost use Rattle.std.specs.Prelude.{◌≡◌, ◌≤◌, length, IfOk};
+ghost use Rattle.std.specs.Prelude.{◌≡◌, ◌≤◌, length, IfOk, IfErr};
 ghost use Rattle.cube_queue.specs.Results.{AreLeaves, AreResultsOf};
+ghost use Rattle.cube_search.specs.Faults.{IsFaultOf};
 ghost use Rattle.cube_tree.specs.CubeTree.{cubes_of};
 
 use crate::closing::close;
@@ -41,7 +42,7 @@ fn needed(workers: u32, leaves: usize) -> u32
     }
 }
 
-/// Searches the cubes of these leaves of the tree, of which there is one at least, by so many workers in threads of their own.
+/// Searches the cubes of these leaves of the tree by several workers in threads of their own, no more of them than leaves.
 fn search_in_threads<R: Threads + Wait + Sync, L: ClauseList + Sync, G: Gate + Sync>(
     alloc: Global,
     rt: &R,
@@ -52,15 +53,17 @@ fn search_in_threads<R: Threads + Wait + Sync, L: ClauseList + Sync, G: Gate + S
     gate: &G,
 ) -> Result<Vec<Settled>, SearchFault>
     requires leaves { AreLeaves (cubes_of tree.now) which.now }
-    requires some { 1 ≤ length which.now }
-    requires workers { (1 ≤ workers) × (workers ≤ 8) }
-    ensures { IfOk result (λ results. AreResultsOf (L.formula settler.now.formula.now).clauses (cubes_of tree.now) which.now results.items) }
+    requires workers { (2 ≤ workers) × (workers ≤ 8) }
+    requires used { workers ≤ length which.now }
+    ensures results { IfOk result (λ results. AreResultsOf (L.formula settler.now.formula.now).clauses (cubes_of tree.now) which.now results.items) }
+    ensures fault { IfErr result (λ fault. IsFaultOf workers (cubes_of tree.now) which.now fault) }
 {
     let cubes = leaf_cubes(alloc, tree)?;
     let jobs = jobs_of(alloc, cubes.as_slice(), which)?;
     let (site, crew) = open(alloc, workers, cubes.len() as u32, jobs)?;
     let returned = run(alloc, rt, &site, settler, gate, crew)?;
-    close(alloc, rt, site, returned)
+    let results = close(alloc, rt, site, returned)?;
+    Ok(results)
 }
 
 /// Searches the cubes of these leaves of the tree, between the two calls of the gate. There is one result for each of them, with
@@ -69,7 +72,10 @@ fn search_in_threads<R: Threads + Wait + Sync, L: ClauseList + Sync, G: Gate + S
 ///
 /// The workers search in threads of their own; a single one, or one for a single leaf, in the caller's. A worker that finds no memory
 /// in a cube leaves that cube open. After a result that is a model of the formula and makes its cube true, the cubes of higher leaves
-/// may be skipped. It answers `NoThread` where a worker's thread could not be started, and `Cut` where a job or a result was lost.
+/// may be skipped.
+///
+/// A single worker fails only if memory runs out. If several are to search, it answers `NoThread` if the thread of one could not be
+/// started, and then no job was put; and `Cut` if a job or a stop ticket came back, or fewer results than jobs came.
 pub fn search<R: Threads + Wait + Sync, L: ClauseList + Sync, G: Gate + Sync>(
     alloc: Global,
     rt: &R,
@@ -81,12 +87,14 @@ pub fn search<R: Threads + Wait + Sync, L: ClauseList + Sync, G: Gate + Sync>(
     gate: &G,
 ) -> Result<Vec<Settled>, SearchFault>
     requires { AreLeaves (cubes_of tree.now) which.now }
-    ensures { IfOk result (λ results. AreResultsOf (L.formula formula.now).clauses (cubes_of tree.now) which.now results.items) }
+    ensures results { IfOk result (λ results. AreResultsOf (L.formula formula.now).clauses (cubes_of tree.now) which.now results.items) }
+    ensures fault { IfErr result (λ fault. IsFaultOf options.now.workers (cubes_of tree.now) which.now fault) }
 {
     let workers = needed(options.workers(), which.len());
     let budget = options.budget();
     if workers < 2 {
-        return search_in_turn(alloc, formula, prepared, tree, which, budget, gate);
+        let results = search_in_turn(alloc, formula, prepared, tree, which, budget, gate)?;
+        return Ok(results);
     }
     let settler = CubeSettler {
         formula,

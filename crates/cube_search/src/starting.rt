@@ -1,6 +1,8 @@
 //! The workers' threads are started.
-ghost use Rattle.std.specs.Prelude.{◌≡◌, IfOk, map};
+ghost use Rattle.std.specs.Prelude.{◌≡◌, ◌⊎◌, IfOk, IfErr, map};
 ghost use Rattle.std.specs.List.{All};
+ghost use Rattle.cube_queue.specs.declared.search_fault.SearchCause.TheVariants.{NoThread};
+ghost use Rattle.text_lines.specs.declared.plain_fault.PlainFault.TheVariants.{OutOfMemory, For};
 ghost use Rattle.cube_search.specs.Workers.{IsReady, HasWorked};
 
 use crate::crew::Member;
@@ -26,7 +28,8 @@ fn start<'s, E, R: Wait + Sync, S: Settler + Sync, G: Gate + Sync>(
     member: Member,
 ) -> Result<PromisedHandle<Member, MemberOf<S>>, SearchFault>
     requires ready { IsReady site.now member }
-    ensures { IfOk result (λ handle. (handle.promise.site.value ≡ site.entry.now) × (handle.promise.settler.value ≡ settler.entry.now) × (handle.promise.member.value ≡ member)) }
+    ensures handle { IfOk result (λ handle. (handle.promise.site.value ≡ site.entry.now) × (handle.promise.settler.value ≡ settler.entry.now) × (handle.promise.member.value ≡ member)) }
+    ensures refused { IfErr result (λ fault. fault ≡ For NoThread) }
 {
     let promise = MemberOf {
         site: Snapshot::of(site),
@@ -59,6 +62,7 @@ pub(crate) fn start_all<'s, E, R: Wait + Sync, S: Settler + Sync, G: Gate + Sync
     ensures members { IfOk result (λ handles. map (λ handle. handle.promise.member.value) handles.items ≡ members.items) }
     ensures site { IfOk result (λ handles. All (λ handle. handle.promise.site.value ≡ site.entry.now) handles.items) }
     ensures settler { IfOk result (λ handles. All (λ handle. handle.promise.settler.value ≡ settler.entry.now) handles.items) }
+    ensures refused { IfErr result (λ fault. (fault ≡ OutOfMemory) ⊎ (fault ≡ For NoThread)) }
 {
     let mut handles = Vec::with_capacity(alloc, members.len())?;
     for member in members {

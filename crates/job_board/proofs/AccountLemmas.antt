@@ -48,7 +48,7 @@ taken_weight cubes h seat = total (job_weight cubes h) (taken_by seat)
 abbrev pub given_weight : ℕ → (Pair → ℕ) → WorkerSeat → ℕ
 given_weight cubes h seat = total (result_weight cubes h) (given_by seat)
 
-jobs_counted : (cubes : ℕ) (jobs : List Job) → length (below cubes (of_jobs jobs)) ≡ total (job_weight cubes one) jobs
+pub jobs_counted : (cubes : ℕ) (jobs : List Job) → length (below cubes (of_jobs jobs)) ≡ total (job_weight cubes one) jobs
 jobs_counted cubes jobs = total_below cubes (of_jobs jobs) ∙ total-map (only cubes one) of_job jobs
 
 pub results_counted : (cubes : ℕ) (results : List Settled) → length (below cubes (of_results results)) ≡ total (result_weight cubes one) results
@@ -62,7 +62,7 @@ seat_weighs cubes h seat =
     ∙ total-append (only cubes h) (of_results (given_by seat)) (held_in seat.hand)
     ∙ ap (λ (n : ℕ). n + hand_weight cubes h seat) (total-map (only cubes h) of_result (given_by seat))
 
-seats_weigh : (cubes : ℕ) (h : Pair → ℕ) (workers : List WorkerSeat) → total (taken_weight cubes h) workers ≡ total (given_weight cubes h) workers + total (hand_weight cubes h) workers
+pub seats_weigh : (cubes : ℕ) (h : Pair → ℕ) (workers : List WorkerSeat) → total (taken_weight cubes h) workers ≡ total (given_weight cubes h) workers + total (hand_weight cubes h) workers
 seats_weigh cubes h workers =
     total_same (taken_weight cubes h) (λ (seat : WorkerSeat). given_weight cubes h seat + hand_weight cubes h seat) (seat_weighs cubes h) workers
     ∙ total-plus (given_weight cubes h) (hand_weight cubes h) workers
@@ -84,6 +84,29 @@ got_weighs cubes h got left workers given =
     ∙ merge_total (result_weight cubes h) (map given_by workers) (got ++ left) given
     ∙ total-map (λ (part : List Settled). total (result_weight cubes h) part) given_by workers
 
+-- What is known of the counts of jobs and results, as weights: what was put was taken or is left, what was taken was given or is in a
+-- hand, what was given was gathered or is left.
+pub record AddUp (cubes : ℕ) (put queue : List Job) (got left : List Settled) (workers : List WorkerSeat) : Type 0 where
+  pub taken_or_left : total (job_weight cubes one) put ≡ total (taken_weight cubes one) workers + total (job_weight cubes one) queue
+  pub given_or_held : total (taken_weight cubes one) workers ≡ total (given_weight cubes one) workers + total (hand_weight cubes one) workers
+  pub got_or_left : total (result_weight cubes one) got + total (result_weight cubes one) left ≡ total (given_weight cubes one) workers
+
+pub add_up : (cubes : ℕ) (put front queue : List Job) (got left : List Settled) (workers : List WorkerSeat) →
+    IsMergeOf (map taken_by workers) front → put ≡ front ++ queue → IsMergeOf (map given_by workers) (got ++ left) → AddUp cubes put queue got left workers
+add_up cubes put front queue got left workers taken is given = record {
+  taken_or_left = put_weighs cubes one put front queue workers taken is;
+  given_or_held = seats_weigh cubes one workers;
+  got_or_left = got_weighs cubes one got left workers given;
+}
+
+pub taken_counted : (cubes : ℕ) (workers : List WorkerSeat) → total (λ (seat : WorkerSeat). length (below cubes (of_jobs (taken_by seat)))) workers ≡ total (taken_weight cubes one) workers
+taken_counted cubes workers =
+    total_same (λ (seat : WorkerSeat). length (below cubes (of_jobs (taken_by seat)))) (taken_weight cubes one) (λ (seat : WorkerSeat). jobs_counted cubes (taken_by seat)) workers
+
+pub given_counted : (cubes : ℕ) (workers : List WorkerSeat) → total (λ (seat : WorkerSeat). length (below cubes (of_results (given_by seat)))) workers ≡ total (given_weight cubes one) workers
+given_counted cubes workers =
+    total_same (λ (seat : WorkerSeat). length (below cubes (of_results (given_by seat)))) (given_weight cubes one) (λ (seat : WorkerSeat). results_counted cubes (given_by seat)) workers
+
 -- however pairs are weighed, the jobs put and the results gathered weigh the same
 pub settles : (cubes : ℕ) (put front queue : List Job) (got left : List Settled) (workers : List WorkerSeat) →
     IsMergeOf (map taken_by workers) front → put ≡ front ++ queue → IsMergeOf (map given_by workers) (got ++ left) →
@@ -93,16 +116,14 @@ pub settles : (cubes : ℕ) (put front queue : List Job) (got left : List Settle
     (h : Pair → ℕ) → total (job_weight cubes h) put ≡ total (result_weight cubes h) got
 settles cubes put front queue got left workers taken is given all_taken all_given all_got h =
     let t : total (taken_weight cubes one) workers ≡ total (job_weight cubes one) put =
-    sym (total_same (λ (seat : WorkerSeat). length (below cubes (of_jobs (taken_by seat)))) (taken_weight cubes one) (λ (seat : WorkerSeat). jobs_counted cubes (taken_by seat)) workers) ∙ all_taken ∙ jobs_counted cubes put in
+    sym (taken_counted cubes workers) ∙ all_taken ∙ jobs_counted cubes put in
     let g : total (given_weight cubes one) workers ≡ total (job_weight cubes one) put =
-    sym (total_same (λ (seat : WorkerSeat). length (below cubes (of_results (given_by seat)))) (given_weight cubes one) (λ (seat : WorkerSeat). results_counted cubes (given_by seat)) workers) ∙ all_given ∙ jobs_counted cubes put in
+    sym (given_counted cubes workers) ∙ all_given ∙ jobs_counted cubes put in
     let c : total (result_weight cubes one) got ≡ total (job_weight cubes one) put = sym (results_counted cubes got) ∙ all_got ∙ jobs_counted cubes put in
-    let p1 = put_weighs cubes one put front queue workers taken is in
-    let s1 = seats_weigh cubes one workers in
-    let g1 = got_weighs cubes one got left workers given in
-    let q0 : total (job_weight cubes one) queue ≡ 0 = omega (arith, p1, t) in
-    let h0 : total (hand_weight cubes one) workers ≡ 0 = omega (arith, s1, t, g) in
-    let l0 : total (result_weight cubes one) left ≡ 0 = omega (arith, g1, g, c) in
+    let sums = add_up cubes put front queue got left workers taken is given in
+    let q0 : total (job_weight cubes one) queue ≡ 0 = omega (arith, sums.taken_or_left, t) in
+    let h0 : total (hand_weight cubes one) workers ≡ 0 = omega (arith, sums.given_or_held, t, g) in
+    let l0 : total (result_weight cubes one) left ≡ 0 = omega (arith, sums.got_or_left, g, c) in
     let q = total_zero (job_weight cubes one) (job_weight cubes h) (λ (job : Job) none. pairs_zero cubes h (of_job job) none) queue q0 in
     let hands =
     total_zero (hand_weight cubes one) (hand_weight cubes h) (λ (seat : WorkerSeat) none. total_zero (only cubes one) (only cubes h) (pairs_zero cubes h) (held_in seat.hand) none) workers h0 in

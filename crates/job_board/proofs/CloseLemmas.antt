@@ -1,5 +1,5 @@
 -- Workers' seats are joined one after the other, and what follows once all are.
-use Rattle.std.proofs.Common.{◌≡◌, ℕ, suc, ◌+◌, ◌<◌, Bool, true, false, cond, nat_lt, List, [], ◌∷◌, ◌++◌, map, length, Some, refl, sym, ◌∙◌, ap, subst, ltb-true, lt-ltb, arith}
+use Rattle.std.proofs.Common.{◌≡◌, ℕ, suc, ◌+◌, ◌<◌, Bool, true, false, cond, nat_lt, List, [], ◌∷◌, ◌++◌, map, length, Some, None, refl, sym, ◌∙◌, ap, subst, ltb-true, lt-ltb, arith}
 use Rattle.std.specs.List.{All, slice_get}
 use Rattle.std.proofs.lemmas.List.{map-append, length-map, append-nil}
 use Rattle.std.proofs.lemmas.List.Elements.{All-nil, All-cons, All-head, All-tail}
@@ -7,18 +7,21 @@ use Rattle.cube_queue.specs.declared.job.Job.{Job}
 use Rattle.cube_queue.specs.declared.job.Settled.{Settled}
 use Rattle.job_board.specs.Merge.{IsMergeOf}
 use Rattle.job_board.specs.ChannelRules.{with_worker_joined, PutAddsUp, GotAddsUp}
+use Rattle.job_board.specs.Hands.{held_in, ticket_in, is_within}
 use Rattle.job_board.specs.Pairs.{of_jobs, of_results, below}
 use Rattle.job_board.specs.Seats.{put_by, taken_by, given_by, gathered_by}
 use Rattle.job_board.specs.Accounts.{total, taken_below, given_below, AreJoined, IsAccountOf, WereDealt, WereGathered, IsBalanced, AreAnswersTo}
 use Rattle.job_board.specs.declared.channel_view.ChannelView.{ChannelView}
 use Rattle.job_board.specs.declared.channel_view.ChannelView.TheVariants.{Single}
 use Rattle.job_board.specs.declared.account.Account.{Account}
+use Rattle.job_board.specs.declared.hand.Hand.{Hand}
+use Rattle.job_board.specs.declared.hand.Hand.TheVariants.{Empty, Holds, Stopped, Cut}
 use Rattle.job_board.specs.declared.seats.DealerSeat.{DealerSeat}
 use Rattle.job_board.specs.declared.seats.WorkerSeat.{WorkerSeat}
 use Rattle.job_board.specs.declared.seats.CollectorSeat.{CollectorSeat}
 use Rattle.crossbeam_channel.specs.Claims.{view}
 use Rattle.job_board.proofs.TotalLemmas.{total-append, total-map, total_same, merge_total}
-use Rattle.job_board.proofs.AccountLemmas.{one, result_weight, given_weight, results_counted, got_weighs, settles}
+use Rattle.job_board.proofs.AccountLemmas.{only, one, job_weight, result_weight, hand_weight, taken_weight, given_weight, jobs_counted, results_counted, taken_counted, given_counted, seats_weigh, got_weighs, add_up, settles}
 use Rattle.job_board.proofs.AnswerLemmas.{answers}
 
 pub one_joined : (cubes workers : ℕ) (put : List Job) (got : List Settled) (seats : List WorkerSeat) (seat : WorkerSeat) (v v' : ChannelView Job) (w w' : ChannelView Settled) (taken taken' given given' : ℕ) →
@@ -155,3 +158,57 @@ all_gathered cubes dealer seats collector account is gathered same balanced =
     let none : total (result_weight cubes one) left ≡ 0 = omega (arith, got_weighs cubes one got left seats merge, given, here) in
     let empty : left ≡ [] = none_left cubes left (given_low cubes got left seats merge same).1 none in
     subst (λ (results : List Settled). IsMergeOf (map given_by seats) results) (ap (λ (rest : List Settled). got ++ rest) empty ∙ append-nil got) merge
+
+-- What the account's numbers are as weights.
+record AreWeights (cubes : ℕ) (dealer : DealerSeat) (seats : List WorkerSeat) (collector : CollectorSeat) (account : Account) : Type 0 where
+  put_weighs : account.put ≡ total (job_weight cubes one) (put_by dealer)
+  taken_weighs : account.taken ≡ total (taken_weight cubes one) seats
+  given_weighs : account.given ≡ total (given_weight cubes one) seats
+  gathered_weighs : account.gathered ≡ total (result_weight cubes one) (gathered_by collector)
+
+weights_of : (cubes : ℕ) (dealer : DealerSeat) (seats : List WorkerSeat) (collector : CollectorSeat) (account : Account) → IsAccountOf cubes dealer seats collector account →
+    AreWeights cubes dealer seats collector account
+weights_of cubes dealer seats collector account is = record {
+  put_weighs = is.put_is ∙ jobs_counted cubes (put_by dealer);
+  taken_weighs = is.taken_is ∙ taken_counted cubes seats;
+  given_weighs = is.given_is ∙ given_counted cubes seats;
+  gathered_weighs = is.gathered_is ∙ results_counted cubes (gathered_by collector);
+}
+
+-- where as many results were gathered as jobs were put, the four numbers are equal
+pub all_equal : (cubes : ℕ) (dealer : DealerSeat) (seats : List WorkerSeat) (collector : CollectorSeat) (account : Account) → IsAccountOf cubes dealer seats collector account →
+    WereDealt dealer seats → WereGathered collector seats → account.gathered ≡ account.put → IsBalanced account
+all_equal cubes dealer seats collector account is dealt gathered same =
+    let weights = weights_of cubes dealer seats collector account is in
+    let sums = add_up cubes (put_by dealer) dealt.0 dealt.1 (gathered_by collector) gathered.0 seats dealt.2 dealt.3 gathered.1 in
+    let taken : account.taken ≡ account.put =
+    omega (arith, same, weights.put_weighs, weights.taken_weighs, weights.gathered_weighs, sums.taken_or_left, sums.given_or_held, sums.got_or_left) in
+    let given : account.given ≡ account.put =
+    omega (arith, same, weights.put_weighs, weights.given_weighs, weights.gathered_weighs, sums.taken_or_left, sums.given_or_held, sums.got_or_left) in
+    (taken, given, same)
+
+-- a hand that weighs nothing holds no job
+no_job : (cubes : ℕ) (hand : Hand) → is_within cubes hand ≡ true → total (only cubes one) (held_in hand) ≡ 0 → ticket_in hand ≡ None
+no_job cubes Empty within none = refl
+no_job cubes (Holds held) within none =
+    let here : only cubes one (held.ticket, held.cube) ≡ 1 = ap {B = ℕ} (λ (b : Bool). cond b 1 0) within in
+    absurd (omega (arith, none, here))
+no_job cubes (Stopped job) within none = refl
+no_job cubes Cut within none = refl
+
+no_jobs : (cubes : ℕ) (seats : List WorkerSeat) → ((number : ℕ) (seat : WorkerSeat) → slice_get seats number ≡ Some seat → seat.cubes ≡ cubes) →
+    total (hand_weight cubes one) seats ≡ 0 → All (λ (seat : WorkerSeat). ticket_in seat.hand ≡ None) seats
+no_jobs cubes [] same none = All-nil _
+no_jobs cubes (seat ∷ seats) same none =
+    let here : total (only cubes one) (held_in seat.hand) ≡ 0 = omega (arith, none) in
+    let rest : total (hand_weight cubes one) seats ≡ 0 = omega (arith, none) in
+    All-cons (λ (s : WorkerSeat). ticket_in s.hand ≡ None) seat seats
+    (no_job cubes seat.hand (subst (λ (n : ℕ). is_within n seat.hand ≡ true) (same 0 seat refl) seat.within) here)
+    (no_jobs cubes seats (λ number other at. same (suc number) other at) rest)
+
+-- where the four numbers are equal, no worker has a job left in its hand
+pub all_empty : (cubes : ℕ) (dealer : DealerSeat) (seats : List WorkerSeat) (collector : CollectorSeat) (account : Account) → IsAccountOf cubes dealer seats collector account →
+    ((number : ℕ) (seat : WorkerSeat) → slice_get seats number ≡ Some seat → seat.cubes ≡ cubes) → IsBalanced account → All (λ (seat : WorkerSeat). ticket_in seat.hand ≡ None) seats
+all_empty cubes dealer seats collector account is same balanced =
+    let weights = weights_of cubes dealer seats collector account is in
+    no_jobs cubes seats same (omega (arith, balanced.0, balanced.1, weights.taken_weighs, weights.given_weighs, seats_weigh cubes one seats))

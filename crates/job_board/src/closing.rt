@@ -1,11 +1,13 @@
 //! A board is closed.
-ghost use Rattle.std.specs.Prelude.{◌≡◌, ℕ, List, [], length, map};
+ghost use Rattle.std.specs.Prelude.{◌≡◌, ◌<◌, ℕ, List, [], length, map, None};
+ghost use Rattle.std.specs.List.{All};
 ghost use Rattle.crossbeam_channel.specs.Claims.{view, IsSeatAt};
 ghost use Rattle.crossbeam_channel.specs.Ends.{sends_on};
 ghost use Rattle.cube_queue.specs.declared.job.Job.{Job};
 ghost use Rattle.cube_queue.specs.declared.job.Settled.{Settled};
 ghost use Rattle.job_board.specs.declared.channel_view.ChannelView.TheVariants.{Single};
 ghost use Rattle.job_board.specs.ChannelRules.{list_in, PutAddsUp, GotAddsUp, with_worker_joined};
+ghost use Rattle.job_board.specs.Hands.{ticket_in};
 ghost use Rattle.job_board.specs.Merge.{IsMergeOf};
 ghost use Rattle.job_board.specs.Seats.{put_by, given_by, gathered_by, IsDealerAt, IsWorkerAt, IsCollectorAt, AreWorkersAt};
 ghost use Rattle.job_board.specs.Accounts.{IsAccountOf, AreJoined, WereDealt, WereGathered, IsBalanced, AreAnswersTo};
@@ -20,8 +22,9 @@ use std::sync::Wait;
 impl Board {
     /// The account of all seats of the board, the workers' in the order of their numbers. What was put is some merge of what the workers
     /// took, followed by what nobody took; what was gathered, followed by what nobody gathered, is some merge of what they gave. Where
-    /// the four numbers are equal, the results are those of the jobs put, each once, and of no other, and nothing that a worker gave is
-    /// left: what was gathered is all of it.
+    /// as many results were gathered as jobs were put, the four numbers are equal. Where these are, the results are those of the jobs
+    /// put, each once, and of no other, no worker has a job left in its hand, and nothing that a worker gave is left: what was gathered
+    /// is all of it.
     pub fn close<R: Wait>(
         self,
         rt: &R,
@@ -35,6 +38,9 @@ impl Board {
         ensures numbers { IsAccountOf self.cubes dealer workers.items collector result }
         ensures dealt { WereDealt dealer workers.items }
         ensures gathered { WereGathered collector workers.items }
+        ensures low { All (λ settled. settled.ticket < self.cubes) (gathered_by collector) }
+        ensures complete { result.gathered ≡ result.put → IsBalanced result }
+        ensures hands { IsBalanced result → All (λ seat. ticket_in seat.hand ≡ None) workers.items }
         ensures whole { IsBalanced result → IsMergeOf (map given_by workers.items) (gathered_by collector) }
         ensures settled { IsBalanced result → AreAnswersTo self.cubes (put_by dealer) (gathered_by collector) }
     {

@@ -1,4 +1,4 @@
-use Rattle.std.proofs.Common.{◌≡◌, ◌≤◌, List, map, None, sym, ◌∙◌, ap, subst, rules}
+use Rattle.std.proofs.Common.{◌≡◌, ◌≤◌, List, map, length, None, sym, ◌∙◌, ap, subst}
 use Rattle.std.specs.List.{All}
 use Rattle.cube_queue.specs.declared.job.Settled.{Settled}
 use Rattle.cube_queue.specs.Results.{AreResultsOf}
@@ -10,22 +10,24 @@ use Rattle.job_board.specs.declared.seats.WorkerSeat.{WorkerSeat}
 use Rattle.stop_word.specs.declared.views.View.{View}
 use Rattle.stop_word.specs.Seats.{SeatValue, known_by}
 use Rattle.stop_word.specs.WordRule.{least_of, marks_in, or_nothing}
-use Rattle.cube_search.specs.declared.crew.Member.{Member}
-use Rattle.cube_search.proofs.RunLemmas.{run_results}
+use Rattle.cube_search.proofs.CountLemmas.{results_counted}
+use Rattle.cube_search.proofs.RunLemmas.{hands_empty, run_results}
 use Rattle.cube_search.proofs.closing.close.Goals as goal
 
 pub returns : goal.returns
 returns g c = λ clauses cubes which run.
     let returned = c.args.returned in
     let word = or_nothing c.close-least.result in
-    let hands : All (λ (m : Member). ticket_in m.seat.hand ≡ None) returned.members.items =
-    subst (λ (members : List Member). All (λ (m : Member). ticket_in m.seat.hand ≡ None) members) c.as_slice.ensures.value (c.hold_no_job.ensures (search rules)) in
-    let balanced : IsBalanced c.close-account.result = c.is_balanced.ensures (search rules) in
+    let account = c.close-account.ensures in
+    let counted = results_counted c.args.site.board.cubes (gathered_by returned.collector) account.low in
+    let balanced : IsBalanced c.close-account.result =
+    account.complete (account.numbers.gathered_is ∙ counted ∙ ap length (sym c.requires.results_are) ∙ c.requires.all_gathered ∙ sym account.numbers.put_is) in
     let seats = c.in_ok-seats.ensures.seats in
+    let hands = hands_empty returned.members.items (subst (λ (list : List WorkerSeat). All (λ (seat : WorkerSeat). ticket_in seat.hand ≡ None) list) seats (account.hands balanced)) in
     let stops = c.in_ok-seats.ensures.stops in
     subst (λ (results : List Settled). AreResultsOf clauses cubes which results) (sym c.requires.results_are)
     (run_results clauses cubes which c.args.site returned word run hands
-    (c.close-account.ensures.settled balanced)
-    (subst (λ (list : List WorkerSeat). IsMergeOf (map given_by list) (gathered_by returned.collector)) seats (c.close-account.ensures.whole balanced))
+    (account.settled balanced)
+    (subst (λ (list : List WorkerSeat). IsMergeOf (map given_by list) (gathered_by returned.collector)) seats (account.whole balanced))
     (c.close-least.ensures.least ∙ ap (λ (list : List SeatValue). least_of (marks_in (known_by list))) stops)
     (subst (λ (list : List SeatValue). All (λ (v : View). word ≤ v.least) (known_by list)) stops c.close-least.ensures.shown))

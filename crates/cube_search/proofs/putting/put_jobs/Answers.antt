@@ -1,4 +1,5 @@
 use Rattle.std.proofs.Common.{◌++◌, ◌∙◌, ap}
+use Rattle.cube_search.proofs.CountLemmas.{put_fewer}
 use Rattle.cube_search.proofs.PutLemmas.{next_above, put_low}
 use Rattle.cube_search.proofs.putting.put_jobs.Goals as goal
 
@@ -11,3 +12,8 @@ pub returns-in-Err-clause-low : goal.returns-in-Err-clause-low
 returns-in-Err-clause-low g c =
     let at = c.loop-job in
     put_low c.args.board.now.cubes c.args.jobs.items at.yielded _ _ c.requires.low at.invariant.2 (c.in-Err.ensures.back.1 ∙ at.invariant.1)
+
+pub returns-in-Err-clause-fewer : goal.returns-in-Err-clause-fewer
+returns-in-Err-clause-fewer g c =
+    let at = c.loop-job in
+    λ none. put_fewer c.args.jobs.items at.yielded _ _ c.in-Some.job (at.invariant.2 ∙ ap (λ l. at.yielded ++ l) c.in-Some.ensures.steps.0) (c.in-Err.ensures.back.1 ∙ at.invariant.1)

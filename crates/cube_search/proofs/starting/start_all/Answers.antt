@@ -25,7 +25,7 @@ loop-member-preserved g c =
     let short = ap length c.in-Some.ensures.steps.0 in (
       is ∙ sym (append_assoc at.yielded (c.in-Some.member ∷ []) _),
       omega arith,
-      rw c.in_ok-push.ensures.items (one_started _ _ _ _ _ _ _ at.invariant.2 c.in_ok-start.ensures.0 c.in_ok-start.ensures.1 c.in_ok-start.ensures.2),
+      rw c.in_ok-push.ensures.items (one_started _ _ _ _ _ _ _ at.invariant.2 c.in_ok-start.ensures.handle.0 c.in_ok-start.ensures.handle.1 c.in_ok-start.ensures.handle.2),
     )
 
 pub returns-clause-members : goal.returns-clause-members
