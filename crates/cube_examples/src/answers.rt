@@ -2,7 +2,10 @@
 
 use crate::texts::{derivation_of, literals_of};
 use cube_queue::{Job, MOST_LITERALS, Outcome, Settled};
-use dimacs::{Assignment, Lit};
+use dimacs::{Assignment, Clause, Lit};
+use lrat_check::derivation::{Derivation, Step};
+use lrat_check::hints::Hints;
+use lrat_check::lrat_number::MAX_ID;
 use result_ledger::Verdict;
 use std::alloc::{AllocError, Global};
 use std::process::Abort;
@@ -14,6 +17,8 @@ pub enum Says {
     Model(&'static [bool]),
     /// The derivation of this text shows that there is none.
     Refuted(&'static str),
+    /// The same, by one step with these hints, which no LRAT line can write.
+    Unwritable(&'static [i64]),
     /// The search came to no end.
     Open,
     /// The cube was not searched.
@@ -31,11 +36,23 @@ pub enum Expected {
     Unknown(&'static [u32]),
 }
 
+/// The derivation of one step, which adds the empty clause by these hints, under a number above all that LRAT lines have.
+pub fn unwritable_derivation(alloc: Global, hints: &[i64]) -> Result<Derivation, AllocError> {
+    let mut steps = Vec::new(alloc);
+    steps.push(Step::Addition {
+        id: MAX_ID + 1,
+        literals: Clause::from_slice(alloc, &[])?,
+        hints: Hints::new(Vec::from_slice(alloc, hints)?),
+    })?;
+    Ok(Derivation::new(steps))
+}
+
 /// The outcome that says this.
 fn outcome_of(rt: &impl Abort, alloc: Global, says: Says) -> Result<Outcome, AllocError> {
     Ok(match says {
         Says::Model(values) => Outcome::Model(Assignment::new(Vec::from_slice(alloc, values)?)),
         Says::Refuted(text) => Outcome::Refuted(derivation_of(rt, alloc, text)),
+        Says::Unwritable(hints) => Outcome::Refuted(unwritable_derivation(alloc, hints)?),
         Says::Open => Outcome::Open,
         Says::Skipped => Outcome::Skipped,
     })

@@ -1,11 +1,13 @@
 //! Answers that are wrong, or none: what they do to a verdict.
 
-use crate::answers::{Expected, Says, result_of};
-use crate::expectations::ample;
+use crate::answers::{Expected, Says, result_of, unwritable_derivation};
+use crate::expectations::{ample, expect};
 use crate::searches::{assert_confirmed, enter, new_ledger};
-use crate::texts::{STORE_BUFFERING, WRITTEN_AGAIN, formula_of, tree_of};
+use crate::texts::{STORE_BUFFERING, WRITTEN_AGAIN, formula_of, literals_of, tree_of};
+use dimacs::Formula;
+use lrat_check::checker::check;
 use result_ledger::Ledger;
-use std::alloc::Global;
+use std::alloc::{AllocError, Global};
 use std::process::Abort;
 
 /// Clause 13 makes variable 8 true, and clause 14 makes variable 3 false, which clause 15, the first leaf's cube, does not allow.
@@ -13,6 +15,12 @@ const FIRST: Says = Says::Refuted("16 0 13 14 15 0\n");
 
 /// What makes variable 3 true, which clause 15, the second leaf's cube, does not allow.
 const SECOND: Says = Says::Refuted("16 0 1 2 11 12 3 7 15 0\n");
+
+/// The hints of the first one.
+const HINTS: &[i64] = &[13, 14, 15];
+
+/// The first one, which the checker accepts, under a number that no LRAT line can write.
+const UNWRITABLE: Says = Says::Unwritable(HINTS);
 
 /// A derivation that ends before it adds the empty clause.
 const UNENDED: Says = Says::Refuted("");
@@ -77,6 +85,29 @@ fn ledger_of(
     let left = ample(rt, result_of(rt, alloc, 0, &[literal], first));
     enter(rt, &mut ledger, left);
     ledger
+}
+
+/// Whether the checker accepts the derivation of these hints for the cube of this literal.
+fn is_accepted(
+    alloc: Global,
+    formula: &Formula,
+    literal: i32,
+    hints: &[i64],
+) -> Result<bool, AllocError> {
+    let derivation = unwritable_derivation(alloc, hints)?;
+    let cube = literals_of(alloc, &[literal])?;
+    Ok(check(alloc, formula, cube.as_slice(), &derivation).is_ok())
+}
+
+#[test]
+fn a_derivation_that_cannot_be_written_is_accepted_and_refutes_nothing(rt: HostRuntime) {
+    let alloc = rt.alloc();
+    let formula = formula_of(&rt, alloc, STORE_BUFFERING);
+    let accepted = ample(&rt, is_accepted(alloc, &formula, 3, HINTS));
+    expect(&rt, accepted, 0);
+    let ledger = ledger_of(&rt, alloc, b"split 3\nleaf\nleaf\n", 3, UNWRITABLE, SECOND);
+    let expected = Expected::Unknown(&[0]);
+    assert_confirmed(&rt, alloc, &ledger, &formula, expected, 0);
 }
 
 #[test]

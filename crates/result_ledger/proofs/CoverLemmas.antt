@@ -8,6 +8,7 @@ use Rattle.dimacs.specs.Assignment.{makes_all}
 use Rattle.dimacs.specs.Formula.{FormulaValue, is_formula}
 use Rattle.dimacs.specs.Literal.{is_clause}
 use Rattle.dimacs.specs.Models.{IsModel}
+use Rattle.lrat_check.proofs.LratWrittenLemmas.{steps_add_clauses}
 use Rattle.lrat_check.proofs.SoundLemmas.{no_model, formula_no_zero, cube_no_zero}
 use Rattle.result_ledger.specs.declared.slot.Slot.{Slot}
 use Rattle.result_ledger.specs.declared.verdict.Verdict.TheVariants.{Inconsistent, Unknown}
@@ -43,7 +44,7 @@ proof_has_no_model formula slots leaf slot ok cubes_ok there h value model met =
     let same : slot ≡ h.slot = cc slots_same in
     let inside : Contains slots h.slot = at_place slots leaf h.slot h.there in
     let cube_ok : is_clause h.slot.cube ≡ true = all_pass is_clause (cubes_in slots) cubes_ok h.slot.cube (to_map (λ (x : Slot). x.cube) slots h.slot inside) in
-    no_model formula.clauses h.slot.cube h.holds.steps (formula_no_zero formula.variables formula.clauses ok) (cube_no_zero h.slot.cube cube_ok) h.holds.confirmed.additions h.holds.confirmed.accepted
+    no_model formula.clauses h.slot.cube h.holds.steps (formula_no_zero formula.variables formula.clauses ok) (cube_no_zero h.slot.cube cube_ok) (steps_add_clauses h.holds.steps h.holds.confirmed.written) h.holds.confirmed.accepted
     value model (subst (λ (x : Slot). makes_all value x.cube ≡ true) same met)
   where
     at_place : (xs : List Slot) (k : ℕ) (x : Slot) → slice_get xs k ≡ Some x → Contains xs x

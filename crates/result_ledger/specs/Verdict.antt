@@ -1,20 +1,20 @@
 -- The verdict on a formula, by what was answered for each leaf of a tree.
 use Rattle.std.specs.Prelude.{◌≡◌, ◌≢◌, ◌⊎◌, ℕ, ◌<◌, ℤ, Bool, IsTrue, List, [], length, Some}
-use Rattle.std.specs.List.{AllPairs, Contains, slice_get}
+use Rattle.std.specs.List.{AllPairs, Contains, list_all, slice_get}
 use Rattle.dimacs.specs.Assignment.{value_of}
 use Rattle.lrat_check.specs.declared.derivation.Step.{Step}
 use Rattle.lrat_check.specs.Checked.{IsAccepted}
-use Rattle.lrat_check.specs.Derivation.{are_steps}
+use Rattle.lrat_check.specs.LratText.{is_lrat_step}
 use Rattle.cube_queue.specs.declared.outcome.Outcome.TheVariants.{Model, Refuted}
 use Rattle.cube_queue.specs.Models.{IsModelIn}
 use Rattle.result_ledger.specs.declared.slot.Slot.{Slot}
 use Rattle.result_ledger.specs.declared.verdict.Verdict.{Verdict}
 use Rattle.result_ledger.specs.declared.verdict.Verdict.TheVariants.{Consistent, Inconsistent, Unknown}
 
--- the steps add clauses, as those of each derivation do, and are accepted as a derivation of the empty clause from the clauses and the
--- cube
+-- Each step can be written as an LRAT line, so that others can check the derivation again, and the steps are accepted as a derivation of
+-- the empty clause from the clauses and the cube.
 pub record IsProofIn (clauses : List (List ℤ)) (cube : List ℤ) (steps : List Step) : Type 0 where
-  pub additions : IsTrue (are_steps steps)
+  pub written : IsTrue (list_all is_lrat_step steps)
   pub accepted : IsAccepted clauses cube steps
 
 -- the answer is a model, with these truth values, that makes the cube true
@@ -22,7 +22,7 @@ pub record IsModelAnswer (clauses : List (List ℤ)) (slot : Slot) (truth : List
   pub answer : slot.outcome ≡ Some (Model truth)
   pub confirmed : IsModelIn clauses slot.cube (value_of truth)
 
--- the answer is a derivation that is accepted for the cube
+-- the answer is a derivation that can be written and is accepted for the cube
 pub record IsProofAnswer (clauses : List (List ℤ)) (slot : Slot) : Type 0 where
   pub steps : List Step
   pub answer : slot.outcome ≡ Some (Refuted steps)
@@ -51,7 +51,7 @@ pub record AreWithout (Has : ℕ → Type 0) (end : ℕ) (leaves : List ℕ) : T
   pub every : (leaf : ℕ) → leaf < end → Has leaf ⊎ Contains leaves leaf
 
 -- The verdict: the lowest leaf that has a model for its answer, with its truth values; else the number of leaves, where each
--- of them has an accepted derivation; else the leaves that have none.
+-- of them has a derivation that can be written and is accepted; else the leaves that have none.
 abbrev pub IsVerdict : List (List ℤ) → List Slot → Verdict → Type 0
 IsVerdict clauses slots (Consistent leaf truth) = HasModelAt clauses slots leaf truth × HaveNoModelBefore clauses slots leaf
 IsVerdict clauses slots (Inconsistent count) =

@@ -1,9 +1,11 @@
 //! Whether answers are right.
 ghost use Rattle.std.specs.Prelude.{◌≡◌, ◌<◌, ◌↔◌, Bool, List, length, IsTrue, IfOk, MatchOption, Some};
 ghost use Rattle.cube_queue.specs.declared.outcome.Outcome.TheVariants.{Model, Refuted};
+ghost use Rattle.lrat_check.specs.Checked.{IsAccepted};
 ghost use Rattle.lrat_check.specs.declared.derivation.Step.{Step};
 ghost use Rattle.result_ledger.specs.Verdict.{IsProofIn, IsModelAnswer, IsProofAnswer, HasModelAt, HaveNoModelBefore};
 
+use crate::lrat_steps::can_be_written;
 use crate::slot::Slot;
 use cube_queue::{Outcome, is_model_in};
 use dimacs::{Assignment, ClauseList, Lit};
@@ -44,6 +46,23 @@ fn said_derivation(outcome: &Option<Outcome>) -> Option<&Derivation>
 }
 
 /// Whether the derivation is accepted for the cube.
+fn is_accepted<L: ClauseList>(
+    alloc: Global,
+    formula: &L,
+    cube: &[Lit],
+    derivation: &Derivation,
+) -> Result<bool, AllocError>
+    ensures { IfOk result (λ accepted. IsTrue accepted ↔ IsAccepted (L.formula formula.now).clauses cube.now derivation.now) }
+{
+    never_accepted_and_refused();
+    match check(alloc, formula, cube, derivation) {
+        Ok(_) => Ok(true),
+        Err(Refusal::At(_, _)) => Ok(false),
+        Err(Refusal::OutOfMemory) => Err(AllocError),
+    }
+}
+
+/// Whether the derivation can be written as LRAT, so that others can check it again, and is accepted for the cube.
 fn is_proof_in<L: ClauseList>(
     alloc: Global,
     formula: &L,
@@ -52,13 +71,10 @@ fn is_proof_in<L: ClauseList>(
 ) -> Result<bool, AllocError>
     ensures { IfOk result (λ proved. IsTrue proved ↔ IsProofIn (L.formula formula.now).clauses cube.now derivation.now) }
 {
-    never_accepted_and_refused();
-    // This call says that the additions are clauses.
-    let _additions = derivation.steps();
-    match check(alloc, formula, cube, derivation) {
-        Ok(_) => Ok(true),
-        Err(Refusal::At(_, _)) => Ok(false),
-        Err(Refusal::OutOfMemory) => Err(AllocError),
+    if can_be_written(derivation) {
+        is_accepted(alloc, formula, cube, derivation)
+    } else {
+        Ok(false)
     }
 }
 
@@ -76,7 +92,7 @@ fn model_of<'a, L: ClauseList>(formula: &L, slot: &'a Slot) -> Option<&'a Assign
     }
 }
 
-/// Whether the slot's answer is a derivation that is accepted for its cube.
+/// Whether the slot's answer is a derivation that can be written and is accepted for its cube.
 pub(crate) fn is_proved<L: ClauseList>(
     alloc: Global,
     formula: &L,

@@ -47,7 +47,7 @@ pub fn inconsistent_has_no_model()
 {}
 
 /// Where the verdict is that the formula is inconsistent, the derivations among the answers are one for the cube of each leaf, in the
-/// order of the leaves, and each is accepted for its cube.
+/// order of the leaves, and each can be written and is accepted for its cube.
 pub fn proofs_by_leaf()
     ensures { (clauses : List (List ℤ)) (slots : List Slot) (count : ℕ) →
         IsVerdict clauses slots (Inconsistent count) → AllZip (IsProofIn clauses) (cubes_in slots) (derivations_in slots) }

@@ -8,6 +8,7 @@ mod entry_fault;
 mod laws;
 mod leaves;
 mod ledger;
+mod lrat_steps;
 mod slot;
 mod unproved;
 mod verdict;

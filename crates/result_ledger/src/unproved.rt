@@ -1,4 +1,4 @@
-//! Which leaves have no derivation that is accepted.
+//! Which leaves are not proved: they have no derivation that can be written and is accepted.
 ghost use Rattle.std.specs.Prelude.{◌≡◌, ℕ, ◌+◌, ◌<◌, ◌≤◌, length, slice_index_or, IfOk};
 ghost use Rattle.result_ledger.specs.Verdict.{HasProofAt};
 ghost use Rattle.result_ledger.specs.Pieces.{AreWithoutBetween, piece_start};
@@ -9,7 +9,7 @@ use dimacs::ClauseList;
 use std::alloc::{AllocError, Global};
 use std::thread::{Threads, map_indices};
 
-/// The leaves without a derivation that is accepted, rising, of those from the one number on and before the other.
+/// The leaves that are not proved, rising, of those from the one number on and before the other.
 fn without_proof_between<L: ClauseList>(
     alloc: Global,
     formula: &L,
@@ -40,7 +40,7 @@ fn start_of(size: usize, count: usize, piece: usize) -> usize
     (piece * size).min(count)
 }
 
-/// The leaves of a piece without a derivation that is accepted, rising.
+/// The leaves of a piece that are not proved, rising.
 fn without_proof_in<L: ClauseList>(
     alloc: Global,
     formula: &L,
@@ -76,7 +76,7 @@ fn joined<L: ClauseList>(
     Ok(all)
 }
 
-/// The leaves without a derivation that is accepted, rising. There are as many pieces as workers, each in a thread of its own where one
+/// The leaves that are not proved, rising. There are as many pieces as workers, each in a thread of its own where one
 /// can be made.
 fn without_proof_in_pieces<R: Threads + Sync, L: ClauseList + Sync>(
     alloc: Global,
@@ -110,7 +110,7 @@ fn needed(workers: u32, leaves: usize) -> u32
     }
 }
 
-/// The leaves without a derivation that is accepted, rising, looked for by so many workers at most.
+/// The leaves that are not proved, rising, looked for by at most `workers` workers.
 pub(crate) fn without_proof<R: Threads + Sync, L: ClauseList + Sync>(
     alloc: Global,
     rt: &R,

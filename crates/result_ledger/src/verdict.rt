@@ -7,8 +7,8 @@ use dimacs::Assignment;
 pub enum Verdict {
     /// The answer for this leaf is a model, and for no lower one.
     Consistent(u32, Assignment),
-    /// No leaf has a model for its answer, and all of them, so many, have a derivation that is accepted.
+    /// No leaf has a model for its answer, and each of this number of leaves has a derivation that can be written and is accepted.
     Inconsistent(u32),
-    /// No leaf has a model for its answer, and these, rising, have no derivation that is accepted.
+    /// No leaf has a model for its answer, and these, rising, have no such derivation.
     Unknown(Leaves),
 }

@@ -1,9 +1,9 @@
 -- From the verdict on the formula of a kept trace to what is decided of the whole trace.
-use Rattle.std.proofs.Common.{◌≡◌, ℕ, suc, ◌+◌, ◌<◌, ◌≤◌, ℤ, Bool, true, false, List, [], ◌∷◌, ◌++◌, length, map, take, get_or, Some, sym, ◌∙◌, ap, subst, arith}
+use Rattle.std.proofs.Common.{◌≡◌, ℕ, suc, ◌+◌, ◌<◌, ◌≤◌, ℤ, Bool, true, List, [], ◌∷◌, ◌++◌, length, map, take, get_or, Some, sym, ◌∙◌, ap, subst, arith}
 use Rattle.std.proofs.Math.Seq.{take-suc}
 use Rattle.std.proofs.lemmas.List.{map-append, take_all}
 use Rattle.std.specs.List.{AllZip, list_all, Contains, slice_get}
-use Rattle.traces.proofs.ElementLemmas.{in_middle, to_map, from_map}
+use Rattle.traces.proofs.ElementLemmas.{to_map, from_map}
 use Rattle.traces.specs.declared.operation.OpName.{OpName}
 use Rattle.traces.specs.Legal.{IsLegal}
 use Rattle.reducer.specs.Reduced.{ReducedValue, IsReduced}
@@ -22,8 +22,6 @@ use Rattle.dimacs.specs.Assignment.{makes_all, value_of}
 use Rattle.dimacs.specs.Formula.{FormulaValue, is_formula}
 use Rattle.dimacs.specs.Literal.{is_clause}
 use Rattle.dimacs.specs.Models.{IsModel}
-use Rattle.lrat_check.specs.Checked.{IsAccepted}
-use Rattle.lrat_check.specs.LratText.{is_lrat_step}
 use Rattle.lrat_check.specs.declared.derivation.Step.{Step}
 use Rattle.result_ledger.specs.declared.slot.Slot.{Slot}
 use Rattle.result_ledger.specs.declared.verdict.Verdict.{Verdict}
@@ -74,20 +72,9 @@ model_of_schedule t ok names legal =
     let made = schedule_values (kept_trace t) (reduced t names) (kept_is_trace t ok) (reduction_legal t names ok legal) in
     (made.0, made.1)
 
--- each derivation is accepted for its cube
-all_accepted : (clauses cubes : List (List ℤ)) (derivations : List (List Step)) → AllZip (IsProofIn clauses) cubes derivations → AllZip (IsAccepted clauses) cubes derivations
-all_accepted clauses [] [] h = tt
-all_accepted clauses [] (steps ∷ derivations) h = absurd h
-all_accepted clauses (cube ∷ cubes) [] h = absurd h
-all_accepted clauses (cube ∷ cubes) (steps ∷ derivations) h = (h.0.accepted, all_accepted clauses cubes derivations h.1)
-
 -- what a verdict that is open leaves open
-pub open_leaves : (tree : CubeTree) (slots : List Slot) (verdict : Verdict) (listed : List ℕ) → verdict ≡ Unknown listed → (cubes : List (List ℤ)) → AreCubesOf slots listed cubes → AreCubesLeftOpen tree slots verdict cubes
-open_leaves tree slots verdict listed is cubes are = subst (λ (v : Verdict). AreCubesLeftOpen tree slots v cubes) (sym is) are
-
-pub all_leaves : (tree : CubeTree) (slots : List Slot) (verdict : Verdict) (count : ℕ) → verdict ≡ Inconsistent count → list_all (λ steps. list_all is_lrat_step steps) (derivations_in slots) ≡ false →
-    (cubes : List (List ℤ)) → cubes ≡ cubes_of tree → AreCubesLeftOpen tree slots verdict cubes
-all_leaves tree slots verdict count is none cubes all = subst (λ (v : Verdict). AreCubesLeftOpen tree slots v cubes) (sym is) (none, all)
+pub open_leaves : (slots : List Slot) (verdict : Verdict) (listed : List ℕ) → verdict ≡ Unknown listed → (cubes : List (List ℤ)) → AreCubesOf slots listed cubes → AreCubesLeftOpen slots verdict cubes
+open_leaves slots verdict listed is cubes are = subst (λ (v : Verdict). AreCubesLeftOpen slots v cubes) (sym is) are
 
 module _ (r : ReducedValue) (ok : IsReduced r) (f : FormulaValue) (f_is : f ≡ formula_of r.kept) (fine : is_formula f ≡ true)
     (tree : CubeTree) (slots : List Slot) (same : cubes_in slots ≡ cubes_of tree) (clean : list_all is_clause (cubes_in slots) ≡ true) (covers : Covers (cubes_of tree)) (options : OptionsValue) where
@@ -98,18 +85,18 @@ module _ (r : ReducedValue) (ok : IsReduced r) (f : FormulaValue) (f_is : f ≡ 
   slots_cover = subst Covers (sym same) covers
 
   pub inconsistent : (count : ℕ) (derivations : List (List Step)) → IsCubeTree tree → derivations ≡ derivations_in slots → IsVerdict f.clauses slots (Inconsistent count) →
-      list_all (λ steps. list_all is_lrat_step steps) derivations ≡ true → IsDecided options r.whole (IsInconsistent (record { tree = tree; derivations = derivations }))
-  inconsistent count derivations is_tree are h written =
+      IsDecided options r.whole (IsInconsistent (record { tree = tree; derivations = derivations }))
+  inconsistent count derivations is_tree are h =
       let by_leaf : AllZip (IsProofIn f.clauses) (cubes_in slots) (derivations_in slots) = proofs_by_leaf f.clauses slots count h in
       let here : AllZip (IsProofIn f.clauses) (cubes_of tree) derivations = subst (λ (ds : List (List Step)). AllZip (IsProofIn f.clauses) (cubes_of tree) ds) (sym are) (subst (λ (cs : List (List ℤ)). AllZip (IsProofIn f.clauses) cs (derivations_in slots)) same by_leaf) in (
-        record { is_tree = is_tree; proofs = subst (λ (cs : List (List ℤ)). AllZip (IsAccepted cs) (cubes_of tree) derivations) clauses_are (all_accepted f.clauses (cubes_of tree) derivations here); written = written },
+        record { is_tree = is_tree; proofs = subst (λ (cs : List (List ℤ)). AllZip (IsProofIn cs) (cubes_of tree) derivations) clauses_are here },
         λ names legal.
             let model = model_of_schedule r.whole ok.is_trace names legal in
             no_model_anywhere f slots count fine clean slots_cover h model.0 (subst (λ (cs : List (List ℤ)). IsModel model.0 cs) (sym clauses_are) model.1),
       )
 
   -- the cubes that the verdict leaves open
-  left_open : IsCubeTree tree → (verdict : Verdict) → HaveEnded r.kept options slots verdict → (cubes : List (List ℤ)) → AreCubesLeftOpen tree slots verdict cubes → AreLeftOpen (kept_trace r.whole) options cubes
+  left_open : IsCubeTree tree → (verdict : Verdict) → HaveEnded r.kept options slots verdict → (cubes : List (List ℤ)) → AreCubesLeftOpen slots verdict cubes → AreLeftOpen (kept_trace r.whole) options cubes
   left_open is_tree verdict ended cubes are = record {
     tree = tree;
     is_tree = is_tree;
@@ -120,17 +107,7 @@ module _ (r : ReducedValue) (ok : IsReduced r) (f : FormulaValue) (f_is : f ≡ 
     open_are = are;
   }
 
-  -- where derivations cannot be written, all models are in the cubes of the tree
-  pub unwritten : IsCubeTree tree → (verdict : Verdict) → HaveEnded r.kept options slots verdict → (cubes : List (List ℤ)) → cubes ≡ cubes_of tree → AreCubesLeftOpen tree slots verdict cubes → IsDecided options r.whole (IsUnknown cubes)
-  unwritten is_tree verdict ended cubes all are = (
-    λ truth model.
-        let meets = covers truth in
-        let listed : Contains (cubes_of tree) meets.cube = subst (λ (cs : List (List ℤ)). Contains cs meets.cube) (sym meets.parts) (in_middle meets.before meets.cube meets.after) in
-        (meets.cube, subst (λ (cs : List (List ℤ)). Contains cs meets.cube) (sym all) listed, meets.met),
-    left_open is_tree verdict ended cubes are,
-  )
-
-  -- all models are in the cubes of the leaves without an accepted derivation
+  -- all models are in the cubes of the leaves that are not proved
   holds_models : (listed : List ℕ) (cubes : List (List ℤ)) → IsVerdict f.clauses slots (Unknown listed) → AreCubesOf slots listed cubes → HoldModels (clauses_of (kept_trace r.whole)) cubes
   holds_models listed cubes h are value model =
       let (leaf, slot, within, there, holds) = model_in_listed f slots listed fine clean slots_cover h value (subst (λ (cs : List (List ℤ)). IsModel value cs) (sym clauses_are) model) in
@@ -144,5 +121,5 @@ module _ (r : ReducedValue) (ok : IsReduced r) (f : FormulaValue) (f_is : f ≡ 
       (cubes : List (List ℤ)) → AreCubesOf slots listed cubes → IsDecided options r.whole (IsUnknown cubes)
   unknown is_tree verdict listed is ended h cubes are = (
     holds_models listed cubes (subst (λ (v : Verdict). IsVerdict f.clauses slots v) is h) are,
-    left_open is_tree verdict ended cubes (open_leaves tree slots verdict listed is cubes are),
+    left_open is_tree verdict ended cubes (open_leaves slots verdict listed is cubes are),
   )

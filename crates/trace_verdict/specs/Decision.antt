@@ -1,6 +1,6 @@
 -- What is decided of a trace.
-use Rattle.std.specs.Prelude.{◌≡◌, ⊤, ℕ, ℤ, Bool, false, IsTrue, List, [], ◌++◌, length, map, Some, codes, decimal}
-use Rattle.std.specs.List.{AllZip, Contains, flat_map, list_all, slice_get}
+use Rattle.std.specs.Prelude.{◌≡◌, ⊤, ℕ, ℤ, Bool, IsTrue, List, [], ◌++◌, length, map, Some, codes, decimal}
+use Rattle.std.specs.List.{AllZip, Contains, flat_map, slice_get}
 use Rattle.dimacs.specs.Assignment.{makes_all}
 use Rattle.dimacs.specs.CnfText.{clause_line}
 use Rattle.dimacs.specs.Models.{IsModel}
@@ -17,20 +17,18 @@ use Rattle.cube_tree.specs.CubeTree.{CubeTree, cubes_of, leaves, IsCubeTree}
 use Rattle.result_ledger.specs.declared.slot.Slot.{Slot}
 use Rattle.result_ledger.specs.declared.verdict.Verdict.{Verdict}
 use Rattle.result_ledger.specs.declared.verdict.Verdict.TheVariants.{Consistent as HasModel, Inconsistent as AllRefuted, Unknown as OpenLeaves}
-use Rattle.result_ledger.specs.Ledger.{cubes_in, derivations_in}
-use Rattle.lrat_check.specs.Checked.{IsAccepted}
-use Rattle.lrat_check.specs.LratText.{is_lrat_step}
+use Rattle.result_ledger.specs.Ledger.{cubes_in}
+use Rattle.result_ledger.specs.Verdict.{IsProofIn}
 use Rattle.trace_verdict.specs.declared.decided.Decided.{Decided}
 use Rattle.trace_verdict.specs.declared.decision.Decision.{Decision}
 use Rattle.trace_verdict.specs.declared.decision.Decision.TheVariants.{Consistent, Inconsistent, Unknown}
 use Rattle.trace_verdict.specs.declared.refutation.Refutation.{Refutation}
 use Rattle.trace_verdict.specs.Rounds.{HaveEnded}
 
--- it is a tree and, for the cube of each of its leaves, in their order, a derivation that is accepted; and all of them can be written as LRAT
+-- it is a tree and, for the cube of each of its leaves, in their order, a derivation that can be written as LRAT and is accepted
 pub record IsRefutation (clauses : List (List ℤ)) (refutation : Refutation) : Type 0 where
   pub is_tree : IsCubeTree refutation.tree
-  pub proofs : AllZip (IsAccepted clauses) (cubes_of refutation.tree) refutation.derivations
-  pub written : IsTrue (list_all (λ steps. list_all is_lrat_step steps) refutation.derivations)
+  pub proofs : AllZip (IsProofIn clauses) (cubes_of refutation.tree) refutation.derivations
 
 -- each model of the clauses makes all literals of one of the cubes true
 abbrev pub HoldModels : List (List ℤ) → List (List ℤ) → Type 0
@@ -40,12 +38,12 @@ HoldModels clauses cubes = (value : ℕ → Bool) → IsModel value clauses → 
 abbrev pub AreCubesOf : List Slot → List ℕ → List (List ℤ) → Type 0
 AreCubesOf slots leaves cubes = map Some cubes ≡ map (slice_get (cubes_in slots)) leaves
 
--- The cubes that a verdict leaves open: those of the leaves that have no accepted derivation, by rising leaf, each once. Where each leaf
--- has one, but some of these cannot be written as LRAT, so that nobody could check them again, all leaves count as open.
-abbrev pub AreCubesLeftOpen : CubeTree → List Slot → Verdict → List (List ℤ) → Type 0
-AreCubesLeftOpen tree slots (HasModel leaf truth) cubes = ⊥
-AreCubesLeftOpen tree slots (OpenLeaves leaves) cubes = AreCubesOf slots leaves cubes
-AreCubesLeftOpen tree slots (AllRefuted count) cubes = (list_all (λ steps. list_all is_lrat_step steps) (derivations_in slots) ≡ false) × (cubes ≡ cubes_of tree)
+-- the cubes that a verdict leaves open: those of the leaves that have no derivation which can be written and is accepted, by rising leaf,
+-- each once
+abbrev pub AreCubesLeftOpen : List Slot → Verdict → List (List ℤ) → Type 0
+AreCubesLeftOpen slots (HasModel leaf truth) cubes = ⊥
+AreCubesLeftOpen slots (AllRefuted count) cubes = ⊥
+AreCubesLeftOpen slots (OpenLeaves leaves) cubes = AreCubesOf slots leaves cubes
 
 -- the cubes are those that are open in some tree in which the rounds of a search over the clauses of the trace have ended
 pub record AreLeftOpen (t : TraceValue) (options : OptionsValue) (cubes : List (List ℤ)) : Type 0 where
@@ -55,7 +53,7 @@ pub record AreLeftOpen (t : TraceValue) (options : OptionsValue) (cubes : List (
   pub slots_of_tree : cubes_in slots ≡ cubes_of tree
   pub verdict : Verdict
   pub ended : HaveEnded t options slots verdict
-  pub open_are : AreCubesLeftOpen tree slots verdict cubes
+  pub open_are : AreCubesLeftOpen slots verdict cubes
 
 -- What is decided by a search with these options is so: the schedule is a legal one of the whole trace; or each cube of the tree is
 -- refuted, and the trace has no legal schedule; or the cubes are those that the search leaves open, and all models of the clauses are in
@@ -65,11 +63,11 @@ IsDecided options value (Consistent names) = IsLegal value names
 IsDecided options value (Inconsistent refutation) = IsRefutation (clauses_of (kept_trace value)) refutation × ((names : List OpName) → IsLegal value names → ⊥)
 IsDecided options value (Unknown cubes) = HoldModels (clauses_of (kept_trace value)) cubes × AreLeftOpen (kept_trace value) options cubes
 
--- where nothing is decided, the cubes are those that are open in this tree by this verdict
+-- where nothing is decided, the cubes are those that this verdict leaves open
 abbrev pub NamesOpen : Decided → Decision → Type 0
 NamesOpen decided (Consistent names) = ⊤
 NamesOpen decided (Inconsistent refutation) = ⊤
-NamesOpen decided (Unknown cubes) = AreCubesLeftOpen decided.tree decided.ledger decided.verdict cubes
+NamesOpen decided (Unknown cubes) = AreCubesLeftOpen decided.ledger decided.verdict cubes
 
 -- the line of an open cube
 abbrev pub open_line : List ℤ → List ℕ

@@ -13,12 +13,10 @@ use crate::cubes::Cubes;
 use crate::decided::Decided;
 use crate::decision::Decision;
 use crate::guide::{guide_to_order, readings_of};
-use crate::lrat_steps::can_be_written;
 use crate::refutation::Refutation;
 use crate::rounds::search_in_rounds;
 use clause_blocks::trace_clauses::TraceClauses;
 use cube_queue::{Gate, JobCube, Options, SearchFault};
-use cube_tree::{Tree, cubes};
 use dimacs::{Assignment, ClauseList};
 use reducer::expand::expand;
 use reducer::reduced::Reduced;
@@ -57,20 +55,7 @@ fn cubes_of_leaves(alloc: Global, ledger: &Ledger, leaves: &[u32]) -> Result<Cub
     Ok(Cubes::new(cubes))
 }
 
-/// The cubes of all leaves, in order.
-fn all_cubes(alloc: Global, tree: &Tree) -> Result<Cubes, AllocError>
-    ensures { IfOk result (λ cubes. cubes ≡ cubes_of tree.now) }
-{
-    let leaves = cubes(alloc, tree)?;
-    let mut all = Vec::with_capacity(alloc, leaves.len())?;
-    for leaf in leaves.as_slice() {
-        all.push(JobCube::of(alloc, leaf.as_slice()))?;
-    }
-    Ok(Cubes::new(all))
-}
-
-/// What is decided of the whole trace, by the verdict on the clauses of what is kept of it. Derivations that cannot be written as LRAT
-/// decide nothing, since nobody could check them again.
+/// What is decided of the whole trace, by the verdict on the clauses of what is kept of it.
 fn decision_of(
     alloc: Global,
     reduced: &Reduced,
@@ -102,12 +87,7 @@ fn decision_of(
         }
         Verdict::Inconsistent(_) => {
             let derivations = ledger.into_derivations(alloc)?;
-            if can_be_written(derivations.as_slice()) {
-                Ok(Decision::Inconsistent(Refutation { tree, derivations }))
-            } else {
-                let cubes = all_cubes(alloc, &tree)?;
-                Ok(Decision::Unknown(cubes))
-            }
+            Ok(Decision::Inconsistent(Refutation { tree, derivations }))
         }
         Verdict::Unknown(leaves) => {
             let cubes = cubes_of_leaves(alloc, &ledger, leaves.as_slice())?;

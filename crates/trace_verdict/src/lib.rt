@@ -8,7 +8,6 @@ mod deciding;
 mod decision;
 mod guide;
 pub mod laws;
-mod lrat_steps;
 mod refutation;
 mod reporting;
 mod rounds;

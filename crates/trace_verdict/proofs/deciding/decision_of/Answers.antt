@@ -1,14 +1,11 @@
-use Rattle.std.proofs.Common.{◌≡◌, ◌∙◌, ℕ, true, false, List, ap, subst, sym}
-use Rattle.std.specs.List.{list_all}
+use Rattle.std.proofs.Common.{ℕ, List, ap, subst}
 use Rattle.clause_blocks.specs.Clauses.{clauses_of, formula_of}
-use Rattle.lrat_check.specs.LratText.{is_lrat_step}
 use Rattle.result_ledger.specs.declared.verdict.Verdict.{Verdict}
-use Rattle.result_ledger.specs.Ledger.{derivations_in}
 use Rattle.result_ledger.specs.Verdict.{IsVerdict}
 use Rattle.traces.specs.Trace.{TraceValue}
 use Rattle.trace_verdict.specs.Decision.{AreCubesOf}
 use Rattle.trace_verdict.specs.Rounds.{HaveEnded}
-use Rattle.trace_verdict.proofs.DecideLemmas.{all_leaves, inconsistent, is_model, open_leaves, unknown, unwritten}
+use Rattle.trace_verdict.proofs.DecideLemmas.{inconsistent, is_model, open_leaves, unknown}
 use Rattle.trace_verdict.proofs.RoundLemmas.{open_within}
 use Rattle.trace_verdict.proofs.deciding.decision_of.Goals as goal
 
@@ -23,36 +20,15 @@ whole_schedule-requires c =
 pub cubes_of_leaves-requires : goal.cubes_of_leaves-requires
 cubes_of_leaves-requires c =
     let d = c.args.decided in
-    rw c.as_slice-in-Unknown.ensures (open_within (clauses_of c.args.clauses.now) d.ledger c.in-Unknown.leaves d.verdict c.in-Unknown.is c.requires.ended.verdict_is)
+    rw c.as_slice.ensures (open_within (clauses_of c.args.clauses.now) d.ledger c.in-Unknown.leaves d.verdict c.in-Unknown.is c.requires.ended.verdict_is)
 
-pub returns-then-can_be_written-clause-decided : goal.returns-then-can_be_written-clause-decided
-returns-then-can_be_written-clause-decided c =
+pub returns-in_ok-derivations-in-Inconsistent-clause-decided : goal.returns-in_ok-derivations-in-Inconsistent-clause-decided
+returns-in_ok-derivations-in-Inconsistent-clause-decided c =
     let d = c.args.decided in
-    let derivations = c.in_ok-derivations-in-Inconsistent.derivations in
-    let written : list_all (λ steps. list_all is_lrat_step steps) derivations ≡ true = cc (c.can_be_written.ensures, c.if-can_be_written.true, c.as_slice.ensures) in
     inconsistent c.args.reduced.now c.kept-kept.ensures.reduced (formula_of c.args.clauses.now) (ap formula_of c.requires.clauses) c.is_formula.ensures.formula
     d.tree d.ledger c.requires.cubes c.has_clauses.ensures c.covers.ensures.covers c.args._options.now
-    c.in-Inconsistent.field-0 derivations c.covers.ensures.tree c.in_ok-derivations-in-Inconsistent.ensures
-    (subst (λ (v : Verdict). IsVerdict (clauses_of c.args.clauses.now) d.ledger v) c.in-Inconsistent.is c.requires.ended.verdict_is) written
-
-pub returns-in_ok-cubes-in-Inconsistent-clause-decided : goal.returns-in_ok-cubes-in-Inconsistent-clause-decided
-returns-in_ok-cubes-in-Inconsistent-clause-decided c =
-    let d = c.args.decided in
-    let derivations = c.in_ok-derivations-in-Inconsistent.derivations in
-    let none : list_all (λ steps. list_all is_lrat_step steps) derivations ≡ false = cc (c.can_be_written.ensures, c.if-can_be_written.false, c.as_slice.ensures) in
-    let unwritable : list_all (λ steps. list_all is_lrat_step steps) (derivations_in d.ledger) ≡ false = ap (list_all (λ steps. list_all is_lrat_step steps)) (sym c.in_ok-derivations-in-Inconsistent.ensures) ∙ none in
-    unwritten c.args.reduced.now c.kept-kept.ensures.reduced (formula_of c.args.clauses.now) (ap formula_of c.requires.clauses) c.is_formula.ensures.formula
-    d.tree d.ledger c.requires.cubes c.has_clauses.ensures c.covers.ensures.covers c.args._options.now
-    c.covers.ensures.tree d.verdict (subst (λ (t : TraceValue). HaveEnded t c.args._options.now d.ledger d.verdict) c.requires.clauses c.requires.ended)
-    c.in_ok-cubes-in-Inconsistent.cubes c.in_ok-cubes-in-Inconsistent.ensures (all_leaves d.tree d.ledger d.verdict c.in-Inconsistent.field-0 c.in-Inconsistent.is unwritable c.in_ok-cubes-in-Inconsistent.cubes c.in_ok-cubes-in-Inconsistent.ensures)
-
-pub returns-in_ok-cubes-in-Inconsistent-clause-named : goal.returns-in_ok-cubes-in-Inconsistent-clause-named
-returns-in_ok-cubes-in-Inconsistent-clause-named c =
-    let d = c.args.decided in
-    let derivations = c.in_ok-derivations-in-Inconsistent.derivations in
-    let none : list_all (λ steps. list_all is_lrat_step steps) derivations ≡ false = cc (c.can_be_written.ensures, c.if-can_be_written.false, c.as_slice.ensures) in
-    let unwritable : list_all (λ steps. list_all is_lrat_step steps) (derivations_in d.ledger) ≡ false = ap (list_all (λ steps. list_all is_lrat_step steps)) (sym c.in_ok-derivations-in-Inconsistent.ensures) ∙ none in
-    all_leaves d.tree d.ledger d.verdict c.in-Inconsistent.field-0 c.in-Inconsistent.is unwritable c.in_ok-cubes-in-Inconsistent.cubes c.in_ok-cubes-in-Inconsistent.ensures
+    c.in-Inconsistent.field-0 c.in_ok-derivations-in-Inconsistent.derivations c.covers.ensures.tree c.in_ok-derivations-in-Inconsistent.ensures
+    (subst (λ (v : Verdict). IsVerdict (clauses_of c.args.clauses.now) d.ledger v) c.in-Inconsistent.is c.requires.ended.verdict_is)
 
 pub returns-in_ok-cubes-in-Unknown-clause-decided : goal.returns-in_ok-cubes-in-Unknown-clause-decided
 returns-in_ok-cubes-in-Unknown-clause-decided c =
@@ -61,10 +37,10 @@ returns-in_ok-cubes-in-Unknown-clause-decided c =
     d.tree d.ledger c.requires.cubes c.has_clauses.ensures c.covers.ensures.covers c.args._options.now
     c.covers.ensures.tree d.verdict c.in-Unknown.leaves c.in-Unknown.is (subst (λ (t : TraceValue). HaveEnded t c.args._options.now d.ledger d.verdict) c.requires.clauses c.requires.ended) c.requires.ended.verdict_is
     c.in_ok-cubes-in-Unknown.cubes
-    (subst (λ (listed : List ℕ). AreCubesOf d.ledger listed c.in_ok-cubes-in-Unknown.cubes) c.as_slice-in-Unknown.ensures c.in_ok-cubes-in-Unknown.ensures)
+    (subst (λ (listed : List ℕ). AreCubesOf d.ledger listed c.in_ok-cubes-in-Unknown.cubes) c.as_slice.ensures c.in_ok-cubes-in-Unknown.ensures)
 
 pub returns-in_ok-cubes-in-Unknown-clause-named : goal.returns-in_ok-cubes-in-Unknown-clause-named
 returns-in_ok-cubes-in-Unknown-clause-named c =
     let d = c.args.decided in
-    open_leaves d.tree d.ledger d.verdict c.in-Unknown.leaves c.in-Unknown.is c.in_ok-cubes-in-Unknown.cubes
-    (subst (λ (listed : List ℕ). AreCubesOf d.ledger listed c.in_ok-cubes-in-Unknown.cubes) c.as_slice-in-Unknown.ensures c.in_ok-cubes-in-Unknown.ensures)
+    open_leaves d.ledger d.verdict c.in-Unknown.leaves c.in-Unknown.is c.in_ok-cubes-in-Unknown.cubes
+    (subst (λ (listed : List ℕ). AreCubesOf d.ledger listed c.in_ok-cubes-in-Unknown.cubes) c.as_slice.ensures c.in_ok-cubes-in-Unknown.ensures)

@@ -1,4 +1,4 @@
-//! Whether derivations can be written as LRAT.
+//! Whether a derivation can be written as LRAT.
 ghost use Rattle.std.specs.Prelude.{◌≡◌};
 ghost use Rattle.std.specs.List.{list_all};
 ghost use Rattle.lrat_check.specs.LratText.{is_id, is_lrat_step};
@@ -38,11 +38,9 @@ fn are_lrat_steps(steps: &[Step]) -> bool
     steps.iter().all(|step| is_lrat_step(step))
 }
 
-/// Whether each step of each derivation can be written.
-pub(crate) fn can_be_written(derivations: &[Derivation]) -> bool
-    ensures { result ≡ list_all (λ steps. list_all is_lrat_step steps) derivations.now }
+/// Whether each step of the derivation can be written.
+pub(crate) fn can_be_written(derivation: &Derivation) -> bool
+    ensures { result ≡ list_all is_lrat_step derivation.now }
 {
-    derivations
-        .iter()
-        .all(|derivation| are_lrat_steps(derivation.steps()))
+    are_lrat_steps(derivation.steps())
 }
