@@ -74,8 +74,8 @@ pub fn solve_cube(
 /// At most `budget` conflicts are worked on, where a conflict is a clause all of whose literals have become false, and each of
 /// them makes one addition of the derivation. The next one makes the answer `Open`. What follows by unit propagation is found before
 /// anything is decided. If counting then shows that there are readers which cannot all have a source, the derivation says that in at
-/// most `budget` steps, and nothing is searched. After each turn of the search that is tried again, with what has been learned, in at most
-/// so many steps as there are conflicts left.
+/// most `budget` steps, and nothing is searched; if the derivation is longer, the answer is `Open`, unless the budget has no more than one turn.
+/// After each turn of the search that is tried again, with what has been learned, in at most as many steps as there are conflicts left.
 ///
 /// The guide tells what the caller knows of the formula. Neither it nor the answer is believed by anybody: a model is evaluated,
 /// a derivation checked.

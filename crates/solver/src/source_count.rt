@@ -10,8 +10,10 @@ use crate::told_reads::{has_enough_sources, possible_sources, told_reads};
 use crate::units::Units;
 use assignment_trail::OrderedTrail;
 use clause_store::{Guide, Readings};
-use counting::{Free, Given, KnownOrder, Order, find_contradiction, lacks_sources, refute};
-use derivation_log::{Answer, Log, refuted_within};
+use counting::{
+    Contradiction, Free, Given, KnownOrder, Order, Reads, find_contradiction, lacks_sources, refute,
+};
+use derivation_log::{Answer, Log, TURN, refuted_within};
 use lrat_check::derivation::{Derivation, Step};
 use std::alloc::AllocError;
 
@@ -29,6 +31,13 @@ fn known_order<'b>(
         writers: readings.writers(),
         behind: trail.order().behind(),
     }
+}
+
+/// A bound on the steps of its derivation: those of the count, and one for each literal on which it rests.
+fn most_steps(found: &Contradiction) -> u64 {
+    found
+        .most_steps()
+        .saturating_add(found.rests_on().len() as u64)
 }
 
 impl<'a> Search<'a> {
@@ -75,25 +84,33 @@ impl<'a> Search<'a> {
         Ok((clauses, steps, units.log.next_id()))
     }
 
-    /// A derivation of so many steps at most, if there are readers that cannot all have a source. The log has what was learned, and
-    /// nothing is decided.
-    pub fn refute_by_counting(
-        &mut self,
-        log: &Log,
-        budget: u64,
-    ) -> Result<Option<Derivation>, AllocError>
-        ensures { IfOk result (λ found. IfSome found (λ derivation. length derivation ≤ budget)) }
-    {
+    /// Readers that cannot all have a source while nothing is decided, if there are any, and what is known of all readers.
+    fn contradiction(&self) -> Result<Option<(Reads, Contradiction)>, AllocError> {
         let Some(readings) = self.guide.readings() else {
             return Ok(None);
         };
         if self.conflict.is_some() || !self.lacks_sources(readings)? {
             return Ok(None);
         }
-        let alloc = self.alloc;
-        let reads = told_reads(alloc, &self.trail, readings)?;
+        let reads = told_reads(self.alloc, &self.trail, readings)?;
         let known = known_order(self.guide, &self.trail, readings);
-        let Some(found) = find_contradiction(alloc, &reads, known)? else {
+        match find_contradiction(self.alloc, &reads, known)? {
+            Some(found) => Ok(Some((reads, found))),
+            None => Ok(None),
+        }
+    }
+
+    /// A derivation of the contradiction, if it takes at most `budget` steps. The log has what was learned.
+    fn refute_contradiction(
+        &mut self,
+        reads: &Reads,
+        found: &Contradiction,
+        log: &Log,
+        budget: u64,
+    ) -> Result<Option<Derivation>, AllocError>
+        ensures { IfOk result (λ found. IfSome found (λ derivation. length derivation ≤ budget)) }
+    {
+        let Some(readings) = self.guide.readings() else {
             return Ok(None);
         };
         if found.most_steps() > budget {
@@ -109,21 +126,41 @@ impl<'a> Search<'a> {
             variable: self.variables.wrapping_add(1),
         };
         let known = known_order(self.guide, &self.trail, readings);
-        refute(alloc, given, &reads, &found, known, free, budget)
+        refute(self.alloc, given, reads, found, known, free, budget)
+    }
+
+    /// A derivation of at most `budget` steps, if there are readers that cannot all have a source. The log has what was learned, and
+    /// nothing is decided.
+    pub fn refute_by_counting(
+        &mut self,
+        log: &Log,
+        budget: u64,
+    ) -> Result<Option<Derivation>, AllocError>
+        ensures { IfOk result (λ found. IfSome found (λ derivation. length derivation ≤ budget)) }
+    {
+        match self.contradiction()? {
+            Some((reads, found)) => self.refute_contradiction(&reads, &found, log, budget),
+            None => Ok(None),
+        }
     }
 
     /// An answer within the budget, if counting shows before the search begins that there are readers which cannot all have a source. The
-    /// first step of its derivation has this number.
+    /// first step of its derivation has this number. If that takes more steps than the budget has, the answer is open, since a search will
+    /// hardly find a derivation. Only a budget of one turn is searched: its end is near.
     pub fn count_sources(&mut self, first: u32, budget: u64) -> Result<Option<Answer>, AllocError>
         ensures { IfOk result (λ found. IfSome found (λ answer. IsWithin budget answer)) }
     {
         if budget == 0 {
             return Ok(None);
         }
-        let nothing = Log::new(self.alloc, first);
-        let Some(derivation) = self.refute_by_counting(&nothing, budget)? else {
+        let Some((reads, found)) = self.contradiction()? else {
             return Ok(None);
         };
-        Ok(refuted_within(derivation, budget))
+        let nothing = Log::new(self.alloc, first);
+        match self.refute_contradiction(&reads, &found, &nothing, budget)? {
+            Some(derivation) => Ok(refuted_within(derivation, budget)),
+            None if budget > TURN && most_steps(&found) > budget => Ok(Some(Answer::Open)),
+            None => Ok(None),
+        }
     }
 }
