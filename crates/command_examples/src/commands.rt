@@ -26,7 +26,7 @@ struct Case {
 }
 
 /// Command lines whose texts are known.
-static CASES: [Case; 9] = [
+static CASES: [Case; 10] = [
     Case {
         words: &["vsc", "judge", "handed", "right"],
         status: 0,
@@ -68,6 +68,12 @@ static CASES: [Case; 9] = [
         status: 2,
         out: "",
         err: "error: --cert names the file of TRACE\n",
+    },
+    Case {
+        words: &["vsc", "part", "handed", "wrong", "--names"],
+        status: 0,
+        out: "vsc 1\nproc P\n# P.1\nW x 1\nproc Q\n# Q.1\nR x 1\n",
+        err: "",
     },
     Case {
         words: &["vsc", "decode", "handed", "absent"],

@@ -152,11 +152,14 @@ lrat_built = built_at 4
 abbrev pub recheck_built : Shape
 recheck_built = built_at 5
 
+abbrev pub part_built : Shape
+part_built = built_at 6
+
 abbrev pub commands : List Shape
-commands = verify_built ∷ judge_built ∷ cnf_built ∷ decode_built ∷ lrat_built ∷ recheck_built ∷ []
+commands = verify_built ∷ judge_built ∷ cnf_built ∷ decode_built ∷ lrat_built ∷ recheck_built ∷ part_built ∷ []
 
 abbrev help_built : Shape
-help_built = built_at 6
+help_built = built_at 7
 
 -- a parse enters one of the commands, with words at which it finds no fault
 pub record Enters (met : Option (Text × List Row)) : Type 0 where

@@ -8,5 +8,6 @@ mod GivenLemmas
 mod JudgeLemmas
 mod LratLemmas
 mod NumberLemmas
+mod PartLemmas
 mod RecheckLemmas
 mod VerifyLemmas

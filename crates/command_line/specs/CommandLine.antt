@@ -9,7 +9,7 @@ use Rattle.clap.specs.declared.builder.value_parser.ValueParser.TheVariants.{Sig
 use Rattle.clap.specs.declared.error.kind.ErrorKind.{ErrorKind}
 use Rattle.clap.specs.declared.error.kind.ErrorKind.TheVariants.{OutOfMemory}
 use Rattle.command_line.specs.declared.line.Line.{Line}
-use Rattle.command_line.specs.declared.line.Line.TheVariants.{Cnf, Decode, Judge, Lrat, Recheck, Verify}
+use Rattle.command_line.specs.declared.line.Line.TheVariants.{Cnf, Decode, Judge, Lrat, Part, Recheck, Verify}
 use Rattle.command_line.specs.declared.line.SearchNumbers.{SearchNumbers}
 
 -- ---- the commands
@@ -79,10 +79,23 @@ decode_app =
 abbrev pub lrat_app : App
 lrat_app = with_rule (with_rule (new_app (codes "lrat")) (required_path (codes "cnf"))) (required_path (codes "proof"))
 
--- recheck TRACE CERT
+-- --part NAMES, a path that may be left out
+abbrev pub part_rule : Rule
+part_rule = record (new_rule (codes "part")) { long = Some (codes "part"); value_names = 1 }
+
+-- recheck TRACE CERT [--part NAMES]
 abbrev pub recheck_app : App
 recheck_app =
-    with_rule (with_rule (new_app (codes "recheck")) (required_path (codes "trace"))) (required_path (codes "cert"))
+    with_rule (with_rule (with_rule (new_app (codes "recheck")) (required_path (codes "trace"))) (required_path (codes "cert"))) part_rule
+
+-- --names, a flag, beside the path NAMES
+abbrev pub show_names_rule : Rule
+show_names_rule = record (new_rule (codes "show-names")) { long = Some (codes "names"); action = Some SetTrue }
+
+-- part TRACE NAMES [--names]
+abbrev pub part_app : App
+part_app =
+    with_rule (with_rule (with_rule (new_app (codes "part")) (required_path (codes "trace"))) (required_path (codes "names"))) show_names_rule
 
 -- the program, which has a version and wants a command
 abbrev pub program_app : App
@@ -90,7 +103,7 @@ program_app = on_top (λ s. record s { has_version = true; subcommand_required =
 
 abbrev pub vsc_app : App
 vsc_app =
-    with_subcommand (with_subcommand (with_subcommand (with_subcommand (with_subcommand (with_subcommand program_app verify_app.top) judge_app.top) cnf_app.top) decode_app.top) lrat_app.top) recheck_app.top
+    with_subcommand (with_subcommand (with_subcommand (with_subcommand (with_subcommand (with_subcommand (with_subcommand program_app verify_app.top) judge_app.top) cnf_app.top) decode_app.top) lrat_app.top) recheck_app.top) part_app.top
 
 -- ---- what the words ask for
 
@@ -133,11 +146,21 @@ pub record AsksToCheckProof (command : Option Text) (given : Text → Option Tex
   pub cnf_path : given (codes "cnf") ≡ Some cnf
   pub proof_path : given (codes "proof") ≡ Some proof
 
--- the command is to check that the certificate in one file shows that the trace in another has no legal schedule
-pub record AsksToRecheck (command : Option Text) (given : Text → Option Text) (trace cert : Text) : Type 0 where
+-- the command is to check that the certificate in one file shows that the trace in another has no legal schedule, by the trace itself or,
+-- if a third file is given, by the part that the operations make up which it names
+pub record AsksToRecheck (command : Option Text) (given : Text → Option Text) (trace cert : Text) (part : Option Text) : Type 0 where
   pub command_name : command ≡ Some (codes "recheck")
   pub trace_path : given (codes "trace") ≡ Some trace
   pub cert_path : given (codes "cert") ≡ Some cert
+  pub part_path : given (codes "part") ≡ part
+
+-- the command is to write the part of the trace in one file that the operations make up which another names, with or without their names
+-- in the whole
+pub record AsksForPart (command : Option Text) (given : Text → Option Text) (trace names : Text) (shows_names : Bool) : Type 0 where
+  pub command_name : command ≡ Some (codes "part")
+  pub trace_path : given (codes "trace") ≡ Some trace
+  pub names_path : given (codes "names") ≡ Some names
+  pub names_flag : given (codes "show-names") ≡ Some (bool_text shows_names)
 
 -- the command is to decide whether the trace in a file has a legal schedule, by a search of these numbers, with or without its progress,
 -- and with a file for the certificate or with none
@@ -157,7 +180,8 @@ AsksFor command given (Judge trace schedule) = AsksToJudge command given trace.n
 AsksFor command given (Cnf trace workers) = AsksForCnf command given trace.now workers
 AsksFor command given (Decode trace model) = AsksToDecode command given trace.now model.now
 AsksFor command given (Lrat cnf proof) = AsksToCheckProof command given cnf.now proof.now
-AsksFor command given (Recheck trace cert) = AsksToRecheck command given trace.now cert.now
+AsksFor command given (Recheck trace cert part) = AsksToRecheck command given trace.now cert.now (option_map (λ path. path.now) part)
+AsksFor command given (Part trace names shows_names) = AsksForPart command given trace.now names.now shows_names
 AsksFor command given (Verify trace cert numbers progress) = AsksToVerify command given trace.now (option_map (λ path. path.now) cert) numbers progress
 
 -- the words ask for the line
@@ -179,7 +203,8 @@ IsWithinRanges (Judge trace schedule) = ⊤
 IsWithinRanges (Cnf trace workers) = (1 ≤ workers) × (workers ≤ 8)
 IsWithinRanges (Decode trace model) = ⊤
 IsWithinRanges (Lrat cnf proof) = ⊤
-IsWithinRanges (Recheck trace cert) = ⊤
+IsWithinRanges (Recheck trace cert part) = ⊤
+IsWithinRanges (Part trace names shows_names) = ⊤
 IsWithinRanges (Verify trace cert numbers progress) = AreSearchNumbers numbers
 
 -- ---- what is wrong with the words

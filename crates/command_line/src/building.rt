@@ -40,3 +40,23 @@ pub fn command_of_two<'a>(
         .after_long_help(example);
     with_two(command, first, second)
 }
+
+/// A command of this name with three arguments.
+pub fn command_of_three<'a>(
+    alloc: Global,
+    name: &'a str,
+    about: &'a str,
+    example: &'a str,
+    first: Arg<'a>,
+    second: Arg<'a>,
+    third: Arg<'a>,
+) -> Result<Command<'a>, AllocError>
+    requires first { first.global ≡ false }
+    requires second { second.global ≡ false }
+    requires third { third.global ≡ false }
+    ensures app { IfOk result (λ c. app_of c ≡ with_rule (with_rule (with_rule (new_app name.entry.now) (rule_of first.entry)) (rule_of second.entry)) (rule_of third.entry)) }
+    ensures local { IfOk result (λ c. (out-Command c).has_globals ≡ false) }
+{
+    let command = command_of_two(alloc, name, about, example, first, second)?;
+    command.arg(third)
+}

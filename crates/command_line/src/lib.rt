@@ -10,6 +10,7 @@ mod line;
 mod line_fault;
 mod lrat_command;
 mod numbers;
+mod part_command;
 mod program;
 mod recheck_command;
 mod verify_command;

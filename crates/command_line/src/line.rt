@@ -10,6 +10,7 @@ use crate::decode_command::decode_line;
 use crate::judge_command::judge_line;
 use crate::line_fault::LineFault;
 use crate::lrat_command::lrat_line;
+use crate::part_command::part_line;
 use crate::program::new_program;
 use crate::recheck_command::recheck_line;
 use crate::verify_command::verify_line;
@@ -53,10 +54,17 @@ pub enum Line<'a> {
         cnf: &'a str,
         proof: &'a str,
     },
-    /// To check a certificate that a trace has no legal schedule.
+    /// To check a certificate that a trace has no legal schedule, by the trace itself or by a part of it.
     Recheck {
         trace: &'a str,
         cert: &'a str,
+        part: Option<&'a str>,
+    },
+    /// To write the part of a trace that some operations make up, with or without their names in the whole.
+    Part {
+        trace: &'a str,
+        names: &'a str,
+        shows_names: bool,
     },
     /// To decide whether a trace has a legal schedule, to write a certificate to a file or to none, and to tell of the
     /// progress or not.
@@ -109,6 +117,9 @@ pub fn read_line<'a>(alloc: Global, words: &'a [&'a str]) -> Result<Line<'a>, Li
     }
     if let Some(recheck) = matches.subcommand_matches("recheck") {
         return Ok(recheck_line(recheck));
+    }
+    if let Some(part) = matches.subcommand_matches("part") {
+        return Ok(part_line(part));
     }
     unreachable!()
 }

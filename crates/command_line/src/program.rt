@@ -9,6 +9,7 @@ use crate::cnf_command::new_cnf_command;
 use crate::decode_command::new_decode_command;
 use crate::judge_command::new_judge_command;
 use crate::lrat_command::new_lrat_command;
+use crate::part_command::new_part_command;
 use crate::recheck_command::new_recheck_command;
 use crate::verify_command::new_verify_command;
 use clap::Command;
@@ -58,5 +59,6 @@ pub fn new_program<'a>(alloc: Global) -> Result<Command<'a>, AllocError>
     let program = with_command(program, new_cnf_command(alloc));
     let program = with_command(program, new_decode_command(alloc));
     let program = with_command(program, new_lrat_command(alloc));
-    with_command(program, new_recheck_command(alloc))
+    let program = with_command(program, new_recheck_command(alloc));
+    with_command(program, new_part_command(alloc))
 }

@@ -1,14 +1,14 @@
-//! The command `recheck TRACE CERT`.
+//! The command `recheck TRACE CERT [--part NAMES]`.
 
 ghost use Rattle.std.specs.Prelude.{◌≡◌, IfOk, IsSome, Some, codes, false};
-ghost use Rattle.clap.specs.Words.{app_of, first_value, found_of};
+ghost use Rattle.clap.specs.Words.{app_of, first_value, found_of, rule_of};
 ghost use Rattle.clap.specs.declared.builder.command.Command.TheViews.{out-Command};
-ghost use Rattle.command_line.specs.CommandLine.{AsksFor, recheck_app};
+ghost use Rattle.command_line.specs.CommandLine.{AsksFor, part_rule, recheck_app};
 
-use crate::arguments::{path_argument, text_of, trace_argument};
-use crate::building::command_of_two;
+use crate::arguments::{optional_text_of, path_argument, text_of, trace_argument};
+use crate::building::command_of_three;
 use crate::line::Line;
-use clap::{ArgMatches, Command};
+use clap::{Arg, ArgMatches, Command};
 use std::alloc::{AllocError, Global};
 
 const ABOUT: &str = "Checks a certificate that a trace has no legal schedule";
@@ -28,10 +28,27 @@ and a certificate:
 The answer is ACCEPTED cubes=1. The clauses that 'vsc cnf' writes of the trace are 1 and -1: nothing writes
 what P reads. There is one case, and its proof takes both.
 
+With --part the certificate is one of the part that 'vsc part TRACE NAMES' writes, as 'vsc verify --cert'
+writes it of that part. The part is made anew, and the answer ACCEPTED says that TRACE itself has no legal
+schedule. TRACE may be larger than 'vsc verify' takes.
+
 Exit status:
     0  the answer is ACCEPTED
     2  the command line or a file is refused, also where a case has no proof or one that is wrong
     4  a file or a standard stream failed";
+
+// `--part NAMES`.
+fn part_argument<'a>(alloc: Global) -> Arg<'a>
+    ensures rule { rule_of result ≡ part_rule }
+    ensures local { result.global ≡ false }
+{
+    Arg::new(alloc, "part")
+        .long("part")
+        .value_name("NAMES")
+        .help(
+            "Takes CERT as one of the part of TRACE that the operations make up which NAMES names",
+        )
+}
 
 /// The command, as `clap` takes it.
 pub fn new_recheck_command<'a>(alloc: Global) -> Result<Command<'a>, AllocError>
@@ -45,7 +62,8 @@ pub fn new_recheck_command<'a>(alloc: Global) -> Result<Command<'a>, AllocError>
         "CERT",
         "A file with a certificate, as 'vsc verify --cert' writes it",
     );
-    command_of_two(alloc, "recheck", ABOUT, EXAMPLE, trace, cert)
+    let part = part_argument(alloc);
+    command_of_three(alloc, "recheck", ABOUT, EXAMPLE, trace, cert, part)
 }
 
 /// What the matches of the command ask for.
@@ -57,5 +75,6 @@ pub fn recheck_line<'a>(matches: &ArgMatches<'a>) -> Line<'a>
     Line::Recheck {
         trace: text_of(matches, "trace"),
         cert: text_of(matches, "cert"),
+        part: optional_text_of(matches, "part"),
     }
 }

@@ -8,20 +8,23 @@ use Rattle.clap.specs.declared.error.kind.ErrorKind.TheVariants.{OutOfMemory as 
 use Rattle.command_line.specs.CommandLine.{Asks, IsFaultOf, IsFaultless, vsc_app}
 use Rattle.command_line.specs.LineFault.{is_answer, text_on_memory}
 use Rattle.command_line.specs.declared.line.Line.{Line}
-use Rattle.command_line.specs.declared.line.Line.TheVariants.{Cnf, Decode, Judge, Lrat, Recheck, Verify}
+use Rattle.command_line.specs.declared.line.Line.TheVariants.{Cnf, Decode, Judge, Lrat, Part, Recheck, Verify}
 use Rattle.command_line.specs.declared.line.SearchNumbers.{SearchNumbers}
 use Rattle.verdict_report.specs.declared.fault.Fault.{Fault}
 use Rattle.verdict_report.specs.declared.fault.Fault.TheVariants.{Device, OutOfMemory}
 use Rattle.verdict_report.specs.declared.status.Status.{Status}
+use Rattle.verdict_report.specs.declared.status.Status.TheVariants.{Unknown}
 use Rattle.verdict_report.specs.CnfEngine.{IsRunOfCnf}
 use Rattle.verdict_report.specs.DecodeEngine.{IsRunOfDecode}
 use Rattle.verdict_report.specs.Engine.{FailsBehindFront, TakesNothing, TakesWhole}
 use Rattle.verdict_report.specs.Fault.{exit_status_of, line_of}
 use Rattle.verdict_report.specs.JudgeEngine.{IsRunOfJudge}
 use Rattle.verdict_report.specs.LratEngine.{IsRunOfLrat}
+use Rattle.part_report.specs.PartEngine.{IsRunOfPart}
+use Rattle.part_report.specs.PartRecheckEngine.{IsRunOfPartRecheck}
 use Rattle.verdict_report.specs.RecheckEngine.{IsRunOfRecheck}
 use Rattle.verdict_report.specs.Runs.{SourceRun, SinkRun}
-use Rattle.verdict_report.specs.VerifyEngine.{IsRunOfCertifiedVerify, IsRunOfVerify}
+use Rattle.verdict_report.specs.VerifyEngine.{IsRunOfCertifiedVerify, IsRunOfVerify, TellsOpen}
 use Rattle.command_run.specs.declared.search.Search.{Search}
 use Rattle.command_run.specs.HostCalls.{HostCalls}
 
@@ -37,7 +40,7 @@ pub record ReadsFile {H I O : Type 0} (calls : HostCalls H I O) (read : I → I 
   pub not_at_end_before : run.was_at_end ≡ false
   pub no_failure_before : run.failures_before ≡ 0
 
--- an engine of one file, or of two, was run on the files at these paths, which were asked for in this order, and nothing else was
+-- an engine of one file, of two or of three, was run on the files at these paths, which were asked for in this order, and nothing else was
 pub record RunsOnFile {H I O : Type 0} (calls : HostCalls H I O) (read : I → I → SourceRun) (IsRun : SourceRun → SinkRun → Result Status Fault → Type 0) (from : H) (path : List ℕ) (out : SinkRun) (outcome : Result Status Fault) (to : H) : Type 0 where
   pub file : SourceRun
   pub reads : ReadsFile calls read from path file to
@@ -51,13 +54,31 @@ pub record RunsOnFiles {H I O : Type 0} (calls : HostCalls H I O) (read : I → 
   pub reads_second : ReadsFile calls read between second_path second to
   pub runs : IsRun first second out outcome
 
--- the host was told of this search, and the engine that decides traces was run on the file at this path
+pub record RunsOnThreeFiles {H I O : Type 0} (calls : HostCalls H I O) (read : I → I → SourceRun) (IsRun : SourceRun → SourceRun → SourceRun → SinkRun → Result Status Fault → Type 0) (from : H) (first_path second_path third_path : List ℕ) (out : SinkRun) (outcome : Result Status Fault) (to : H) : Type 0 where
+  pub first : SourceRun
+  pub after_first : H
+  pub reads_first : ReadsFile calls read from first_path first after_first
+  pub second : SourceRun
+  pub after_second : H
+  pub reads_second : ReadsFile calls read after_first second_path second after_second
+  pub third : SourceRun
+  pub reads_third : ReadsFile calls read after_second third_path third to
+  pub runs : IsRun first second third out outcome
+
+-- a certificate was checked for the trace itself or, if there is a path for names, for the part that these make up
+abbrev pub RunsRecheck : {H I O : Type 0} → HostCalls H I O → (I → I → SourceRun) → H → List ℕ → List ℕ → Option (Bor (List ℕ)) → SinkRun → Result Status Fault → H → Type 0
+RunsRecheck calls read from trace cert None out outcome to = RunsOnFiles calls read IsRunOfRecheck from trace cert out outcome to
+RunsRecheck calls read from trace cert (Some names) out outcome to = RunsOnThreeFiles calls read IsRunOfPartRecheck from trace cert names.now out outcome to
+
+-- The host was told of this search, and the engine that decides traces was run on the file at this path. If nothing is decided, what was
+-- taken names the cubes that a search with these options leaves open.
 pub record RunsSearch {H I O : Type 0} (calls : HostCalls H I O) (read : I → I → SourceRun) (from : H) (trace : List ℕ) (search : Search) (out : SinkRun) (outcome : Result Status Fault) (to : H) : Type 0 where
   pub file : SourceRun
   pub between : H
   pub reads : ReadsFile calls read from trace file between
   pub searches : calls.searches between search to
   pub runs : IsRunOfVerify file out outcome
+  pub left_open : outcome ≡ Ok Unknown → TellsOpen search.options file out
 
 -- the same, where the file at another path, which was made or emptied first, took the certificate
 pub record RunsWithCertificate {H I O : Type 0} (calls : HostCalls H I O) (read : I → I → SourceRun) (wrote : O → O → SinkRun) (from : H) (trace cert : List ℕ) (search : Search) (out : SinkRun) (outcome : Result Status Fault) (to : H) : Type 0 where
@@ -73,6 +94,7 @@ pub record RunsWithCertificate {H I O : Type 0} (calls : HostCalls H I O) (read 
   pub searched : H
   pub searches : calls.searches opened search searched
   pub runs : IsRunOfCertifiedVerify file (wrote before after) out outcome
+  pub left_open : outcome ≡ Ok Unknown → TellsOpen search.options file out
   pub closes : calls.closes searched after to
 
 -- that, or the file for the certificate could not be made: then nothing was read, and nothing written
@@ -101,7 +123,8 @@ RunsLine calls read wrote from (Judge trace schedule) out outcome to = RunsOnFil
 RunsLine calls read wrote from (Cnf trace workers) out outcome to = RunsOnFile calls read IsRunOfCnf from trace.now out outcome to
 RunsLine calls read wrote from (Decode trace model) out outcome to = RunsOnFiles calls read IsRunOfDecode from trace.now model.now out outcome to
 RunsLine calls read wrote from (Lrat cnf proof) out outcome to = RunsOnFiles calls read IsRunOfLrat from cnf.now proof.now out outcome to
-RunsLine calls read wrote from (Recheck trace cert) out outcome to = RunsOnFiles calls read IsRunOfRecheck from trace.now cert.now out outcome to
+RunsLine calls read wrote from (Recheck trace cert part) out outcome to = RunsRecheck calls read from trace.now cert.now part out outcome to
+RunsLine calls read wrote from (Part trace names shows_names) out outcome to = RunsOnFiles calls read (IsRunOfPart shows_names) from trace.now names.now out outcome to
 RunsLine calls read wrote from (Verify trace cert numbers progress) out outcome to =
     RunsVerify calls read wrote from trace.now cert (search_of numbers progress) out outcome to
 

@@ -43,6 +43,7 @@ fn overwrites_trace<'p, H: Host<'p>>(host: &mut H, line: Line<'p>) -> bool
         Line::Decode { .. } => false,
         Line::Lrat { .. } => false,
         Line::Recheck { .. } => false,
+        Line::Part { .. } => false,
     }
 }
 

@@ -1,6 +1,8 @@
 //! The engine that a line names, on the files of its paths.
 ghost use Rattle.command_line.specs.CommandLine.{IsWithinRanges};
-ghost use Rattle.command_run.specs.CommandRun.{RunsCertified, RunsLine, RunsOnFile, RunsOnFiles, RunsSearch, RunsVerify};
+ghost use Rattle.command_run.specs.CommandRun.{RunsCertified, RunsLine, RunsOnFile, RunsOnFiles, RunsOnThreeFiles, RunsRecheck, RunsSearch, RunsVerify};
+ghost use Rattle.part_report.specs.PartEngine.{IsRunOfPart};
+ghost use Rattle.part_report.specs.PartRecheckEngine.{IsRunOfPartRecheck};
 ghost use Rattle.verdict_report.specs.CnfEngine.{IsRunOfCnf};
 ghost use Rattle.verdict_report.specs.DecodeEngine.{IsRunOfDecode};
 ghost use Rattle.verdict_report.specs.JudgeEngine.{IsRunOfJudge};
@@ -13,6 +15,7 @@ use crate::search::{Search, certify, decide};
 use command_line::Line;
 use cube_queue::Gate;
 use dimacs::Sink;
+use part_report::{run_part, run_part_recheck};
 use std::alloc::Global;
 use std::sync::Wait;
 use std::thread::Threads;
@@ -94,6 +97,60 @@ fn recheck_files<'p, H: Host<'p>, W: Sink>(
     let mut trace = host.source(trace);
     let mut cert = host.source(cert);
     run_recheck(alloc, &mut trace, &mut cert, out)
+}
+
+/// Checks the certificate in one file for a part of the trace in another, which the operations make up that a third names, and writes the
+/// answer to the standard output.
+fn recheck_part_files<'p, H: Host<'p>, W: Sink>(
+    alloc: Global,
+    host: &mut H,
+    trace: &'p str,
+    cert: &'p str,
+    names: &'p str,
+    out: &mut W,
+) -> Result<Status, Fault>
+    ensures { RunsOnThreeFiles H.calls (source_run H.Input.handed_out H.Input.is_at_end H.Input.failures) IsRunOfPartRecheck
+        host.old trace.now cert.now names.now (sink_run W.written W.failures out.old out.new) result host.new }
+{
+    let mut trace = host.source(trace);
+    let mut cert = host.source(cert);
+    let mut names = host.source(names);
+    run_part_recheck(alloc, &mut trace, &mut cert, &mut names, out)
+}
+
+/// Checks the certificate, for the trace itself or for a part of it.
+fn recheck_any<'p, H: Host<'p>, W: Sink>(
+    alloc: Global,
+    host: &mut H,
+    trace: &'p str,
+    cert: &'p str,
+    part: Option<&'p str>,
+    out: &mut W,
+) -> Result<Status, Fault>
+    ensures { RunsRecheck H.calls (source_run H.Input.handed_out H.Input.is_at_end H.Input.failures)
+        host.old trace.now cert.now part.entry (sink_run W.written W.failures out.old out.new) result host.new }
+{
+    match part {
+        Some(names) => recheck_part_files(alloc, host, trace, cert, names, out),
+        None => recheck_files(alloc, host, trace, cert, out),
+    }
+}
+
+/// Writes the part of the trace in one file that the operations make up which the other names to the standard output.
+fn part_files<'p, H: Host<'p>, W: Sink>(
+    alloc: Global,
+    host: &mut H,
+    trace: &'p str,
+    names: &'p str,
+    shows_names: bool,
+    out: &mut W,
+) -> Result<Status, Fault>
+    ensures { RunsOnFiles H.calls (source_run H.Input.handed_out H.Input.is_at_end H.Input.failures) (IsRunOfPart shows_names)
+        host.old trace.now names.now (sink_run W.written W.failures out.old out.new) result host.new }
+{
+    let mut trace = host.source(trace);
+    let mut names = host.source(names);
+    run_part(alloc, &mut trace, &mut names, shows_names, out)
 }
 
 /// Decides whether the trace in the file at this path has a legal schedule, and writes the report to the standard output.
@@ -183,7 +240,12 @@ pub(crate) fn run_engine<'p, R: Threads + Wait + Sync, G: Gate + Sync, H: Host<'
         Line::Cnf { trace, .. } => translate_file(alloc, host, trace, out),
         Line::Decode { trace, model } => decode_files(alloc, host, trace, model, out),
         Line::Lrat { cnf, proof } => check_files(alloc, host, cnf, proof, out),
-        Line::Recheck { trace, cert } => recheck_files(alloc, host, trace, cert, out),
+        Line::Recheck { trace, cert, part } => recheck_any(alloc, host, trace, cert, part, out),
+        Line::Part {
+            trace,
+            names,
+            shows_names,
+        } => part_files(alloc, host, trace, names, shows_names, out),
         Line::Verify {
             trace,
             cert,

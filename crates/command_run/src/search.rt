@@ -1,9 +1,10 @@
 //! How a trace is searched.
-ghost use Rattle.std.specs.Prelude.{◌≡◌};
+ghost use Rattle.std.specs.Prelude.{◌≡◌, Ok};
 ghost use Rattle.command_line.specs.CommandLine.{AreSearchNumbers};
 ghost use Rattle.command_run.specs.CommandRun.{search_of};
 ghost use Rattle.verdict_report.specs.Runs.{source_run, sink_run};
-ghost use Rattle.verdict_report.specs.VerifyEngine.{IsRunOfCertifiedVerify, IsRunOfVerify};
+ghost use Rattle.verdict_report.specs.VerifyEngine.{IsRunOfCertifiedVerify, IsRunOfVerify, TellsOpen};
+ghost use Rattle.verdict_report.specs.declared.status.Status.TheVariants.{Unknown};
 
 use crate::host::Host;
 use command_line::SearchNumbers;
@@ -59,6 +60,9 @@ pub(crate) fn decide<'p, R: Threads + Wait + Sync, G: Gate + Sync, H: Host<'p>, 
         (source_run H.Input.handed_out H.Input.is_at_end H.Input.failures trace.old trace.new)
         (sink_run W.written W.failures out.old out.new)
         result }
+    ensures unknown { result ≡ Ok Unknown → TellsOpen search.now.options
+        (source_run H.Input.handed_out H.Input.is_at_end H.Input.failures trace.old trace.new)
+        (sink_run W.written W.failures out.old out.new) }
 {
     host.begin_search(search);
     if search.tells_progress {
@@ -85,6 +89,9 @@ pub(crate) fn certify<'p, R: Threads + Wait + Sync, G: Gate + Sync, H: Host<'p>,
         (sink_run H.Output.written H.Output.failures cert.old cert.new)
         (sink_run W.written W.failures out.old out.new)
         result }
+    ensures unknown { result ≡ Ok Unknown → TellsOpen search.now.options
+        (source_run H.Input.handed_out H.Input.is_at_end H.Input.failures trace.old trace.new)
+        (sink_run W.written W.failures out.old out.new) }
 {
     host.begin_search(search);
     if search.tells_progress {

@@ -54,14 +54,14 @@ number_is_word n small =
 abbrev pub is_line : List (List ℕ) → Bool
 is_line words = list_all is_word words && not (is_skipped words)
 
-no_line_feed_joined : (words : List (List ℕ)) → list_all is_word words ≡ true → list_any is_line_feed (join_with_byte 32 words) ≡ false
+pub no_line_feed_joined : (words : List (List ℕ)) → list_all is_word words ≡ true → list_any is_line_feed (join_with_byte 32 words) ≡ false
 no_line_feed_joined [] h = refl
 no_line_feed_joined (w ∷ []) h = (parts_of w (and_parts (is_word w) true h).0).no_line_feed
 no_line_feed_joined (w ∷ (v ∷ words)) h =
     let parts = and_parts (is_word w) (list_all is_word (v ∷ words)) h in
     list_any-append is_line_feed w (32 ∷ join_with_byte 32 (v ∷ words)) ∙ or_from _ _ (parts_of w parts.0).no_line_feed (no_line_feed_joined (v ∷ words) parts.1)
 
-words_joined : (words : List (List ℕ)) → list_all is_word words ≡ true → words_of (join_with_byte 32 words) ≡ words
+pub words_joined : (words : List (List ℕ)) → list_all is_word words ≡ true → words_of (join_with_byte 32 words) ≡ words
 words_joined [] h = refl
 words_joined (w ∷ []) h = let word = parts_of w (and_parts (is_word w) true h).0 in one_word w word.some word.no_blank
 words_joined (w ∷ (v ∷ words)) h =

@@ -50,7 +50,7 @@ fn any_says_origin(processes: &[Process]) -> bool
 }
 
 /// Whether the trace says what version 1 has no line for.
-fn wants_version_2(trace: &Trace) -> bool
+pub fn wants_version_2(trace: &Trace) -> bool
     ensures { result ≡ spelled.needs_version_2 trace.now }
 {
     !trace.before().is_empty() || any_says_origin(trace.processes())
@@ -135,7 +135,7 @@ fn push_op_words(text: &mut Vec<u8>, op: &Op) -> Result<(), AllocError>
 }
 
 /// Appends the line of an operation.
-fn push_op(text: &mut Vec<u8>, op: &Op) -> Result<(), AllocError>
+pub fn push_op(text: &mut Vec<u8>, op: &Op) -> Result<(), AllocError>
     ensures { OnOk result (text.new.items ≡ text.old.items ++ line_text (spelled.op_line op.now)) }
 {
     push_op_words(text, op)?;
@@ -167,7 +167,11 @@ fn push_processes(text: &mut Vec<u8>, processes: &[Process]) -> Result<(), Alloc
 }
 
 /// Appends a line with this key for each location and value.
-fn push_entries(text: &mut Vec<u8>, key: &[u8], entries: &[(Name, u64)]) -> Result<(), AllocError>
+pub fn push_entries(
+    text: &mut Vec<u8>,
+    key: &[u8],
+    entries: &[(Name, u64)],
+) -> Result<(), AllocError>
     ensures { OnOk result (text.new.items ≡ text.old.items ++ flat_map line_text (map (entry_line key.now) entries.now)) }
 {
     for entry in entries {
@@ -178,7 +182,7 @@ fn push_entries(text: &mut Vec<u8>, key: &[u8], entries: &[(Name, u64)]) -> Resu
 }
 
 /// Appends the line of each pair.
-fn push_pairs(text: &mut Vec<u8>, pairs: &[(OpName, OpName)]) -> Result<(), AllocError>
+pub fn push_pairs(text: &mut Vec<u8>, pairs: &[(OpName, OpName)]) -> Result<(), AllocError>
     ensures { OnOk result (text.new.items ≡ text.old.items ++ flat_map line_text (map spelled.before_line pairs.now)) }
 {
     for pair in pairs {
@@ -191,7 +195,7 @@ fn push_pairs(text: &mut Vec<u8>, pairs: &[(OpName, OpName)]) -> Result<(), Allo
 }
 
 /// Appends the header of version 1 or 2.
-fn push_header(text: &mut Vec<u8>, two: bool) -> Result<(), AllocError>
+pub fn push_header(text: &mut Vec<u8>, two: bool) -> Result<(), AllocError>
     ensures { OnOk result (text.new.items ≡ text.old.items ++ line_text (spelled.header_line two)) }
 {
     text.extend_from_slice(if two { b"vsc 2\n" } else { b"vsc 1\n" })?;

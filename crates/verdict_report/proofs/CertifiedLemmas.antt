@@ -17,7 +17,7 @@ use Rattle.trace_verdict.specs.declared.decision.Decision.TheVariants.{Consisten
 use Rattle.trace_verdict.specs.declared.refutation.Refutation.{Refutation}
 use Rattle.trace_verdict.specs.Decision.{IsDecided, certificate_in, certificate_text, report}
 use Rattle.verdict_report.specs.declared.fault.Fault.{Fault}
-use Rattle.verdict_report.specs.declared.fault.Fault.TheVariants.{OutOfMemory, Device, InputTooLong, Trace, Schedule, Model, Cnf, Lrat, Reduce, Decode, Check, Cert, Search}
+use Rattle.verdict_report.specs.declared.fault.Fault.TheVariants.{OutOfMemory, Device, InputTooLong, Trace, Schedule, Part, Model, Cnf, Lrat, Reduce, Decode, Check, Cert, Search}
 use Rattle.verdict_report.specs.declared.status.Status.{Status}
 use Rattle.verdict_report.specs.declared.status.Status.TheVariants.{Yes, No, Unknown}
 use Rattle.verdict_report.specs.Engine.{HandOut, InPieces, IsRunOfEngine, IsRunOfWriting, Reads, TakesNothing, TakesWhole, of_one}
@@ -47,6 +47,7 @@ module _ (trace : SourceRun) (cert out : SinkRun) (text : List ℕ) (handed : Ha
   report_written whole (Err InputTooLong) w = absurd w
   report_written whole (Err (Trace cause line)) w = absurd w
   report_written whole (Err (Schedule cause line)) w = absurd w
+  report_written whole (Err (Part cause line)) w = absurd w
   report_written whole (Err (Model cause line)) w = absurd w
   report_written whole (Err (Cnf cause line)) w = absurd w
   report_written whole (Err (Lrat cause line)) w = absurd w

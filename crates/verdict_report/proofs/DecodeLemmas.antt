@@ -20,7 +20,7 @@ use Rattle.clause_blocks.specs.ModelOrder.{IsInOrderOf}
 use Rattle.reducer.specs.declared.reduce_fault.ReduceCause.TheVariants.{StillTooLarge}
 use Rattle.schedule_decode.specs.declared.decode_fault.DecodeCause.TheVariants.{NotAModel}
 use Rattle.verdict_report.specs.declared.fault.Fault.{Fault}
-use Rattle.verdict_report.specs.declared.fault.Fault.TheVariants.{OutOfMemory, Device, InputTooLong, Trace, Schedule, Model, Cnf, Lrat, Reduce, Decode, Check, Cert, Search}
+use Rattle.verdict_report.specs.declared.fault.Fault.TheVariants.{OutOfMemory, Device, InputTooLong, Trace, Schedule, Part, Model, Cnf, Lrat, Reduce, Decode, Check, Cert, Search}
 use Rattle.verdict_report.specs.Admitted.{Admits}
 use Rattle.verdict_report.specs.Fault.{fault_of_part}
 use Rattle.verdict_report.specs.DecodeEngine.{IsDecoding, IsDecodedFrom, IsSaidOfModel}
@@ -51,6 +51,7 @@ module _ (r : ReducedValue) (ok : IsReduced r) (truth : List Bool) where
     said (Err InputTooLong) d = absurd d
     said (Err (Trace cause line)) d = absurd d
     said (Err (Schedule cause line)) d = absurd d
+    said (Err (Part cause line)) d = absurd d
     said (Err (Model cause line)) d = absurd d
     said (Err (Cnf cause line)) d = absurd d
     said (Err (Lrat cause line)) d = absurd d

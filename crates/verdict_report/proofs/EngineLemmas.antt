@@ -8,7 +8,7 @@ use Rattle.dimacs.specs.declared.sink_fault.SinkFault.TheVariants.{OutOfMemory a
 use Rattle.dimacs.specs.Sink.{AppendsFront}
 use Rattle.dimacs.specs.SinkFault.{failures_told}
 use Rattle.verdict_report.specs.declared.fault.Fault.{Fault}
-use Rattle.verdict_report.specs.declared.fault.Fault.TheVariants.{OutOfMemory, Device, InputTooLong, Trace, Schedule, Model, Cnf, Lrat, Reduce, Decode, Check, Cert, Search}
+use Rattle.verdict_report.specs.declared.fault.Fault.TheVariants.{OutOfMemory, Device, InputTooLong, Trace, Schedule, Part, Model, Cnf, Lrat, Reduce, Decode, Check, Cert, Search}
 use Rattle.verdict_report.specs.declared.reading.ReadFault.{ReadFault}
 use Rattle.verdict_report.specs.declared.reading.ReadFault.TheVariants.{OutOfMemory as NoReadMemory, Device as SourceFails, TooLong}
 use Rattle.verdict_report.specs.declared.reading.TheConstants.{INPUT_LIMIT}
@@ -78,6 +78,7 @@ module _ {A : Type 0} (said : List (List ℕ) → Result A Fault → Type 0) (te
     refused d l InputTooLong s = absurd (l s)
     refused d l (Trace cause line) s = (record { texts = texts; handed = handed; is_said = s }, none)
     refused d l (Schedule cause line) s = (record { texts = texts; handed = handed; is_said = s }, none)
+    refused d l (Part cause line) s = (record { texts = texts; handed = handed; is_said = s }, none)
     refused d l (Model cause line) s = (record { texts = texts; handed = handed; is_said = s }, none)
     refused d l (Cnf cause line) s = (record { texts = texts; handed = handed; is_said = s }, none)
     refused d l (Lrat cause line) s = (record { texts = texts; handed = handed; is_said = s }, none)
@@ -99,6 +100,7 @@ module _ {A : Type 0} (said : List (List ℕ) → Result A Fault → Type 0) (te
   written (Err InputTooLong) w = absurd w
   written (Err (Trace cause line)) w = absurd w
   written (Err (Schedule cause line)) w = absurd w
+  written (Err (Part cause line)) w = absurd w
   written (Err (Model cause line)) w = absurd w
   written (Err (Cnf cause line)) w = absurd w
   written (Err (Lrat cause line)) w = absurd w

@@ -2,7 +2,7 @@ mod AdmittedLemmas
 mod CertificateLemmas
 mod CertifiedLemmas
 mod DecodeLemmas
-mod EngineLemmas
+pub mod EngineLemmas
 mod LegalTextLemmas
 mod MeaningLemmas
 mod RecheckLemmas

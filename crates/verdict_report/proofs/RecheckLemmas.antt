@@ -17,7 +17,7 @@ use Rattle.text_lines.specs.declared.fault.Fault.TheVariants.{OutOfMemory as NoP
 use Rattle.traces.specs.Trace.{TraceValue, IsTrace, operation_count}
 use Rattle.trace_text.specs.TraceText.{SpellsTrace}
 use Rattle.verdict_report.specs.declared.fault.Fault.{Fault}
-use Rattle.verdict_report.specs.declared.fault.Fault.TheVariants.{OutOfMemory, Device, InputTooLong, Trace, Schedule, Model, Cnf, Lrat, Reduce, Decode, Check, Cert, Search}
+use Rattle.verdict_report.specs.declared.fault.Fault.TheVariants.{OutOfMemory, Device, InputTooLong, Trace, Schedule, Part, Model, Cnf, Lrat, Reduce, Decode, Check, Cert, Search}
 use Rattle.verdict_report.specs.Admitted.{Admits}
 use Rattle.verdict_report.specs.Fault.{fault_of_part}
 use Rattle.verdict_report.specs.Runs.{SourceRun, HandsOut}
@@ -54,6 +54,7 @@ module _ (r : ReducedValue) (ok : IsReduced r) (certificate : Certificate) where
     said (Err InputTooLong) d = absurd d
     said (Err (Trace cause line)) d = absurd d
     said (Err (Schedule cause line)) d = absurd d
+    said (Err (Part cause line)) d = absurd d
     said (Err (Model cause line)) d = absurd d
     said (Err (Cnf cause line)) d = absurd d
     said (Err (Lrat cause line)) d = absurd d

@@ -12,7 +12,7 @@ use Rattle.trace_verdict.specs.declared.decision.Decision.{Decision}
 use Rattle.trace_verdict.specs.declared.decision.Decision.TheVariants.{Consistent, Inconsistent, Unknown as NotDecided}
 use Rattle.trace_verdict.specs.Decision.{report}
 use Rattle.verdict_report.specs.declared.fault.Fault.{Fault}
-use Rattle.verdict_report.specs.declared.fault.Fault.TheVariants.{OutOfMemory, Device, InputTooLong, Trace, Schedule, Model, Cnf, Lrat, Reduce, Decode, Check, Cert, Search}
+use Rattle.verdict_report.specs.declared.fault.Fault.TheVariants.{OutOfMemory, Device, InputTooLong, Trace, Schedule, Part, Model, Cnf, Lrat, Reduce, Decode, Check, Cert, Search}
 use Rattle.verdict_report.specs.declared.status.Status.{Status}
 use Rattle.verdict_report.specs.declared.status.Status.TheVariants.{Yes, No, Unknown}
 use Rattle.verdict_report.specs.Admitted.{Admits, IsReducedFrom}
@@ -30,6 +30,7 @@ unreduced text Device r = absurd r
 unreduced text InputTooLong r = absurd r
 unreduced text (Trace cause line) r = r
 unreduced text (Schedule cause line) r = absurd r
+unreduced text (Part cause line) r = absurd r
 unreduced text (Model cause line) r = absurd r
 unreduced text (Cnf cause line) r = absurd r
 unreduced text (Lrat cause line) r = absurd r

@@ -85,7 +85,7 @@ StopsWriting Stops sinks texts = ⊥
 
 -- ---- engines
 
--- what is said of one text, or of two, where an engine has so many sources
+-- what is said of one text, of two or of three, where an engine has so many sources
 abbrev pub of_one : {A : Type 0} → (List ℕ → Result A Fault → Type 0) → List (List ℕ) → Result A Fault → Type 0
 of_one said (text ∷ []) answer = said text answer
 of_one said texts answer = ⊥
@@ -93,6 +93,10 @@ of_one said texts answer = ⊥
 abbrev pub of_two : {A : Type 0} → (List ℕ → List ℕ → Result A Fault → Type 0) → List (List ℕ) → Result A Fault → Type 0
 of_two said (first ∷ second ∷ []) answer = said first second answer
 of_two said texts answer = ⊥
+
+abbrev pub of_three : {A : Type 0} → (List ℕ → List ℕ → List ℕ → Result A Fault → Type 0) → List (List ℕ) → Result A Fault → Type 0
+of_three said (first ∷ second ∷ third ∷ []) answer = said first second third answer
+of_three said texts answer = ⊥
 
 -- the texts are made before any of them is written, or they are written while they are made
 pub data Writing : Type 0 where

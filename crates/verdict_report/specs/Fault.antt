@@ -17,11 +17,12 @@ use Rattle.model_reader.specs.ModelCauses as model
 use Rattle.reducer.specs.ReduceCauses as reduce
 use Rattle.schedule_decode.specs.DecodeCauses as decode
 use Rattle.schedule_text.specs.ScheduleCauses as schedule
+use Rattle.trace_part.specs.PartCauses as part
 use Rattle.trace_text.specs.TraceCauses as trace
 use Rattle.cube_queue.specs.SearchCauses as search
 use Rattle.cube_queue.specs.declared.search_fault.SearchCause.{SearchCause}
 use Rattle.verdict_report.specs.declared.fault.Fault.{Fault}
-use Rattle.verdict_report.specs.declared.fault.Fault.TheVariants.{OutOfMemory, Device, InputTooLong, Trace, Schedule, Model, Cnf, Lrat, Reduce, Decode, Check, Cert, Search}
+use Rattle.verdict_report.specs.declared.fault.Fault.TheVariants.{OutOfMemory, Device, InputTooLong, Trace, Schedule, Part, Model, Cnf, Lrat, Reduce, Decode, Check, Cert, Search}
 use Rattle.verdict_report.specs.declared.reading.ReadFault.{ReadFault}
 use Rattle.verdict_report.specs.declared.reading.ReadFault.TheVariants.{OutOfMemory as NoReadMemory, Device as SourceFailed, TooLong}
 use Rattle.verdict_report.specs.declared.status.Status.{Status}
@@ -44,6 +45,7 @@ told Device = record { area = codes "device"; number = None; name = codes "Devic
 told InputTooLong = record { area = codes "input"; number = Some 2; name = codes "InputTooLong"; place = None }
 told (Trace cause line) = located (codes "trace") (trace.cause_number cause) (trace.cause_name cause) line
 told (Schedule cause line) = located (codes "schedule") (schedule.cause_number cause) (schedule.cause_name cause) line
+told (Part cause line) = located (codes "part") (part.cause_number cause) (part.cause_name cause) line
 told (Model cause line) = located (codes "model") (model.cause_number cause) (model.cause_name cause) line
 told (Cnf cause line) = located (codes "cnf") (cnf.cause_number cause) (cnf.cause_name cause) line
 told (Lrat cause line) = located (codes "lrat") (lrat.cause_number cause) (lrat.cause_name cause) line

@@ -14,6 +14,7 @@ use schedule_text::schedule_fault::ScheduleCause;
 use std::fmt;
 use text_lines::fault::Cause;
 use thiserror::Error;
+use trace_part::part_fault::PartCause;
 use trace_text::trace_fault::TraceCause;
 
 /// Why an engine refuses: the first refusal of its parts, in the order of its inputs. A part that refuses has an area here, with its
@@ -35,6 +36,9 @@ pub enum Fault {
     /// The first fault of the schedule and its line, counted from 1.
     #[error("schedule {number} {name} at {1}", number = .0.number(), name = .0.name())]
     Schedule(ScheduleCause, usize),
+    /// The first name that makes up no part, and its line, counted from 1.
+    #[error("part {number} {name} at {1}", number = .0.number(), name = .0.name())]
+    Part(PartCause, usize),
     /// The first fault of the model and its line, counted from 1.
     #[error("model {number} {name} at {1}", number = .0.number(), name = .0.name())]
     Model(ModelCause, usize),
@@ -141,6 +145,7 @@ impl Fault {
             },
             Fault::Trace(cause, line) => located("trace", cause, *line),
             Fault::Schedule(cause, line) => located("schedule", cause, *line),
+            Fault::Part(cause, line) => located("part", cause, *line),
             Fault::Model(cause, line) => located("model", cause, *line),
             Fault::Cnf(cause, line) => located("cnf", cause, *line),
             Fault::Lrat(cause, line) => located("lrat", cause, *line),
@@ -157,7 +162,7 @@ impl Fault {
         }
     }
 
-    /// What refused: `memory`, `device`, `input`, `trace`, `schedule`, `model`, `cnf`, `lrat`, `reduce`, `decode`, `check`,
+    /// What refused: `memory`, `device`, `input`, `trace`, `schedule`, `part`, `model`, `cnf`, `lrat`, `reduce`, `decode`, `check`,
     /// `cert` or `search`.
     pub fn area(&self) -> &'static str
         ensures { result.now ≡ area_of self.now }

@@ -37,3 +37,25 @@ pub fn read_two<S: Source, T: Source>(
     let second_text = read_one(alloc, second)?;
     Ok((first_text, second_text))
 }
+
+/// Reads the texts of three sources, one after the other.
+pub fn read_three<S: Source, T: Source, U: Source>(
+    alloc: Global,
+    first: &mut S,
+    second: &mut T,
+    third: &mut U,
+) -> Result<(Vec<u8>, Vec<u8>, Vec<u8>), ReadFault>
+    ensures read { IfOk result (λ texts. HandOut
+        (source_run S.handed_out S.is_at_end S.failures first.old first.new
+        ∷ source_run T.handed_out T.is_at_end T.failures second.old second.new
+        ∷ source_run U.handed_out U.is_at_end U.failures third.old third.new ∷ [])
+        (texts.0.items ∷ texts.1.items ∷ texts.2.items ∷ [])) }
+    ensures stopped { IfErr result (λ fault. IsStopOfReading
+        (source_run S.handed_out S.is_at_end S.failures first.old first.new
+        ∷ source_run T.handed_out T.is_at_end T.failures second.old second.new
+        ∷ source_run U.handed_out U.is_at_end U.failures third.old third.new ∷ []) fault) }
+{
+    let text = read_one(alloc, first)?;
+    let (next_text, last_text) = read_two(alloc, second, third)?;
+    Ok((text, next_text, last_text))
+}

@@ -54,7 +54,7 @@ fn recheck_texts(alloc: Global, trace_text: &[u8], cert_text: Vec<u8>) -> Result
 }
 
 /// Of how many cubes the certificate is, where it refutes the trace.
-fn recheck_reduced(
+pub fn recheck_reduced(
     alloc: Global,
     reduced: &Reduced,
     certificate: &Certificate,
@@ -67,7 +67,7 @@ fn recheck_reduced(
 }
 
 /// Writes that the certificate is accepted, and of how many cubes it is.
-fn write_count<W: Sink>(alloc: Global, count: u32, out: &mut W) -> Result<Status, Fault>
+pub fn write_count<W: Sink>(alloc: Global, count: u32, out: &mut W) -> Result<Status, Fault>
     ensures { IsRunOfWriting (rechecked_line count) (rechecked_status count)
         (sink_run W.written W.failures out.old out.new)
         result }

@@ -17,6 +17,7 @@ use schedule_text::schedule_fault::ScheduleCause;
 use std::alloc::AllocError;
 use text_lines::fault::{Cause, Fault as PartFault};
 use text_lines::plain_fault::PlainFault;
+use trace_part::part_fault::PartCause;
 use trace_text::trace_fault::TraceCause;
 
 /// The causes of a part, which have an area among the faults of engines.
@@ -62,6 +63,16 @@ impl Part for ScheduleCause {
 
     fn refused(self, line: usize) -> Fault {
         Fault::Schedule(self, line)
+    }
+}
+
+impl Part for PartCause {
+    ghost use Rattle.verdict_report.specs.declared.fault.Fault.TheVariants.{Part as Choice};
+
+    ghost refusal = { Choice };
+
+    fn refused(self, line: usize) -> Fault {
+        Fault::Part(self, line)
     }
 }
 

@@ -22,9 +22,9 @@ use trace_verdict::laws::certificate_is_accepted;
 use trace_verdict::{Decision, decide, report_of, write_certificate};
 
 /// Decides whether the trace that the source hands out has a legal schedule, and writes the report: CONSISTENT and a legal
-/// schedule of the whole trace; INCONSISTENT, where each cube of some tree is refuted by a derivation that is accepted, so that
-/// there is no legal schedule; or UNKNOWN and the cubes of those leaves of the last round's tree that have no accepted derivation, in
-/// which all models of the trace's clauses are.
+/// schedule of the whole trace; INCONSISTENT, where each cube of some tree is refuted by a derivation that can be written and is
+/// accepted, so that there is no legal schedule; or UNKNOWN and the cubes of those leaves of the last round's tree that have no such
+/// derivation, in which all models of the trace's clauses are.
 ///
 /// The first refusal stands: of a source that fails, an input past the limit, the trace's text, a trace of which more than
 /// 160 operations are kept, the search, lack of memory, or the sink. Before the last a prefix of the report may have been

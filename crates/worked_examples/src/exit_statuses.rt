@@ -13,6 +13,7 @@ use schedule_decode::decode_fault::DecodeCause;
 use schedule_text::schedule_fault::ScheduleCause;
 use std::alloc::Global;
 use std::process::Abort;
+use trace_part::part_fault::PartCause;
 use trace_text::trace_fault::TraceCause;
 use verdict_report::{Fault, Status, exit_status, write_fault};
 
@@ -24,7 +25,7 @@ fn gives_a_status_for_each_answer(rt: HostRuntime) {
 }
 
 /// Faults, the exit status of each, and its line.
-const FAULTS: [(Fault, u8, &str); 14] = [
+const FAULTS: [(Fault, u8, &str); 15] = [
     (Fault::OutOfMemory, 2, "refused: memory\n"),
     (Fault::Device, 4, "refused: device\n"),
     (Fault::InputTooLong, 2, "refused: input 2 InputTooLong\n"),
@@ -37,6 +38,11 @@ const FAULTS: [(Fault, u8, &str); 14] = [
         Fault::Schedule(ScheduleCause::BadName, 1),
         2,
         "refused: schedule 2 BadName at 1\n",
+    ),
+    (
+        Fault::Part(PartCause::UnknownOp, 3),
+        2,
+        "refused: part 2 UnknownOp at 3\n",
     ),
     (
         Fault::Model(ModelCause::Clash, 2),

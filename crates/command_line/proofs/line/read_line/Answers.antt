@@ -6,15 +6,16 @@ use Rattle.clap.specs.Walk.{texts}
 use Rattle.clap.specs.Words.{found_of, kind_of}
 use Rattle.command_line.proofs.CnfLemmas.{cnf_reads}
 use Rattle.command_line.proofs.DecodeLemmas.{decode_reads}
-use Rattle.command_line.proofs.EnterLemmas.{cnf_built, decode_built, enters_command, judge_built, lrat_built, recheck_built, verify_built}
+use Rattle.command_line.proofs.EnterLemmas.{cnf_built, decode_built, enters_command, judge_built, lrat_built, part_built, recheck_built, verify_built}
 use Rattle.command_line.proofs.FoundLemmas.{EntersAs, asks_as_read, enters_as, has_text, name-rows}
 use Rattle.command_line.proofs.JudgeLemmas.{judge_reads}
 use Rattle.command_line.proofs.LratLemmas.{lrat_reads}
 use Rattle.command_line.proofs.NumberLemmas.{has_flag, has_number, has_workers}
+use Rattle.command_line.proofs.PartLemmas.{part_reads}
 use Rattle.command_line.proofs.RecheckLemmas.{recheck_reads}
 use Rattle.command_line.proofs.VerifyLemmas.{verify_reads}
 use Rattle.command_line.proofs.line.read_line.Goals as goal
-use Rattle.command_line.proofs.line.read_line.Goals.{In-Some, In-Some-subcommand_matches, In-Some-subcommand_matches-2, In-Some-subcommand_matches-3, In-Some-subcommand_matches-4, In-Some-subcommand_matches-5}
+use Rattle.command_line.proofs.line.read_line.Goals.{In-Some, In-Some-subcommand_matches, In-Some-subcommand_matches-2, In-Some-subcommand_matches-3, In-Some-subcommand_matches-4, In-Some-subcommand_matches-5, In-Some-subcommand_matches-6}
 
 -- ---- judge
 
@@ -144,6 +145,28 @@ returns-in-Some-subcommand_matches-5-clause-line c =
     let met = recheck_met (goal.at.returns-in-Some-subcommand_matches-5-clause-line c).In-Some-subcommand_matches-5 in
     asks_as_read (texts c.args.words.now) (codes "recheck") (found_of c.in-Some-subcommand_matches-5.recheck.now) met c.recheck_line.result c.recheck_line.ensures
 
+-- ---- part
+
+part_met : (c : In-Some-subcommand_matches-6) → EntersAs (texts c.args.words.now) (codes "part") (found_of c.in-Some-subcommand_matches-6.part.now)
+part_met c =
+    let entered = c.in-Some-subcommand_matches-6.ensures in
+    enters_as _ _ _ c.in_ok-matches.matches c.in_ok-matches.ensures.ok c.in_ok-matches.ensures.kinds (entered.found.0 refl) entered.rows
+
+pub part_line-requires : goal.part_line-requires
+part_line-requires c =
+    let found = found_of c.in-Some-subcommand_matches-6.part.now in
+    let read = part_reads (texts c.args.words.now) found (part_met c) in
+    record {
+      trace = has_text found part_built.rules (codes "trace") (read (codes "trace") refl);
+      names = has_text found part_built.rules (codes "names") (read (codes "names") refl);
+      names_flag = has_flag part_built.rules found (codes "show-names") refl (read (codes "show-names") refl);
+    }
+
+pub returns-in-Some-subcommand_matches-6-clause-line : goal.returns-in-Some-subcommand_matches-6-clause-line
+returns-in-Some-subcommand_matches-6-clause-line c =
+    let met = part_met (goal.at.returns-in-Some-subcommand_matches-6-clause-line c).In-Some-subcommand_matches-6 in
+    asks_as_read (texts c.args.words.now) (codes "part") (found_of c.in-Some-subcommand_matches-6.part.now) met c.part_line.result c.part_line.ensures
+
 -- ---- no other command
 
 pub unreachable-requires : goal.unreachable-requires
@@ -158,7 +181,8 @@ unreachable-requires c =
       | inr (inr (inr (inl is))) ↦ true≢false (sym (c.in_default-subcommand_matches-2.ensures.found.1 (name ∙ ap (λ s. Some s.name) is)))
       | inr (inr (inr (inr (inl is)))) ↦ true≢false (sym (c.in_default-subcommand_matches-3.ensures.found.1 (name ∙ ap (λ s. Some s.name) is)))
       | inr (inr (inr (inr (inr (inl is))))) ↦ true≢false (sym (c.in_default-subcommand_matches-5.ensures.found.1 (name ∙ ap (λ s. Some s.name) is)))
-      | inr (inr (inr (inr (inr (inr none))))) ↦ none
+      | inr (inr (inr (inr (inr (inr (inl is)))))) ↦ true≢false (sym (c.in_default-subcommand_matches-6.ensures.found.1 (name ∙ ap (λ s. Some s.name) is)))
+      | inr (inr (inr (inr (inr (inr (inr none)))))) ↦ none
     ]
 
 pub returns-in_err-matches-clause-memory : goal.returns-in_err-matches-clause-memory

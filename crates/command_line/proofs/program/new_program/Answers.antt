@@ -1,5 +1,5 @@
 -- Each step adds a command to what a parse reads of the program.
-use Rattle.command_line.specs.CommandLine.{cnf_app, decode_app, judge_app, lrat_app, program_app, recheck_app, verify_app}
+use Rattle.command_line.specs.CommandLine.{cnf_app, decode_app, judge_app, lrat_app, part_app, program_app, recheck_app, verify_app}
 use Rattle.command_line.proofs.program.new_program.Goals as goal
 
 pub returns : goal.returns
@@ -9,4 +9,5 @@ returns c =
     let writing = c.with_command-program-3.ensures _ cnf_app judging c.new_cnf_command.ensures.app in
     let decoding = c.with_command-program-4.ensures _ decode_app writing c.new_decode_command.ensures.app in
     let checking = c.with_command-program-5.ensures _ lrat_app decoding c.new_lrat_command.ensures.app in
-    c.with_command.ensures _ recheck_app checking c.new_recheck_command.ensures.app
+    let rechecking = c.with_command-program-6.ensures _ recheck_app checking c.new_recheck_command.ensures.app in
+    c.with_command.ensures _ part_app rechecking c.new_part_command.ensures.app

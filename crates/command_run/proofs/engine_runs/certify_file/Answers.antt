@@ -17,5 +17,6 @@ returns g c = inr (record {
   searched = c.certify-outcome.new.host;
   searches = c.certify-outcome.ensures.searches;
   runs = c.certify-outcome.ensures.run;
+  left_open = c.certify-outcome.ensures.unknown;
   closes = c.close.ensures;
 })

@@ -9,4 +9,5 @@ returns g c = record {
   reads = reads_file c.source-trace.result c.decide.new.trace c.source-trace.ensures.opens c.source-trace.ensures.handed_out c.source-trace.ensures.is_at_end c.source-trace.ensures.failures;
   searches = c.decide.ensures.searches;
   runs = c.decide.ensures.run;
+  left_open = c.decide.ensures.unknown;
 }

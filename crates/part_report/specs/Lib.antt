@@ -1,0 +1,2 @@
+pub mod PartEngine
+pub mod PartRecheckEngine

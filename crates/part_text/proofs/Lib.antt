@@ -1,0 +1,3 @@
+pub mod NameLineLemmas
+pub mod PartTextLemmas
+pub mod PartWriterLemmas

@@ -1,0 +1,2 @@
+pub mod NameLine
+pub mod PartText

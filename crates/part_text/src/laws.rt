@@ -1,0 +1,13 @@
+//! Laws of the texts of parts.
+
+ghost use Rattle.std.specs.Prelude.{Bool, List};
+ghost use Rattle.traces.specs.declared.operation.OpName.{OpName};
+ghost use Rattle.traces.specs.Trace.{TraceValue, IsTrace};
+ghost use Rattle.trace_text.specs.TraceText.{SpellsTrace};
+ghost use Rattle.trace_part.specs.TraceParts.{PartValue, IsPart};
+ghost use Rattle.part_text.specs.PartText.{part_text};
+
+/// The text of a part spells it, with the names in the whole or without.
+pub fn part_text_spells()
+    ensures { (t : TraceValue) (names : List OpName) (p : PartValue) (shows_names : Bool) → IsTrace t → IsPart t names p → SpellsTrace (part_text shows_names p) p.trace }
+{}

@@ -1,0 +1,33 @@
+//! The part that a text of names makes up.
+
+ghost use Rattle.std.specs.Prelude.{IfOk, IfErr};
+ghost use Rattle.text_lines.specs.Fault.{IsRefusal};
+ghost use Rattle.schedule_text.specs.ScheduleText.{SpellsSchedule};
+ghost use Rattle.trace_part.specs.TraceParts.{IsPart};
+ghost use Rattle.part_text.specs.NameLine.{HasChoiceFault};
+
+use crate::name_line::line_of_place;
+use std::alloc::Global;
+use text_lines::fault::Fault;
+use trace_part::part::{Part, part_of};
+use trace_part::part_fault::PartFault;
+use traces::schedule::Schedule;
+use traces::trace::Trace;
+
+/// The part of the trace that the operations of these names make up, which were read from the text. The error has the line of the
+/// first name that is not of the trace or stands there before.
+pub fn named_part(
+    alloc: Global,
+    trace: &Trace,
+    names: &Schedule,
+    text: &[u8],
+) -> Result<Part, PartFault>
+    ensures part { IfOk result (IsPart trace.now names.now) }
+    ensures refused { SpellsSchedule text.now names.now → IfErr result (IsRefusal (HasChoiceFault trace.now names.now text.now)) }
+{
+    match part_of(alloc, trace, names.names()) {
+        Ok(part) => Ok(part),
+        Err(Fault::OutOfMemory) => Err(Fault::OutOfMemory),
+        Err(Fault::At(cause, place)) => Err(Fault::At(cause, line_of_place(text, place))),
+    }
+}

@@ -1,0 +1,123 @@
+//! The writer of a part's text.
+
+ghost use Rattle.std.specs.Prelude.{◌≡◌, ◌++◌, true, IfOk, OnOk};
+ghost use Rattle.std.specs.List.{flat_map, slice_get};
+ghost use Rattle.trace_text.specs.TraceWritten.{line_text};
+ghost use Rattle.part_text.specs.PartText.{name_comment, named_op, named_ops, named_process, named_processes, part_text};
+
+use itoa::Buffer;
+use std::alloc::{AllocError, Global};
+use trace_part::part::Part;
+use trace_text::trace_writer::{
+    push_entries, push_header, push_op, push_pairs, wants_version_2, write_trace,
+};
+use traces::name::Name;
+use traces::operation::Op;
+use traces::trace::Process;
+
+/// Appends the comment with the name of an operation.
+fn push_name_comment(text: &mut Vec<u8>, process: &Name, place: u16) -> Result<(), AllocError>
+    ensures { OnOk result (text.new.items ≡ text.old.items ++ line_text (name_comment (record { process = process.now; place = place }))) }
+{
+    let mut buffer = Buffer::new();
+    text.extend_from_slice(b"# ")?;
+    text.extend_from_slice(process.as_bytes())?;
+    text.push(b'.')?;
+    text.extend_from_slice(buffer.format(place).as_bytes())?;
+    text.push(b'\n')?;
+    Ok(())
+}
+
+/// The place of this number, counted from 0, if there is one.
+fn place_at(places: &[u16], k: usize) -> Option<u16>
+    ensures { result ≡ slice_get places.now k }
+{
+    if k < places.len() {
+        Some(places[k])
+    } else {
+        None
+    }
+}
+
+/// Appends the line of an operation, after a comment with its name in the whole if its place there is known.
+fn push_named_op(
+    text: &mut Vec<u8>,
+    process: &Name,
+    place: Option<u16>,
+    op: &Op,
+) -> Result<(), AllocError>
+    ensures { OnOk result (text.new.items ≡ text.old.items ++ flat_map line_text (named_op process.now place op.now)) }
+{
+    match place {
+        Some(place) => {
+            push_name_comment(text, process, place)?;
+            push_op(text, op)
+        }
+        None => push_op(text, op),
+    }
+}
+
+/// Appends the operations of a process, which have these places in the whole.
+fn push_named_ops(
+    text: &mut Vec<u8>,
+    process: &Name,
+    places: &[u16],
+    ops: &[Op],
+) -> Result<(), AllocError>
+    ensures { OnOk result (text.new.items ≡ text.old.items ++ flat_map line_text (named_ops process.now places.now 0 ops.now)) }
+{
+    for k in 0..ops.len() {
+        push_named_op(text, process, place_at(places, k), &ops[k])?;
+    }
+    Ok(())
+}
+
+/// Appends a process, of which the operations have these places in the whole.
+fn push_named_process(
+    text: &mut Vec<u8>,
+    places: &[u16],
+    process: &Process,
+) -> Result<(), AllocError>
+    ensures { OnOk result (text.new.items ≡ text.old.items ++ flat_map line_text (named_process places.now process.now)) }
+{
+    text.extend_from_slice(b"proc ")?;
+    text.extend_from_slice(process.name.as_bytes())?;
+    text.push(b'\n')?;
+    push_named_ops(text, &process.name, places, process.operations.as_slice())
+}
+
+/// Appends the processes of the part.
+fn push_named_processes(text: &mut Vec<u8>, part: &Part) -> Result<(), AllocError>
+    ensures { OnOk result (text.new.items ≡ text.old.items ++ flat_map line_text (named_processes part.now.places 0 part.now.trace.processes)) }
+{
+    let processes = part.trace().processes();
+    for k in 0..processes.len() {
+        push_named_process(text, part.places(k), &processes[k])?;
+    }
+    Ok(())
+}
+
+/// The text of the part with a comment before each operation, which has its name in the whole.
+fn write_named(alloc: Global, part: &Part) -> Result<Vec<u8>, AllocError>
+    ensures { IfOk result (λ text. text.items ≡ part_text true part.now) }
+{
+    let trace = part.trace();
+    let mut text = Vec::new(alloc);
+    push_header(&mut text, wants_version_2(trace))?;
+    push_entries(&mut text, b"init", trace.initial())?;
+    push_entries(&mut text, b"final", trace.final_values())?;
+    push_named_processes(&mut text, part)?;
+    push_pairs(&mut text, trace.before())?;
+    Ok(text)
+}
+
+/// The text of the part, a trace's, with the names of its operations in the whole as comments, or without.
+pub fn write_part(alloc: Global, part: &Part, shows_names: bool) -> Result<Vec<u8>, AllocError>
+    ensures { IfOk result (λ text. text.items ≡ part_text shows_names part.now) }
+{
+    if shows_names {
+        write_named(alloc, part)
+    } else {
+        write_trace(alloc, part.trace())
+    }
+}
