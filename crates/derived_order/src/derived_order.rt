@@ -95,6 +95,10 @@ impl<'a> DerivedOrder<'a> {
             lows: vec![in alloc; 0; log.processes() as usize]?,
             highs: vec![in alloc; 0; log.processes() as usize]?,
         };
+        let width = log.processes() as u64;
+        order
+            .budget
+            .spend((readers as u64).saturating_mul(width).saturating_add(1));
         if order.add_pairs()? {
             order.find_sources(alloc, readers)?;
         }
@@ -117,17 +121,15 @@ impl<'a> DerivedOrder<'a> {
 
     /// Finds the sources of all readers, which all are to be looked at.
     fn find_sources(&mut self, alloc: Global, readers: u32) -> Result<(), AllocError> {
-        self.sources = sources_of(alloc, self.log, &self.rows, &self.writers)?;
+        self.sources = sources_of(alloc, self.log, &self.rows, &self.writers, &mut self.budget)?;
         let initial = initial_numbers(alloc, self.log)?;
         self.concerned = Concerned::of(alloc, &self.sources, readers, initial.as_slice())?;
+        self.budget.spend(self.sources.count() as u64);
         for reader in 0..readers {
             if self.sources.is_bound(reader) {
                 self.waiting.add(reader);
             }
         }
-        let looked = readers.wrapping_add(self.sources.count());
-        self.budget
-            .spend(looked.wrapping_mul(self.rows.width()) as u64);
         Ok(())
     }
 
@@ -214,7 +216,7 @@ impl<'a> DerivedOrder<'a> {
         size(self.levels.as_slice())
     }
 
-    /// Adds the pair of which the first operation is to stand before the second.
+    /// Adds the pair of which the first operation must stand before the second. If the budget is spent, it is left out.
     pub fn add(&mut self, first: u32, second: u32, reason: Reason) -> Result<(), Halt> {
         self.now = self.now.wrapping_add(1);
         let edge = Edge {
@@ -228,7 +230,7 @@ impl<'a> DerivedOrder<'a> {
             self.contradiction = Contradiction::Cycle(edge);
             return Err(Halt::Contradiction);
         }
-        if self.stands_before(first, second) {
+        if self.stands_before(first, second) || self.budget.is_spent() {
             return Ok(());
         }
         self.reasons.add(edge)?;
@@ -236,6 +238,10 @@ impl<'a> DerivedOrder<'a> {
         for process in 0..self.rows.width() {
             self.raise_process(second, process)?;
             self.lower_process(first, process)?;
+        }
+        self.budget.spend(self.rows.width() as u64);
+        if self.rows.is_full() || self.reasons.is_full() {
+            self.budget.use_up();
         }
         Ok(())
     }
@@ -283,7 +289,10 @@ impl<'a> DerivedOrder<'a> {
         if self.sources.is_bound(number) {
             self.waiting.add(number);
         }
-        for place in self.concerned.begin(number)..self.concerned.begin(number.wrapping_add(1)) {
+        let begin = self.concerned.begin(number);
+        let end = self.concerned.begin(number.wrapping_add(1));
+        self.budget.spend(end.saturating_sub(begin) as u64);
+        for place in begin..end {
             let reader = self.concerned.reader(place);
             self.waiting.add(reader);
         }

@@ -2,7 +2,7 @@
 //!
 //! These are the sources by which a part of the trace keeps a read: each one that is left must be in it.
 
-use numbered_log::{Log, NOBODY, Operation, Origin, Rows, WriterPlaces, WrittenValues};
+use numbered_log::{Budget, Log, NOBODY, Operation, Origin, Rows, WriterPlaces, WrittenValues};
 use source_reasons::Sources;
 use std::alloc::{AllocError, Global};
 
@@ -73,65 +73,78 @@ struct Finder<'a> {
     rows: &'a Rows,
     writers: &'a WriterPlaces,
     values: WrittenValues,
+    budget: Budget,
 }
 
-/// The possible sources of all readers.
+/// The possible sources of all readers, until the budget is spent. A reader that is not reached is untold.
 pub fn sources_of(
     alloc: Global,
     log: &Log,
     rows: &Rows,
     writers: &WriterPlaces,
+    budget: &mut Budget,
 ) -> Result<Sources, AllocError> {
-    let finder = Finder {
+    let mut finder = Finder {
         log,
         rows,
         writers,
         values: WrittenValues::new(alloc, log)?,
+        budget: *budget,
     };
     let mut sources = Sources::new(alloc);
     for number in 0..log.count() {
         sources.begin_reader()?;
-        let has_room = finder.add_of_reader(&mut sources, number)?;
-        if log.operation(number).reads && has_room {
+        if !log.operation(number).reads {
+            sources.end_unbound()?;
+        } else if finder.add_of_reader(&mut sources, number)? {
             sources.end_reader()?;
         } else {
-            sources.end_unbound()?;
+            sources.end_untold()?;
         }
     }
     for location in 0..log.locations() {
         sources.begin_reader()?;
-        if finder.add_of_last(&mut sources, location)? {
+        if !finder.needs_last_writer(location) {
+            sources.end_unbound()?;
+        } else if finder.add_of_last(&mut sources, location)? {
             sources.end_reader()?;
         } else {
-            sources.end_unbound()?;
+            sources.end_untold()?;
         }
     }
     sources.begin_reader()?;
+    *budget = finder.budget;
     Ok(sources)
 }
 
 impl<'a> Finder<'a> {
-    /// Adds the sources of the reading operation. Whether there is room for them.
-    fn add_of_reader(&self, sources: &mut Sources, number: u32) -> Result<bool, AllocError> {
-        let operation = self.log.operation(number);
-        if !operation.reads {
-            return Ok(true);
+    /// Adds a source, if there is room for it and the budget is not spent. Whether it was added.
+    fn add(&mut self, sources: &mut Sources, source: u32) -> Result<bool, AllocError> {
+        if self.budget.is_spent() {
+            return Ok(false);
         }
+        sources.add(source)
+    }
+
+    /// Adds the sources of the reading operation. Whether these are all.
+    fn add_of_reader(&mut self, sources: &mut Sources, number: u32) -> Result<bool, AllocError> {
+        let operation = self.log.operation(number);
         let may_be_initial = match operation.origin {
             Origin::Any | Origin::Initial => true,
             Origin::Operation(_) => false,
         };
-        if may_be_initial && self.log.initial(operation.location) == Some(operation.needed) {
-            if !sources.add(NOBODY)? {
-                return Ok(false);
-            }
+        if may_be_initial
+            && self.log.initial(operation.location) == Some(operation.needed)
+            && !self.add(sources, NOBODY)?
+        {
+            return Ok(false);
         }
         let mut writer = self.values.first(operation.location, operation.needed);
         for _ in 0..self.log.count() {
             if writer == NOBODY {
                 break;
             }
-            if self.may_be_source(operation, number, writer) && !sources.add(writer)? {
+            if self.may_be_source(operation, number, writer) && !self.add(sources, writer)? {
                 return Ok(false);
             }
             writer = self.values.next(writer);
@@ -140,25 +153,36 @@ impl<'a> Finder<'a> {
     }
 
     /// Whether the writer is a possible source of the operation.
-    fn may_be_source(&self, operation: Operation, number: u32, writer: u32) -> bool {
+    fn may_be_source(&mut self, operation: Operation, number: u32, writer: u32) -> bool {
         let source = self.log.operation(writer);
+        self.budget.spend(1);
         let is_told = match operation.origin {
             Origin::Any => true,
             Origin::Initial => false,
             Origin::Operation(origin) => origin == writer,
         };
-        is_told
-            && source.location == operation.location
-            && source.left == operation.needed
-            && writer != number
-            && !self.rows.stands_before(self.log, number, writer)
-            && !is_hidden(self.log, self.rows, self.writers, writer, number)
+        if !is_told
+            || source.location != operation.location
+            || source.left != operation.needed
+            || writer == number
+            || self.rows.stands_before(self.log, number, writer)
+        {
+            return false;
+        }
+        self.budget.spend(self.rows.width() as u64);
+        !is_hidden(self.log, self.rows, self.writers, writer, number)
     }
 
-    /// Adds the writers that may be the last one of the location. Whether one of them has to be.
-    fn add_of_last(&self, sources: &mut Sources, location: u32) -> Result<bool, AllocError> {
+    /// Whether the location has a final value that some writer has to leave. A location that no operation writes keeps its initial value.
+    fn needs_last_writer(&self, location: u32) -> bool {
+        let last = self.log.last(location);
+        last.is_some() && (self.is_written(location) || self.log.initial(location) != last)
+    }
+
+    /// Adds the writers that may be the last one of the location. Whether these are all.
+    fn add_of_last(&mut self, sources: &mut Sources, location: u32) -> Result<bool, AllocError> {
         let Some(value) = self.log.last(location) else {
-            return Ok(false);
+            return Ok(true);
         };
         let mut writer = self.values.first(location, value);
         for _ in 0..self.log.count() {
@@ -166,18 +190,17 @@ impl<'a> Finder<'a> {
                 break;
             }
             let source = self.log.operation(writer);
+            self.budget.spend(self.rows.width() as u64);
             if source.location == location
                 && source.left == value
                 && later_writer(self.log, self.rows, self.writers, location, writer).is_none()
-                && !sources.add(writer)?
+                && !self.add(sources, writer)?
             {
                 return Ok(false);
             }
             writer = self.values.next(writer);
         }
-        // Where nobody writes the location, it keeps its initial value.
-        let is_written = self.is_written(location);
-        Ok(is_written || self.log.initial(location) != Some(value))
+        Ok(true)
     }
 
     /// Whether some operation writes the location.

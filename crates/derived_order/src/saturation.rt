@@ -42,6 +42,9 @@ impl<'a> DerivedOrder<'a> {
 
     /// Derives what follows from the sources of this reader.
     fn look_at(&mut self, reader: u32) -> Result<(), Halt> {
+        let steps = self.sources.span(reader);
+        self.budget
+            .spend(steps.saturating_add(self.rows.width() as u64));
         if reader >= self.log.count() {
             return self.look_at_last(reader);
         }
@@ -49,6 +52,9 @@ impl<'a> DerivedOrder<'a> {
         if self.sources.living(reader) == 0 {
             self.contradiction = Contradiction::NoSource(reader);
             return Err(Halt::Contradiction);
+        }
+        if self.budget.is_spent() {
+            return Ok(());
         }
         self.find_bounds(reader);
         self.add_bounds(reader)?;
@@ -194,7 +200,7 @@ impl<'a> DerivedOrder<'a> {
         let location = self.log.operation(reader).location;
         for process in 0..self.rows.width() {
             let before = self.rows.before(reader, process);
-            let place = self.writers.previous(self.log, process, location, before);
+            let place = self.writers.previous(process, location, before);
             if place != 0 {
                 let writer = self.log.number(process, place);
                 if writer != only && !self.stands_before(writer, only) {
@@ -226,6 +232,11 @@ impl<'a> DerivedOrder<'a> {
 
     /// The source of the reader is taken by an update.
     fn take_source(&mut self, reader: u32, operation: u32, update: u32) -> Result<(), AllocError> {
+        let steps = self.sources.span(reader);
+        self.budget.spend(steps.saturating_add(1));
+        if self.budget.is_spent() {
+            return Ok(());
+        }
         for place in self.sources.begin(reader)..self.sources.end(reader) {
             let source = self.sources.source(place);
             if source.operation == operation && source.is_possible() {
@@ -268,7 +279,7 @@ impl<'a> DerivedOrder<'a> {
     fn put_all_before(&mut self, reader: u32, location: u32, only: u32) -> Result<(), Halt> {
         for process in 0..self.rows.width() {
             let length = self.log.length(process);
-            let place = self.writers.previous(self.log, process, location, length);
+            let place = self.writers.previous(process, location, length);
             if place != 0 {
                 let writer = self.log.number(process, place);
                 if writer != only && !self.stands_before(writer, only) {
@@ -279,12 +290,11 @@ impl<'a> DerivedOrder<'a> {
         Ok(())
     }
 
-    /// How many readers have more than one possible source.
+    /// How many reads and final values have more than one possible source.
     pub fn undecided(&self) -> u32 {
         let mut count: u32 = 0;
         for reader in 0..self.sources.readers() {
-            let living = self.sources.living(reader);
-            if living > 1 {
+            if self.sources.is_undecided(reader) {
                 count = count.wrapping_add(1);
             }
         }

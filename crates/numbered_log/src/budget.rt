@@ -18,6 +18,11 @@ impl Budget {
         self.left = self.left.saturating_sub(steps);
     }
 
+    /// Takes all steps away, where there is no more room to go on.
+    pub fn use_up(&mut self) {
+        self.left = 0;
+    }
+
     /// Whether no step is left.
     #[inline(always)]
     pub fn is_spent(&self) -> bool {

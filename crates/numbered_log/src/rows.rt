@@ -12,6 +12,9 @@ struct Change {
     is_after: bool,
 }
 
+/// The most changes that are kept, which is memory for some 50 MB while it grows.
+const MOST_CHANGES: usize = 1 << 22;
+
 /// For each operation two rows with a place for each process: the first of its operations that stands after this one, and the last one
 /// that stands before it.
 ///
@@ -168,6 +171,12 @@ impl Rows {
             }
         }
         Ok(has_changed)
+    }
+
+    /// Whether there is no room for a further change.
+    #[inline(always)]
+    pub fn is_full(&self) -> bool {
+        self.changes.len() >= MOST_CHANGES
     }
 
     /// How many changes are kept. From now on each change is kept, so that it can be taken back.

@@ -1,16 +1,18 @@
 //! The next and the previous writer of a location in a process.
 
 use crate::log::Log;
-use order_closure::tables::{at, put};
+use order_closure::tables::{at, put, size};
 use std::alloc::{AllocError, Global};
 
-/// For each location, each process and each of its places the next writer of the location from there on, and the previous one.
+/// For each location and each process the places of the writers, rising.
+///
+/// They take as much memory as there are operations, and pairs of a location and a process.
 #[derive(Drop)]
 pub struct WriterPlaces {
-    /// So many entries a location has: for each process two more than it has operations.
-    stride: u32,
-    next: Vec<u16>,
-    previous: Vec<u16>,
+    processes: u32,
+    /// For each location and process where its writers begin, and where all end.
+    begins: Vec<u32>,
+    places: Vec<u16>,
 }
 
 #[inline(always)]
@@ -21,80 +23,107 @@ fn entry_of(place: u32) -> u16 {
 impl WriterPlaces {
     /// Those of the log.
     pub fn new(alloc: Global, log: &Log) -> Result<WriterPlaces, AllocError> {
-        let stride = log.count().wrapping_add(log.processes().wrapping_mul(2));
-        let entries = (stride as usize).wrapping_mul(log.locations() as usize);
+        let pairs = log.locations().wrapping_mul(log.processes());
         let mut places = WriterPlaces {
-            stride,
-            next: vec![in alloc; 0; entries]?,
-            previous: vec![in alloc; 0; entries]?,
+            processes: log.processes(),
+            begins: vec![in alloc; 0; pairs.wrapping_add(2) as usize]?,
+            places: vec![in alloc; 0; log.count() as usize]?,
         };
-        for location in 0..log.locations() {
-            for process in 0..log.processes() {
-                places.fill_next(log, location, process);
-                places.fill_previous(log, location, process);
-            }
+        for number in 0..log.count() {
+            places.count_one(log, number);
+        }
+        places.sum();
+        for number in 0..log.count() {
+            places.enter(log, number);
         }
         Ok(places)
     }
 
-    /// Where the entries of the location and the process begin.
+    /// The number of the location and the process.
     #[inline(always)]
-    fn base(&self, log: &Log, location: u32, process: u32) -> u32 {
-        location
-            .wrapping_mul(self.stride)
-            .wrapping_add(log.start(process))
-            .wrapping_add(process.wrapping_mul(2))
+    fn pair_of(&self, location: u32, process: u32) -> u32 {
+        location.wrapping_mul(self.processes).wrapping_add(process)
     }
 
-    fn fill_next(&mut self, log: &Log, location: u32, process: u32) {
-        let base = self.base(log, location, process);
-        let length = log.length(process);
-        let mut next = length.wrapping_add(1);
-        put(
-            self.next.as_mut_slice(),
-            base.wrapping_add(next),
-            entry_of(next),
-        );
-        for back in 0..length {
-            let place = length.wrapping_sub(back);
-            let operation = log.operation(log.number(process, place));
-            if operation.writes && operation.location == location {
-                next = place;
-            }
-            put(
-                self.next.as_mut_slice(),
-                base.wrapping_add(place),
-                entry_of(next),
-            );
+    /// Counts the operation if it writes, two places behind where those of its location and process will begin.
+    fn count_one(&mut self, log: &Log, number: u32) {
+        let operation = log.operation(number);
+        if operation.writes {
+            let place = self
+                .pair_of(operation.location, operation.process)
+                .wrapping_add(2);
+            let count = at(self.begins.as_slice(), place, 0).wrapping_add(1);
+            put(self.begins.as_mut_slice(), place, count);
         }
-        put(self.next.as_mut_slice(), base, entry_of(next));
     }
 
-    fn fill_previous(&mut self, log: &Log, location: u32, process: u32) {
-        let base = self.base(log, location, process);
-        let length = log.length(process);
-        let mut previous = 0;
-        for place in 1..length.saturating_add(2) {
-            let operation = log.operation(log.number(process, place));
-            if place <= length && operation.writes && operation.location == location {
-                previous = place;
-            }
-            let entry = base.wrapping_add(place);
-            put(self.previous.as_mut_slice(), entry, entry_of(previous));
+    /// Makes the counts to places: those of a pair begin, for now, one place behind its own.
+    fn sum(&mut self) {
+        let mut sum: u32 = 0;
+        for place in 0..size(self.begins.as_slice()) {
+            sum = sum.wrapping_add(at(self.begins.as_slice(), place, 0));
+            put(self.begins.as_mut_slice(), place, sum);
         }
+    }
+
+    /// Enters the operation if it writes. When all are entered, the writers of each pair begin at its own place.
+    fn enter(&mut self, log: &Log, number: u32) {
+        let operation = log.operation(number);
+        if operation.writes {
+            let place = self
+                .pair_of(operation.location, operation.process)
+                .wrapping_add(1);
+            let free = at(self.begins.as_slice(), place, 0);
+            put(self.places.as_mut_slice(), free, entry_of(operation.place));
+            put(self.begins.as_mut_slice(), place, free.wrapping_add(1));
+        }
+    }
+
+    /// Where the first writer stands, from one entry up to another, that has this place or a later one, or the end.
+    #[inline(always)]
+    fn first_from(&self, begin: u32, end: u32, place: u32) -> u32 {
+        let mut low = begin;
+        let mut high = end;
+        for _ in 0..32 {
+            if low >= high {
+                break;
+            }
+            let middle = low.wrapping_add(high.wrapping_sub(low) / 2);
+            let met = at(self.places.as_slice(), middle, 0) as u32;
+            if met < place {
+                low = middle.wrapping_add(1);
+            } else {
+                high = middle;
+            }
+        }
+        low
     }
 
     /// The place of the first writer of the location in the process from this place on, or the place after the last.
     #[inline(always)]
     pub fn next(&self, log: &Log, process: u32, location: u32, place: u32) -> u32 {
-        let entry = self.base(log, location, process).wrapping_add(place);
-        at(self.next.as_slice(), entry, 0) as u32
+        let pair = self.pair_of(location, process);
+        let begin = at(self.begins.as_slice(), pair, 0);
+        let end = at(self.begins.as_slice(), pair.wrapping_add(1), 0);
+        let found = self.first_from(begin, end, place);
+        if found < end {
+            at(self.places.as_slice(), found, 0) as u32
+        } else {
+            log.length(process).wrapping_add(1)
+        }
     }
 
     /// The place of the last writer of the location in the process up to this place, or 0.
     #[inline(always)]
-    pub fn previous(&self, log: &Log, process: u32, location: u32, place: u32) -> u32 {
-        let entry = self.base(log, location, process).wrapping_add(place);
-        at(self.previous.as_slice(), entry, 0) as u32
+    pub fn previous(&self, process: u32, location: u32, place: u32) -> u32 {
+        let pair = self.pair_of(location, process);
+        let begin = at(self.begins.as_slice(), pair, 0);
+        let end = at(self.begins.as_slice(), pair.wrapping_add(1), 0);
+        let behind = self.first_from(begin, end, place.saturating_add(1));
+        if behind > begin {
+            at(self.places.as_slice(), behind.wrapping_sub(1), 0) as u32
+        } else {
+            0
+        }
     }
 }

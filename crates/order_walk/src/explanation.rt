@@ -42,6 +42,9 @@ const UNSEEN: Visit = Visit {
     arrival: Arrival::Start,
 };
 
+/// The most questions that wait, which is memory for some 50 MB while they grow.
+const MOST_QUESTIONS: usize = 1 << 20;
+
 /// The operations and decisions that a contradiction needs.
 #[derive(Drop)]
 pub struct Explanation {
@@ -117,8 +120,28 @@ impl Explanation {
         for _ in size(self.used_in.as_slice())..order.reasons().count() {
             self.used_in.push(0)?;
         }
-        self.steps = 0;
+        self.questions.clear();
         self.most_steps = order.budget().left();
+        self.steps = 0;
+        let looked = size(self.is_needed.as_slice()).wrapping_add(size(self.told.as_slice()));
+        self.step(looked.wrapping_add(order.decisions()));
+        Ok(())
+    }
+
+    /// Takes `steps` steps.
+    #[inline(always)]
+    fn step(&mut self, steps: u32) {
+        self.steps = self.steps.saturating_add(steps as u64);
+    }
+
+    /// Notes a question. If too many wait, all steps count as taken: what is found then explains too little.
+    fn ask(&mut self, question: Question) -> Result<(), AllocError> {
+        self.step(1);
+        if self.questions.len() >= MOST_QUESTIONS {
+            self.steps = u64::MAX;
+            return Ok(());
+        }
+        self.questions.push(question)?;
         Ok(())
     }
 
@@ -133,7 +156,7 @@ impl Explanation {
         self.need(first);
         self.need(second);
         if first != second {
-            self.questions.push(Question::Order {
+            self.ask(Question::Order {
                 first,
                 second,
                 time,
@@ -145,8 +168,7 @@ impl Explanation {
     /// Asks why sources of the reader were dropped by that time.
     pub fn ask_drops(&mut self, reader: u32, time: u32) -> Result<(), AllocError> {
         self.need(reader);
-        self.questions.push(Question::Drops { reader, time })?;
-        Ok(())
+        self.ask(Question::Drops { reader, time })
     }
 
     /// Answers all that was asked, and what is asked by the answers, as far as the budget of the order reaches.
@@ -196,6 +218,7 @@ impl Explanation {
                 Arrival::ProgramOrder => operation = operation.wrapping_sub(1),
                 Arrival::Pair(number) => {
                     let edge = order.reasons().edge(number);
+                    self.step(1);
                     if at(self.used_in.as_slice(), number, 0) != self.number {
                         put(self.used_in.as_mut_slice(), number, self.number);
                         self.explain_pair(order, edge)?;
@@ -297,7 +320,7 @@ impl Explanation {
         let distance = self.visit(operation).distance;
         let from = log.operation(operation);
         let next = operation.wrapping_add(1);
-        self.steps = self.steps.wrapping_add(1);
+        self.step(1);
         if from.place < log.length(from.process) && self.is_better(order, next, second, distance) {
             self.arrive_near(next, distance, Arrival::ProgramOrder)?;
         }
@@ -306,7 +329,7 @@ impl Explanation {
             if number == NOBODY {
                 break;
             }
-            self.steps = self.steps.wrapping_add(1);
+            self.step(1);
             let edge = order.reasons().edge(number);
             if edge.time < time {
                 let is_used = at(self.used_in.as_slice(), number, 0) == self.number;
@@ -367,7 +390,9 @@ impl Explanation {
     }
 
     fn need_lemma(&mut self, order: &DerivedOrder<'_>, number: u32) {
-        for operation in order.reasons().lemma_operations(number) {
+        let operations = order.reasons().lemma_operations(number);
+        self.step(size(operations));
+        for operation in operations {
             self.need(*operation);
         }
         for decision in order.reasons().lemma_decisions(number) {
@@ -388,6 +413,7 @@ impl Explanation {
         reader: u32,
     ) -> Result<(), AllocError> {
         self.ask_drops(reader, edge.time)?;
+        self.steps = self.steps.saturating_add(order.sources().span(reader));
         for place in order.sources().begin(reader)..order.sources().end(reader) {
             let source = order.sources().source(place);
             if source.operation != NOBODY && Explanation::was_possible(source, edge.time) {
@@ -405,6 +431,7 @@ impl Explanation {
         reader: u32,
     ) -> Result<(), AllocError> {
         self.ask_drops(reader, edge.time)?;
+        self.steps = self.steps.saturating_add(order.sources().span(reader));
         for place in order.sources().begin(reader)..order.sources().end(reader) {
             let source = order.sources().source(place);
             if source.operation != NOBODY && Explanation::was_possible(source, edge.time) {
@@ -428,7 +455,7 @@ impl Explanation {
         put(self.told.as_mut_slice(), reader, time);
         for place in order.sources().begin(reader)..order.sources().end(reader) {
             let source = order.sources().source(place);
-            self.steps = self.steps.wrapping_add(1);
+            self.step(1);
             self.need(source.operation);
             if !source.is_possible() && source.time < time {
                 self.explain_drop(order, reader, source)?;

@@ -2,7 +2,7 @@
 
 use crate::explanation::Explanation;
 use derived_order::DerivedOrder;
-use numbered_log::NOBODY;
+use numbered_log::{Budget, NOBODY};
 use order_closure::tables::{at, put, size};
 use std::alloc::{AllocError, Global};
 
@@ -16,14 +16,16 @@ pub struct Knot {
     /// The processes of the set from which it was not looked on yet.
     left: Vec<u32>,
     count: u32,
+    steps: u64,
 }
 
 impl Knot {
-    /// The smallest set of those that grow from one process each, if one of them closes.
+    /// The smallest set of those that grow from one process each, if one of them closes. The steps are taken out of the budget.
     pub fn find(
         alloc: Global,
         order: &DerivedOrder<'_>,
         fronts: &[u32],
+        budget: &mut Budget,
     ) -> Result<Option<Knot>, AllocError> {
         let log = order.log();
         let processes = log.processes();
@@ -32,6 +34,7 @@ impl Knot {
             is_within: vec![in alloc; false; processes as usize]?,
             left: Vec::new(alloc),
             count: 0,
+            steps: 0,
         };
         for process in 0..processes {
             let front = at(fronts, process, NOBODY);
@@ -54,10 +57,13 @@ impl Knot {
                 fewest = knot.count;
             }
         }
+        if best != NOBODY {
+            let _closes = knot.grow_from(order, best)?;
+        }
+        budget.spend(knot.steps);
         if best == NOBODY {
             return Ok(None);
         }
-        let _closes = knot.grow_from(order, best)?;
         Ok(Some(knot))
     }
 
@@ -72,6 +78,7 @@ impl Knot {
     /// Grows the set from this process. Whether it closes.
     fn grow_from(&mut self, order: &DerivedOrder<'_>, process: u32) -> Result<bool, AllocError> {
         let processes = size(self.heads.as_slice());
+        self.steps = self.steps.saturating_add(processes as u64);
         for other in 0..processes {
             put(self.is_within.as_mut_slice(), other, false);
         }
@@ -122,6 +129,8 @@ impl Knot {
         process: u32,
     ) -> Result<bool, AllocError> {
         let head = self.head(process);
+        let looked = size(self.heads.as_slice()) as u64;
+        self.steps = self.steps.saturating_add(looked);
         if let Some(other) = self.process_before(order, head) {
             self.add(other)?;
             return Ok(true);
@@ -129,6 +138,7 @@ impl Knot {
         if !order.log().operation(head).reads || !order.sources().is_bound(head) {
             return Ok(false);
         }
+        self.steps = self.steps.saturating_add(order.sources().span(head));
         for place in order.sources().begin(head)..order.sources().end(head) {
             let source = order.sources().source(place);
             if source.is_possible() {

@@ -95,7 +95,7 @@ impl<'a> Walk<'a> {
             Outcome::Saturated => {}
             Outcome::Spent => return Ok(Ending::GivenUp),
             Outcome::Contradicted => {
-                self.explanation.explain(&self.order)?;
+                self.explain()?;
                 return Ok(Ending::Contradicted);
             }
         }
@@ -107,9 +107,24 @@ impl<'a> Walk<'a> {
         Ok(Ending::GivenUp)
     }
 
+    /// Explains the contradiction of the order.
+    fn explain(&mut self) -> Result<(), AllocError> {
+        self.explanation.explain(&self.order)?;
+        let steps = self.explanation.steps();
+        self.order.spend(steps);
+        Ok(())
+    }
+
+    /// Takes back all decisions, so that the order has only what follows from the trace.
+    pub fn take_back_all(&mut self) {
+        self.order.take_back(0);
+    }
+
     /// Walks from the front up to an end or a contradiction.
     fn walk_from_front(&mut self) -> Result<Turn, AllocError> {
         self.placed.clear();
+        let looked = size(self.memory.as_slice()) as u64;
+        self.order.spend(looked.saturating_add(1));
         for process in 0..size(self.fronts.as_slice()) {
             put(self.fronts.as_mut_slice(), process, 1);
         }
@@ -154,7 +169,6 @@ impl<'a> Walk<'a> {
     /// Which operation is to come next: a plain read that can, or else the best writer. None if there is no such operation.
     fn next_operation(&mut self) -> Option<u32> {
         let processes = self.order.log().processes();
-        self.order.spend(processes as u64);
         for process in 0..processes {
             if let Some(number) = self.ready(process, false) {
                 return Some(number);
@@ -176,7 +190,8 @@ impl<'a> Walk<'a> {
 
     /// The process's next operation, if it may come now and writes or not as is asked.
     #[inline(always)]
-    fn ready(&self, process: u32, writes: bool) -> Option<u32> {
+    fn ready(&mut self, process: u32, writes: bool) -> Option<u32> {
+        self.order.spend(1);
         let log = self.order.log();
         let front = self.front(process);
         if front > log.length(process) {
@@ -187,6 +202,9 @@ impl<'a> Walk<'a> {
         if operation.writes != writes {
             return None;
         }
+        let span = self.order.sources().span(number);
+        self.order
+            .spend(span.saturating_add(log.processes() as u64));
         if operation.reads && !self.reads_memory(number, operation) {
             return None;
         }
@@ -225,7 +243,7 @@ impl<'a> Walk<'a> {
         let mut is_open = false;
         for process in 0..log.processes() {
             if process != operation.process {
-                self.order.spend(2);
+                self.order.spend(SIGHT as u64);
                 let Some(other) = self.in_sight(process, operation.location) else {
                     continue;
                 };
@@ -266,12 +284,13 @@ impl<'a> Walk<'a> {
     }
 
     /// The process's next operation that must come after this one: on its location, and a writer where this one is no writer.
-    fn next_rival(&self, operation: Operation, process: u32) -> Option<u32> {
+    fn next_rival(&mut self, operation: Operation, process: u32) -> Option<u32> {
         let log = self.order.log();
         let front = self.front(process);
         for place in front..log.length(process).wrapping_add(1) {
             let number = log.number(process, place);
             let other = log.operation(number);
+            self.order.spend(1);
             if other.location == operation.location && (operation.writes || other.writes) {
                 return Some(number);
             }
@@ -300,29 +319,33 @@ impl<'a> Walk<'a> {
 
     /// Where no operation can come next: explains why, and turns back.
     fn turn_at_knot(&mut self) -> Result<Turn, AllocError> {
-        let knot = Knot::find(self.alloc, &self.order, self.fronts.as_slice())?;
+        let mut budget = self.order.budget();
+        let before = budget.left();
+        let knot = Knot::find(self.alloc, &self.order, self.fronts.as_slice(), &mut budget)?;
+        self.order.spend(before.saturating_sub(budget.left()));
         let Some(knot) = knot else {
             return Ok(Turn::End(Ending::GivenUp));
         };
         self.explanation.begin(&self.order)?;
         knot.ask_why(&self.order, &mut self.explanation)?;
         self.explanation.answer(&self.order)?;
+        let steps = self.explanation.steps();
+        self.order.spend(steps);
         self.learn()
     }
 
     /// Explains the contradiction of the order, and turns back.
     fn turn_back(&mut self) -> Result<Turn, AllocError> {
-        self.explanation.explain(&self.order)?;
+        self.explain()?;
         self.learn()
     }
 
     /// Takes back decisions and turns the last one round that the contradiction needs, as long as that is a contradiction again.
     fn learn(&mut self) -> Result<Turn, AllocError> {
         for _ in 0..self.order.budget().left() {
-            let steps = self.explanation.steps();
             let count = self.order.log().count();
-            self.order.spend(steps);
-            self.order.spend(count as u64);
+            let looked = count.saturating_add(self.order.decisions());
+            self.order.spend(looked as u64);
             if self.order.budget().is_spent() {
                 break;
             }
@@ -334,7 +357,7 @@ impl<'a> Walk<'a> {
             match self.turn_decision(last)? {
                 Outcome::Saturated => return Ok(Turn::Back),
                 Outcome::Spent => return Ok(Turn::End(Ending::GivenUp)),
-                Outcome::Contradicted => self.explanation.explain(&self.order)?,
+                Outcome::Contradicted => self.explain()?,
             }
         }
         Ok(Turn::End(Ending::GivenUp))

@@ -10,5 +10,5 @@ mod waiting;
 
 pub use concerned::Concerned;
 pub use reasons::{Edge, NO_EDGE, Reason, Reasons};
-pub use sources::{Fate, Source, Sources, UNBOUND};
+pub use sources::{Fate, Source, Sources, UNBOUND, UNTOLD};
 pub use waiting::Waiting;

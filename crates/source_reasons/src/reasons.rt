@@ -44,6 +44,9 @@ pub const NO_EDGE: Edge = Edge {
     next: NOBODY,
 };
 
+/// The most pairs that are kept, and the most operations and decisions of lemmas, which is memory for some 50 MB while it grows.
+const MOST_ENTRIES: u32 = 1 << 20;
+
 /// Where the operations and the decisions of a lemma end.
 #[derive(Clone, Copy)]
 struct Ends {
@@ -86,6 +89,14 @@ impl Reasons {
     /// How many pairs there are.
     pub fn count(&self) -> u32 {
         size(self.edges.as_slice())
+    }
+
+    /// Whether there is room for no more.
+    #[inline(always)]
+    pub fn is_full(&self) -> bool {
+        self.count() >= MOST_ENTRIES
+            || size(self.operations.as_slice()) >= MOST_ENTRIES
+            || size(self.decisions.as_slice()) >= MOST_ENTRIES
     }
 
     /// The pair of this number.

@@ -34,8 +34,11 @@ impl Source {
     }
 }
 
-/// The number of living sources of what is no reader, or of a reader whose sources were too many to be kept.
+/// The number of living sources of what is no reader.
 pub const UNBOUND: u32 = u32::MAX;
+
+/// The number of living sources of a reader whose sources were too many to be found or kept.
+pub const UNTOLD: u32 = u32::MAX - 1;
 
 /// A source that was dropped, and its reader.
 #[derive(Clone, Copy)]
@@ -64,7 +67,7 @@ const NOTHING: Source = Source {
     time: 0,
 };
 
-/// So many sources are kept in all, which is memory for some 50 MB. Readers for which there is no room are unbound.
+/// The most sources that are kept in all, which is memory for some 50 MB. Readers for which there is no room are untold.
 const MOST_SOURCES: usize = 1 << 21;
 
 impl Sources {
@@ -108,9 +111,19 @@ impl Sources {
 
     /// Ends the number at hand, which is no reader that has to have one of some sources.
     pub fn end_unbound(&mut self) -> Result<(), AllocError> {
+        self.end_without(UNBOUND)
+    }
+
+    /// Ends the reader at hand, whose sources are too many to be found or kept.
+    pub fn end_untold(&mut self) -> Result<(), AllocError> {
+        self.end_without(UNTOLD)
+    }
+
+    /// Ends the number at hand, of which no source is kept.
+    fn end_without(&mut self, living: u32) -> Result<(), AllocError> {
         let begin = at(self.begins.as_slice(), size(self.living.as_slice()), 0);
         self.sources.truncate(begin as usize);
-        self.living.push(UNBOUND)?;
+        self.living.push(living)?;
         Ok(())
     }
 
@@ -146,7 +159,7 @@ impl Sources {
         at(self.sources.as_slice(), place, NOTHING)
     }
 
-    /// How many sources of the reader are possible, or `UNBOUND`.
+    /// How many sources of the reader are possible, or `UNBOUND`, or `UNTOLD`.
     #[inline(always)]
     pub fn living(&self, reader: u32) -> u32 {
         at(self.living.as_slice(), reader, UNBOUND)
@@ -155,7 +168,19 @@ impl Sources {
     /// Whether the number is of a reader that has to have one of its sources.
     #[inline(always)]
     pub fn is_bound(&self, reader: u32) -> bool {
-        self.living(reader) != UNBOUND
+        self.living(reader) < UNTOLD
+    }
+
+    /// Whether it is not known which of several sources the reader has.
+    pub fn is_undecided(&self, reader: u32) -> bool {
+        let living = self.living(reader);
+        living > 1 && living != UNBOUND
+    }
+
+    /// How many places must be looked at for one of the reader's sources.
+    #[inline(always)]
+    pub fn span(&self, reader: u32) -> u64 {
+        self.end(reader).saturating_sub(self.begin(reader)) as u64
     }
 
     /// The reader's only possible source. The initial value is named by `NOBODY`.

@@ -22,7 +22,7 @@ fn core_within<'a>(
     budget: &mut Budget,
 ) -> Result<Option<Core<'a>>, AllocError> {
     let operations = within.all(alloc)?;
-    let part = part_of(alloc, forced, operations.as_slice(), within)?;
+    let part = part_of(alloc, forced, operations.as_slice(), within, budget)?;
     let mut order = DerivedOrder::new(alloc, &part.log, *budget)?;
     let outcome = order.saturate()?;
     *budget = order.budget();

@@ -7,76 +7,86 @@ use derived_order::DerivedOrder;
 use numbered_log::{Budget, Log};
 use order_walk::{Ending, Walk};
 use std::alloc::{AllocError, Global};
-use traces::operation::OpName;
+use surveyor::{Extent, Finding, Overview, Surveyor};
 use traces::trace::Trace;
-
-/// How far a survey came that found nothing.
-#[derive(Clone, Copy)]
-pub struct Extent {
-    /// So many operations were placed one after the other at most.
-    pub placed: u32,
-    /// So many reads and final values have more than one possible source.
-    pub undecided: u32,
-    /// Whether the budget was spent.
-    pub is_spent: bool,
-}
-
-/// What a survey finds. Whoever gets it judges the schedule, or refutes the part of the core.
-#[derive(Drop)]
-pub enum Finding {
-    /// A schedule that should be legal.
-    Schedule(Vec<OpName>),
-    /// Operations whose part should have no legal schedule.
-    Core(Vec<OpName>),
-    /// Nothing.
-    Unknown(Extent),
-}
 
 /// What was found, as numbers.
 #[derive(Drop)]
-enum Numbers {
+enum NumberedFinding {
     Schedule(Vec<u32>),
     Core(Vec<u32>),
-    Unknown(Extent),
+    Nothing,
 }
 
-/// Looks over a trace for a schedule, or for a few operations by which it has none. It takes as many steps as the budget has, more or
-/// less.
-pub fn survey(alloc: Global, trace: &Trace, budget: u64) -> Result<Finding, AllocError> {
-    let log = log_of(alloc, trace)?;
-    let mut budget = Budget::new(budget);
-    match walk_over(alloc, &log, &mut budget)? {
-        Numbers::Schedule(operations) => {
-            let names = names_of(alloc, trace, &log, operations.as_slice())?;
-            Ok(Finding::Schedule(names))
-        }
-        Numbers::Core(operations) => {
-            let core = smallest_core(alloc, &log, operations, &mut budget)?;
-            let names = names_of(alloc, trace, &log, core.as_slice())?;
-            Ok(Finding::Core(names))
-        }
-        Numbers::Unknown(extent) => Ok(Finding::Unknown(extent)),
+/// A walk's end, and how far it came.
+#[derive(Drop)]
+struct Walked {
+    numbers: NumberedFinding,
+    extent: Extent,
+}
+
+/// The survey that saturates an order and walks from the front. It takes as many steps as the budget has, more or less.
+#[derive(Clone, Copy)]
+pub struct BySaturation {
+    pub budget: u64,
+}
+
+impl Surveyor for BySaturation {
+    fn survey(&self, alloc: Global, trace: &Trace) -> Result<Overview, AllocError> {
+        let log = log_of(alloc, trace)?;
+        let mut budget = Budget::new(self.budget);
+        let walked = walk_over(alloc, &log, &mut budget)?;
+        let finding = finding_of(alloc, trace, &log, walked.numbers, &mut budget)?;
+        Ok(Overview {
+            finding,
+            extent: walked.extent,
+        })
     }
 }
 
-/// A schedule, or the operations from which a contradiction follows.
-fn walk_over(alloc: Global, log: &Log, budget: &mut Budget) -> Result<Numbers, AllocError> {
+/// What was found, by names. A core is made smaller.
+fn finding_of(
+    alloc: Global,
+    trace: &Trace,
+    log: &Log,
+    numbers: NumberedFinding,
+    budget: &mut Budget,
+) -> Result<Finding, AllocError> {
+    match numbers {
+        NumberedFinding::Schedule(operations) => {
+            let names = names_of(alloc, trace, log, operations.as_slice())?;
+            Ok(Finding::Schedule(names))
+        }
+        NumberedFinding::Core(operations) => {
+            let core = smallest_core(alloc, log, operations, budget)?;
+            let names = names_of(alloc, trace, log, core.as_slice())?;
+            Ok(Finding::Core(names))
+        }
+        NumberedFinding::Nothing => Ok(Finding::Nothing),
+    }
+}
+
+/// A schedule, or the operations from which a contradiction follows. A quarter of the budget is kept for what comes after.
+fn walk_over(alloc: Global, log: &Log, budget: &mut Budget) -> Result<Walked, AllocError> {
+    let kept = budget.share(budget.left() / 4);
     let order = DerivedOrder::new(alloc, log, *budget)?;
     let mut walk = Walk::new(alloc, order)?;
     let ending = walk.run()?;
     *budget = walk.order().budget();
-    match ending {
-        Ending::Scheduled => {
-            let placed = Vec::from_slice(alloc, walk.placed())?;
-            Ok(Numbers::Schedule(placed))
-        }
-        Ending::Contradicted => Ok(Numbers::Core(walk.explanation.operations(alloc)?)),
-        Ending::GivenUp => Ok(Numbers::Unknown(Extent {
+    budget.give_back(kept);
+    let numbers = match ending {
+        Ending::Scheduled => NumberedFinding::Schedule(Vec::from_slice(alloc, walk.placed())?),
+        Ending::Contradicted => NumberedFinding::Core(walk.explanation.operations(alloc)?),
+        Ending::GivenUp => NumberedFinding::Nothing,
+    };
+    walk.take_back_all();
+    Ok(Walked {
+        numbers,
+        extent: Extent {
             placed: walk.most_placed(),
             undecided: walk.order().undecided(),
-            is_spent: budget.is_spent(),
-        })),
-    }
+        },
+    })
 }
 
 /// Makes the core smaller, as far as saturation, or a walk, still refutes it.
@@ -87,8 +97,10 @@ fn smallest_core(
     budget: &mut Budget,
 ) -> Result<Vec<u32>, AllocError> {
     let forced = DerivedOrder::new(alloc, log, *budget)?;
+    *budget = forced.budget();
     let mut core = Core::new(alloc, &forced, operations)?;
     if forced.is_contradicted() {
+        core.add_writers()?;
         return Vec::from_slice(alloc, core.operations());
     }
     core.close(budget)?;

@@ -10,4 +10,4 @@ mod part;
 mod reading;
 mod shrinking;
 
-pub use finding::{Extent, Finding, survey};
+pub use finding::BySaturation;

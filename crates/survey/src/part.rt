@@ -3,7 +3,7 @@
 //! Where this is not the part that is made of the trace, the answer is of no use, and nothing worse.
 
 use derived_order::DerivedOrder;
-use numbered_log::{Log, NOBODY, Operation, Origin, Pair};
+use numbered_log::{Budget, Log, NOBODY, Operation, Origin, Pair};
 use order_closure::tables::{at, put, size};
 use std::alloc::{AllocError, Global};
 
@@ -71,6 +71,8 @@ struct Renaming {
     locations: Vec<u32>,
     /// The other way round, for locations.
     old_locations: Vec<u32>,
+    /// Whether some operation of the part writes the location, by its number in the part.
+    is_written: Vec<bool>,
 }
 
 /// The part of these operations, which stand by rising numbers and are those that are chosen. The order is the one that program order and
@@ -80,19 +82,22 @@ pub fn part_of(
     order: &DerivedOrder<'_>,
     operations: &[u32],
     chosen: &Chosen,
+    budget: &mut Budget,
 ) -> Result<Part, AllocError> {
     let log = order.log();
+    budget.spend(steps_of(order, operations));
     let mut renaming = Renaming {
         operations: vec![in alloc; NOBODY; log.count() as usize]?,
         locations: vec![in alloc; NOBODY; log.locations() as usize]?,
         old_locations: Vec::new(alloc),
+        is_written: Vec::new(alloc),
     };
     renaming.number_locations(log, operations)?;
     let mut part = Part {
         log: Log::new(alloc, size(renaming.old_locations.as_slice()))?,
         numbers: Vec::new(alloc),
     };
-    part.set_values(order, &renaming, operations, chosen);
+    part.set_values(order, &renaming, chosen);
     part.add_operations(order, &mut renaming, operations, chosen)?;
     part.rename_origins(&renaming);
     if !log.pairs().is_empty() {
@@ -101,8 +106,27 @@ pub fn part_of(
     Ok(part)
 }
 
+/// How many steps it takes to make the part of these operations.
+fn steps_of(order: &DerivedOrder<'_>, operations: &[u32]) -> u64 {
+    let log = order.log();
+    let mut steps = log.count().saturating_add(log.locations()) as u64;
+    for number in operations {
+        let span = order.sources().span(*number);
+        steps = steps.saturating_add(span).saturating_add(1);
+    }
+    for location in 0..log.locations() {
+        let span = order.sources().span(order.final_reader(location));
+        steps = steps.saturating_add(span);
+    }
+    if !log.pairs().is_empty() {
+        let kept = size(operations) as u64;
+        steps = steps.saturating_add(kept.saturating_mul(log.processes() as u64));
+    }
+    steps
+}
+
 impl Renaming {
-    /// Gives a number to each location on which one of the operations works.
+    /// Gives a number to each location on which one of the operations works, and notes which are written.
     fn number_locations(&mut self, log: &Log, operations: &[u32]) -> Result<(), AllocError> {
         for number in operations {
             let location = log.operation(*number).location;
@@ -110,6 +134,11 @@ impl Renaming {
                 let new_number = size(self.old_locations.as_slice());
                 put(self.locations.as_mut_slice(), location, new_number);
                 self.old_locations.push(location)?;
+                self.is_written.push(false)?;
+            }
+            if log.operation(*number).writes {
+                let new_number = at(self.locations.as_slice(), location, NOBODY);
+                put(self.is_written.as_mut_slice(), new_number, true);
             }
         }
         Ok(())
@@ -135,17 +164,6 @@ pub fn has_all_sources(order: &DerivedOrder<'_>, reader: u32, chosen: &Chosen) -
     true
 }
 
-/// Whether one of the operations writes the location.
-fn has_writer(log: &Log, operations: &[u32], location: u32) -> bool {
-    for number in operations {
-        let operation = log.operation(*number);
-        if operation.writes && operation.location == location {
-            return true;
-        }
-    }
-    false
-}
-
 /// Whether the reading operation still reads.
 fn keeps_read(order: &DerivedOrder<'_>, number: u32, chosen: &Chosen) -> bool {
     match order.log().operation(number).origin {
@@ -158,20 +176,14 @@ fn keeps_read(order: &DerivedOrder<'_>, number: u32, chosen: &Chosen) -> bool {
 impl Part {
     /// Keeps all initial values of the locations, and the final values whose possible last writers are all chosen, where some writer of
     /// the location is.
-    fn set_values(
-        &mut self,
-        order: &DerivedOrder<'_>,
-        renaming: &Renaming,
-        operations: &[u32],
-        chosen: &Chosen,
-    ) {
+    fn set_values(&mut self, order: &DerivedOrder<'_>, renaming: &Renaming, chosen: &Chosen) {
         let log = order.log();
         for location in 0..size(renaming.old_locations.as_slice()) {
             let old = at(renaming.old_locations.as_slice(), location, 0);
             self.log.set_initial(location, log.initial(old));
             if log.last(old).is_some()
                 && has_all_sources(order, order.final_reader(old), chosen)
-                && has_writer(log, operations, old)
+                && at(renaming.is_written.as_slice(), location, false)
             {
                 self.log.set_last(location, log.last(old));
             }

@@ -59,8 +59,8 @@ impl<'a> Core<'a> {
             self.forced,
             self.operations.as_slice(),
             &self.chosen,
+            budget,
         )?;
-        budget.spend(self.operations.len() as u64);
         if self.walks {
             return self.is_refuted_by_walk(&part, budget);
         }
@@ -91,12 +91,13 @@ impl<'a> Core<'a> {
             let before = self.count();
             for place in 0..before {
                 let reader = at(self.operations.as_slice(), place, 0);
-                if self.forced.log().operation(reader).reads {
+                if self.forced.log().operation(reader).reads && !budget.is_spent() {
                     self.close_reader(reader, budget);
                 }
             }
             for location in 0..self.forced.log().locations() {
-                if self.forced.log().last(location).is_some() {
+                budget.spend(1);
+                if !budget.is_spent() && self.forced.log().last(location).is_some() {
                     self.close_last(location, budget);
                 }
             }
@@ -108,13 +109,42 @@ impl<'a> Core<'a> {
         Ok(())
     }
 
+    /// Adds the origins of readers, and all writers of what they need. With these the part keeps each read, whatever the order says.
+    pub fn add_writers(&mut self) -> Result<(), AllocError> {
+        let log = self.forced.log();
+        for place in 0..self.count() {
+            let reader = log.operation(at(self.operations.as_slice(), place, 0));
+            if reader.reads {
+                for number in 0..log.count() {
+                    let writer = log.operation(number);
+                    if writer.writes
+                        && writer.location == reader.location
+                        && writer.left == reader.needed
+                    {
+                        self.chosen.set(number, true);
+                    }
+                }
+                if let Origin::Operation(origin) = reader.origin {
+                    self.chosen.set(origin, true);
+                }
+            }
+        }
+        self.operations = self.chosen.all(self.alloc)?;
+        Ok(())
+    }
+
     /// Adds the origin of the reader, or writers that hide others from it.
     fn close_reader(&mut self, reader: u32, budget: &mut Budget) {
         let operation = self.forced.log().operation(reader);
         match operation.origin {
             Origin::Initial => {}
-            Origin::Operation(origin) => self.chosen.set(origin, true),
+            Origin::Operation(origin) => {
+                self.chosen.set(origin, true);
+                self.hide(reader, origin, budget);
+            }
             Origin::Any => {
+                let span = self.forced.sources().span(reader);
+                budget.spend(span.saturating_add(self.count() as u64));
                 if has_all_sources(self.forced, reader, &self.chosen) {
                     for place in 0..self.count() {
                         let writer = at(self.operations.as_slice(), place, 0);
@@ -143,7 +173,7 @@ impl<'a> Core<'a> {
         for process in 0..forced.log().processes() {
             let from = forced.after(writer, process);
             let to = forced.before(reader, process);
-            if self.has_chosen_writer(process, location, from, to) {
+            if self.has_chosen_writer(process, location, from, to, budget) {
                 return;
             }
         }
@@ -153,10 +183,18 @@ impl<'a> Core<'a> {
     }
 
     /// Whether a writer of the location in the process, from one place up to another, is chosen.
-    fn has_chosen_writer(&self, process: u32, location: u32, from: u32, to: u32) -> bool {
+    fn has_chosen_writer(
+        &self,
+        process: u32,
+        location: u32,
+        from: u32,
+        to: u32,
+        budget: &mut Budget,
+    ) -> bool {
         let log = self.forced.log();
         let mut place = from;
         for _ in 0..log.length(process) {
+            budget.spend(1);
             if place > to {
                 break;
             }
@@ -176,17 +214,18 @@ impl<'a> Core<'a> {
     fn close_last(&mut self, location: u32, budget: &mut Budget) {
         let forced = self.forced;
         let log = forced.log();
+        let span = forced.sources().span(forced.final_reader(location));
+        budget.spend(span.saturating_add(self.count() as u64));
         if !has_all_sources(forced, forced.final_reader(location), &self.chosen) {
             return;
         }
         for place in 0..self.count() {
             let writer = at(self.operations.as_slice(), place, 0);
             let source = log.operation(writer);
-            budget.spend(1);
             if source.writes
                 && source.location == location
                 && Some(source.left) == log.last(location)
-                && !self.has_chosen_after(writer, location)
+                && !self.has_chosen_after(writer, location, budget)
             {
                 if let Some(found) = forced.later_writer(location, writer) {
                     self.chosen.set(found, true);
@@ -196,11 +235,12 @@ impl<'a> Core<'a> {
     }
 
     /// Whether a writer of the location that stands after this one is chosen.
-    fn has_chosen_after(&self, writer: u32, location: u32) -> bool {
+    fn has_chosen_after(&self, writer: u32, location: u32, budget: &mut Budget) -> bool {
         let log = self.forced.log();
+        budget.spend(log.processes() as u64);
         for process in 0..log.processes() {
             let from = self.forced.after(writer, process);
-            if self.has_chosen_writer(process, location, from, log.length(process)) {
+            if self.has_chosen_writer(process, location, from, log.length(process), budget) {
                 return true;
             }
         }
@@ -254,10 +294,18 @@ impl<'a> Core<'a> {
     pub fn shrink(&mut self, budget: &mut Budget) -> Result<(), AllocError> {
         let log = self.forced.log();
         for process in 0..log.processes() {
+            budget.spend(self.count() as u64);
+            if budget.is_spent() {
+                return Ok(());
+            }
             let group = self.of_process(process)?;
             self.leave_out(group.as_slice(), budget)?;
         }
         for location in 0..log.locations() {
+            budget.spend(self.count() as u64);
+            if budget.is_spent() {
+                return Ok(());
+            }
             let group = self.on_location(location)?;
             self.leave_out(group.as_slice(), budget)?;
         }

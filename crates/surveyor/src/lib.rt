@@ -1,0 +1,42 @@
+//! What a survey of a trace finds, and the trait of what makes one.
+//!
+//! What is found is untrusted, so nothing is promised of it.
+#![tactic(auto)]
+
+use std::alloc::{AllocError, Global};
+use traces::operation::OpName;
+use traces::trace::Trace;
+
+/// How far a survey came.
+#[derive(Clone, Copy)]
+pub struct Extent {
+    /// The most operations that were placed one after the other.
+    pub placed: u32,
+    /// The reads and final values that have more than one possible source.
+    pub undecided: u32,
+}
+
+/// What a survey finds. The caller judges the schedule, or refutes the part of the core.
+#[derive(Drop)]
+pub enum Finding {
+    /// A schedule that should be legal.
+    Schedule(Vec<OpName>),
+    /// Operations whose part should have no legal schedule.
+    Core(Vec<OpName>),
+    /// Neither.
+    Nothing,
+}
+
+/// What a survey finds, and how far it came.
+#[derive(Drop)]
+pub struct Overview {
+    pub finding: Finding,
+    pub extent: Extent,
+}
+
+/// What looks over a trace for a schedule, or for operations by which it has none. Nothing is promised but that the call returns: what
+/// it finds may be wrong.
+pub trait Surveyor {
+    /// What is found.
+    fn survey(&self, alloc: Global, trace: &Trace) -> Result<Overview, AllocError>;
+}
