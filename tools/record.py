@@ -3,7 +3,8 @@
 The file must-fail.record has a line for each crate whose wrong bodies the prover has all refused: the crate's name, and a hash
 of all that they were tried on. That is what git tracks of the crate's folder (its wrong bodies too) and of the folders of the
 crates below it (theirs not, since nothing reads them), the lines of crates.txt of all of these, HANDLES, and the version of the
-kit. Where one byte or one name of these is another, the hash is, and the crate's wrong bodies are tried again.
+kit. Where one byte or one name of these is another, the hash is, and the crate's wrong bodies are tried again. A crate's documents
+(`*.md` outside of src/, specs/ and proofs/) are no part of it, since no check reads them.
 """
 
 import hashlib
@@ -94,10 +95,16 @@ def below(name, lines):
     return sorted(found)
 
 
+def is_document(inside):
+    """Whether a file of a crate is only to be read by people. In the folders of sources a check might read it."""
+    return inside.endswith(".md") and inside.split("/")[0] not in ("src", "specs", "proofs")
+
+
 def files_of(name, paths):
-    """The tracked files of a crate, in two lists: those that its proof may read, and its wrong bodies. What builds leave is in neither."""
+    """The tracked files of a crate, in two lists: those that its proof may read, and its wrong bodies. Documents and what builds leave are in neither."""
     folder = f"crates/{name}/"
     files = [path for path in paths if path.startswith(folder) and not path.startswith(folder + "out/")]
+    files = [path for path in files if not is_document(path[len(folder):])]
     is_body = [path.startswith(folder + "must-fail/") for path in files]
     return [it for it, yes in zip(files, is_body) if not yes], [it for it, yes in zip(files, is_body) if yes]
 
