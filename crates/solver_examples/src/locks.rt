@@ -9,8 +9,11 @@ use std::process::Abort;
 /// So many conflicts are too few, although more than half of the operations are updates, and the search along a schedule begins.
 const TOO_FEW: u64 = 300;
 
-/// So many conflicts are enough, also where it comes second.
+/// The search is enough for a model, also where it comes second. A derivation by counting takes more steps.
 const BUDGET: u64 = 3000;
+
+/// Steps enough for a derivation by counting.
+const ENOUGH: u64 = 100_000;
 
 /// Each of three processes takes a lock and gives it back four times, but so many of them do not give it back at the end.
 fn lock(alloc: Global, broken: u32) -> Result<Traced, AllocError> {
@@ -41,7 +44,7 @@ fn locked(rt: &impl Abort, alloc: Global, broken: u32, budget: u64) -> Shown {
 }
 
 #[test]
-fn locks_fall_along_a_schedule(rt: HostRuntime) {
+fn locks_are_searched_along_a_schedule_or_counted(rt: HostRuntime) {
     let none = locked(&rt, rt.alloc(), 0, BUDGET);
     expect(&rt, none == Shown::Model, 0);
     let one = locked(&rt, rt.alloc(), 1, BUDGET);
@@ -49,5 +52,7 @@ fn locks_fall_along_a_schedule(rt: HostRuntime) {
     let two = locked(&rt, rt.alloc(), 2, TOO_FEW);
     expect(&rt, two == Shown::Nothing, 2);
     let two = locked(&rt, rt.alloc(), 2, BUDGET);
-    expect(&rt, matches!(two, Shown::NoModel(_)), 2);
+    expect(&rt, two == Shown::Nothing, 3);
+    let two = locked(&rt, rt.alloc(), 2, ENOUGH);
+    expect(&rt, matches!(two, Shown::NoModel(_)), 4);
 }
