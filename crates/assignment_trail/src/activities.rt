@@ -1,33 +1,32 @@
-//! Which variable is decided next.
+//! Decision order by exponential VSIDS (Moskewicz and others, "Chaff", 2001; Eén and Sörensson, "An extensible SAT-solver", 2003).
 
-use order_closure::tables::{at, put, size};
+use order_sets::tables::{at, put, size};
 use std::alloc::{AllocError, Global};
 
-/// Where activities grow past this, all are made smaller.
-const LARGEST: f64 = 1e100;
+/// Activity past which all activities are rescaled.
+const RESCALE_LIMIT: f64 = 1e100;
 
-/// By how much all activities are then made smaller.
-const SMALLER: f64 = 1e-100;
+/// Factor by which activities and the increment are rescaled, to avoid overflow.
+const RESCALE_FACTOR: f64 = 1e-100;
 
-/// What each conflict adds to grows by this, in place of letting all activities decay.
-const GROWTH: f64 = 1.0526315789473684;
+/// Factor by which the increment grows at each conflict, 1/0.95: growing it costs less than decaying every activity.
+const BUMP_GROWTH: f64 = 1.0526315789473684;
 
-/// How often the variables were in conflicts, later ones counting more, and a binary heap of those that can be decided, the most
-/// active one first.
+/// Activities of the variables, and a binary heap of the open decision variables with the most active one at its root.
 #[derive(Drop)]
 pub struct Activities {
     activities: Vec<f64>,
     bump: f64,
     heap: Vec<u32>,
     count: u32,
-    /// For each variable its place in the heap and one more, or 0.
+    /// Slot of each variable in the heap, plus one, or 0.
     places: Vec<u32>,
-    /// 1 for those variables that are ever decided.
+    /// 1 for decision variables.
     wanted: Vec<u8>,
 }
 
 impl Activities {
-    /// Of so many variables these are to be decided, and none is more active than another: they can be taken in this order.
+    /// Starts with equal activities, so that the decision variables are popped in this order.
     pub fn new(alloc: Global, variables: u32, wanted: &[u32]) -> Result<Activities, AllocError> {
         let places = variables.wrapping_add(1) as usize;
         let mut activities = Activities {
@@ -41,25 +40,25 @@ impl Activities {
         for place in 0..size(wanted) {
             let variable = at(wanted, place, 0);
             put(activities.wanted.as_mut_slice(), variable, 1);
-            activities.settle(place, variable);
+            activities.set_slot(place, variable);
         }
         Ok(activities)
     }
 
-    /// How active the variable is.
+    /// Returns the activity of the variable.
     #[inline(always)]
     fn activity(&self, variable: u32) -> f64 {
         at(self.activities.as_slice(), variable, 0.0)
     }
 
-    /// Writes the variable at this place of the heap.
+    /// Writes the variable into this slot of the heap.
     #[inline(always)]
-    fn settle(&mut self, place: u32, variable: u32) {
+    fn set_slot(&mut self, place: u32, variable: u32) {
         put(self.heap.as_mut_slice(), place, variable);
         put(self.places.as_mut_slice(), variable, place.wrapping_add(1));
     }
 
-    /// Moves the variable at this place towards the front as far as it belongs.
+    /// Sifts the variable in this slot up.
     fn rise(&mut self, from: u32) {
         let variable = at(self.heap.as_slice(), from, 0);
         let activity = self.activity(variable);
@@ -73,13 +72,13 @@ impl Activities {
             if activity <= self.activity(above) {
                 break;
             }
-            self.settle(place, above);
+            self.set_slot(place, above);
             place = parent;
         }
-        self.settle(place, variable);
+        self.set_slot(place, variable);
     }
 
-    /// Moves the variable at the front back as far as it belongs.
+    /// Sifts the variable at the root down.
     fn sink(&mut self) {
         let variable = at(self.heap.as_slice(), 0, 0);
         let activity = self.activity(variable);
@@ -101,13 +100,13 @@ impl Activities {
             if self.activity(below) <= activity {
                 break;
             }
-            self.settle(place, below);
+            self.set_slot(place, below);
             place = child;
         }
-        self.settle(place, variable);
+        self.set_slot(place, variable);
     }
 
-    /// Puts the variable into the heap, if it is ever decided and not there.
+    /// Inserts the variable into the heap, if it is a decision variable and not there.
     #[inline(always)]
     pub fn insert(&mut self, variable: u32) {
         if at(self.wanted.as_slice(), variable, 0) == 0
@@ -117,12 +116,12 @@ impl Activities {
         }
         let place = self.count;
         self.count = self.count.wrapping_add(1);
-        self.settle(place, variable);
+        self.set_slot(place, variable);
         self.rise(place);
     }
 
-    /// Takes the most active variable out of the heap.
-    pub fn take(&mut self) -> Option<u32> {
+    /// Pops the most active variable.
+    pub fn pop(&mut self) -> Option<u32> {
         if self.count == 0 {
             return None;
         }
@@ -131,21 +130,21 @@ impl Activities {
         self.count = self.count.wrapping_sub(1);
         if self.count > 0 {
             let last = at(self.heap.as_slice(), self.count, 0);
-            self.settle(0, last);
+            self.set_slot(0, last);
             self.sink();
         }
         Some(variable)
     }
 
-    /// The variable was in a conflict.
-    pub fn note(&mut self, variable: u32) {
+    /// Bumps the variable: it was part of a conflict.
+    pub fn bump(&mut self, variable: u32) {
         let activity = self.activity(variable) + self.bump;
         put(self.activities.as_mut_slice(), variable, activity);
-        if activity > LARGEST {
+        if activity > RESCALE_LIMIT {
             for entry in self.activities.iter_mut() {
-                *entry *= SMALLER;
+                *entry *= RESCALE_FACTOR;
             }
-            self.bump *= SMALLER;
+            self.bump *= RESCALE_FACTOR;
         }
         let place = at(self.places.as_slice(), variable, 0);
         if place != 0 {
@@ -153,8 +152,8 @@ impl Activities {
         }
     }
 
-    /// A conflict has been worked on: later ones count more.
-    pub fn age(&mut self) {
-        self.bump *= GROWTH;
+    /// Decays all activities, by a larger increment for later bumps.
+    pub fn decay(&mut self) {
+        self.bump *= BUMP_GROWTH;
     }
 }

@@ -1,24 +1,24 @@
-//! Which choices are open, and which are made.
+//! Reads-from candidates: which choices are open, and which are made.
 
-use clause_store::Choice;
-use order_closure::ElementSets;
+use clause_database::ReadsFromVariable;
+use order_sets::ElementSets;
 use std::alloc::{AllocError, Global};
 
-/// The choices with a writer that are not false, and those that are true, as sets of bits.
+/// The reads-from variables that are not false, and those that are true, as sets of bits by reader and by writer.
 #[derive(Drop)]
 pub struct Candidates {
-    /// For each reader the writers from which it may have its value.
+    /// For each reader the writers that it may read from.
     pub writers: ElementSets,
-    /// For each writer the readers that may have their value from it.
+    /// For each writer the readers that may read from it.
     pub readers: ElementSets,
-    /// For each reader the writers that were chosen. Two of them are a conflict, so there are two for a short time only.
+    /// For each reader the writers that were chosen. Two of them are a conflict, so there are two only until the search backtracks.
     pub chosen: ElementSets,
-    /// For each writer the readers that have chosen it.
+    /// For each writer the readers that read from it.
     pub chosen_by: ElementSets,
 }
 
 impl Candidates {
-    /// No choice among so many elements.
+    /// Starts without candidates, over this many events.
     pub fn new(alloc: Global, elements: u32) -> Result<Candidates, AllocError> {
         Ok(Candidates {
             writers: ElementSets::new(alloc, elements)?,
@@ -28,17 +28,17 @@ impl Candidates {
         })
     }
 
-    /// The choice can be made.
-    pub fn offer(&mut self, choice: Choice) {
+    /// Adds an open candidate.
+    pub fn offer(&mut self, choice: ReadsFromVariable) {
         if let Some(writer) = choice.writer {
             self.writers.insert(choice.reader, writer);
             self.readers.insert(writer, choice.reader);
         }
     }
 
-    /// The choice has become true or false.
+    /// Records that the variable became true or false.
     #[inline(always)]
-    pub fn settle(&mut self, choice: Choice, is_made: bool) {
+    pub fn settle(&mut self, choice: ReadsFromVariable, is_made: bool) {
         let Some(writer) = choice.writer else {
             return;
         };
@@ -51,9 +51,9 @@ impl Candidates {
         }
     }
 
-    /// The choice, which was true or false, is open again.
+    /// Undoes that, when the search backtracks.
     #[inline(always)]
-    pub fn reopen(&mut self, choice: Choice, was_made: bool) {
+    pub fn reopen(&mut self, choice: ReadsFromVariable, was_made: bool) {
         let Some(writer) = choice.writer else {
             return;
         };

@@ -1,12 +1,12 @@
-//! Which literals are true, in the order in which they became so, and what follows from them without a clause that is stored.
+//! The literals that are true, in the order of their assignment, and what follows from them without a stored clause.
 //!
-//! - `Trail` has the literals that are true, where and why each became so, and the values that are tried first.
+//! - `Trail` has the true literals, the place and the reason of each, and the saved phases.
 //! - `OrderedTrail` is a trail with an order: with each literal all that transitivity implies becomes true, and `follow_reads` finds what
-//!   the clauses of choices imply, by sets of bits. It makes the clause behind a literal when somebody asks.
+//!   the reads-from clauses imply, by sets of bits. It makes the reason clause of a literal when conflict analysis asks for it.
 //! - `Candidates` are the choices that are open, and those that are made.
-//! - `Activities` says which variable is decided next. What is taken back from the trail can be decided again.
+//! - `Activities` says which variable is decided next. A variable whose assignment is undone can be decided again.
 //!
-//! Nothing is proved of what they hold: a look past the end of a table reads a fixed value.
+//! Nothing is proved of what they hold: a read past the end of a table gives a fixed value.
 #![tactic(auto)]
 
 mod activities;
@@ -18,4 +18,4 @@ mod trail;
 pub use activities::Activities;
 pub use candidates::Candidates;
 pub use ordered_trail::OrderedTrail;
-pub use trail::{FALSE, OPEN, Standing, TRUE, Trail};
+pub use trail::{FALSE, OPEN, TRUE, Trail, VariableState};

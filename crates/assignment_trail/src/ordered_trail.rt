@@ -1,39 +1,39 @@
-//! A trail with an order that is closed at each assignment.
+//! A trail with an order that is transitively closed at each assignment.
 
 use crate::activities::Activities;
 use crate::candidates::Candidates;
 use crate::trail::Trail;
-use clause_store::{Cause, Guide, Readings, Reason, Store};
-use derivation_log::codes::NEVER;
-use order_closure::tables::at;
-use order_closure::{OrderMatrix, TripleIds};
+use clause_database::{EncodingHints, ReadsFromTable, Reason, ReasonClause, Store};
+use order_sets::tables::at;
+use order_sets::{OrderMatrix, TripleIds};
+use proof_log::codes::NEVER;
 use std::alloc::{AllocError, Global};
 
-/// A trail, and the order that the guide knows. When a literal of the order becomes true, all that transitivity implies
-/// becomes true with it, so that its clauses never come into conflict and are never looked at. (To close the order only when
-/// the literal is propagated was slower by up to two in a prototype.)
+/// A trail, and the order that the hints describe. When a literal of the order becomes true, all that transitivity implies becomes true
+/// with it, so that its clauses never come into conflict and are never visited. (To close the order only when the literal is propagated
+/// took up to twice the time in a prototype.)
 #[derive(Drop)]
 pub struct OrderedTrail<'a> {
     /// The trail. Literals are made true by `assign` alone.
     pub trail: Trail,
     order: OrderMatrix,
     ids: TripleIds,
-    /// What is known of reads, if anything is.
-    pub readings: Option<&'a Readings>,
-    /// Which choices are open, and which are made.
+    /// The reads-from variables, if the hints have them.
+    pub reads_from: Option<&'a ReadsFromTable>,
+    /// Reads-from candidates.
     pub candidates: Candidates,
 }
 
 impl<'a> OrderedTrail<'a> {
-    /// No literal of so many variables is true.
+    /// Starts with an empty trail over this many variables.
     pub fn new(
         alloc: Global,
         variables: u32,
-        guide: Guide<'a>,
+        encoding: EncodingHints<'a>,
     ) -> Result<OrderedTrail<'a>, AllocError> {
-        let order = OrderMatrix::new(alloc, guide.elements())?;
-        let mut candidates = Candidates::new(alloc, guide.elements())?;
-        for choice in guide.choices() {
+        let order = OrderMatrix::new(alloc, encoding.elements())?;
+        let mut candidates = Candidates::new(alloc, encoding.elements())?;
+        for choice in encoding.choices() {
             if let Some(choice) = choice {
                 candidates.offer(*choice);
             }
@@ -41,65 +41,67 @@ impl<'a> OrderedTrail<'a> {
         Ok(OrderedTrail {
             trail: Trail::new(alloc, variables, order.variables())?,
             order,
-            ids: TripleIds::new(alloc, guide.elements(), guide.first())?,
-            readings: guide.readings(),
+            ids: TripleIds::new(alloc, encoding.elements(), encoding.first())?,
+            reads_from: encoding.reads_from(),
             candidates,
         })
     }
 
-    /// The order as far as it is known.
+    /// Returns the order that the trail implies.
     #[inline(always)]
     pub fn order(&self) -> &OrderMatrix {
         &self.order
     }
 
-    /// The value of the literal.
+    /// Returns the value of the literal.
     #[inline(always)]
     pub fn value(&self, literal: u32) -> u8 {
         self.trail.value(literal)
     }
 
-    /// Makes the literal true, and what follows from it in the order.
+    /// Assigns the literal, and all that it implies in the order.
     #[inline(always)]
-    pub fn assign(&mut self, literal: u32, cause: Cause) {
-        self.trail.push(literal, cause);
+    pub fn assign(&mut self, literal: u32, reason: Reason) {
+        self.trail.push(literal, reason);
         if literal >> 1 <= self.order.variables() {
             self.close(literal);
-        } else if let Some(readings) = self.readings
-            && let Some(choice) = readings.choice(literal >> 1)
+        } else if let Some(reads_from) = self.reads_from
+            && let Some(choice) = reads_from.choice(literal >> 1)
         {
             self.candidates.settle(choice, literal & 1 == 0);
         }
     }
 
-    /// Makes true what follows from the literal in the order.
+    /// Assigns what the literal implies by transitivity.
     fn close(&mut self, literal: u32) {
         let (a, b) = self.order.ends(literal);
         self.order.add(a, b);
         for implied in self.order.implied() {
             self.trail.push(
                 implied.literal,
-                Cause::Over {
+                Reason::Transitive {
                     element: implied.over,
                 },
             );
         }
     }
 
-    /// The clause that made the literal true.
+    /// Returns the reason of a true literal as a clause.
     #[inline(always)]
-    pub fn reason(&self, store: &Store, literal: u32) -> Reason {
-        match self.trail.standing(literal >> 1).cause {
-            Cause::Decision => Reason::of_literals(0, NEVER, NEVER, NEVER),
-            Cause::Clause { id, first, second } => Reason::of_literals(id, first, second, NEVER),
-            Cause::Stored { place } => store.reason(place),
-            Cause::Choice { choice, writer } => match self.readings {
-                Some(readings) => self.clause_of_choice(readings, choice, writer),
-                None => Reason::of_literals(0, NEVER, NEVER, NEVER),
+    pub fn reason(&self, store: &Store, literal: u32) -> ReasonClause {
+        match self.trail.state(literal >> 1).reason {
+            Reason::Decision => ReasonClause::of_literals(0, NEVER, NEVER, NEVER),
+            Reason::Clause { id, first, second } => ReasonClause::of_literals(
+                id, first, second, NEVER,
+            ),
+            Reason::Stored { place } => store.reason(place),
+            Reason::Choice { choice, writer } => match self.reads_from {
+                Some(reads_from) => self.clause_of_choice(reads_from, choice, writer),
+                None => ReasonClause::of_literals(0, NEVER, NEVER, NEVER),
             },
-            Cause::Over { element } => {
+            Reason::Transitive { element } => {
                 let (a, b) = self.order.ends(literal);
-                Reason::of_literals(
+                ReasonClause::of_literals(
                     self.ids.of_cycle(a, element, b),
                     self.order.literal(element, a),
                     self.order.literal(b, element),
@@ -109,13 +111,13 @@ impl<'a> OrderedTrail<'a> {
         }
     }
 
-    /// Whether the literal was decided.
+    /// Whether the literal is a decision.
     pub fn was_decided(&self, literal: u32) -> bool {
-        matches!(self.trail.standing(literal >> 1).cause, Cause::Decision)
+        matches!(self.trail.state(literal >> 1).reason, Reason::Decision)
     }
 
-    /// Takes back all literals above the level. Their variables can be decided again.
-    pub fn take_back(&mut self, level: u32, activities: &mut Activities) {
+    /// Backtracks to the level: undoes all later assignments. Their variables go back into the heap.
+    pub fn backtrack(&mut self, level: u32, activities: &mut Activities) {
         if level >= self.trail.level() {
             return;
         }
@@ -125,8 +127,8 @@ impl<'a> OrderedTrail<'a> {
             if literal >> 1 <= self.order.variables() {
                 let (a, b) = self.order.ends(literal);
                 self.order.remove(a, b);
-            } else if let Some(readings) = self.readings
-                && let Some(choice) = readings.choice(literal >> 1)
+            } else if let Some(reads_from) = self.reads_from
+                && let Some(choice) = reads_from.choice(literal >> 1)
             {
                 self.candidates.reopen(choice, literal & 1 == 0);
             }
@@ -135,15 +137,15 @@ impl<'a> OrderedTrail<'a> {
         self.trail.resume(level);
     }
 
-    /// The place of each element in an order of all that extends what is known, if the guide knows one. An element with fewer
-    /// before it comes first, and among those with as many the one with the smaller number.
+    /// Returns the rank of each event in a total order that extends the known one. An event with fewer predecessors comes first; ties go by
+    /// number.
     pub fn ranks(&self, alloc: Global) -> Result<Vec<u32>, AllocError> {
         let elements = self.order.elements();
         let mut ranks = Vec::with_capacity(alloc, elements as usize)?;
         for element in 0..elements {
             ranks.push(
                 self.order
-                    .before()
+                    .predecessors()
                     .count(element)
                     .wrapping_mul(256)
                     .wrapping_add(element),
@@ -152,7 +154,7 @@ impl<'a> OrderedTrail<'a> {
         Ok(ranks)
     }
 
-    /// Whether the order's variable is true under these ranks, if it is one of an order.
+    /// Returns the value of an order variable under these ranks, or none for another variable.
     pub fn by_rank(&self, ranks: &[u32], variable: u32) -> Option<bool> {
         if variable > self.order.variables() {
             return None;

@@ -1,8 +1,8 @@
-//! The literals that are true, in the order in which they became so.
+//! The trail: true literals in the order of their assignment.
 
-use clause_store::Cause;
-use derivation_log::codes::NEVER;
-use order_closure::tables::{at, put};
+use clause_database::Reason;
+use order_sets::tables::{at, put};
+use proof_log::codes::NEVER;
 use std::alloc::{AllocError, Global};
 
 /// The literal has no value yet.
@@ -12,41 +12,42 @@ pub const TRUE: u8 = 1;
 /// The literal is false.
 pub const FALSE: u8 = 2;
 
-/// Where and why a variable became true or false.
+/// Level, place and reason of an assigned variable.
 #[derive(Clone, Copy)]
-pub struct Standing {
-    /// How many decisions there were.
+pub struct VariableState {
+    /// Decision level.
     pub level: u32,
-    /// Its place on the trail.
+    /// Place on the trail.
     pub place: u32,
-    /// Why.
-    pub cause: Cause,
+    /// Reason.
+    pub reason: Reason,
 }
 
-/// The literals that are true. A value is kept for each literal, and not for each variable, so that a look is one load.
+/// The trail. Values are kept by literal and not by variable, so that reading one is a single load.
 #[derive(Drop)]
 pub struct Trail {
     values: Vec<u8>,
-    standings: Vec<Standing>,
+    states: Vec<VariableState>,
     literals: Vec<u32>,
     count: u32,
-    /// The place of the first literal that has not been propagated.
+    /// Place of the first literal that has not been propagated.
     head: u32,
-    /// Where each level begins.
+    /// Place at which each level begins.
     limits: Vec<u32>,
     level: u32,
-    /// The last values of the variables, which are tried first: 1 for false.
+    /// Saved phases (Pipatsrisawat and Darwiche, 2007): the last value of each variable, which is tried first; 1 for false.
     phases: Vec<u8>,
 }
 
 impl Trail {
-    /// No literal of so many variables is true. The first of them are tried as true first, the others as false.
+    /// Starts with an empty trail over this number of variables. The first `tried_true` of them are tried as true first, the others as
+    /// false.
     pub fn new(alloc: Global, variables: u32, tried_true: u32) -> Result<Trail, AllocError> {
         let places = variables.wrapping_add(1) as usize;
-        let nothing = Standing {
+        let nothing = VariableState {
             level: 0,
             place: 0,
-            cause: Cause::Decision,
+            reason: Reason::Decision,
         };
         let mut values = vec![in alloc; OPEN; variables.wrapping_mul(2).wrapping_add(2) as usize]?;
         put(values.as_mut_slice(), NEVER, FALSE);
@@ -57,7 +58,7 @@ impl Trail {
         }
         Ok(Trail {
             values,
-            standings: vec![in alloc; nothing; places]?,
+            states: vec![in alloc; nothing; places]?,
             literals: vec![in alloc; 0; places]?,
             count: 0,
             head: 0,
@@ -67,75 +68,75 @@ impl Trail {
         })
     }
 
-    /// The value of the literal.
+    /// Returns the value of the literal.
     #[inline(always)]
     pub fn value(&self, literal: u32) -> u8 {
         at(self.values.as_slice(), literal, OPEN)
     }
 
-    /// The values of all literals, by their codes.
+    /// Returns the values of all literals, by code.
     #[inline(always)]
     pub fn values(&self) -> &[u8] {
         self.values.as_slice()
     }
 
-    /// Where and why the variable became true or false.
+    /// Returns level, place and reason of the variable.
     #[inline(always)]
-    pub fn standing(&self, variable: u32) -> Standing {
-        let nothing = Standing {
+    pub fn state(&self, variable: u32) -> VariableState {
+        let nothing = VariableState {
             level: 0,
             place: 0,
-            cause: Cause::Decision,
+            reason: Reason::Decision,
         };
-        at(self.standings.as_slice(), variable, nothing)
+        at(self.states.as_slice(), variable, nothing)
     }
 
-    /// The store of clauses has moved: the cause of the variable is now at this place of it.
+    /// Redirects the reason of the variable to this offset, after the arena was compacted.
     pub fn move_cause(&mut self, variable: u32, place: u32) {
-        let mut standing = self.standing(variable);
-        standing.cause = Cause::Stored { place };
-        put(self.standings.as_mut_slice(), variable, standing);
+        let mut state = self.state(variable);
+        state.reason = Reason::Stored { place };
+        put(self.states.as_mut_slice(), variable, state);
     }
 
-    /// How many literals are true.
+    /// Returns the length of the trail.
     pub fn count(&self) -> u32 {
         self.count
     }
 
-    /// The literal at this place.
+    /// Returns the literal at this place.
     #[inline(always)]
     pub fn literal(&self, place: u32) -> u32 {
         at(self.literals.as_slice(), place, NEVER)
     }
 
-    /// How many decisions there are.
+    /// Returns the decision level.
     pub fn level(&self) -> u32 {
         self.level
     }
 
-    /// The literal of the variable that is tried first.
+    /// Returns the literal of the variable in its saved phase.
     pub fn tried_first(&self, variable: u32) -> u32 {
         variable
             .wrapping_mul(2)
             .wrapping_add(u32::from(at(self.phases.as_slice(), variable, 0) & 1))
     }
 
-    /// Makes the literal true.
+    /// Assigns the literal.
     #[inline(always)]
-    pub fn push(&mut self, literal: u32, cause: Cause) {
+    pub fn push(&mut self, literal: u32, reason: Reason) {
         put(self.values.as_mut_slice(), literal, TRUE);
         put(self.values.as_mut_slice(), literal ^ 1, FALSE);
-        let standing = Standing {
+        let state = VariableState {
             level: self.level,
             place: self.count,
-            cause,
+            reason,
         };
-        put(self.standings.as_mut_slice(), literal >> 1, standing);
+        put(self.states.as_mut_slice(), literal >> 1, state);
         put(self.literals.as_mut_slice(), self.count, literal);
         self.count = self.count.wrapping_add(1);
     }
 
-    /// The next literal that has not been propagated.
+    /// Returns the next literal to be propagated.
     #[inline(always)]
     pub fn next(&mut self) -> Option<u32> {
         if self.head >= self.count {
@@ -146,18 +147,18 @@ impl Trail {
         Some(literal)
     }
 
-    /// Begins a new level: the next literal is decided.
+    /// Opens a new decision level.
     pub fn begin_level(&mut self) {
         put(self.limits.as_mut_slice(), self.level, self.count);
         self.level = self.level.wrapping_add(1);
     }
 
-    /// Where the level above this one begins.
+    /// Returns the place where the level above this one begins.
     pub fn limit(&self, level: u32) -> u32 {
         at(self.limits.as_slice(), level, self.count)
     }
 
-    /// Takes back the literal that became true last, and keeps its value as the one to be tried first.
+    /// Undoes the last assignment, and saves its phase.
     #[inline(always)]
     pub fn pop(&mut self) -> u32 {
         self.count = self.count.wrapping_sub(1);
@@ -169,7 +170,7 @@ impl Trail {
         literal
     }
 
-    /// Goes on at this level, whose literals have all been propagated.
+    /// Truncates to this level, whose literals have all been propagated.
     pub fn resume(&mut self, level: u32) {
         self.level = level;
         self.head = self.count;

@@ -19,8 +19,8 @@ use Rattle.certificate.specs.CertRead.{BeginsWithTree, HasTreeFaultBehind, HasSe
 use Rattle.certificate.specs.CertText.{IsHeaded}
 use Rattle.certificate.specs.declared.cert_fault.CertCause.{CertCause}
 use Rattle.certificate.specs.declared.cert_fault.CertCause.TheVariants.{Header}
-use Rattle.text_lines.specs.declared.fault.Fault.{Fault}
-use Rattle.text_lines.specs.declared.fault.Fault.TheVariants.{OutOfMemory, At}
+use Rattle.text_lines.specs.declared.fault.PlacedFault.{PlacedFault}
+use Rattle.text_lines.specs.declared.fault.PlacedFault.TheVariants.{OutOfMemory, At}
 use Rattle.text_lines.specs.Fault.{IsRefusal}
 
 -- lines that say nothing
@@ -99,11 +99,11 @@ tree_place text cause place (inl f) = omega (arith, few_lines text, within (line
 tree_place text cause place (inr f) = omega (arith, few_lines text, f.behind)
 
 -- refusals of the parts are refusals of the text
-pub no_header : (text : List ℕ) (fault : Fault CertCause) → IsRefusal (LacksHeader text) fault → IsRefusal (HasCertFault text) fault
+pub no_header : (text : List ℕ) (fault : PlacedFault CertCause) → IsRefusal (LacksHeader text) fault → IsRefusal (HasCertFault text) fault
 no_header text OutOfMemory h = tt
 no_header text (At cause line) h = inl h
 
-pub bad_tree : (text behind : List ℕ) (header : ℕ) (fault : Fault CertCause) → IsHeaded text behind header → IsRefusal (HasTreeFaultBehind header behind) fault → IsRefusal (HasCertFault text) fault
+pub bad_tree : (text behind : List ℕ) (header : ℕ) (fault : PlacedFault CertCause) → IsHeaded text behind header → IsRefusal (HasTreeFaultBehind header behind) fault → IsRefusal (HasCertFault text) fault
 bad_tree text behind header OutOfMemory headed h = tt
 bad_tree text behind header (At cause line) headed h =
     inr (inl (record { behind = behind; header = header; tree_cause = h.tree_cause; place = h.place; headed = headed; fault = h.fault; told = h.told; counted = h.counted }))
@@ -117,7 +117,7 @@ begun_with_tree text behind header tree bytes lines headed spelled count = recor
       inr (inr (record { behind = behind; header = header; tree = tree; bytes = bytes; place = h.place; headed = headed; spelled = spelled; fault = h.fault; counted = h.counted ∙ ap (λ (n : ℕ). (header + n) + h.place) count }));
 }
 
-pub bad_section : (text : List ℕ) (tree : CubeTree) (number : ℕ) (rest : List ℕ) (fault : Fault CertCause) → BeginsWithTree text tree number rest →
+pub bad_section : (text : List ℕ) (tree : CubeTree) (number : ℕ) (rest : List ℕ) (fault : PlacedFault CertCause) → BeginsWithTree text tree number rest →
     IsRefusal (HasSectionFaultBehind number (lines_of rest)) fault → IsRefusal (HasCertFault text) fault
 bad_section text tree number rest OutOfMemory h refusal = tt
 bad_section text tree number rest (At cause line) h refusal = h.faulty cause line refusal

@@ -3,8 +3,8 @@ use Rattle.std.proofs.Common.{◌≡◌, ℕ, ◌+◌, ◌<◌, ◌≤◌, List,
 use Rattle.std.specs.Prelude.{Some, None, Result, Ok, Err, IfErr}
 use Rattle.std.specs.Result.{IsErrAnd}
 use Rattle.text_lines.specs.Fault.{IsRefusal}
-use Rattle.text_lines.specs.declared.fault.Fault.{Fault}
-use Rattle.text_lines.specs.declared.fault.Fault.TheVariants.{OutOfMemory, At}
+use Rattle.text_lines.specs.declared.fault.PlacedFault.{PlacedFault}
+use Rattle.text_lines.specs.declared.fault.PlacedFault.TheVariants.{OutOfMemory, At}
 use Rattle.std.specs.List.{list_any}
 use Rattle.std.proofs.lemmas.Bool.{or_parts}
 use Rattle.std.proofs.lemmas.List.{length_push}
@@ -184,12 +184,12 @@ all_read text before number rest sections h nothing =
     subst (λ (ss : List Section). AreSections (lines_of text) ss) (append-nil sections) (h.spelled [] (subst (λ (ls : List (List ℕ)). AreSections ls []) (sym nothing) refl))
 
 -- a refusal of the rest is one of the text
-pub refusal_behind : (text : List ℕ) (before number : ℕ) (rest : List ℕ) (sections : List Section) (fault : Fault CertCause) → AreReadUpTo before text number rest sections →
+pub refusal_behind : (text : List ℕ) (before number : ℕ) (rest : List ℕ) (sections : List Section) (fault : PlacedFault CertCause) → AreReadUpTo before text number rest sections →
     IsRefusal (HasSectionFaultBehind number (lines_of rest)) fault → IsRefusal (HasSectionFaultBehind before (lines_of text)) fault
 refusal_behind text before number rest sections OutOfMemory h refusal = tt
 refusal_behind text before number rest sections (At cause line) h refusal = h.faulty cause line refusal
 
-pub refusal_inside : (text : List ℕ) (before number : ℕ) (rest : List ℕ) (sections : List Section) (line after inside from_end : List ℕ) (count leaf : ℕ) (fault : Fault CertCause) →
+pub refusal_inside : (text : List ℕ) (before number : ℕ) (rest : List ℕ) (sections : List Section) (line after inside from_end : List ℕ) (count leaf : ℕ) (fault : PlacedFault CertCause) →
     IsReadSoFar text before number rest sections → lines_of rest ≡ line ∷ lines_of after → begun_by (words_of line) ≡ Some leaf →
     IsSectionCut (lines_of after) (lines_of inside) (lines_of from_end) count → IsRefusal (HasLratFaultBehind (number + 1) inside) fault → IsRefusal (HasSectionFaultBehind before (lines_of text)) fault
 refusal_inside text before number rest sections line after inside from_end count leaf OutOfMemory h cut begins section_cut refusal = tt
@@ -197,6 +197,6 @@ refusal_inside text before number rest sections line after inside from_end count
     refused_inside text before number rest sections line after inside from_end count leaf cause place h cut begins section_cut refusal
 
 -- a refusal that is handed on
-pub handed_on : {A : Type 0} (Q : Fault CertCause → Type 0) (r : Result A (Fault CertCause)) (fault : Fault CertCause) → IsErrAnd r (λ other. other ≡ fault) → Q fault → IfErr r Q
+pub handed_on : {A : Type 0} (Q : PlacedFault CertCause → Type 0) (r : Result A (PlacedFault CertCause)) (fault : PlacedFault CertCause) → IsErrAnd r (λ other. other ≡ fault) → Q fault → IfErr r Q
 handed_on Q (Ok x) fault e h = tt
 handed_on Q (Err other) fault e h = subst Q (sym e) h

@@ -72,7 +72,7 @@ pub record EndsOpen (lines : List (List ℕ)) (cause : CertCause) (line : ℕ) :
   pub bad : cause ≡ BadLine
   pub behind : line ≡ length lines + 1
 
--- The lines after the tree have their first fault at this one, counted from 1. Where they end within a section, that is the line after
+-- The lines after the tree have their first fault at this one, counted from 1. If they end within a section, that is the line after
 -- the last.
 abbrev pub HasSectionFault : List (List ℕ) → CertCause → ℕ → Type 0
 HasSectionFault lines cause line = IsFirstFault section_line_fault lines line cause ⊎ EndsOpen lines cause line
@@ -89,7 +89,7 @@ pub record HasFaultInSections (text : List ℕ) (cause : CertCause) (line : ℕ)
   pub fault : HasSectionFault (lines_of (drop bytes behind)) cause place
   pub counted : line ≡ (header + length (tree_lines tree)) + place
 
--- The text has its first fault at this line, counted from 1: it lacks its header; or it has it, and there is a fault in its tree; or it
+-- The text has its first fault at this line, counted from 1: it has no header; or it has it, and there is a fault in its tree; or it
 -- has both, and there is a fault in its sections.
 abbrev pub HasCertFault : List ℕ → CertCause → ℕ → Type 0
 HasCertFault text cause line = LacksHeader text cause line ⊎ (HasFaultInTree text cause line ⊎ HasFaultInSections text cause line)

@@ -37,7 +37,8 @@ pub record IsRechecked (clauses : List (List ℤ)) (certificate : Certificate) (
   pub known : list_all (λ section. nat_lt section.leaf count) certificate.sections ≡ true
   pub proved : (leaf : ℕ) (cube : List ℤ) → slice_get (cubes_of certificate.tree) leaf ≡ Some cube → IsProved clauses certificate.sections leaf cube
 
--- what is wrong with a section after the sections before it: it is none of so many leaves', or one of those is its leaf's
+-- what is wrong with a section after the sections before it: its leaf is not below the number of leaves, or an earlier
+-- section is of the same leaf
 abbrev pub section_fault : ℕ → List Section → Section → Option CertCause
 section_fault count before section =
     if nat_le count section.leaf then Some Stranger
@@ -50,11 +51,11 @@ pub record IsFirstWrong (count : ℕ) (sections : List Section) (cause : CertCau
   pub fault : IsFirstFault (section_fault count) sections place cause
   pub leaf_is : leaf ≡ fault.item.leaf
 
--- each of so many leaves has a section
+-- each leaf below this number has a section
 abbrev pub HaveSections : ℕ → List Section → Type 0
 HaveSections count sections = (leaf : ℕ) → leaf < count → list_any (is_of leaf) sections ≡ true
 
--- the lowest of so many leaves that has no section
+-- the lowest leaf below `count` that has no section
 pub record IsFirstMissing (count : ℕ) (sections : List Section) (leaf : ℕ) : Type 0 where
   pub within : leaf < count
   pub missing : list_any (is_of leaf) sections ≡ false
@@ -83,8 +84,8 @@ are_sections_of_clauses sections = list_all (λ section. are_steps section.deriv
 abbrev pub AreRight : ℕ → List Section → Type 0
 AreRight count sections = IsFaultless (section_fault count) sections
 
--- The certificate is refused for this cause and this leaf. The sections are looked at in their order; where nothing is wrong with them,
--- the leaves without a section; and where there is none, the derivations; both by rising leaf.
+-- The certificate is refused for this cause and this leaf. The sections are checked in their order; if nothing is wrong with them, the
+-- leaves without a section; and where there is none, the derivations; both by rising leaf.
 abbrev pub HasRecheckFault : List (List ℤ) → Certificate → CertCause → ℕ → Type 0
 HasRecheckFault clauses certificate cause leaf =
     IsFirstWrong (leaves certificate.tree) certificate.sections cause leaf

@@ -1,6 +1,6 @@
 //! What may be wrong with a certificate.
 
-use text_lines::fault::{Cause, Fault};
+use text_lines::fault::{FaultCause, PlacedFault};
 
 /// What is wrong with a certificate: with a line of its text, or with a leaf.
 #[derive(Clone, Copy, Debug, PartialEq, Eq)]
@@ -29,9 +29,9 @@ pub enum CertCause {
 
 /// Why a certificate is refused: what is wrong with its text, at a line counted from 1; or what is wrong with a leaf, which has the
 /// leaf's number as its place; or that memory ran out.
-pub type CertFault = Fault<CertCause>;
+pub type CertFault = PlacedFault<CertCause>;
 
-impl Cause for CertCause {
+impl FaultCause for CertCause {
     ghost use Rattle.certificate.specs.CertCause.{cause_number, cause_name};
 
     ghost number_of = { cause_number };

@@ -15,7 +15,7 @@ use crate::section_reader::read_sections;
 use cube_tree::tree_laws::other_lines_are_behind;
 use cube_tree::{Tree, TreeCause, read_tree};
 use std::alloc::Global;
-use text_lines::fault::Fault;
+use text_lines::fault::PlacedFault;
 use text_lines::lines::cut_line;
 
 /// What follows the header, and the number of its line.
@@ -50,7 +50,7 @@ fn cause_of_tree(cause: TreeCause) -> CertCause
     }
 }
 
-/// The tree at the beginning of the text, which stands after so many lines of the certificate, and how many bytes it takes.
+/// The tree at the beginning of the text, which stands after `before` lines of the certificate, and the number of bytes that it takes.
 fn read_tree_behind(alloc: Global, text: &[u8], before: usize) -> Result<(Tree, usize), CertFault>
     requires { before + length text.now + 2 < 2 ^ 64 }
     ensures spelled { IfOk result (λ read. SpellsTree text.now read.0 read.1) }
@@ -58,12 +58,15 @@ fn read_tree_behind(alloc: Global, text: &[u8], before: usize) -> Result<(Tree, 
 {
     match read_tree(alloc, text) {
         Ok(read) => Ok(read),
-        Err(Fault::OutOfMemory) => Err(CertFault::OutOfMemory),
-        Err(Fault::At(cause, place)) => Err(CertFault::At(cause_of_tree(cause), before + place)),
+        Err(PlacedFault::OutOfMemory) => Err(CertFault::OutOfMemory),
+        Err(PlacedFault::At(cause, place)) => Err(CertFault::At(
+            cause_of_tree(cause),
+            before + place,
+        )),
     }
 }
 
-/// How many lines the tree has.
+/// The number of lines of the tree.
 fn count_lines(tree: &Tree) -> usize
     ensures lines { result ≡ length (tree_lines tree.now) }
     ensures few { result < 2048 }
@@ -72,7 +75,7 @@ fn count_lines(tree: &Tree) -> usize
     2 * tree.leaves() as usize - 1
 }
 
-/// The tree of a certificate's text, what follows it, and how many lines stand before that.
+/// The tree of a certificate's text, what follows it, and the number of lines before that.
 fn read_start(alloc: Global, text: &[u8]) -> Result<(Tree, Vec<u8>, usize), CertFault>
     ensures begun { IfOk result (λ read. BeginsWithTree text.now read.0 read.2 read.1.items) }
     ensures room { IfOk result (λ read. read.2 + length read.1.items + 2 < 2 ^ 64) }
@@ -108,9 +111,9 @@ pub fn take_cert(alloc: Global, text: Vec<u8>) -> Result<Certificate, CertFault>
 /// The certificate that the text spells.
 ///
 /// Its first line that is not skipped is `vsc-cert 1`. At once after it stands a tree, and after that one section after the other: a
-/// line `proof` with a leaf's number, a derivation (LRAT), and a line `end`. Lines without words and those whose first word begins with
-/// `c` are skipped outside the tree. The error is the first fault of the text, with its line, counted from 1, or `OutOfMemory`, which
-/// says nothing of the text. Whether the certificate shows anything is for [`recheck`](crate::recheck).
+/// line `proof` with a leaf's number, a derivation (LRAT, CADE 2017), and a line `end`. Lines without words and those whose first word
+/// begins with `c` are skipped outside the tree. The error is the first fault of the text, with its line, counted from 1, or
+/// `OutOfMemory`, which says nothing of the text. Whether the certificate shows anything is for [`recheck`](crate::recheck).
 pub fn read_cert(alloc: Global, text: &[u8]) -> Result<Certificate, CertFault>
     ensures spelled { IfOk result (λ certificate. SpellsCertificate text.now certificate) }
     ensures faulty { IfErr result (λ fault. IsRefusal (HasCertFault text.now) fault) }

@@ -57,7 +57,7 @@ fn write_section<W: Sink>(
 }
 
 /// Writes the text of the certificate of this tree and of these derivations for its leaves, by rising leaf, one section after the other.
-/// Where memory runs out or the sink fails, the sink has taken a prefix of it.
+/// If memory runs out or the sink fails, the sink has taken a prefix of it.
 pub fn write_cert<W: Sink>(
     alloc: Global,
     tree: &Tree,

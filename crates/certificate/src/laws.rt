@@ -12,7 +12,7 @@ ghost use Rattle.certificate.specs.Rechecked.{IsRechecked, HasRecheckFault, are_
 ghost use Rattle.certificate.specs.declared.cert_fault.CertCause.{CertCause};
 ghost use Rattle.certificate.specs.declared.certificate.Certificate.{Certificate};
 
-/// Where a certificate is accepted, the formula has no model.
+/// If a certificate is accepted, the formula has no model.
 pub fn accepted_has_no_model()
     ensures { (formula : FormulaValue) (certificate : Certificate) (count : ℕ) →
         IsTrue (is_formula formula) → IsTrue (splits_variables certificate.tree) → IsTrue (are_sections_of_clauses certificate.sections) →
@@ -25,7 +25,7 @@ pub fn never_accepted_and_refused()
         IsRechecked clauses certificate count → HasRecheckFault clauses certificate cause leaf → ⊥ }
 {}
 
-/// A certificate has one refusal at most.
+/// A certificate has at most one refusal.
 pub fn one_refusal()
     ensures { (clauses : List (List ℤ)) (certificate : Certificate) (c d : CertCause) (j k : ℕ) →
         HasRecheckFault clauses certificate c j → HasRecheckFault clauses certificate d k → (c ≡ d) × (j ≡ k) }

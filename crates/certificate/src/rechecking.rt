@@ -26,7 +26,7 @@ fn has_section(sections: &[Section], leaf: u32) -> bool
     sections.iter().any(|section| section.leaf == leaf)
 }
 
-/// What is wrong with a section after these, where there are so many leaves.
+/// What is wrong with a section after these, if the tree has `count` leaves.
 fn fault_of(before: &[Section], section: &Section, count: u32) -> Option<CertCause>
     ensures { result ≡ section_fault count before.now section.now }
 {
@@ -127,7 +127,7 @@ fn are_clauses(sections: &[Section])
     }
 }
 
-/// Checks that the certificate shows that the formula has no model, with no solver. Says how many cubes its tree has.
+/// Checks that the certificate shows that the formula has no model, with no solver. Returns the number of cubes of its tree.
 ///
 /// Each leaf of the tree has one section, no section is of another leaf, and each derivation is accepted for the formula and its leaf's
 /// cube. If not, the error says what is wrong and the leaf: the first section that is a `Stranger` or a `Double`; else the lowest leaf

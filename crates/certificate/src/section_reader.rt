@@ -17,7 +17,7 @@ use lrat_check::lrat_reader::read_lrat;
 use std::alloc::Global;
 use text_lines::lines::cut_line;
 
-/// The derivation that the lines spell, which stand after so many lines of the certificate.
+/// The derivation that the lines spell, which stand after `before` lines of the certificate.
 fn read_steps(alloc: Global, lines: &[u8], before: usize) -> Result<Derivation, CertFault>
     requires { before + length lines.now + 1 < 2 ^ 64 }
     ensures spelled { IfOk result (λ derivation. SpellsDerivation lines.now derivation) }
@@ -37,8 +37,8 @@ fn is_past_half(rest: &[u8], text: &[u8]) -> bool
     rest.len() <= text.len().saturating_sub(rest.len())
 }
 
-/// The sections of the first half of the text, which stands after so many lines of the certificate, the rest of the text, and how many
-/// lines stand before it.
+/// The sections of the first half of the text, which stands after `before` lines of the certificate, the rest of the text, and the number
+/// of lines before it.
 fn read_half(
     alloc: Global,
     text: &[u8],
@@ -94,8 +94,8 @@ fn take_half(
     Ok((sections, rest, number))
 }
 
-/// The sections that the text spells, which stands after so many lines of the certificate. The text, which may be long, is dropped by
-/// halves while it is read.
+/// The sections that the text spells, which stands after `before` lines of the certificate. The text is dropped by halves while it is
+/// read, since it may be long and the derivations take memory too.
 pub(crate) fn read_sections(
     alloc: Global,
     text: Vec<u8>,

@@ -1,4 +1,4 @@
-//! Where the lines of a section end.
+//! The end of a section's lines.
 
 ghost use Rattle.std.specs.Prelude.{◌≡◌, ◌+◌, ◌≤◌, min, length};
 ghost use Rattle.text_lines.specs.Lines.{lines_of};
@@ -14,8 +14,8 @@ fn at_most(bytes: usize, most: usize) -> usize
     if bytes < most { bytes } else { most }
 }
 
-/// The lines before the first one that ends a section, the text from that line on, and how many lines stand before it. Where no line
-/// ends a section, these are all lines, and a text without lines.
+/// The lines before the first one that ends a section, the text from that line on, and the number of lines before it. If no line
+/// ends a section, these are all lines and the empty text.
 pub(crate) fn cut_section(text: &[u8]) -> (&[u8], &[u8], usize)
     ensures cut { IsSectionCut (lines_of text.now) (lines_of result.0.now) (lines_of result.1.now) result.2 }
     ensures shorter { result.2 + length result.1.now ≤ length text.now }

@@ -11,12 +11,12 @@ ghost use Rattle.certificate.specs.CertWritten.{canonical_certificate, certifica
 ghost use Rattle.certificate.specs.declared.cert_fault.CertCause.{CertCause};
 ghost use Rattle.certificate.specs.declared.certificate.Certificate.{Certificate};
 
-/// A text spells one certificate at most.
+/// A text spells at most one certificate.
 pub fn one_certificate()
     ensures { (text : List ℕ) (c d : Certificate) → SpellsCertificate text c → SpellsCertificate text d → c ≡ d }
 {}
 
-/// A text has one first fault at most.
+/// A text has at most one first fault.
 pub fn one_cert_fault()
     ensures { (text : List ℕ) (c d : CertCause) (p q : ℕ) → HasCertFault text c p → HasCertFault text d q → (c ≡ d) × (p ≡ q) }
 {}
@@ -38,7 +38,7 @@ pub fn canonical_spells()
     ensures { (certificate : Certificate) → IsCubeTree certificate.tree → AreWritable certificate.sections → SpellsCertificate (canonical_certificate certificate) certificate }
 {}
 
-/// What is written of a tree and derivations is read back, where their steps can be written.
+/// What is written of a tree and derivations is read back if their steps can be written.
 pub fn written_is_read()
     ensures { (tree : CubeTree) (derivations : List (List Step)) → IsCubeTree tree → length derivations ≤ 1024 → list_all (λ steps. list_all is_lrat_step steps) derivations ≡ true →
         SpellsCertificate (canonical_certificate (certificate_of tree derivations)) (certificate_of tree derivations) }

@@ -3,9 +3,9 @@ use Rattle.std.proofs.Common.{◌≡◌, ℕ, ◌<◌, ◌≤◌, ℤ, List, [],
 use Rattle.std.specs.List.{Contains}
 use Rattle.std.proofs.lemmas.List.{take_all}
 use Rattle.std.proofs.lemmas.List.Elements.{Contains-get_or}
-use Rattle.traces.specs.declared.operation.OpName.{OpName}
-use Rattle.traces.specs.Trace.{TraceValue, IsTrace}
-use Rattle.traces.proofs.ElementLemmas.{from_map}
+use Rattle.trace_semantics.specs.declared.operation.OpName.{OpName}
+use Rattle.trace_semantics.specs.Trace.{TraceValue, IsTrace}
+use Rattle.trace_semantics.proofs.ElementLemmas.{from_map}
 use Rattle.var_layout.specs.Numbers.{number_of}
 use Rattle.var_layout.proofs.NumberLemmas.{pairs_apart}
 use Rattle.clause_blocks.specs.Blocks.{stands_before, before_clauses}

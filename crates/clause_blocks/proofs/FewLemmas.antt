@@ -1,4 +1,4 @@
--- A trace of 160 operations at most has fewer clauses than a header may tell.
+-- A trace of at most 160 operations has fewer clauses than a header may announce.
 use Rattle.std.proofs.Common.{◌≡◌, ℕ, suc, ◌+◌, ◌*◌, ◌<◌, ◌≤◌, pos, List, [], ◌∷◌, ◌++◌, length, length-append, map, get_or, Bool, true, false, cond, not, eqb, refl, sym, ap, ◌∙◌, arith}
 use Rattle.std.specs.Prelude.{◌≢◌, Option, Some, None, is_some, if◌then◌else◌}
 use Rattle.std.specs.List.{AllPairs, enumerate_from, filter, flat_map}
@@ -10,15 +10,15 @@ use Rattle.std.proofs.lemmas.List.FromFn.{length-enumerate_from, length-range_wi
 use Rattle.std.proofs.lemmas.List.Sums.{sum_by-le}
 use Rattle.std.proofs.lemmas.Nat.{mul-le}
 use Rattle.text_lines.proofs.ListLemmas.{few_pass}
-use Rattle.traces.proofs.NameLemmas.{same_bytes}
-use Rattle.traces.specs.declared.operation.Op.{Op}
-use Rattle.traces.specs.declared.operation.OpName.{OpName}
-use Rattle.traces.specs.Operation.{location_of, value_left}
-use Rattle.traces.specs.Trace.{TraceValue, IsTrace, operation_at, operation_count}
-use Rattle.traces.specs.ValueAfter.{value_left_at}
+use Rattle.trace_semantics.proofs.NameLemmas.{same_bytes}
+use Rattle.trace_semantics.specs.declared.operation.Op.{Op}
+use Rattle.trace_semantics.specs.declared.operation.OpName.{OpName}
+use Rattle.trace_semantics.specs.Operation.{location_of, written_value}
+use Rattle.trace_semantics.specs.Trace.{TraceValue, IsTrace, operation_at, operation_count}
+use Rattle.trace_semantics.specs.ValueAfter.{value_left_at}
 use Rattle.var_layout.specs.declared.candidate.Candidate.{Candidate}
 use Rattle.var_layout.specs.declared.candidate.Candidate.TheVariants.{InitialValue, Writer}
-use Rattle.var_layout.specs.declared.candidate.Choice.{Choice}
+use Rattle.var_layout.specs.declared.candidate.ReadsFromChoice.{ReadsFromChoice}
 use Rattle.var_layout.specs.declared.candidate.FinalChoice.{FinalChoice}
 use Rattle.var_layout.specs.Candidates.{candidates}
 use Rattle.var_layout.specs.ChoiceVariables.{choices, first_choice}
@@ -31,7 +31,7 @@ use Rattle.clause_blocks.proofs.CountLemmas.{few_transitivity}
 use Rattle.clause_blocks.proofs.ListLemmas.{clause_list}
 use Rattle.clause_blocks.proofs.SentLemmas.{few_passed}
 
--- what some elements give, where each gives no more than so many
+-- what some elements give, if each gives at most `most`
 pub few_flat : {X A : Type 0} (f : X → List A) (most : ℕ) (xs : List X) → ((x : X) → length (f x) ≤ most) → length (flat_map f xs) ≤ length xs * most
 few_flat f most xs h =
     let all = sum_by-le (λ x. length (f x)) most xs (λ k d l. h (get_or xs k d)) in
@@ -53,14 +53,14 @@ few_reads_from t r v (Writer w) few =
 
 few_choices : (t : TraceValue) (r : ℕ) → operation_count t ≤ 160 → length (choices t r) ≤ 161
 few_choices t r few =
-    let long = length-map (enumerate_from (first_choice t r) (candidates t r)) (λ (numbered : ℕ × Candidate). let choice : Choice = record { candidate = numbered.1; variable = numbered.0 } in choice) in
+    let long = length-map (enumerate_from (first_choice t r) (candidates t r)) (λ (numbered : ℕ × Candidate). let choice : ReadsFromChoice = record { candidate = numbered.1; variable = numbered.0 } in choice) in
     omega (arith, long, length-enumerate_from (first_choice t r) (candidates t r), few_candidates t r, few)
 
 few_of_read : (t : TraceValue) (r : ℕ) → operation_count t ≤ 160 → length (clauses_of_read t r) ≤ 25922
 few_of_read t r few =
-    let meanings = flat_map (λ (c : Choice). reads_from t r c.variable c.candidate) (choices t r) in
-    let all = few_flat (λ (c : Choice). reads_from t r c.variable c.candidate) 161 (choices t r) (λ c. few_reads_from t r c.variable c.candidate few) in
-    few_if (eqb (length (candidates t r)) 0) (void_clauses (first_choice t r)) (map (λ (c : Choice). pos c.variable) (choices t r) ∷ meanings) 25922
+    let meanings = flat_map (λ (c : ReadsFromChoice). reads_from t r c.variable c.candidate) (choices t r) in
+    let all = few_flat (λ (c : ReadsFromChoice). reads_from t r c.variable c.candidate) 161 (choices t r) (λ c. few_reads_from t r c.variable c.candidate few) in
+    few_if (eqb (length (candidates t r)) 0) (void_clauses (first_choice t r)) (map (λ (c : ReadsFromChoice). pos c.variable) (choices t r) ∷ meanings) 25922
     (omega arith) (omega (arith, all, few_choices t r few))
 
 few_reads : (t : TraceValue) → operation_count t ≤ 160 → length (read_clauses t) ≤ 4147520
@@ -146,9 +146,9 @@ apart_at a b apart op x false e f o h = refl
 one_location : (t : TraceValue) (a b : List ℕ) (i : ℕ) → a ≢ b → is_some (left_at t a i) ≡ true → is_some (left_at t b i) ≡ false
 one_location t a b i apart = at (name_at t i)
   where
-    under : (o : Option Op) → is_some (option_and_then (λ (op : Op). if bytes_eq (location_of op) a then value_left op else None) o) ≡ true → is_some (option_and_then (λ (op : Op). if bytes_eq (location_of op) b then value_left op else None) o) ≡ false
+    under : (o : Option Op) → is_some (option_and_then (λ (op : Op). if bytes_eq (location_of op) a then written_value op else None) o) ≡ true → is_some (option_and_then (λ (op : Op). if bytes_eq (location_of op) b then written_value op else None) o) ≡ false
     under None h = refl
-    under (Some op) h = apart_at a b apart op (bytes_eq (location_of op) a) (bytes_eq (location_of op) b) refl refl (value_left op) h
+    under (Some op) h = apart_at a b apart op (bytes_eq (location_of op) a) (bytes_eq (location_of op) b) refl refl (written_value op) h
 
     at : (n : Option OpName) → is_some (option_and_then (value_left_at t a) n) ≡ true → is_some (option_and_then (value_left_at t b) n) ≡ false
     at None h = refl

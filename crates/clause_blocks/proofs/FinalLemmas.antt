@@ -7,8 +7,8 @@ use Rattle.std.proofs.lemmas.Bool.Decides.{nat_tests}
 use Rattle.std.proofs.lemmas.List.Elements.{Contains-get_or}
 use Rattle.std.proofs.lemmas.Bool.{and_left}
 use Rattle.text_lines.proofs.ListLemmas.{few_pass}
-use Rattle.traces.specs.Judgement.{is_held}
-use Rattle.traces.specs.Trace.{TraceValue, IsTrace, operation_count}
+use Rattle.trace_semantics.specs.Judgement.{is_held}
+use Rattle.trace_semantics.specs.Trace.{TraceValue, IsTrace, operation_count}
 use Rattle.var_layout.specs.declared.candidate.FinalChoice.{FinalChoice}
 use Rattle.var_layout.specs.FinalVariables.{final_candidates, is_untouched, final_choices, finals, first_final, void_final, void_of}
 use Rattle.var_layout.specs.Numbers.{left_at, others, writers}

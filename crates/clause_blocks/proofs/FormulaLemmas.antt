@@ -7,12 +7,12 @@ use Rattle.std.proofs.lemmas.Bool.Decides.{nat_tests}
 use Rattle.std.proofs.lemmas.Bool.{and_from, and_parts}
 use Rattle.dimacs.specs.Formula.{is_formula}
 use Rattle.dimacs.specs.Literal.{is_literal_up_to, is_clause_up_to}
-use Rattle.traces.specs.declared.operation.OpName.{OpName}
-use Rattle.traces.specs.Trace.{TraceValue, IsTrace, operation_count}
-use Rattle.traces.proofs.ElementLemmas.{head_in, tail_in, from_filter, from_range}
+use Rattle.trace_semantics.specs.declared.operation.OpName.{OpName}
+use Rattle.trace_semantics.specs.Trace.{TraceValue, IsTrace, operation_count}
+use Rattle.trace_semantics.proofs.ElementLemmas.{head_in, tail_in, from_filter, from_range}
 use Rattle.var_layout.specs.declared.candidate.Candidate.{Candidate}
 use Rattle.var_layout.specs.declared.candidate.Candidate.TheVariants.{InitialValue, Writer}
-use Rattle.var_layout.specs.declared.candidate.Choice.{Choice}
+use Rattle.var_layout.specs.declared.candidate.ReadsFromChoice.{ReadsFromChoice}
 use Rattle.var_layout.specs.declared.candidate.FinalChoice.{FinalChoice}
 use Rattle.var_layout.specs.Candidates.{candidates}
 use Rattle.var_layout.specs.ChoiceVariables.{choices, first_choice}
@@ -20,7 +20,7 @@ use Rattle.var_layout.specs.FinalVariables.{final_candidates, final_choices, fir
 use Rattle.var_layout.specs.Numbers.{in_one_process, numbers, number_of, others, other_writers, read_at, readers, writers}
 use Rattle.var_layout.specs.OrderVariables.{numbers_above, order_lit}
 use Rattle.var_layout.specs.Ranges.{IsVariable}
-use Rattle.var_layout.specs.declared.layout.Chooser.TheVariants.{Read, Final}
+use Rattle.var_layout.specs.declared.layout.ReadsFromOwner.TheVariants.{Read, Final}
 use Rattle.var_layout.proofs.NumberLemmas.{pairs_apart}
 use Rattle.var_layout.proofs.VariableLemmas.{orders_over, choice_over, final_over, void_over}
 use Rattle.var_layout.proofs.WriterLemmas.{writer_within, other_writer}
@@ -131,9 +131,9 @@ module _ (t : TraceValue) (ok : IsTrace t) where
   read_over : (r : ℕ) → r < n → is_some (read_at t r) ≡ true → are_over (clauses_of_read t r) ≡ true
   read_over r within reads = all_if (is_clause_up_to (variable_count t)) (eqb (length (candidates t r)) 0) (void_clauses (first_choice t r)) _
       (λ none. void_clauses_over (first_choice t r) (void_over t (Read r) (first_choice t r) (void_test r (is_some (read_at t r)) (eqb (length (candidates t r)) 0) reads none)))
-      (λ some. and_from (is_clause_up_to (variable_count t) (map (λ (c : Choice). pos c.variable) (choices t r))) _
-      (all_map is_over (λ (c : Choice). pos c.variable) (choices t r) (λ c d. variable_over c.variable (choice_over t r c d)))
-      (all_flat (is_clause_up_to (variable_count t)) (λ (c : Choice). reads_from t r c.variable c.candidate) (choices t r)
+      (λ some. and_from (is_clause_up_to (variable_count t) (map (λ (c : ReadsFromChoice). pos c.variable) (choices t r))) _
+      (all_map is_over (λ (c : ReadsFromChoice). pos c.variable) (choices t r) (λ c d. variable_over c.variable (choice_over t r c d)))
+      (all_flat (is_clause_up_to (variable_count t)) (λ (c : ReadsFromChoice). reads_from t r c.variable c.candidate) (choices t r)
       (λ c d. source_over r c.variable c.candidate within (choice_over t r c d) (choice_source t r c within d))))
 
   reads_over : are_over (read_clauses t) ≡ true

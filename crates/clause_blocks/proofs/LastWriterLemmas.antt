@@ -2,10 +2,10 @@
 use Rattle.std.proofs.Common.{◌≡◌, ℕ, List, [], ◌∷◌, ◌++◌, Bool, true, false, cond, refl, ap, sym, ◌∙◌, inl, inr}
 use Rattle.std.specs.Prelude.{Option, Some, None, is_some}
 use Rattle.std.specs.List.{Contains, filter, filter_map, cons_option, last_or}
-use Rattle.traces.specs.declared.operation.OpName.{OpName}
-use Rattle.traces.specs.Trace.{TraceValue, value_of}
-use Rattle.traces.specs.ValueAfter.{value_left_at, value_after, last_writer}
-use Rattle.traces.proofs.ElementLemmas.{cases_in, none_in, head_in, tail_in}
+use Rattle.trace_semantics.specs.declared.operation.OpName.{OpName}
+use Rattle.trace_semantics.specs.Trace.{TraceValue, value_of}
+use Rattle.trace_semantics.specs.ValueAfter.{value_left_at, value_after, last_writer}
+use Rattle.trace_semantics.proofs.ElementLemmas.{cases_in, none_in, head_in, tail_in}
 
 -- the function gives nothing at any of these
 abbrev pub GivesNone : {A B : Type 0} → (A → Option B) → List A → Type 0
@@ -63,7 +63,7 @@ pub last_or_none : {A B : Type 0} (f : A → Option B) (xs : List A) → LastOrN
 last_or_none f [] = NoOne (λ y c. absurd (none_in y c))
 last_or_none f (x ∷ xs) = last_more f x xs (f x) refl (last_or_none f xs)
 
--- nobody writes the location: it holds its initial value
+-- no operation writes the location: it holds its initial value
 pub value_unwritten : (t : TraceValue) (location : List ℕ) (names : List OpName) → GivesNone (value_left_at t location) names → value_after t location names ≡ value_of t.initial location
 value_unwritten t location names h = none_mapped (value_left_at t location) (value_of t.initial location) names h
 

@@ -4,11 +4,11 @@ use Rattle.std.specs.Prelude.{◌==◌}
 use Rattle.std.specs.List.{Contains, enumerate_from, flat_map, slice_get}
 use Rattle.dimacs.specs.Assignment.{makes_true, makes_some}
 use Rattle.dimacs.specs.Models.{IsModel}
-use Rattle.traces.specs.Trace.{TraceValue}
-use Rattle.traces.proofs.ElementLemmas.{some_passes, from_map, to_map, to_flat_map}
+use Rattle.trace_semantics.specs.Trace.{TraceValue}
+use Rattle.trace_semantics.proofs.ElementLemmas.{some_passes, from_map, to_map, to_flat_map}
 use Rattle.var_layout.specs.declared.candidate.Candidate.{Candidate}
 use Rattle.var_layout.specs.declared.candidate.Candidate.TheVariants.{InitialValue, Writer}
-use Rattle.var_layout.specs.declared.candidate.Choice.{Choice}
+use Rattle.var_layout.specs.declared.candidate.ReadsFromChoice.{ReadsFromChoice}
 use Rattle.var_layout.specs.declared.candidate.FinalChoice.{FinalChoice}
 use Rattle.var_layout.specs.Candidates.{candidates}
 use Rattle.var_layout.specs.ChoiceVariables.{choices, first_choice}
@@ -51,24 +51,24 @@ meets_from value t r v (Writer w) h e all = (
 )
 
 -- a choice is one of the candidates, and its variable is at its place
-pub from_choices : (t : TraceValue) (r : ℕ) (c : Choice) → Contains (choices t r) c → (k : ℕ) × (c.variable ≡ first_choice t r + k) × (slice_get (candidates t r) k ≡ Some c.candidate)
+pub from_choices : (t : TraceValue) (r : ℕ) (c : ReadsFromChoice) → Contains (choices t r) c → (k : ℕ) × (c.variable ≡ first_choice t r + k) × (slice_get (candidates t r) k ≡ Some c.candidate)
 from_choices t r c d =
     let at = from_map (λ (numbered : ℕ × Candidate). record { candidate = numbered.1; variable = numbered.0 }) (enumerate_from (first_choice t r) (candidates t r)) c d in
     let from = at_enumerated (first_choice t r) (candidates t r) at.0 at.1 in
-    (from.0, sym (ap (λ (x : Choice). x.variable) at.2) ∙ from.1, from.2 ∙ ap (λ (x : Choice). Some x.candidate) at.2)
+    (from.0, sym (ap (λ (x : ReadsFromChoice). x.variable) at.2) ∙ from.1, from.2 ∙ ap (λ (x : ReadsFromChoice). Some x.candidate) at.2)
 
 read_by : (value : ℕ → Bool) (t : TraceValue) (r : ℕ) (b : Bool) →
-    AreTrue value (cond b (void_clauses (first_choice t r)) (map (λ (c : Choice). pos c.variable) (choices t r) ∷ flat_map (λ (c : Choice). reads_from t r c.variable c.candidate) (choices t r))) →
+    AreTrue value (cond b (void_clauses (first_choice t r)) (map (λ (c : ReadsFromChoice). pos c.variable) (choices t r) ∷ flat_map (λ (c : ReadsFromChoice). reads_from t r c.variable c.candidate) (choices t r))) →
     (c : Candidate) × IsRead (order_by value t) t r c
 read_by value t r true all = absurd (void_false value (first_choice t r) (omega arith) all)
 read_by value t r false all =
-    let chosen = some_variable value (λ (c : Choice). c.variable) (choices t r) (first_true all) in
+    let chosen = some_variable value (λ (c : ReadsFromChoice). c.variable) (choices t r) (first_true all) in
     let from = from_choices t r chosen.0 chosen.1 in (
       chosen.0.candidate,
       record {
         listed = get_listed (candidates t r) from.0 chosen.0.candidate from.2;
         meets = meets_from value t r chosen.0.variable chosen.0.candidate (omega (arith, from.1)) chosen.2
-            (record { each = λ k d. (rest_true all).each k (to_flat_map (λ (c : Choice). reads_from t r c.variable c.candidate) (choices t r) chosen.0 k chosen.1 d) });
+            (record { each = λ k d. (rest_true all).each k (to_flat_map (λ (c : ReadsFromChoice). reads_from t r c.variable c.candidate) (choices t r) chosen.0 k chosen.1 d) });
       },
     )
 

@@ -6,9 +6,9 @@ use Rattle.std.proofs.lemmas.Bool.{cases_Bool, cases_order, true_from_ne_false, 
 use Rattle.std.proofs.lemmas.List.Elements.{Contains-append_left, Contains-append_right}
 use Rattle.dimacs.specs.Assignment.{makes_true, makes_some}
 use Rattle.dimacs.specs.Models.{IsModel}
-use Rattle.traces.specs.declared.operation.OpName.{OpName}
-use Rattle.traces.specs.Trace.{TraceValue, operation_count}
-use Rattle.traces.proofs.ElementLemmas.{all_pass, head_in, tail_in, to_map, to_filter, to_flat_map, to_range}
+use Rattle.trace_semantics.specs.declared.operation.OpName.{OpName}
+use Rattle.trace_semantics.specs.Trace.{TraceValue, operation_count}
+use Rattle.trace_semantics.proofs.ElementLemmas.{all_pass, head_in, tail_in, to_map, to_filter, to_flat_map, to_range}
 use Rattle.var_layout.specs.declared.candidate.Candidate.{Candidate}
 use Rattle.var_layout.specs.declared.candidate.Candidate.TheVariants.{InitialValue, Writer}
 use Rattle.var_layout.specs.Numbers.{numbers, number_of, others, other_writers, in_one_process}

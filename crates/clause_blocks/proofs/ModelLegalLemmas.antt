@@ -5,14 +5,14 @@ use Rattle.std.specs.List.{Contains}
 use Rattle.std.proofs.lemmas.Bool.{cases_order}
 use Rattle.std.proofs.lemmas.List.Elements.{All-contains, Contains-append_cases}
 use Rattle.dimacs.specs.Models.{IsModel}
-use Rattle.traces.specs.declared.operation.OpName.{OpName}
-use Rattle.traces.specs.declared.trace.Process.{Process}
-use Rattle.traces.specs.Interleaving.{StandsBefore, IsInterleaving}
+use Rattle.trace_semantics.specs.declared.operation.OpName.{OpName}
+use Rattle.trace_semantics.specs.declared.trace.Process.{Process}
+use Rattle.trace_semantics.specs.Interleaving.{StandsBefore, IsInterleaving}
 use Rattle.reducer.proofs.StandsLemmas.{stands_in}
-use Rattle.traces.specs.Trace.{TraceValue, IsTrace, operation_at}
-use Rattle.traces.proofs.ElementLemmas.{cases_in, same_from_key}
-use Rattle.traces.proofs.NameLemmas.{bytes_same, known_named}
-use Rattle.traces.proofs.OrderLemmas.{stands_ahead}
+use Rattle.trace_semantics.specs.Trace.{TraceValue, IsTrace, operation_at}
+use Rattle.trace_semantics.proofs.ElementLemmas.{cases_in, same_from_key}
+use Rattle.trace_semantics.proofs.NameLemmas.{bytes_same, known_named}
+use Rattle.trace_semantics.proofs.OrderLemmas.{stands_ahead}
 use Rattle.var_layout.specs.Numbers.{name_at, number_of, in_one_process, share_process}
 use Rattle.clause_blocks.specs.Clauses.{clauses_of}
 use Rattle.clause_blocks.specs.ModelOrder.{IsInOrderOf}

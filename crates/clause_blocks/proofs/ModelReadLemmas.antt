@@ -5,21 +5,21 @@ use Rattle.std.specs.List.{Contains}
 use Rattle.std.proofs.lemmas.Bool.{and_parts, eqb-true}
 use Rattle.std.proofs.lemmas.List.Elements.{Contains-append_right}
 use Rattle.dimacs.specs.Models.{IsModel}
-use Rattle.traces.specs.declared.operation.Op.{Op}
-use Rattle.traces.specs.declared.operation.Op.TheVariants.{Read, Write, Update}
-use Rattle.traces.specs.declared.operation.OpName.{OpName}
-use Rattle.traces.specs.declared.operation.Origin.{Origin}
-use Rattle.traces.specs.declared.operation.Origin.TheVariants.{Any, Initial, Operation}
-use Rattle.traces.specs.Interleaving.{StandsBefore}
-use Rattle.traces.specs.Judgement.{is_held, is_the_op}
-use Rattle.traces.specs.Legal.{ComesFrom, ReadsRight, IsLegal}
-use Rattle.traces.specs.Operation.{location_of, value_read, origin_of}
-use Rattle.traces.specs.Trace.{TraceValue, IsTrace, operation_at, value_of}
-use Rattle.traces.specs.ValueAfter.{value_left_at, value_after, last_writer}
-use Rattle.traces.proofs.ElementLemmas.{placed, none_in, tail_in, from_map, from_filter, cases_in}
-use Rattle.traces.proofs.NameLemmas.{same_name}
-use Rattle.traces.proofs.OrderLemmas.{stands_behind, stands_ahead, given_entry}
-use Rattle.traces.proofs.CauseLemmas.{held_same}
+use Rattle.trace_semantics.specs.declared.operation.Op.{Op}
+use Rattle.trace_semantics.specs.declared.operation.Op.TheVariants.{Read, Write, Update}
+use Rattle.trace_semantics.specs.declared.operation.OpName.{OpName}
+use Rattle.trace_semantics.specs.declared.operation.Origin.{Origin}
+use Rattle.trace_semantics.specs.declared.operation.Origin.TheVariants.{Any, Initial, Operation}
+use Rattle.trace_semantics.specs.Interleaving.{StandsBefore}
+use Rattle.trace_semantics.specs.Judgement.{is_held, is_the_op}
+use Rattle.trace_semantics.specs.Legal.{ComesFrom, ReadsRight, IsLegal}
+use Rattle.trace_semantics.specs.Operation.{location_of, value_read, origin_of}
+use Rattle.trace_semantics.specs.Trace.{TraceValue, IsTrace, operation_at, value_of}
+use Rattle.trace_semantics.specs.ValueAfter.{value_left_at, value_after, last_writer}
+use Rattle.trace_semantics.proofs.ElementLemmas.{placed, none_in, tail_in, from_map, from_filter, cases_in}
+use Rattle.trace_semantics.proofs.NameLemmas.{same_name}
+use Rattle.trace_semantics.proofs.OrderLemmas.{stands_behind, stands_ahead, given_entry}
+use Rattle.trace_semantics.proofs.CauseLemmas.{held_same}
 use Rattle.reducer.proofs.StandsLemmas.{stands_left}
 use Rattle.var_layout.specs.declared.candidate.Candidate.{Candidate}
 use Rattle.var_layout.specs.declared.candidate.Candidate.TheVariants.{InitialValue, Writer}

@@ -1,8 +1,8 @@
 -- Names and numbers of operations.
 use Rattle.std.proofs.Common.{◌≡◌, ℕ, ◌<◌, Option, Some, None, true, refl, arith}
 use Rattle.std.proofs.lemmas.Option.{slice_get_within}
-use Rattle.traces.specs.declared.operation.OpName.{OpName}
-use Rattle.traces.specs.Trace.{TraceValue, operation_names, operation_count}
+use Rattle.trace_semantics.specs.declared.operation.OpName.{OpName}
+use Rattle.trace_semantics.specs.Trace.{TraceValue, operation_names, operation_count}
 use Rattle.var_layout.proofs.NumberLemmas.{names_counted}
 use Rattle.var_layout.specs.Numbers.{name_at, in_one_process, share_process}
 

@@ -5,13 +5,13 @@ use Rattle.std.specs.List.{Contains, AllPairs, flat_map, slice_get, position_or_
 use Rattle.std.proofs.lemmas.Bool.{cases_order}
 use Rattle.std.proofs.lemmas.List.FromFn.{length-map-range_with_len, get_or-map-range_with_len}
 use Rattle.std.proofs.lemmas.Option.{slice_get_within, slice_get-get_or}
-use Rattle.traces.specs.declared.operation.OpName.{OpName}
-use Rattle.traces.specs.declared.trace.Process.{Process}
-use Rattle.traces.specs.Interleaving.{StandsBefore}
-use Rattle.traces.specs.Operation.{same_op}
-use Rattle.traces.specs.Trace.{TraceValue, IsTrace, operation_at, first_names, operation_names, operation_count}
-use Rattle.traces.proofs.ElementLemmas.{cases_in, none_in, tail_in, from_flat_map}
-use Rattle.traces.proofs.NameLemmas.{same_name, name_same, from_first, listed_known, known_listed}
+use Rattle.trace_semantics.specs.declared.operation.OpName.{OpName}
+use Rattle.trace_semantics.specs.declared.trace.Process.{Process}
+use Rattle.trace_semantics.specs.Interleaving.{StandsBefore}
+use Rattle.trace_semantics.specs.Operation.{same_op}
+use Rattle.trace_semantics.specs.Trace.{TraceValue, IsTrace, operation_at, first_names, operation_names, operation_count}
+use Rattle.trace_semantics.proofs.ElementLemmas.{cases_in, none_in, tail_in, from_flat_map}
+use Rattle.trace_semantics.proofs.NameLemmas.{same_name, name_same, from_first, listed_known, known_listed}
 use Rattle.reducer.proofs.StandsLemmas.{none_stands, stands_here, stands_there, Left, Right, Across, stands_joined, rising_places}
 use Rattle.var_layout.specs.Numbers.{name_at, number_of}
 use Rattle.var_layout.proofs.NumberLemmas.{names_counted}

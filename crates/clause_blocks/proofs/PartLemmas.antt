@@ -5,7 +5,7 @@ use Rattle.std.proofs.lemmas.Bool.{and_parts, cases_order}
 use Rattle.std.proofs.lemmas.List.Folds.{list_all-append}
 use Rattle.dimacs.specs.Assignment.{makes_some}
 use Rattle.dimacs.specs.Models.{IsModel, IsFirstFalse}
-use Rattle.traces.specs.Trace.{TraceValue}
+use Rattle.trace_semantics.specs.Trace.{TraceValue}
 use Rattle.clause_blocks.specs.Blocks.{transitivity, transitivity_from}
 use Rattle.clause_blocks.specs.Clauses.{pieces, clauses_of}
 use Rattle.clause_blocks.specs.Pieces.{clauses_before}

@@ -1,11 +1,11 @@
--- Where each clause of transitivity is true, fewer operations stand before the one that stands first.
+-- If each clause of transitivity is true, fewer operations stand before the one that stands first.
 use Rattle.std.proofs.Common.{◌≡◌, ℕ, zero, suc, ◌+◌, ◌<◌, ◌≤◌, List, ◌∷◌, length, Bool, true, false, cond, not, ◌&&◌, eqb, refl, sym, ap, ◌∙◌, inl, inr, arith}
 use Rattle.std.specs.Prelude.{◌≢◌}
 use Rattle.std.specs.List.{filter, range_with_len}
 use Rattle.std.proofs.lemmas.Bool.{and_from, and_parts, cases_Bool, cases_order, le-ltb, lt-ltb}
 use Rattle.dimacs.specs.Assignment.{makes_true, makes_some}
 use Rattle.dimacs.specs.Models.{IsModel}
-use Rattle.traces.proofs.ElementLemmas.{all_pass}
+use Rattle.trace_semantics.proofs.ElementLemmas.{all_pass}
 use Rattle.var_layout.specs.OrderVariables.{order_lit}
 use Rattle.clause_blocks.specs.Blocks.{transitivity}
 use Rattle.clause_blocks.specs.Ranks.{AreRanks, count_before}

@@ -5,7 +5,7 @@ use Rattle.std.specs.List.{flat_map, list_all, list_any, range_with_len}
 use Rattle.std.proofs.lemmas.Bool.Decides.{nat_tests}
 use Rattle.dimacs.specs.Assignment.{makes_true, makes_some}
 use Rattle.dimacs.specs.Models.{IsModel}
-use Rattle.traces.proofs.ElementLemmas.{from_range}
+use Rattle.trace_semantics.proofs.ElementLemmas.{from_range}
 use Rattle.var_layout.specs.OrderVariables.{numbers_above, order_lit}
 use Rattle.clause_blocks.specs.Blocks.{no_cycle, transitivity_from, transitivity}
 use Rattle.clause_blocks.specs.Ranks.{AreRanks}

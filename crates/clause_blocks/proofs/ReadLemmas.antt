@@ -6,10 +6,10 @@ use Rattle.std.specs.Option.{option_and_then}
 use Rattle.std.proofs.lemmas.List.{get_or-map}
 use Rattle.std.proofs.lemmas.Option.{slice_get_within}
 use Rattle.std.proofs.lemmas.List.Elements.{Contains-get_or}
-use Rattle.traces.specs.declared.operation.OpName.{OpName}
-use Rattle.traces.specs.Operation.{value_read}
-use Rattle.traces.specs.Trace.{TraceValue, IsTrace, operation_at, operation_names, operation_count}
-use Rattle.var_layout.specs.declared.candidate.Choice.{Choice}
+use Rattle.trace_semantics.specs.declared.operation.OpName.{OpName}
+use Rattle.trace_semantics.specs.Operation.{value_read}
+use Rattle.trace_semantics.specs.Trace.{TraceValue, IsTrace, operation_at, operation_names, operation_count}
+use Rattle.var_layout.specs.declared.candidate.ReadsFromChoice.{ReadsFromChoice}
 use Rattle.var_layout.specs.ChoiceVariables.{choices}
 use Rattle.var_layout.specs.Numbers.{name_at, read_at, other_writers}
 use Rattle.var_layout.proofs.NumberLemmas.{names_counted}
@@ -27,15 +27,15 @@ named_within t names r (Some n) e h = slice_get_within names r n e
 pub reader_within : (t : TraceValue) (r : ℕ) → IsSome (read_at t r) → r < operation_count t
 reader_within t r h = subst (λ (n : ℕ). r < n) (names_counted t) (named_within t (operation_names t) r (name_at t r) refl h)
 
-pub choices_are_variables : (t : TraceValue) → IsTrace t → operation_count t ≤ 160 → (r : ℕ) (cs : List Choice) → cs ≡ choices t r → All (λ (c : Choice). FitsFormula c.variable) cs
+pub choices_are_variables : (t : TraceValue) → IsTrace t → operation_count t ≤ 160 → (r : ℕ) (cs : List ReadsFromChoice) → cs ≡ choices t r → All (λ (c : ReadsFromChoice). FitsFormula c.variable) cs
 choices_are_variables t ok few r cs e k d within =
     let c = get_or cs k d in
-    fits_formula t ok few c.variable (choice_over t r c (subst (λ (l : List Choice). Contains l c) e (Contains-get_or cs k d within)))
+    fits_formula t ok few c.variable (choice_over t r c (subst (λ (l : List ReadsFromChoice). Contains l c) e (Contains-get_or cs k d within)))
 
-pub choices_are_sources : (t : TraceValue) (r : ℕ) → r < operation_count t → (cs : List Choice) → cs ≡ choices t r → All (λ (c : Choice). IsSource t r c.candidate) cs
+pub choices_are_sources : (t : TraceValue) (r : ℕ) → r < operation_count t → (cs : List ReadsFromChoice) → cs ≡ choices t r → All (λ (c : ReadsFromChoice). IsSource t r c.candidate) cs
 choices_are_sources t r operation cs e k d within =
     let c = get_or cs k d in
-    choice_source t r c operation (subst (λ (l : List Choice). Contains l c) e (Contains-get_or cs k d within))
+    choice_source t r c operation (subst (λ (l : List ReadsFromChoice). Contains l c) e (Contains-get_or cs k d within))
 
 pub others_within : (t : TraceValue) (r : ℕ) (ws : List ℕ) → ws ≡ other_writers t r → (k : ℕ) (d : ℕ) → k < length ws → (get_or ws k d < operation_count t) × (get_or ws k d ≢ r)
 others_within t r ws e k d within = other_writer t r (get_or ws k d) (subst (λ (l : List ℕ). Contains l (get_or ws k d)) e (Contains-get_or ws k d within))

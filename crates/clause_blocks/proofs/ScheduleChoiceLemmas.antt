@@ -5,20 +5,20 @@ use Rattle.std.specs.List.{Contains}
 use Rattle.std.proofs.lemmas.Bool.{and_from}
 use Rattle.std.proofs.lemmas.List.Elements.{Contains-append_cases}
 use Rattle.std.proofs.lemmas.Option.{option_and_then_some, none-some}
-use Rattle.traces.specs.declared.operation.Op.{Op}
-use Rattle.traces.specs.declared.operation.OpName.{OpName}
-use Rattle.traces.specs.declared.operation.Origin.{Origin}
-use Rattle.traces.specs.declared.operation.Origin.TheVariants.{Any, Initial, Operation}
-use Rattle.traces.specs.Interleaving.{StandsBefore}
-use Rattle.traces.specs.Judgement.{is_held, is_the_op}
-use Rattle.traces.specs.Legal.{ComesFrom, ReadsRight, IsLegal}
-use Rattle.traces.specs.Operation.{location_of, value_read, origin_of}
-use Rattle.traces.specs.Trace.{TraceValue, IsTrace, operation_at, value_of}
-use Rattle.traces.specs.ValueAfter.{value_left_at, value_after, last_writer}
-use Rattle.traces.proofs.ElementLemmas.{placed, in_middle, head_in, tail_in, cases_in, to_map, from_filter, to_filter}
-use Rattle.traces.proofs.NameLemmas.{name_same, some_value}
-use Rattle.traces.proofs.OrderLemmas.{stands_behind, entry_given}
-use Rattle.traces.proofs.CauseLemmas.{same_held}
+use Rattle.trace_semantics.specs.declared.operation.Op.{Op}
+use Rattle.trace_semantics.specs.declared.operation.OpName.{OpName}
+use Rattle.trace_semantics.specs.declared.operation.Origin.{Origin}
+use Rattle.trace_semantics.specs.declared.operation.Origin.TheVariants.{Any, Initial, Operation}
+use Rattle.trace_semantics.specs.Interleaving.{StandsBefore}
+use Rattle.trace_semantics.specs.Judgement.{is_held, is_the_op}
+use Rattle.trace_semantics.specs.Legal.{ComesFrom, ReadsRight, IsLegal}
+use Rattle.trace_semantics.specs.Operation.{location_of, value_read, origin_of}
+use Rattle.trace_semantics.specs.Trace.{TraceValue, IsTrace, operation_at, value_of}
+use Rattle.trace_semantics.specs.ValueAfter.{value_left_at, value_after, last_writer}
+use Rattle.trace_semantics.proofs.ElementLemmas.{placed, in_middle, head_in, tail_in, cases_in, to_map, from_filter, to_filter}
+use Rattle.trace_semantics.proofs.NameLemmas.{name_same, some_value}
+use Rattle.trace_semantics.proofs.OrderLemmas.{stands_behind, entry_given}
+use Rattle.trace_semantics.proofs.CauseLemmas.{same_held}
 use Rattle.reducer.proofs.StandsLemmas.{stands_in, stands_left}
 use Rattle.var_layout.specs.declared.candidate.Candidate.{Candidate}
 use Rattle.var_layout.specs.declared.candidate.Candidate.TheVariants.{InitialValue, Writer}

@@ -5,14 +5,14 @@ use Rattle.std.specs.List.{Contains, enumerate_from, flat_map}
 use Rattle.std.proofs.lemmas.List.Elements.{Contains-append_cases}
 use Rattle.dimacs.specs.Assignment.{makes_true, makes_some}
 use Rattle.dimacs.specs.Models.{IsModel}
-use Rattle.traces.specs.declared.operation.OpName.{OpName}
-use Rattle.traces.specs.Legal.{IsLegal}
-use Rattle.traces.specs.Operation.{location_of}
-use Rattle.traces.specs.Trace.{TraceValue, IsTrace, operation_count}
-use Rattle.traces.proofs.ElementLemmas.{all_pass, pass_all, cases_in, none_in, from_map, to_map, from_filter, from_flat_map}
+use Rattle.trace_semantics.specs.declared.operation.OpName.{OpName}
+use Rattle.trace_semantics.specs.Legal.{IsLegal}
+use Rattle.trace_semantics.specs.Operation.{location_of}
+use Rattle.trace_semantics.specs.Trace.{TraceValue, IsTrace, operation_count}
+use Rattle.trace_semantics.proofs.ElementLemmas.{all_pass, pass_all, cases_in, none_in, from_map, to_map, from_filter, from_flat_map}
 use Rattle.var_layout.specs.declared.candidate.Candidate.{Candidate}
 use Rattle.var_layout.specs.declared.candidate.Candidate.TheVariants.{InitialValue, Writer}
-use Rattle.var_layout.specs.declared.candidate.Choice.{Choice}
+use Rattle.var_layout.specs.declared.candidate.ReadsFromChoice.{ReadsFromChoice}
 use Rattle.var_layout.specs.declared.candidate.FinalChoice.{FinalChoice}
 use Rattle.var_layout.specs.Candidates.{sources, is_candidate, candidates}
 use Rattle.var_layout.specs.ChoiceVariables.{choices, first_choice}
@@ -20,7 +20,7 @@ use Rattle.var_layout.specs.FinalVariables.{final_candidates, is_untouched, firs
 use Rattle.var_layout.specs.Numbers.{name_at, left_at, readers, writers, others, other_writers}
 use Rattle.var_layout.proofs.NumberingLemmas.{at_enumerated}
 use Rattle.var_layout.proofs.WriterLemmas.{from_others}
-use Rattle.traces.specs.Judgement.{is_held}
+use Rattle.trace_semantics.specs.Judgement.{is_held}
 use Rattle.clause_blocks.specs.Blocks.{stands_before, implies, void_clauses, program_order, transitivity, reads_from, clauses_of_read, read_clauses, writes_last, clauses_of_final, final_clauses, before_clauses}
 use Rattle.clause_blocks.specs.Clauses.{clauses_of}
 use Rattle.clause_blocks.proofs.ListLemmas.{clause_list}
@@ -35,7 +35,7 @@ use Rattle.clause_blocks.proofs.ScheduleValueLemmas.{meets, is_last, choice_valu
 use Rattle.clause_blocks.proofs.WriterNumberLemmas.{candidates_are, other_writers_are, writer_at}
 
 -- a candidate of a reading operation with its variable
-pub to_choices : (t : TraceValue) (r : ℕ) (c : Candidate) → Contains (candidates t r) c → (x : Choice) × Contains (choices t r) x × (x.candidate ≡ c)
+pub to_choices : (t : TraceValue) (r : ℕ) (c : Candidate) → Contains (candidates t r) c → (x : ReadsFromChoice) × Contains (choices t r) x × (x.candidate ≡ c)
 to_choices t r c d =
     let at = listed_get (candidates t r) c d in (
       record { candidate = c; variable = first_choice t r + at.0 },
@@ -113,26 +113,26 @@ module _ (t : TraceValue) (names : List OpName) (ok : IsTrace t) (legal : IsLega
               ]))))
         ]
 
-    choice_true : (c : Choice) → Contains (choices t r) c → (l : List ℤ) → Contains (reads_from t r c.variable c.candidate) l → makes_some truths l ≡ true
+    choice_true : (c : ReadsFromChoice) → Contains (choices t r) c → (l : List ℤ) → Contains (reads_from t r c.variable c.candidate) l → makes_some truths l ≡ true
     choice_true c a l d =
         let at = from_choices t r c a in
         reads_from_true c.variable c.candidate (omega (arith, at.1)) (get_listed (candidates t r) at.0 c.candidate at.2)
         (λ e. from_meets (ahead_in t names) t r c.candidate (sym (choice_value (ahead_in t names) t r c reading a) ∙ e)) l d
 
-    some_choice : makes_some truths (map (λ (c : Choice). pos c.variable) (choices t r)) ≡ true
+    some_choice : makes_some truths (map (λ (c : ReadsFromChoice). pos c.variable) (choices t r)) ≡ true
     some_choice =
         let chosen = schedule_read t names ok legal r reading in
         let x = to_choices t r chosen.0 chosen.1.listed in
-        variable_makes truths (λ (c : Choice). c.variable) (choices t r) x.0 x.1
+        variable_makes truths (λ (c : ReadsFromChoice). c.variable) (choices t r) x.0 x.1
         (choice_value (ahead_in t names) t r x.0 reading x.1 ∙ ap (meets (ahead_in t names) t r) x.2 ∙ to_meets (ahead_in t names) t r chosen.0 chosen.1.meets)
 
     read_by : (b : Bool) → (length (candidates t r) == 0) ≡ b → (l : List ℤ) →
-        Contains (cond b (void_clauses (first_choice t r)) (map (λ (c : Choice). pos c.variable) (choices t r) ∷ flat_map (λ (c : Choice). reads_from t r c.variable c.candidate) (choices t r))) l → makes_some truths l ≡ true
+        Contains (cond b (void_clauses (first_choice t r)) (map (λ (c : ReadsFromChoice). pos c.variable) (choices t r) ∷ flat_map (λ (c : ReadsFromChoice). reads_from t r c.variable c.candidate) (choices t r))) l → makes_some truths l ≡ true
     read_by true e l d = (let chosen = schedule_read t names ok legal r reading in absurd (no_length (candidates t r) chosen.0 chosen.1.listed e))
     read_by false e l d =
-        elim (cases_in (map (λ (c : Choice). pos c.variable) (choices t r)) (flat_map (λ (c : Choice). reads_from t r c.variable c.candidate) (choices t r)) l d) [
+        elim (cases_in (map (λ (c : ReadsFromChoice). pos c.variable) (choices t r)) (flat_map (λ (c : ReadsFromChoice). reads_from t r c.variable c.candidate) (choices t r)) l d) [
           | inl f ↦ subst (λ k. makes_some truths k ≡ true) f some_choice
-          | inr rest ↦ (let at = from_flat_map (λ (c : Choice). reads_from t r c.variable c.candidate) (choices t r) l rest in choice_true at.0 at.1 l at.2)
+          | inr rest ↦ (let at = from_flat_map (λ (c : ReadsFromChoice). reads_from t r c.variable c.candidate) (choices t r) l rest in choice_true at.0 at.1 l at.2)
         ]
 
   reads_true : (l : List ℤ) → Contains (read_clauses t) l → makes_some truths l ≡ true

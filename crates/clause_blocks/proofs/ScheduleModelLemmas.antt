@@ -5,12 +5,12 @@ use Rattle.std.specs.List.{Contains, filter, flat_map, list_all}
 use Rattle.std.proofs.lemmas.Bool.{and_parts, and_from, eqb-true, or_cases, or_right}
 use Rattle.std.proofs.lemmas.List.Elements.{All-contains}
 use Rattle.dimacs.specs.Assignment.{makes_true, makes_some}
-use Rattle.traces.specs.declared.operation.OpName.{OpName}
-use Rattle.traces.specs.Interleaving.{StandsBefore}
-use Rattle.traces.specs.Legal.{IsLegal}
-use Rattle.traces.specs.Trace.{TraceValue, IsTrace, operation_at, operation_names, operation_count}
-use Rattle.traces.proofs.ElementLemmas.{all_pass, pass_all, passes_some, head_in, cases_in, none_in, from_map, to_map, from_filter, from_flat_map, from_range}
-use Rattle.traces.proofs.NameLemmas.{same_bytes}
+use Rattle.trace_semantics.specs.declared.operation.OpName.{OpName}
+use Rattle.trace_semantics.specs.Interleaving.{StandsBefore}
+use Rattle.trace_semantics.specs.Legal.{IsLegal}
+use Rattle.trace_semantics.specs.Trace.{TraceValue, IsTrace, operation_at, operation_names, operation_count}
+use Rattle.trace_semantics.proofs.ElementLemmas.{all_pass, pass_all, passes_some, head_in, cases_in, none_in, from_map, to_map, from_filter, from_flat_map, from_range}
+use Rattle.trace_semantics.proofs.NameLemmas.{same_bytes}
 use Rattle.var_layout.specs.declared.candidate.Candidate.{Candidate}
 use Rattle.var_layout.specs.declared.candidate.Candidate.TheVariants.{InitialValue, Writer}
 use Rattle.var_layout.specs.Numbers.{numbers, name_at, number_of, others, other_writers, in_one_process, share_process}

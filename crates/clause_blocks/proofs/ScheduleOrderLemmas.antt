@@ -2,9 +2,9 @@
 use Rattle.std.proofs.Common.{◌≡◌, ◌⊎◌, ℕ, ◌<◌, List, Bool, true, false, not, refl, ap, sym, ◌∙◌, inl, inr}
 use Rattle.std.specs.Prelude.{◌≢◌, Option, Some, None}
 use Rattle.std.specs.List.{Contains}
-use Rattle.traces.specs.declared.operation.OpName.{OpName}
-use Rattle.traces.specs.Interleaving.{StandsBefore, IsInterleaving}
-use Rattle.traces.specs.Trace.{TraceValue, IsTrace, operation_count}
+use Rattle.trace_semantics.specs.declared.operation.OpName.{OpName}
+use Rattle.trace_semantics.specs.Interleaving.{StandsBefore, IsInterleaving}
+use Rattle.trace_semantics.specs.Trace.{TraceValue, IsTrace, operation_count}
 use Rattle.var_layout.specs.Numbers.{name_at}
 use Rattle.var_layout.proofs.NumberLemmas.{name_here}
 use Rattle.clause_blocks.proofs.OperationNumberLemmas.{known_at, names_apart}

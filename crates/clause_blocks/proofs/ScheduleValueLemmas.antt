@@ -4,13 +4,13 @@ use Rattle.std.specs.Prelude.{◌≢◌, ◌==◌, nat_le}
 use Rattle.std.specs.List.{Contains, enumerate_from, list_all, list_any, slice_get, range_with_len}
 use Rattle.std.proofs.lemmas.Bool.{and_parts, and_from, eqb-true, eq-eqb, cases_order, le-leb, lt-leb, not-true}
 use Rattle.text_lines.proofs.BoolLemmas.{same_truth}
-use Rattle.traces.specs.declared.operation.OpName.{OpName}
-use Rattle.traces.specs.Interleaving.{IsInterleaving}
-use Rattle.traces.specs.Trace.{TraceValue, IsTrace, operation_count}
-use Rattle.traces.proofs.ElementLemmas.{some_passes, passes_some, from_map, to_map, from_flat_map, to_flat_map, from_range, to_range}
+use Rattle.trace_semantics.specs.declared.operation.OpName.{OpName}
+use Rattle.trace_semantics.specs.Interleaving.{IsInterleaving}
+use Rattle.trace_semantics.specs.Trace.{TraceValue, IsTrace, operation_count}
+use Rattle.trace_semantics.proofs.ElementLemmas.{some_passes, passes_some, from_map, to_map, from_flat_map, to_flat_map, from_range, to_range}
 use Rattle.var_layout.specs.declared.candidate.Candidate.{Candidate}
 use Rattle.var_layout.specs.declared.candidate.Candidate.TheVariants.{InitialValue, Writer}
-use Rattle.var_layout.specs.declared.candidate.Choice.{Choice}
+use Rattle.var_layout.specs.declared.candidate.ReadsFromChoice.{ReadsFromChoice}
 use Rattle.var_layout.specs.declared.candidate.FinalChoice.{FinalChoice}
 use Rattle.var_layout.specs.ChoiceVariables.{all_choices, first_choice, choices}
 use Rattle.var_layout.specs.FinalVariables.{is_untouched, first_final, final_choices}
@@ -39,7 +39,7 @@ order_truth ahead t v = list_any (λ (pair : ℕ × ℕ). (order_var (operation_
 
 -- the variable is of the candidate that is read
 abbrev pub choice_truth : (ℕ → ℕ → Bool) → TraceValue → ℕ → Bool
-choice_truth ahead t v = list_any (λ r. list_any (λ (c : Choice). (c.variable == v) && meets ahead t r c.candidate) (choices t r)) (readers t)
+choice_truth ahead t v = list_any (λ r. list_any (λ (c : ReadsFromChoice). (c.variable == v) && meets ahead t r c.candidate) (choices t r)) (readers t)
 
 -- the variable is of the last writer of a location that is written
 abbrev pub final_truth_of : (ℕ → ℕ → Bool) → TraceValue → ℕ → ℕ × (List ℕ × ℕ) → Bool
@@ -103,10 +103,10 @@ module _ (ahead : ℕ → ℕ → Bool) (t : TraceValue) where
       ∙ same_truth (order_truth ahead t (order_var (operation_count t) i j)) (ahead i j) (from_order i j h l) (to_order i j h l)
 
   -- choice variables
-  from_choice : (r : ℕ) (c : Choice) → Contains (readers t) r → Contains (choices t r) c → choice_truth ahead t c.variable ≡ true → meets ahead t r c.candidate ≡ true
+  from_choice : (r : ℕ) (c : ReadsFromChoice) → Contains (readers t) r → Contains (choices t r) c → choice_truth ahead t c.variable ≡ true → meets ahead t r c.candidate ≡ true
   from_choice r c a d e =
-      let reader = some_passes (λ (s : ℕ). list_any (λ (x : Choice). (x.variable == c.variable) && meets ahead t s x.candidate) (choices t s)) (readers t) e in
-      let found = some_passes (λ (x : Choice). (x.variable == c.variable) && meets ahead t reader.0 x.candidate) (choices t reader.0) reader.2 in
+      let reader = some_passes (λ (s : ℕ). list_any (λ (x : ReadsFromChoice). (x.variable == c.variable) && meets ahead t s x.candidate) (choices t s)) (readers t) e in
+      let found = some_passes (λ (x : ReadsFromChoice). (x.variable == c.variable) && meets ahead t reader.0 x.candidate) (choices t reader.0) reader.2 in
       let parts = and_parts (found.0.variable == c.variable) (meets ahead t reader.0 found.0.candidate) found.2 in
       let at = from_choices t r c d in
       let that = from_choices t reader.0 found.0 found.1 in
@@ -114,13 +114,13 @@ module _ (ahead : ℕ → ℕ → Bool) (t : TraceValue) where
       let one = one_choice t reader.0 that.0 found.0.candidate r at.0 c.candidate (record { reader = reader.1; candidate = that.2 }) (record { reader = a; candidate = at.2 }) same in
       (λ k. meets ahead t (sym one.0 k) (sym one.1 k)) ∙ parts.1
 
-  to_choice : (r : ℕ) (c : Choice) → Contains (readers t) r → Contains (choices t r) c → meets ahead t r c.candidate ≡ true → choice_truth ahead t c.variable ≡ true
+  to_choice : (r : ℕ) (c : ReadsFromChoice) → Contains (readers t) r → Contains (choices t r) c → meets ahead t r c.candidate ≡ true → choice_truth ahead t c.variable ≡ true
   to_choice r c a d e =
-      passes_some (λ (s : ℕ). list_any (λ (x : Choice). (x.variable == c.variable) && meets ahead t s x.candidate) (choices t s)) (readers t) r a
-      (passes_some (λ (x : Choice). (x.variable == c.variable) && meets ahead t r x.candidate) (choices t r) c d
+      passes_some (λ (s : ℕ). list_any (λ (x : ReadsFromChoice). (x.variable == c.variable) && meets ahead t s x.candidate) (choices t s)) (readers t) r a
+      (passes_some (λ (x : ReadsFromChoice). (x.variable == c.variable) && meets ahead t r x.candidate) (choices t r) c d
       (and_from (c.variable == c.variable) (meets ahead t r c.candidate) (eq-eqb c.variable c.variable refl) e))
 
-  pub choice_value : (r : ℕ) (c : Choice) → Contains (readers t) r → Contains (choices t r) c → truth ahead t c.variable ≡ meets ahead t r c.candidate
+  pub choice_value : (r : ℕ) (c : ReadsFromChoice) → Contains (readers t) r → Contains (choices t r) c → truth ahead t c.variable ≡ meets ahead t r c.candidate
   choice_value r c a d =
       let at = from_choices t r c d in
       let above = choice_above t r at.0 in

@@ -1,12 +1,12 @@
 -- Which name stands before which: it is an order where no name stands twice.
 use Rattle.std.proofs.Common.{◌≡◌, ◌⊎◌, List, [], ◌∷◌, Bool, true, false, cond, refl, sym, ◌∙◌, inl, inr, subst}
 use Rattle.std.specs.List.{Contains}
-use Rattle.traces.specs.declared.operation.OpName.{OpName}
-use Rattle.traces.specs.Interleaving.{StandsBefore}
-use Rattle.traces.specs.Judgement.{has_come}
-use Rattle.traces.specs.Operation.{same_op}
-use Rattle.traces.proofs.ElementLemmas.{cases_in, none_in}
-use Rattle.traces.proofs.NameLemmas.{same_name, name_same, come_in, in_come}
+use Rattle.trace_semantics.specs.declared.operation.OpName.{OpName}
+use Rattle.trace_semantics.specs.Interleaving.{StandsBefore}
+use Rattle.trace_semantics.specs.Judgement.{has_come}
+use Rattle.trace_semantics.specs.Operation.{same_op}
+use Rattle.trace_semantics.proofs.ElementLemmas.{cases_in, none_in}
+use Rattle.trace_semantics.proofs.NameLemmas.{same_name, name_same, come_in, in_come}
 use Rattle.reducer.proofs.StandsLemmas.{none_stands, stands_here, stands_there, stands_cases, stands_in}
 
 -- no name stands before itself

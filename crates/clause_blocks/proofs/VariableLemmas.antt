@@ -3,10 +3,10 @@ use Rattle.std.proofs.Common.{◌≡◌, ℕ, ◌<◌, ◌≤◌, List, [], Opti
 use Rattle.std.specs.Prelude.{slice_get}
 use Rattle.std.specs.List.{Contains}
 use Rattle.std.specs.Option.{option_map_or}
-use Rattle.traces.specs.Trace.{TraceValue, IsTrace, operation_count}
+use Rattle.trace_semantics.specs.Trace.{TraceValue, IsTrace, operation_count}
 use Rattle.var_layout.specs.declared.candidate.Candidate.{Candidate}
 use Rattle.var_layout.specs.declared.candidate.Candidate.TheVariants.{InitialValue, Writer}
-use Rattle.var_layout.specs.declared.candidate.Choice.{Choice}
+use Rattle.var_layout.specs.declared.candidate.ReadsFromChoice.{ReadsFromChoice}
 use Rattle.var_layout.specs.declared.candidate.FinalChoice.{FinalChoice}
 use Rattle.var_layout.specs.ChoiceVariables.{choices}
 use Rattle.var_layout.specs.FinalVariables.{finals}
@@ -24,7 +24,7 @@ source_is : (t : TraceValue) (r : ℕ) → r < operation_count t → (c : Candid
 source_is t r within InitialValue h = tt
 source_is t r within (Writer w) h = let other = other_writer t r w (h w refl) in (other.0, within, other.1)
 
-pub choice_source : (t : TraceValue) (r : ℕ) (c : Choice) → r < operation_count t → Contains (choices t r) c → IsSource t r c.candidate
+pub choice_source : (t : TraceValue) (r : ℕ) (c : ReadsFromChoice) → r < operation_count t → Contains (choices t r) c → IsSource t r c.candidate
 choice_source t r c within d = source_is t r within c.candidate (λ w e. variables.choice_writer t r c w d e)
 
 -- the writers of a final value's location

@@ -5,8 +5,8 @@ use Rattle.std.specs.List.{Contains, slice_get, sum_by, range_with_len}
 use Rattle.std.proofs.lemmas.Bool.{cases_order}
 use Rattle.std.proofs.lemmas.List.Sums.{sum_by-cons}
 use Rattle.std.proofs.lemmas.Option.{slice_get_within}
-use Rattle.traces.specs.Trace.{TraceValue, operation_count}
-use Rattle.traces.proofs.ElementLemmas.{from_filter, from_range}
+use Rattle.trace_semantics.specs.Trace.{TraceValue, operation_count}
+use Rattle.trace_semantics.proofs.ElementLemmas.{from_filter, from_range}
 use Rattle.var_layout.specs.declared.candidate.Candidate.{Candidate}
 use Rattle.var_layout.specs.Candidates.{candidates}
 use Rattle.var_layout.specs.ChoiceVariables.{choice_count, all_choices, first_choice}

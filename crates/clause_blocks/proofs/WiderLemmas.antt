@@ -4,7 +4,7 @@ use Rattle.std.specs.Prelude.{◌&&◌, nat_abs, nat_lt, nat_le}
 use Rattle.std.specs.List.{list_all}
 use Rattle.std.proofs.lemmas.Bool.Decides.{nat_tests}
 use Rattle.dimacs.specs.Literal.{is_clause, is_clause_up_to, is_literal_up_to, most_variable}
-use Rattle.traces.specs.Trace.{TraceValue, IsTrace, operation_count}
+use Rattle.trace_semantics.specs.Trace.{TraceValue, IsTrace, operation_count}
 use Rattle.var_layout.specs.FinalVariables.{variable_count}
 use Rattle.var_layout.proofs.BoundLemmas.{few_variables}
 use Rattle.clause_blocks.specs.Clauses.{clauses_of}

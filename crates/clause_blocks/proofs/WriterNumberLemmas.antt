@@ -5,13 +5,13 @@ use Rattle.std.specs.List.{Contains, filter}
 use Rattle.std.specs.Option.{option_and_then, option_map_or}
 use Rattle.std.proofs.lemmas.Bool.{eqb-true}
 use Rattle.std.proofs.lemmas.Option.{option_and_then_some}
-use Rattle.traces.specs.declared.operation.Op.{Op}
-use Rattle.traces.specs.declared.operation.OpName.{OpName}
-use Rattle.traces.specs.Operation.{location_of, value_read}
-use Rattle.traces.specs.Trace.{TraceValue, IsTrace, operation_at, operation_count}
-use Rattle.traces.specs.ValueAfter.{value_left_at}
-use Rattle.traces.proofs.ElementLemmas.{from_filter, to_filter, to_range}
-use Rattle.traces.proofs.NameLemmas.{some_value}
+use Rattle.trace_semantics.specs.declared.operation.Op.{Op}
+use Rattle.trace_semantics.specs.declared.operation.OpName.{OpName}
+use Rattle.trace_semantics.specs.Operation.{location_of, value_read}
+use Rattle.trace_semantics.specs.Trace.{TraceValue, IsTrace, operation_at, operation_count}
+use Rattle.trace_semantics.specs.ValueAfter.{value_left_at}
+use Rattle.trace_semantics.proofs.ElementLemmas.{from_filter, to_filter, to_range}
+use Rattle.trace_semantics.proofs.NameLemmas.{some_value}
 use Rattle.var_layout.specs.Candidates.{sources, is_candidate, candidates}
 use Rattle.var_layout.specs.Numbers.{numbers, name_at, number_of, op_at, read_at, left_at, readers, writers, others, other_writers}
 use Rattle.clause_blocks.proofs.OperationNumberLemmas.{numbered, number_within}

@@ -1,11 +1,11 @@
 -- The clauses of a trace, in blocks.
 use Rattle.std.specs.Prelude.{ℕ, ◌+◌, ℤ, pos, neg_ℤ, List, [], ◌∷◌, length, map, ◌==◌, if◌then◌else◌}
 use Rattle.std.specs.List.{filter, flat_map, enumerate_from, range_with_len}
-use Rattle.traces.specs.declared.operation.OpName.{OpName}
-use Rattle.traces.specs.Trace.{TraceValue, operation_count}
+use Rattle.trace_semantics.specs.declared.operation.OpName.{OpName}
+use Rattle.trace_semantics.specs.Trace.{TraceValue, operation_count}
 use Rattle.var_layout.specs.declared.candidate.Candidate.{Candidate}
 use Rattle.var_layout.specs.declared.candidate.Candidate.TheVariants.{InitialValue, Writer}
-use Rattle.var_layout.specs.declared.candidate.Choice.{Choice}
+use Rattle.var_layout.specs.declared.candidate.ReadsFromChoice.{ReadsFromChoice}
 use Rattle.var_layout.specs.declared.candidate.FinalChoice.{FinalChoice}
 use Rattle.var_layout.specs.Candidates.{candidates}
 use Rattle.var_layout.specs.ChoiceVariables.{first_choice, choices}
@@ -49,7 +49,7 @@ reads_from t r variable (Writer w) = implies variable (stands_before t w r ∷ [
 -- a reading operation reads from one of its candidates
 abbrev pub clauses_of_read : TraceValue → ℕ → List (List ℤ)
 clauses_of_read t r = if length (candidates t r) == 0 then void_clauses (first_choice t r)
-    else map (λ (c : Choice). pos c.variable) (choices t r) ∷ flat_map (λ (c : Choice). reads_from t r c.variable c.candidate) (choices t r)
+    else map (λ (c : ReadsFromChoice). pos c.variable) (choices t r) ∷ flat_map (λ (c : ReadsFromChoice). reads_from t r c.variable c.candidate) (choices t r)
 
 abbrev pub read_clauses : TraceValue → List (List ℤ)
 read_clauses t = flat_map (clauses_of_read t) (readers t)

@@ -2,7 +2,7 @@
 use Rattle.std.specs.Prelude.{ℤ, List, [], ◌∷◌, ◌++◌, map}
 use Rattle.std.specs.List.{flat_map}
 use Rattle.dimacs.specs.Formula.{FormulaValue}
-use Rattle.traces.specs.Trace.{TraceValue, operation_count}
+use Rattle.trace_semantics.specs.Trace.{TraceValue, operation_count}
 use Rattle.var_layout.specs.FinalVariables.{variable_count}
 use Rattle.var_layout.specs.Numbers.{numbers}
 use Rattle.clause_blocks.specs.Blocks.{program_order, transitivity_from, read_clauses, final_clauses, before_clauses}

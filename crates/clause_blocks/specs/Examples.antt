@@ -1,12 +1,12 @@
 -- Small traces and their formulas, as examples.
 use Rattle.std.specs.Prelude.{ℕ, ℤ, pos, neg_ℤ, List, [], ◌∷◌, codes}
 use Rattle.dimacs.specs.Formula.{FormulaValue}
-use Rattle.traces.specs.declared.operation.Op.{Op}
-use Rattle.traces.specs.declared.operation.Op.TheVariants.{Read, Write, Update}
-use Rattle.traces.specs.declared.operation.OpName.{OpName}
-use Rattle.traces.specs.declared.operation.Origin.TheVariants.{Any, Initial}
-use Rattle.traces.specs.declared.trace.Process.{Process}
-use Rattle.traces.specs.Trace.{TraceValue}
+use Rattle.trace_semantics.specs.declared.operation.Op.{Op}
+use Rattle.trace_semantics.specs.declared.operation.Op.TheVariants.{Read, Write, Update}
+use Rattle.trace_semantics.specs.declared.operation.OpName.{OpName}
+use Rattle.trace_semantics.specs.declared.operation.Origin.TheVariants.{Any, Initial}
+use Rattle.trace_semantics.specs.declared.trace.Process.{Process}
+use Rattle.trace_semantics.specs.Trace.{TraceValue}
 
 -- the literal that says that a variable is false
 abbrev pub negated : ℕ → ℤ
@@ -59,7 +59,7 @@ late_read = record {
 abbrev pub late_read_formula : FormulaValue
 late_read_formula = record { variables = 2; clauses = (pos 2 ∷ []) ∷ (negated 2 ∷ negated 1 ∷ []) ∷ (pos 1 ∷ []) ∷ [] }
 
--- a value that nobody writes, and a final value that nobody leaves
+-- a value that no operation writes, and a final value that none leaves
 abbrev pub lost_values : TraceValue
 lost_values = record {
   processes = process_of (codes "P") (Read (codes "x") 1 Any) ∷ [];

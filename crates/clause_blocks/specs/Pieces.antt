@@ -1,7 +1,7 @@
 -- What a trace's clause list keeps, and what is given of a piece.
 use Rattle.std.specs.Prelude.{◌≡◌, ℕ, ◌+◌, ℤ, List, [], length, map, slice_index_or}
 use Rattle.std.specs.List.{flat_map, range_with_len}
-use Rattle.traces.specs.Trace.{TraceValue, operation_count}
+use Rattle.trace_semantics.specs.Trace.{TraceValue, operation_count}
 use Rattle.clause_blocks.specs.declared.pieces.Piece.{Piece}
 use Rattle.clause_blocks.specs.declared.pieces.Piece.TheVariants.{Stored, TransitivityFrom}
 use Rattle.clause_blocks.specs.Blocks.{program_order, transitivity_from, read_clauses, final_clauses, before_clauses}

@@ -1,7 +1,7 @@
 -- What literals can be made of.
 use Rattle.std.specs.Prelude.{◌≢◌, ⊤, ℕ, ◌<◌, ◌≤◌}
 use Rattle.dimacs.specs.Literal.{most_variable}
-use Rattle.traces.specs.Trace.{TraceValue, operation_count}
+use Rattle.trace_semantics.specs.Trace.{TraceValue, operation_count}
 use Rattle.var_layout.specs.declared.candidate.Candidate.{Candidate}
 use Rattle.var_layout.specs.declared.candidate.Candidate.TheVariants.{InitialValue, Writer}
 

@@ -2,7 +2,7 @@
 
 ghost use Rattle.std.specs.Prelude.{◌≡◌, ◌<◌, ◌++◌, ◌∷◌, [], None, length, pos, map, IfOk, OnOk};
 ghost use Rattle.std.specs.List.{All};
-ghost use Rattle.traces.specs.Trace.{operation_count};
+ghost use Rattle.trace_semantics.specs.Trace.{operation_count};
 ghost use Rattle.var_layout.specs.FinalVariables.{void_final};
 ghost use Rattle.var_layout.specs.Numbers.{others};
 ghost use Rattle.clause_blocks.specs.Blocks as blocks;
@@ -13,7 +13,7 @@ use crate::void_clauses::push_void;
 use dimacs::{Clause, Lit};
 use std::alloc::{AllocError, Global};
 use var_layout::candidate::FinalChoice;
-use var_layout::layout::{Chooser, Layout};
+use var_layout::layout::{Layout, ReadsFromOwner};
 
 /// The literals that say that a writer is the last one.
 fn literals_of(alloc: Global, finals: &[FinalChoice]) -> Result<Vec<Lit>, AllocError>
@@ -86,7 +86,7 @@ fn push_clauses_of_final(
     ensures { OnOk result (clauses.new.items ≡ clauses.old.items ++ clauses_at layout.now k) }
 {
     layout.is_layout();
-    match layout.void_var(Chooser::Final(k)) {
+    match layout.void_var(ReadsFromOwner::Final(k)) {
         Some(variable) => push_void(alloc, variable, clauses),
         None => push_finals(alloc, layout, k, clauses),
     }

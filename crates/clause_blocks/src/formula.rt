@@ -1,7 +1,7 @@
 //! The formula of a reduced trace.
 
 ghost use Rattle.std.specs.Prelude.{◌≡◌, ◌≤◌, ◌++◌, IfOk, OnOk};
-ghost use Rattle.traces.specs.Trace.{operation_count};
+ghost use Rattle.trace_semantics.specs.Trace.{operation_count};
 ghost use Rattle.clause_blocks.specs.Clauses.{clauses_of, formula_of};
 ghost use Rattle.clause_blocks.specs.Pieces.{clauses_in};
 

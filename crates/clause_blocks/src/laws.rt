@@ -5,7 +5,7 @@ ghost use Rattle.std.specs.List.{list_all};
 ghost use Rattle.dimacs.specs.Formula.{is_formula};
 ghost use Rattle.dimacs.specs.Literal.{is_clause};
 ghost use Rattle.dimacs.specs.Models.{IsModel};
-ghost use Rattle.traces.specs.Trace.{TraceValue, IsTrace, operation_count};
+ghost use Rattle.trace_semantics.specs.Trace.{TraceValue, IsTrace, operation_count};
 ghost use Rattle.clause_blocks.specs.Blocks.{transitivity};
 ghost use Rattle.clause_blocks.specs.Clauses.{clauses_of, formula_of};
 ghost use Rattle.clause_blocks.specs.Examples.{store_buffering_formula, two_updates, two_updates_formula, late_read, late_read_formula, lost_values, lost_values_formula};
@@ -25,7 +25,7 @@ pub fn formula_is_over_its_variables()
     ensures { (t : TraceValue) → IsTrace t → IsTrue (is_formula (formula_of t)) }
 {}
 
-/// How many clauses of transitivity there are for n operations.
+/// The number of clauses of transitivity for n operations.
 pub fn transitivity_has_so_many_clauses()
     ensures { (n : ℕ) → length (transitivity n) ≡ n * (n - 1) * (n - 2) / 3 }
 {}
@@ -41,7 +41,7 @@ pub fn transitive_exactly_by_counts()
     ensures { (value : ℕ → Bool) (n : ℕ) → IsModel value (transitivity n) ↔ AreRanks value n (count_before value n) }
 {}
 
-/// A trace of 160 operations at most has no more clauses than the header of a formula's text may tell.
+/// A trace of at most 160 operations has no more clauses than the header of a formula's text may announce.
 pub fn few_clauses()
     ensures { (t : TraceValue) → IsTrace t → operation_count t ≤ 160 → length (clauses_of t) ≤ 16777216 }
 {}

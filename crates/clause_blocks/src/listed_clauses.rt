@@ -3,7 +3,7 @@
 ghost use Rattle.std.specs.Prelude.{◌≡◌, ◌<◌, [], length, slice_index_or, IsTrue, OnOk, IfErr};
 ghost use Rattle.dimacs.specs.Assignment.{value_of};
 ghost use Rattle.dimacs.specs.Models.{IsModel, IsFirstFalse};
-ghost use Rattle.traces.specs.Trace.{operation_count};
+ghost use Rattle.trace_semantics.specs.Trace.{operation_count};
 ghost use Rattle.clause_blocks.specs.Blocks as blocks;
 ghost use Rattle.clause_blocks.specs.Pieces.{clauses_in};
 ghost use Rattle.clause_blocks.specs.Triples.{clause_of_triple};
@@ -80,8 +80,8 @@ impl TraceClauses {
         Ok(())
     }
 
-    /// Whether the assignment makes the clauses of a piece true. If not, the first of them that it makes false. Where it puts the
-    /// operations in an order, those of transitivity are not looked at.
+    /// Whether the assignment makes the clauses of a piece true. If not, the first of them that it makes false. If it puts the
+    /// operations in an order, those of transitivity are not evaluated, since they are true then.
     fn eval_piece(
         &self,
         piece: Piece<'_>,
@@ -118,7 +118,7 @@ impl ClauseList for TraceClauses {
         self.clause_in(self.piece(k), place - self.start(k))
     }
 
-    /// Transitivity is looked at clause by clause only if the assignment does not put the operations in an order.
+    /// Transitivity is evaluated clause by clause only if the assignment does not put the operations in an order.
     fn eval(&self, assignment: &Assignment) -> Result<(), FirstFalse> {
         self.is_clause_list();
         few_clauses();

@@ -2,9 +2,9 @@
 
 ghost use Rattle.std.specs.Prelude.{◌≡◌, ◌↔◌, ℕ, Bool, List};
 ghost use Rattle.dimacs.specs.Models.{IsModel};
-ghost use Rattle.traces.specs.declared.operation.OpName.{OpName};
-ghost use Rattle.traces.specs.Legal.{IsLegal};
-ghost use Rattle.traces.specs.Trace.{TraceValue, IsTrace};
+ghost use Rattle.trace_semantics.specs.declared.operation.OpName.{OpName};
+ghost use Rattle.trace_semantics.specs.Legal.{IsLegal};
+ghost use Rattle.trace_semantics.specs.Trace.{TraceValue, IsTrace};
 ghost use Rattle.clause_blocks.specs.Clauses.{clauses_of};
 ghost use Rattle.clause_blocks.specs.ModelOrder.{IsInOrderOf, IsSortedBy};
 
@@ -18,12 +18,12 @@ pub fn each_model_has_an_order()
     ensures { (t : TraceValue) (value : ℕ → Bool) → IsTrace t → IsModel value (clauses_of t) → (names : List OpName) × IsInOrderOf value t names }
 {}
 
-/// A list of all names, each once, is in order where each literal of a name and a later one is true.
+/// A list of all names, each once, is in order if each literal of a name and a later one is true.
 pub fn in_order_where_sorted()
     ensures { (t : TraceValue) (value : ℕ → Bool) (names : List OpName) → IsTrace t → IsSortedBy value t names → IsInOrderOf value t names }
 {}
 
-/// Truth values put the operations in one order at most.
+/// Truth values put the operations in at most one order.
 pub fn one_order()
     ensures { (t : TraceValue) (value : ℕ → Bool) (names others : List OpName) → IsTrace t → IsInOrderOf value t names → IsInOrderOf value t others → names ≡ others }
 {}

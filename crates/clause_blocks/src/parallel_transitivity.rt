@@ -2,7 +2,7 @@
 
 ghost use Rattle.std.specs.Prelude.{◌≡◌, ◌<◌, ◌≤◌, ◌*◌, ◌++◌, map, IsTrue, IfOk, OnOk};
 ghost use Rattle.std.specs.List.{filter, flat_map, range_with_len};
-ghost use Rattle.traces.specs.Trace.{operation_count};
+ghost use Rattle.trace_semantics.specs.Trace.{operation_count};
 ghost use Rattle.clause_blocks.specs.Blocks as blocks;
 ghost use Rattle.clause_blocks.specs.Cycles.{both, cycle_at, cycle_of, is_above};
 
@@ -14,14 +14,14 @@ use var_layout::layout::Layout;
 
 /// The two clauses of three operations, which say that they do not stand in a cycle, neither way round.
 #[derive(Drop)]
-pub(crate) struct Cycle {
+pub(crate) struct TripleClauses {
     first: Clause,
     second: Clause,
 }
 
-impl Cycle {
+impl TripleClauses {
     /// The two clauses of three operations i, j and k. They need no memory.
-    fn of(alloc: Global, layout: &Layout, i: usize, j: usize, k: usize) -> Cycle
+    fn of(alloc: Global, layout: &Layout, i: usize, j: usize, k: usize) -> TripleClauses
         requires rising { i < j }
         requires above { j < k }
         requires within { k < operation_count layout.now }
@@ -30,7 +30,7 @@ impl Cycle {
         let ij = layout.order_lit(i, j);
         let jk = layout.order_lit(j, k);
         let ik = layout.order_lit(i, k);
-        Cycle {
+        TripleClauses {
             first: Clause::ternary(alloc, ij.negated(), jk.negated(), ik),
             second: Clause::ternary(alloc, ij, jk, ik.negated()),
         }
@@ -44,7 +44,7 @@ fn cycles_from<R: Threads + Sync>(
     rt: &R,
     layout: &Layout,
     i: usize,
-) -> Result<Vec<Cycle>, AllocError>
+) -> Result<Vec<TripleClauses>, AllocError>
     requires { i < operation_count layout.now }
     ensures { IfOk result (λ cycles. cycles.items ≡ map (cycle_at (operation_count layout.now) i) (filter (is_above (operation_count layout.now) i) (range_with_len 0 (operation_count layout.now * operation_count layout.now)))) }
 {
@@ -59,16 +59,16 @@ fn cycles_from<R: Threads + Sync>(
             { i < *pair / n && *pair / n < *pair % n },
         )
         .map(
-            |pair: usize| -> Cycle
+            |pair: usize| -> TripleClauses
                 requires { IsTrue (is_above n i pair) × (0 < n) × (n ≡ operation_count layout.now) }
                 ensures { result ≡ cycle_at n i pair }
-            { Cycle::of(alloc, layout, i, pair / n, pair % n) },
+            { TripleClauses::of(alloc, layout, i, pair / n, pair % n) },
         )
         .collect(rt, alloc)
 }
 
 /// Appends the clauses of each three operations, one three after the other.
-fn push_cycles(cycles: Vec<Cycle>, clauses: &mut Vec<Clause>) -> Result<(), AllocError>
+fn push_cycles(cycles: Vec<TripleClauses>, clauses: &mut Vec<Clause>) -> Result<(), AllocError>
     ensures { OnOk result (clauses.new.items ≡ clauses.old.items ++ flat_map both cycles.items) }
 {
     for cycle in cycles {

@@ -1,7 +1,7 @@
 //! The clause list of a reduced trace, piece by piece. The order of the families stands here and nowhere else.
 
 ghost use Rattle.std.specs.Prelude.{◌≡◌, ◌<◌, ◌≤◌, [], length, slice_index_or, IfOk};
-ghost use Rattle.traces.specs.Trace.{IsTrace, operation_count};
+ghost use Rattle.trace_semantics.specs.Trace.{IsTrace, operation_count};
 ghost use Rattle.clause_blocks.specs.Clauses as list;
 ghost use Rattle.clause_blocks.specs.Pieces.{clauses_in};
 
@@ -35,7 +35,7 @@ pub(crate) struct Pieces {
 }
 
 impl Model for Pieces {
-    ghost use Rattle.traces.specs.Trace.{TraceValue};
+    ghost use Rattle.trace_semantics.specs.Trace.{TraceValue};
     ghost use Rattle.clause_blocks.specs.Pieces.{AreStored};
 
     ghost Value = { TraceValue };
@@ -68,7 +68,7 @@ impl Pieces {
         })
     }
 
-    /// The trace is one, with 160 operations at most. This says what the pieces keep, and does nothing.
+    /// The trace is one, with at most 160 operations. This says what the pieces keep, and does nothing.
     #[inline]
     pub(crate) fn are_of_trace(&self)
         ensures trace { IsTrace self.now }
@@ -85,7 +85,7 @@ impl Pieces {
         &self.layout
     }
 
-    /// How many pieces there are.
+    /// The number of pieces.
     pub(crate) fn count(&self) -> usize
         ensures { result ≡ length (list.pieces self.now) }
     {
@@ -114,7 +114,7 @@ impl Pieces {
         Piece::Stored(self.before.as_slice())
     }
 
-    /// How many clauses there are in the piece under this number.
+    /// The number of clauses in the piece under this number.
     pub(crate) fn clauses_of_piece(&self, k: usize) -> usize
         requires { k < length (list.pieces self.now) }
         ensures { result ≡ length (slice_index_or (list.pieces self.now) k []) }

@@ -3,7 +3,7 @@
 ghost use Rattle.std.specs.Prelude.{◌≡◌, ◌<◌, length, slice_index, IsTrue};
 ghost use Rattle.dimacs.specs.Assignment.{value_of, makes_true};
 ghost use Rattle.dimacs.specs.Models.{IsModel};
-ghost use Rattle.traces.specs.Trace.{operation_count};
+ghost use Rattle.trace_semantics.specs.Trace.{operation_count};
 ghost use Rattle.clause_blocks.specs.Blocks as blocks;
 ghost use Rattle.clause_blocks.specs.Ranks.{IsRankedFrom};
 
@@ -20,7 +20,7 @@ fn stands_before(layout: &Layout, assignment: &Assignment, i: usize, j: usize) -
     assignment.makes(&[layout.order_lit(i, j)])
 }
 
-/// How many operations stand before each one, as the assignment says. Wrong ranks would cost time and no more, since each
+/// The number of operations before each one, as the assignment says. Wrong ranks would cost time and no more, since each
 /// pair is compared with them.
 fn ranks(layout: &Layout, assignment: &Assignment) -> [u8; 160] {
     layout.is_layout();

@@ -2,7 +2,7 @@
 
 ghost use Rattle.std.specs.Prelude.{◌≡◌, ◌<◌, ◌++◌, ◌∷◌, [], pos, map, IsSome, IfOk, OnOk};
 ghost use Rattle.std.specs.List.{All, flat_map};
-ghost use Rattle.traces.specs.Trace.{operation_count};
+ghost use Rattle.trace_semantics.specs.Trace.{operation_count};
 ghost use Rattle.var_layout.specs.ChoiceVariables.{choices};
 ghost use Rattle.var_layout.specs.Numbers.{read_at, other_writers};
 ghost use Rattle.clause_blocks.specs.Blocks.{implies, stands_before};
@@ -12,13 +12,13 @@ ghost use Rattle.clause_blocks.specs.Ranges.{FitsFormula, AreTwo, IsSource};
 use crate::void_clauses::push_void;
 use dimacs::{Clause, Lit};
 use std::alloc::{AllocError, Global};
-use var_layout::candidate::{Candidate, Choice};
-use var_layout::layout::{Chooser, Layout};
+use var_layout::candidate::{Candidate, ReadsFromChoice};
+use var_layout::layout::{Layout, ReadsFromOwner};
 
 /// The literals that say that a candidate is chosen.
-fn literals_of(alloc: Global, choices: &[Choice]) -> Result<Vec<Lit>, AllocError>
-    requires { All (λ (c : Choice). FitsFormula c.variable) choices.now }
-    ensures { IfOk result (λ literals. literals.items ≡ map (λ (c : Choice). pos c.variable) choices.now) }
+fn literals_of(alloc: Global, choices: &[ReadsFromChoice]) -> Result<Vec<Lit>, AllocError>
+    requires { All (λ (c : ReadsFromChoice). FitsFormula c.variable) choices.now }
+    ensures { IfOk result (λ literals. literals.items ≡ map (λ (c : ReadsFromChoice). pos c.variable) choices.now) }
 {
     let mut literals = Vec::with_capacity(alloc, choices.len())?;
     for choice in choices {
@@ -94,7 +94,7 @@ fn push_reads_from(
     layout: &Layout,
     r: usize,
     after: &[Lit],
-    choice: Choice,
+    choice: ReadsFromChoice,
     clauses: &mut Vec<Clause>,
 ) -> Result<(), AllocError>
     requires after { after.now ≡ map (stands_before layout.now r) (other_writers layout.now r) }
@@ -118,7 +118,7 @@ fn push_choices(
     clauses: &mut Vec<Clause>,
 ) -> Result<(), AllocError>
     requires { IsSome (read_at layout.now r) }
-    ensures { OnOk result (clauses.new.items ≡ clauses.old.items ++ (map (λ (c : Choice). pos c.variable) (choices layout.now r) ∷ flat_map (λ (c : Choice). blocks.reads_from layout.now r c.variable c.candidate) (choices layout.now r))) }
+    ensures { OnOk result (clauses.new.items ≡ clauses.old.items ++ (map (λ (c : ReadsFromChoice). pos c.variable) (choices layout.now r) ∷ flat_map (λ (c : ReadsFromChoice). blocks.reads_from layout.now r c.variable c.candidate) (choices layout.now r))) }
 {
     layout.is_layout();
     let choices = layout.choices(r);
@@ -142,7 +142,7 @@ fn push_clauses_of_read(
     ensures { OnOk result (clauses.new.items ≡ clauses.old.items ++ blocks.clauses_of_read layout.now r) }
 {
     layout.is_layout();
-    match layout.void_var(Chooser::Read(r)) {
+    match layout.void_var(ReadsFromOwner::Read(r)) {
         Some(variable) => push_void(alloc, variable, clauses),
         None => push_choices(alloc, layout, r, clauses),
     }

@@ -5,7 +5,7 @@ ghost use Rattle.std.specs.List.{flat_map};
 ghost use Rattle.dimacs.specs.CnfText.{clause_line, cnf_text};
 ghost use Rattle.dimacs.specs.Sink.{AppendsFront, IsSent};
 ghost use Rattle.dimacs.specs.SinkFault.{failures_told};
-ghost use Rattle.traces.specs.Trace.{operation_count};
+ghost use Rattle.trace_semantics.specs.Trace.{operation_count};
 ghost use Rattle.clause_blocks.specs.Clauses.{clauses_of, formula_of};
 ghost use Rattle.clause_blocks.specs.Pieces.{clauses_in};
 
@@ -70,8 +70,8 @@ fn put_formula<W: Sink>(
     Ok(())
 }
 
-/// Writes the text of the formula of the kept trace. Where memory runs out or the sink fails, the sink has taken a
-/// prefix of it.
+/// Writes the text of the formula of the kept trace. If memory runs out or the sink fails, the sink has taken a prefix
+/// of it.
 pub fn stream_cnf<W: Sink>(alloc: Global, reduced: &Reduced, sink: &mut W) -> Result<(), SinkFault>
     ensures whole { OnOk result (W.written sink.new ≡ W.written sink.old ++ cnf_text (formula_of reduced.now.kept)) }
     ensures well { OnOk result (W.failures sink.new ≡ W.failures sink.old) }

@@ -1,4 +1,4 @@
-//! Where a number stands in a table of sums.
+//! The place of a number in a table of sums.
 
 ghost use Rattle.std.specs.Prelude.{◌<◌, ◌≤◌, ◌+◌, length, slice_index};
 

@@ -2,7 +2,7 @@
 
 ghost use Rattle.std.specs.Prelude.{◌≡◌, ◌<◌, ◌≤◌, ◌+◌, [], length, map, slice_index_or, IfOk};
 ghost use Rattle.std.specs.List.{range_with_len};
-ghost use Rattle.traces.specs.Trace.{IsTrace, operation_count};
+ghost use Rattle.trace_semantics.specs.Trace.{IsTrace, operation_count};
 ghost use Rattle.clause_blocks.specs.Clauses as list;
 ghost use Rattle.clause_blocks.specs.Pieces.{clauses_before, clauses_in};
 
@@ -25,7 +25,7 @@ pub struct TraceClauses {
 }
 
 impl Model for TraceClauses {
-    ghost use Rattle.traces.specs.Trace.{TraceValue};
+    ghost use Rattle.trace_semantics.specs.Trace.{TraceValue};
     ghost use Rattle.clause_blocks.specs.Pieces.{AreTables};
 
     ghost Value = { TraceValue };
@@ -35,7 +35,7 @@ impl Model for TraceClauses {
     ghost invariant = { λ clauses. AreTables clauses.pieces clauses.starts.items clauses.triples };
 }
 
-/// How many clauses stand before each piece, and at the end how many there are.
+/// The number of clauses before each piece, and at the end the number of all.
 fn starts_of(alloc: Global, pieces: &Pieces) -> Result<Vec<u32>, AllocError>
     ensures { IfOk result (λ starts. starts.items ≡ map (clauses_before pieces.now) (range_with_len 0 (length (list.pieces pieces.now) + 1))) }
 {
@@ -67,7 +67,7 @@ impl TraceClauses {
         })
     }
 
-    /// Its trace is one, with 160 operations at most. This says what each clause list keeps, and does nothing.
+    /// Its trace is one, with at most 160 operations. This says what each clause list keeps, and does nothing.
     #[inline]
     pub fn is_clause_list(&self)
         ensures trace { IsTrace self.now }
@@ -84,21 +84,21 @@ impl TraceClauses {
         self.pieces.layout()
     }
 
-    /// Where the clauses of transitivity stand.
+    /// The places of the clauses of transitivity.
     pub(crate) fn triples(&self) -> &TripleTable
         ensures { result.now ≡ operation_count self.now }
     {
         &self.triples
     }
 
-    /// How many pieces there are.
+    /// The number of pieces.
     pub fn pieces(&self) -> usize
         ensures { result ≡ length (list.pieces self.now) }
     {
         self.pieces.count()
     }
 
-    /// The piece under this number, counted from 0. It is fixed by the trace alone, so pieces may be looked at in any order.
+    /// The piece under this number, counted from 0. It is fixed by the trace alone, so pieces may be read in any order.
     pub fn piece(&self, k: usize) -> Piece<'_>
         requires { k < length (list.pieces self.now) }
         ensures { clauses_in (operation_count self.now) result ≡ slice_index_or (list.pieces self.now) k [] }
@@ -106,7 +106,7 @@ impl TraceClauses {
         self.pieces.piece(k)
     }
 
-    /// How many clauses stand before the piece under this number, or how many there are.
+    /// The number of clauses before the piece under this number, or of all clauses.
     pub(crate) fn start(&self, k: usize) -> usize
         requires { k ≤ length (list.pieces self.now) }
         ensures { result ≡ clauses_before self.now k }
@@ -127,7 +127,7 @@ impl TraceClauses {
         reached(self.starts.as_slice(), 0, self.pieces(), place as u32)
     }
 
-    /// How many clauses there are. Whoever looks a clause up asks for it, so nothing is gone over.
+    /// The number of clauses. It stands in a table, since each look-up of a clause needs it.
     pub fn clause_count(&self) -> usize
         ensures count { result ≡ length (list.clauses_of self.now) }
         ensures few { result ≤ 16777216 }

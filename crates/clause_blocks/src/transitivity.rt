@@ -4,7 +4,7 @@ ghost use Rattle.std.specs.Prelude.{◌≡◌, ◌<◌, ◌≤◌, ◌+◌, ◌+
 ghost use Rattle.std.specs.List.{flat_map};
 ghost use Rattle.dimacs.specs.CnfText.{clause_line};
 ghost use Rattle.dimacs.specs.Sink.{AppendsFront, IsSent};
-ghost use Rattle.traces.specs.Trace.{operation_count};
+ghost use Rattle.trace_semantics.specs.Trace.{operation_count};
 ghost use Rattle.var_layout.specs.OrderVariables.{numbers_above};
 ghost use Rattle.clause_blocks.specs.Blocks.{no_cycle};
 ghost use Rattle.clause_blocks.specs.Blocks as blocks;
@@ -120,7 +120,7 @@ pub(crate) fn put_transitivity_from<W: Sink>(
     Ok(())
 }
 
-/// How many clauses there are of three operations of which this one is the lowest.
+/// The number of clauses of three operations of which this one is the lowest.
 pub(crate) fn count_transitivity_from(operations: usize, i: usize) -> usize
     requires { operations ≤ 160 }
     ensures { result ≡ length (blocks.transitivity_from operations i) }

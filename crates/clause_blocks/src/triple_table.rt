@@ -18,7 +18,7 @@ pub(crate) struct Triple {
     pub(crate) is_second: bool,
 }
 
-/// How many clauses of transitivity of one lowest operation stand before those of each middle one.
+/// The number of clauses of transitivity of one lowest operation that stand before those of each middle one.
 #[derive(Drop)]
 pub(crate) struct TripleTable {
     operations: usize,
@@ -30,7 +30,7 @@ impl Model for TripleTable {
     ghost use Rattle.std.specs.List.{range_with_len};
     ghost use Rattle.clause_blocks.specs.Triples.{below_middle};
 
-    /// How many operations there are.
+    /// The number of operations.
     ghost Value = { ℕ };
 
     ghost view = { λ table. table.operations };
@@ -38,7 +38,7 @@ impl Model for TripleTable {
     ghost invariant = { λ table. (table.operations ≤ 160) × (table.middle.items ≡ map (below_middle table.operations) (range_with_len 0 (table.operations + 1))) };
 }
 
-/// How many clauses of one lowest operation have a middle one below each number.
+/// The number of clauses of one lowest operation with a middle one below each number.
 fn middle_table(alloc: Global, operations: usize) -> Result<Vec<u32>, AllocError>
     requires { operations ≤ 160 }
     ensures { IfOk result (λ table. table.items ≡ map (below_middle operations) (range_with_len 0 (operations + 1))) }
@@ -54,7 +54,7 @@ fn middle_table(alloc: Global, operations: usize) -> Result<Vec<u32>, AllocError
 }
 
 impl TripleTable {
-    /// The table for so many operations.
+    /// The table for this number of operations.
     pub(crate) fn of(alloc: Global, operations: usize) -> Result<TripleTable, AllocError>
         requires { operations ≤ 160 }
         ensures { IfOk result (λ table. table ≡ operations) }

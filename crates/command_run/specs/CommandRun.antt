@@ -25,7 +25,7 @@ use Rattle.part_report.specs.PartRecheckEngine.{IsRunOfPartRecheck}
 use Rattle.verdict_report.specs.RecheckEngine.{IsRunOfRecheck}
 use Rattle.verdict_report.specs.Runs.{SourceRun, SinkRun}
 use Rattle.verdict_report.specs.VerifyEngine.{IsRunOfCertifiedVerify, IsRunOfVerify, TellsOpen}
-use Rattle.command_run.specs.declared.search.Search.{Search}
+use Rattle.command_run.specs.declared.search_request.SearchRequest.{SearchRequest}
 use Rattle.command_run.specs.HostCalls.{HostCalls}
 
 -- ---- engines on files
@@ -72,7 +72,7 @@ RunsRecheck calls read from trace cert (Some names) out outcome to = RunsOnThree
 
 -- The host was told of this search, and the engine that decides traces was run on the file at this path. If nothing is decided, what was
 -- taken names the cubes that a search with these options leaves open.
-pub record RunsSearch {H I O : Type 0} (calls : HostCalls H I O) (read : I → I → SourceRun) (from : H) (trace : List ℕ) (search : Search) (out : SinkRun) (outcome : Result Status Fault) (to : H) : Type 0 where
+pub record RunsSearch {H I O : Type 0} (calls : HostCalls H I O) (read : I → I → SourceRun) (from : H) (trace : List ℕ) (search : SearchRequest) (out : SinkRun) (outcome : Result Status Fault) (to : H) : Type 0 where
   pub file : SourceRun
   pub between : H
   pub reads : ReadsFile calls read from trace file between
@@ -81,7 +81,7 @@ pub record RunsSearch {H I O : Type 0} (calls : HostCalls H I O) (read : I → I
   pub left_open : outcome ≡ Ok Unknown → TellsOpen search.options file out
 
 -- the same, where the file at another path, which was made or emptied first, took the certificate
-pub record RunsWithCertificate {H I O : Type 0} (calls : HostCalls H I O) (read : I → I → SourceRun) (wrote : O → O → SinkRun) (from : H) (trace cert : List ℕ) (search : Search) (out : SinkRun) (outcome : Result Status Fault) (to : H) : Type 0 where
+pub record RunsWithCertificate {H I O : Type 0} (calls : HostCalls H I O) (read : I → I → SourceRun) (wrote : O → O → SinkRun) (from : H) (trace cert : List ℕ) (search : SearchRequest) (out : SinkRun) (outcome : Result Status Fault) (to : H) : Type 0 where
   pub before : O
   pub after : O
   pub made : H
@@ -98,19 +98,19 @@ pub record RunsWithCertificate {H I O : Type 0} (calls : HostCalls H I O) (read 
   pub closes : calls.closes searched after to
 
 -- that, or the file for the certificate could not be made: then nothing was read, and nothing written
-abbrev pub RunsCertified : {H I O : Type 0} → HostCalls H I O → (I → I → SourceRun) → (O → O → SinkRun) → H → List ℕ → List ℕ → Search → SinkRun → Result Status Fault → H → Type 0
+abbrev pub RunsCertified : {H I O : Type 0} → HostCalls H I O → (I → I → SourceRun) → (O → O → SinkRun) → H → List ℕ → List ℕ → SearchRequest → SinkRun → Result Status Fault → H → Type 0
 RunsCertified calls read wrote from trace cert search out outcome to =
     ((outcome ≡ Err Device) × TakesNothing out × calls.fails_to_make from cert to)
     ⊎ RunsWithCertificate calls read wrote from trace cert search out outcome to
 
 -- the engine that decides traces was run, with a certificate if there is a path for it
-abbrev pub RunsVerify : {H I O : Type 0} → HostCalls H I O → (I → I → SourceRun) → (O → O → SinkRun) → H → List ℕ → Option (Bor (List ℕ)) → Search → SinkRun → Result Status Fault → H → Type 0
+abbrev pub RunsVerify : {H I O : Type 0} → HostCalls H I O → (I → I → SourceRun) → (O → O → SinkRun) → H → List ℕ → Option (Bor (List ℕ)) → SearchRequest → SinkRun → Result Status Fault → H → Type 0
 RunsVerify calls read wrote from trace None search out outcome to = RunsSearch calls read from trace search out outcome to
 RunsVerify calls read wrote from trace (Some cert) search out outcome to =
     RunsCertified calls read wrote from trace cert.now search out outcome to
 
 -- the search of these numbers, with its progress reported or not
-abbrev pub search_of : SearchNumbers → Bool → Search
+abbrev pub search_of : SearchNumbers → Bool → SearchRequest
 search_of numbers progress = record {
   options = record { workers = numbers.workers; split = numbers.split; budget = numbers.budget; rounds = numbers.rounds };
   tells_progress = progress;

@@ -1,6 +1,6 @@
 -- What the calls of a host say of it.
 use Rattle.std.specs.Prelude.{ℕ, Bool, List}
-use Rattle.command_run.specs.declared.search.Search.{Search}
+use Rattle.command_run.specs.declared.search_request.SearchRequest.{SearchRequest}
 
 -- Each is a relation of the host before a call and after it. Only a call of the host gives one, so a chain of them, from a host to
 -- another one, lists what was asked of it in between, and that nothing else was.
@@ -14,6 +14,6 @@ pub record HostCalls (H Input Output : Type 0) : Type 1 where
   -- the file was given back
   pub closes : H → Output → H → Type 0
   -- it was told that an engine which decides traces is run with this search
-  pub searches : H → Search → H → Type 0
+  pub searches : H → SearchRequest → H → Type 0
   -- the host was asked whether the files at these paths are the same one, and this is what it said
   pub compares : H → List ℕ → List ℕ → Bool → H → Type 0

@@ -9,7 +9,7 @@ use crate::engine_runs::run_engine;
 use crate::host::Host;
 use crate::telling::{REFUSED, print_text, tell_line_fault, tell_outcome};
 use command_line::{Line, read_line};
-use cube_queue::Gate;
+use cube_jobs::Gate;
 use dimacs::Sink;
 use std::alloc::Global;
 use std::sync::Wait;

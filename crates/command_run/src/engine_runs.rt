@@ -11,9 +11,9 @@ ghost use Rattle.verdict_report.specs.RecheckEngine.{IsRunOfRecheck};
 ghost use Rattle.verdict_report.specs.Runs.{source_run, sink_run};
 
 use crate::host::Host;
-use crate::search::{Search, certify, decide};
+use crate::search_request::{SearchRequest, certify, decide};
 use command_line::Line;
-use cube_queue::Gate;
+use cube_jobs::Gate;
 use dimacs::Sink;
 use part_report::{run_part, run_part_recheck};
 use std::alloc::Global;
@@ -160,7 +160,7 @@ fn decide_file<'p, R: Threads + Wait + Sync, G: Gate + Sync, H: Host<'p>, W: Sin
     progress: &G,
     host: &mut H,
     trace: &'p str,
-    search: &Search,
+    search: &SearchRequest,
     out: &mut W,
 ) -> Result<Status, Fault>
     ensures { RunsSearch H.calls (source_run H.Input.handed_out H.Input.is_at_end H.Input.failures)
@@ -179,7 +179,7 @@ fn certify_file<'p, R: Threads + Wait + Sync, G: Gate + Sync, H: Host<'p>, W: Si
     host: &mut H,
     trace: &'p str,
     cert: &'p str,
-    search: &Search,
+    search: &SearchRequest,
     out: &mut W,
 ) -> Result<Status, Fault>
     ensures { RunsCertified H.calls (source_run H.Input.handed_out H.Input.is_at_end H.Input.failures)
@@ -205,7 +205,7 @@ fn verify_file<'p, R: Threads + Wait + Sync, G: Gate + Sync, H: Host<'p>, W: Sin
     host: &mut H,
     trace: &'p str,
     cert: Option<&'p str>,
-    search: &Search,
+    search: &SearchRequest,
     out: &mut W,
 ) -> Result<Status, Fault>
     ensures { RunsVerify H.calls (source_run H.Input.handed_out H.Input.is_at_end H.Input.failures)
@@ -252,7 +252,7 @@ pub(crate) fn run_engine<'p, R: Threads + Wait + Sync, G: Gate + Sync, H: Host<'
             numbers,
             progress: tells_progress,
         } => {
-            let search = Search::new(numbers, tells_progress);
+            let search = SearchRequest::new(numbers, tells_progress);
             verify_file(alloc, rt, progress, host, trace, cert, &search, out)
         }
     }

@@ -2,7 +2,7 @@
 ghost use Rattle.std.specs.Prelude.{◌≡◌, [], false, IfOk, OnErr};
 ghost use Rattle.command_run.specs.HostCalls.{HostCalls};
 
-use crate::search::Search;
+use crate::search_request::SearchRequest;
 use dimacs::{Failed, Sink};
 use verdict_report::Source;
 
@@ -43,6 +43,6 @@ pub trait Host<'p> {
         ensures { calls.compares self.old first.now second.now result self.new };
 
     /// Is told of a search before it is run.
-    fn begin_search(&mut self, search: &Search)
+    fn begin_search(&mut self, search: &SearchRequest)
         ensures { calls.searches self.old search.now self.new };
 }

@@ -6,11 +6,11 @@ mod command;
 mod engine_runs;
 mod host;
 mod memory_host;
-mod search;
+mod search_request;
 mod telling;
 
 pub use arguments::{ArgumentFault, refuse, words_of};
 pub use command::run;
 pub use host::Host;
 pub use memory_host::MemoryHost;
-pub use search::Search;
+pub use search_request::SearchRequest;

@@ -2,7 +2,7 @@
 ghost use Rattle.command_run.specs.MemoryHost.{memory_calls};
 
 use crate::host::Host;
-use crate::search::Search;
+use crate::search_request::SearchRequest;
 use dimacs::{Failed, MemorySink};
 use std::alloc::Global;
 use verdict_report::ShortSource;
@@ -16,7 +16,7 @@ pub struct MemoryHost<'p> {
     most: usize,
     can_make: bool,
     made: Option<MemorySink>,
-    searched: Option<Search>,
+    searched: Option<SearchRequest>,
 }
 
 impl<'p> MemoryHost<'p> {
@@ -44,7 +44,7 @@ impl<'p> MemoryHost<'p> {
     }
 
     /// The last search of which it was told.
-    pub fn searched(&self) -> Option<Search> {
+    pub fn searched(&self) -> Option<SearchRequest> {
         self.searched
     }
 
@@ -89,7 +89,7 @@ impl<'p> Host<'p> for MemoryHost<'p> {
         false
     }
 
-    fn begin_search(&mut self, search: &Search) {
+    fn begin_search(&mut self, search: &SearchRequest) {
         self.searched = Some(*search);
     }
 }

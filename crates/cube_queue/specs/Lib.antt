@@ -1,4 +1,3 @@
-pub mod Models
-pub mod Options
-pub mod Results
-pub mod SearchCauses
+pub mod Workers
+pub mod Crew
+pub mod Faults

@@ -1,18 +1,29 @@
-//! Cubes as jobs: what is handed to a worker, and what comes back.
+//! The search that settles the leaves of a tree, by workers in threads, or by one in the caller's.
+//!
+//! This is the front door of the search: jobs and their outcomes, the dealing machine, the board and the stop word are handed on.
 #![tactic(auto)]
 
-mod gate;
-mod job;
-mod job_cube;
-mod models;
-pub mod options;
-mod outcome;
-mod search_fault;
+mod closing;
+mod gathering;
+mod in_turn;
+mod joining;
+mod leaf_jobs;
+mod opening;
+mod participants;
+mod promised;
+mod putting;
+mod running;
+mod searching;
+mod settler;
+mod settling;
+mod shared_search;
+mod starting;
+mod working;
 
-pub use gate::{Gate, OpenGate};
-pub use job::{Job, Settled};
-pub use job_cube::{JobCube, MOST_LITERALS};
-pub use models::is_model_in;
-pub use options::{BadOption, Options};
-pub use outcome::Outcome;
-pub use search_fault::{SearchCause, SearchFault};
+pub use cube_jobs::{
+    BadOption, Gate, Job, JobCube, OpenGate, Options, Outcome, SearchCause, SearchFault, Settled,
+};
+pub use dealing::{Event, EventCause, GivenOutcome, Machine};
+pub use job_board::{Account, Board, CollectorSeat, DealerSeat, WorkerSeat};
+pub use searching::search;
+pub use stop_word::{StopSeat, StopWord};

@@ -3,7 +3,7 @@ use Rattle.std.proofs.Common.{◌≡◌, ℕ, zero, suc, ◌+◌, ◌-◌, ◌<�
 use Rattle.std.specs.List.{list_all, filter, flat_map, range_with_len}
 use Rattle.std.proofs.lemmas.Bool.{and_parts, and_from, le-leb}
 use Rattle.std.proofs.lemmas.List.Folds.{list_all-append, list_all-map}
-use Rattle.traces.specs.Trace.{TraceValue, operation_count}
+use Rattle.trace_semantics.specs.Trace.{TraceValue, operation_count}
 use Rattle.var_layout.specs.OrderVariables.{order_var, numbers_above, pairs}
 use Rattle.var_layout.specs.Split.{is_split, splits}
 use Rattle.var_layout.proofs.OrderLemmas.{order_first, order_last, order_small}

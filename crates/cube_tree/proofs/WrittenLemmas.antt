@@ -86,7 +86,7 @@ written_spells tree behind h =
       taken = omega (arith, ap line_bytes front, written_bytes tree, length-append (tree_text tree) behind);
     }
 
--- what stands after so many lines
+-- what stands after the first n lines
 none_left : (n : ℕ) (text : List ℕ) → length text ≡ 0 → lines_of (drop (front_bytes n text) text) ≡ drop n (lines_of text)
 none_left zero [] e = refl
 none_left (suc n) [] e = refl

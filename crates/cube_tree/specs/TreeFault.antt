@@ -51,7 +51,7 @@ due_below Leaf d others = others
 due_below (Split v) d others = (d + 1) ∷ ((d + 1) ∷ others)
 
 -- The depths of the nodes that are due after these nodes, where nodes of such depths were due before them, the next one first.
--- Where none is due, the tree is whole.
+-- If none is due, the tree is whole.
 abbrev pub due_behind : List ℕ → List Node → List ℕ
 due_behind due [] = due
 due_behind [] (node ∷ nodes) = []
@@ -61,7 +61,7 @@ due_behind (d ∷ due) (node ∷ nodes) = due_behind (due_below node d due) node
 abbrev pub due_after : List (List ℕ) → List ℕ
 due_after lines = due_behind (0 ∷ []) (nodes_on lines)
 
--- what is wrong with a node at this depth after so many leaves
+-- what is wrong with a node at this depth after this number of leaves
 abbrev pub node_fault : ℕ → ℕ → Option Node → Option TreeCause
 node_fault d leaves None = Some BadLine
 node_fault d leaves (Some (Split v)) = if nat_le 20 d then Some TooDeep else None
@@ -83,6 +83,6 @@ pub record EndsWithin (text : List ℕ) (cause : TreeCause) (line : ℕ) : Type 
   pub bad : cause ≡ BadLine
   pub behind : line ≡ length (lines_of text) + 1
 
--- The text has its first fault at this line, counted from 1. Where it ends within the tree, that is the line after the last.
+-- The text has its first fault at this line, counted from 1. If it ends within the tree, that is the line after the last.
 abbrev pub HasTreeFault : List ℕ → TreeCause → ℕ → Type 0
 HasTreeFault text cause line = IsFirstFault tree_line_fault (lines_of text) line cause ⊎ EndsWithin text cause line

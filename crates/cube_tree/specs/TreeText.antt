@@ -14,11 +14,11 @@ abbrev pub line_bytes : List (List ℕ) → ℕ
 line_bytes [] = 0
 line_bytes (line ∷ lines) = (length line + 1) + line_bytes lines
 
--- how many bytes so many lines at the beginning of a text take, of which the last may lack its line feed
+-- the number of bytes that the first lines of a text take, of which the last may be without its line feed
 abbrev pub front_bytes : ℕ → List ℕ → ℕ
 front_bytes count text = min (length text) (line_bytes (take count (lines_of text)))
 
--- the first lines of the text are those of the tree, and take so many bytes
+-- the first lines of the text are those of the tree, and take this number of bytes
 pub record SpellsTree (text : List ℕ) (tree : CubeTree) (bytes : ℕ) : Type 0 where
   pub lines : map words_of (take (length (tree_lines tree)) (lines_of text)) ≡ tree_lines tree
   pub within : IsCubeTree tree

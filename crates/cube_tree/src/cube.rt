@@ -8,13 +8,12 @@ use dimacs::{Lit, are_literals};
 use std::marker::Model;
 
 /// The most literals of a cube: no tree is deeper.
-const MOST_LITERALS: usize = 20;
+const MAX_LITERALS: usize = 20;
 
-/// A list of literals, of which all are to be true: those of the splits from the root of a tree to a leaf. It takes no
-/// memory.
+/// Literals that are assumed together: those of the splits from the root of a tree to a leaf. It takes no memory.
 #[derive(Drop)]
 pub struct Cube {
-    places: [Lit; MOST_LITERALS],
+    places: [Lit; MAX_LITERALS],
     length: usize,
 }
 
@@ -34,7 +33,7 @@ impl Cube {
         ensures { result ≡ [] }
     {
         Cube {
-            places: [Lit::default(); MOST_LITERALS],
+            places: [Lit::default(); MAX_LITERALS],
             length: 0,
         }
     }

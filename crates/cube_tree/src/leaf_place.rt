@@ -1,4 +1,4 @@
-//! Where a leaf stands among the nodes of a tree.
+//! The place of a leaf among the nodes of a tree.
 
 ghost use Rattle.std.specs.Prelude.{◌≤◌, MatchOption};
 ghost use Rattle.cube_tree.specs.TreeFault.{leaf_count};

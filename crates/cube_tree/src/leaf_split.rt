@@ -13,13 +13,13 @@ use crate::split_fault::SplitCause;
 use crate::tree::Tree;
 use dimacs::MAX_VARIABLE;
 use std::alloc::{AllocError, Global};
-use text_lines::fault::Fault;
+use text_lines::fault::PlacedFault;
 
 /// The most leaves of a tree.
-const MOST_LEAVES: usize = 1024;
+const MAX_LEAVES: usize = 1024;
 
 /// The most splits above a leaf.
-const MOST_DEPTH: usize = 20;
+const MAX_DEPTH: usize = 20;
 
 /// Why the leaf is not split, if it is not.
 fn fault_of_split(alloc: Global, tree: &Tree, k: u32) -> Result<Option<SplitCause>, AllocError>
@@ -30,11 +30,11 @@ fn fault_of_split(alloc: Global, tree: &Tree, k: u32) -> Result<Option<SplitCaus
     if k >= cubes.len() {
         return Ok(Some(SplitCause::NoSuchLeaf));
     }
-    if cubes.len() >= MOST_LEAVES {
+    if cubes.len() >= MAX_LEAVES {
         return Ok(Some(SplitCause::TooManyLeaves));
     }
     let cube = &cubes[k];
-    if cube.as_slice().len() >= MOST_DEPTH {
+    if cube.as_slice().len() >= MAX_DEPTH {
         return Ok(Some(SplitCause::TooDeep));
     }
     Ok(None)
@@ -81,7 +81,7 @@ pub fn split_leaf(
     tree: Tree,
     k: u32,
     variable: u32,
-) -> Result<Tree, (Tree, Fault<SplitCause>)>
+) -> Result<Tree, (Tree, PlacedFault<SplitCause>)>
     requires first { 1 ≤ variable }
     requires last { variable ≤ MAX_VARIABLE }
     ensures split { IfOk result (λ new. (new ≡ with_split k variable tree) × (split_fault tree k ≡ None)) }
@@ -90,9 +90,9 @@ pub fn split_leaf(
     match fault_of_split(alloc, &tree, k) {
         Ok(None) => match tree_with_split(alloc, &tree, k, variable) {
             Ok(new) => Ok(new),
-            Err(_) => Err((tree, Fault::OutOfMemory)),
+            Err(_) => Err((tree, PlacedFault::OutOfMemory)),
         },
-        Ok(Some(cause)) => Err((tree, Fault::At(cause, k as usize))),
-        Err(_) => Err((tree, Fault::OutOfMemory)),
+        Ok(Some(cause)) => Err((tree, PlacedFault::At(cause, k as usize))),
+        Err(_) => Err((tree, PlacedFault::OutOfMemory)),
     }
 }

@@ -1,4 +1,5 @@
-//! Trees that split on variables, the cubes of their leaves, which cover, and the text of a tree.
+//! Trees that split on variables, the cubes of their leaves, which cover, and the text of a tree (cube and conquer: Heule, Kullmann,
+//! Wieringa, Biere 2011).
 #![tactic(auto)]
 
 mod cube;

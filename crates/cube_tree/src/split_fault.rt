@@ -1,6 +1,6 @@
 //! Why a leaf is not split.
 
-use text_lines::fault::Cause;
+use text_lines::fault::FaultCause;
 
 /// Why a leaf is not split. A fault has the leaf's number as its place.
 #[derive(Clone, Copy, Debug, PartialEq, Eq)]
@@ -13,7 +13,7 @@ pub enum SplitCause {
     TooDeep,
 }
 
-impl Cause for SplitCause {
+impl FaultCause for SplitCause {
     ghost use Rattle.cube_tree.specs.SplitFault.{cause_number, cause_name};
 
     ghost number_of = { cause_number };

@@ -9,7 +9,7 @@ ghost use Rattle.cube_tree.specs.TreeFault.{leaf_count};
 use crate::node::Node;
 use std::marker::Model;
 
-/// A tree whose nodes split on a variable or are leaves. It is 20 splits deep at most and has 1,024 leaves at most. In the
+/// A tree whose nodes split on a variable or are leaves. It is at most 20 splits deep and has at most 1,024 leaves. In the
 /// left tree of a split its variable is true, in the right tree false.
 #[derive(Drop)]
 pub struct Tree {
@@ -30,7 +30,7 @@ impl Model for Tree {
     ghost invariant = { λ tree. AreNodes tree.nodes.items };
 }
 
-/// How many of the nodes are leaves.
+/// The number of nodes that are leaves.
 fn count_leaves(nodes: &[Node]) -> u32
     requires { length nodes.now < 4096 }
     ensures { result ≡ leaf_count nodes.now }
@@ -63,7 +63,7 @@ impl Tree {
         self.nodes.as_slice()
     }
 
-    /// How many leaves it has.
+    /// The number of leaves.
     pub fn leaves(&self) -> u32
         ensures { result ≡ leaves self.now }
     {

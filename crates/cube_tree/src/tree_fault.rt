@@ -1,6 +1,6 @@
 //! What may be wrong with the text of a tree.
 
-use text_lines::fault::Cause;
+use text_lines::fault::FaultCause;
 
 /// What is wrong with a line of a tree's text. A fault has the line as its place, counted from 1.
 #[derive(Clone, Copy, Debug, PartialEq, Eq)]
@@ -13,7 +13,7 @@ pub enum TreeCause {
     TooManyLeaves,
 }
 
-impl Cause for TreeCause {
+impl FaultCause for TreeCause {
     ghost use Rattle.cube_tree.specs.TreeFault.{cause_number, cause_name};
 
     ghost number_of = { cause_number };

@@ -12,7 +12,7 @@ pub fn one_tree()
     ensures { (text : List ℕ) (s t : CubeTree) (m n : ℕ) → SpellsTree text s m → SpellsTree text t n → (s ≡ t) × (m ≡ n) }
 {}
 
-/// A text has one first fault at most.
+/// A text has at most one first fault.
 pub fn one_tree_fault()
     ensures { (text : List ℕ) (c d : TreeCause) (p q : ℕ) → HasTreeFault text c p → HasTreeFault text d q → (c ≡ d) × (p ≡ q) }
 {}

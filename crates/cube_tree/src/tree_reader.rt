@@ -11,16 +11,16 @@ use crate::node_line::read_node;
 use crate::tree::Tree;
 use crate::tree_fault::TreeCause;
 use std::alloc::{AllocError, Global};
-use text_lines::fault::Fault;
+use text_lines::fault::PlacedFault;
 use text_lines::lines::cut_line;
 
 /// The most splits above a leaf.
-const MOST_DEPTH: u32 = 20;
+const MAX_DEPTH: u32 = 20;
 
 /// The most leaves of a tree.
-const MOST_LEAVES: usize = 1024;
+const MAX_LEAVES: usize = 1024;
 
-/// The node on the line, which is due at this depth after so many leaves.
+/// The node on the line, which is due at this depth after this number of leaves.
 fn take_line(line: &[u8], depth: u32, leaves: usize) -> Result<Node, TreeCause>
     ensures { MatchResult result
         (λ node. (node_of (words_of line.now) ≡ Some node) × (node_fault depth leaves (Some node) ≡ None))
@@ -29,13 +29,13 @@ fn take_line(line: &[u8], depth: u32, leaves: usize) -> Result<Node, TreeCause>
     match read_node(line) {
         None => Err(TreeCause::BadLine),
         Some(Node::Split(variable)) => {
-            if depth >= MOST_DEPTH {
+            if depth >= MAX_DEPTH {
                 return Err(TreeCause::TooDeep);
             }
             Ok(Node::Split(variable))
         }
         Some(Node::Leaf) => {
-            if leaves >= MOST_LEAVES {
+            if leaves >= MAX_LEAVES {
                 return Err(TreeCause::TooManyLeaves);
             }
             Ok(Node::Leaf)
@@ -62,12 +62,12 @@ fn at_most(bytes: usize, most: usize) -> usize
     if bytes < most { bytes } else { most }
 }
 
-/// The tree that the text spells at its beginning, and how many bytes its lines take. What stands after them is not looked at.
+/// The tree that the text spells at its beginning, and the number of bytes that its lines take. What stands after them is not read.
 ///
 /// A line is `leaf`, or `split` and the number of a variable; after a split stand the lines of its left and then those of
 /// its right tree. No line is skipped. The error is the first fault of the text, with its line, counted from 1, or
 /// `OutOfMemory`, which says nothing of the text.
-pub fn read_tree(alloc: Global, text: &[u8]) -> Result<(Tree, usize), Fault<TreeCause>>
+pub fn read_tree(alloc: Global, text: &[u8]) -> Result<(Tree, usize), PlacedFault<TreeCause>>
     ensures spelled { IfOk result (λ read. SpellsTree text.now read.0 read.1) }
     ensures faulty { IfErr result (λ fault. IsRefusal (HasTreeFault text.now) fault) }
 {
@@ -81,11 +81,11 @@ pub fn read_tree(alloc: Global, text: &[u8]) -> Result<(Tree, usize), Fault<Tree
     while let Some(depth) = due.pop() {
         number += 1;
         let Some((line, after)) = cut_line(rest) else {
-            return Err(Fault::At(TreeCause::BadLine, number));
+            return Err(PlacedFault::At(TreeCause::BadLine, number));
         };
         let node = match take_line(line, depth, leaves) {
             Ok(node) => node,
-            Err(cause) => return Err(Fault::At(cause, number)),
+            Err(cause) => return Err(PlacedFault::At(cause, number)),
         };
         push_due(&mut due, node, depth)?;
         if let Node::Leaf = node {

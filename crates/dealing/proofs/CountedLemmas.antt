@@ -4,9 +4,9 @@ use Rattle.std.specs.List.{filter, zip, slice_get}
 use Rattle.std.proofs.lemmas.List.{map-append, drop-append-le}
 use Rattle.std.proofs.lemmas.Bool.{eqb-false}
 use Rattle.std.proofs.lemmas.List.Elements.{filter-append}
-use Rattle.cube_queue.specs.declared.outcome.Outcome.{Outcome}
+use Rattle.cube_jobs.specs.declared.outcome.Outcome.{Outcome}
 use Rattle.dealing.specs.declared.event.Event.TheVariants.{Put, Take, Give, Gather}
-use Rattle.dealing.specs.declared.given.Given.{Given}
+use Rattle.dealing.specs.declared.given_outcome.GivenOutcome.{GivenOutcome}
 use Rattle.dealing.specs.Machine.{State, hand_of, held_in, tickets_of, tickets_in, is_among, given_of, after}
 use Rattle.dealing.specs.Counting.{Answer, answered_by, given_in, times}
 use Rattle.dealing.proofs.TimesLemmas.{times-append, none_among, once_more, held_set}
@@ -164,7 +164,7 @@ counted_give takers puts gives gathers m a c within holds =
       enough = c.enough;
       jobs = c.jobs;
       kept = map-append given_in c.answers (a ∷ [])
-          ∙ ap (λ (gs : List Given). gs ++ given_in a ∷ []) c.kept
+          ∙ ap (λ (gs : List GivenOutcome). gs ++ given_in a ∷ []) c.kept
           ∙ append_assoc m.ledger m.results (given_in a ∷ [])
           ∙ ap (λ (h : Option ℕ). m.ledger ++ (m.results ++ made h)) (sym holds);
       gathered = c.gathered;
@@ -172,7 +172,7 @@ counted_give takers puts gives gathers m a c within holds =
           let gone : times ticket (option_to_list (get_or m.hands a.worker None)) ≡ times ticket (a.ticket ∷ []) = ap (λ (h : Option ℕ). times ticket (option_to_list h)) holds in
           let now : times ticket (tickets_of (m.results ++ made (hand_of m a.worker))) ≡ times ticket (tickets_of m.results) + times ticket (a.ticket ∷ []) =
           ap (λ (h : Option ℕ). times ticket (tickets_of (m.results ++ made h))) holds
-          ∙ ap (times ticket) (map-append (λ (g : Given). g.ticket) m.results (given_in a ∷ []))
+          ∙ ap (times ticket) (map-append (λ (g : GivenOutcome). g.ticket) m.results (given_in a ∷ []))
           ∙ times-append ticket (tickets_of m.results) (a.ticket ∷ []) in
           omega (arith, times_in ticket (after m (Give a.worker a.outcome)), times_in ticket m, c.same ticket, held_set ticket m.hands a.worker None within, gone, now);
       once = c.once;
@@ -187,15 +187,15 @@ counted_gather takers puts gives gathers m c some =
       each = c.each;
       enough = c.enough;
       jobs = c.jobs;
-      kept = c.kept ∙ sym (append_assoc m.ledger (take 1 m.results) (drop 1 m.results) ∙ ap (λ (gs : List Given). m.ledger ++ gs) (take-append-drop 1 m.results));
+      kept = c.kept ∙ sym (append_assoc m.ledger (take 1 m.results) (drop 1 m.results) ∙ ap (λ (gs : List GivenOutcome). m.ledger ++ gs) (take-append-drop 1 m.results));
       gathered = omega (arith, length-append m.ledger (take 1 m.results), length-take-le 1 m.results (omega (arith, some)), c.gathered);
       same = λ ticket.
           let cut : times ticket (tickets_of m.results) ≡ times ticket (tickets_of (take 1 m.results)) + times ticket (tickets_of (drop 1 m.results)) =
-          ap (λ (gs : List Given). times ticket (tickets_of gs)) (sym (take-append-drop 1 m.results))
-          ∙ ap (times ticket) (map-append (λ (g : Given). g.ticket) (take 1 m.results) (drop 1 m.results))
+          ap (λ (gs : List GivenOutcome). times ticket (tickets_of gs)) (sym (take-append-drop 1 m.results))
+          ∙ ap (times ticket) (map-append (λ (g : GivenOutcome). g.ticket) (take 1 m.results) (drop 1 m.results))
           ∙ times-append ticket (tickets_of (take 1 m.results)) (tickets_of (drop 1 m.results)) in
           let now : times ticket (tickets_of (m.ledger ++ take 1 m.results)) ≡ times ticket (tickets_of m.ledger) + times ticket (tickets_of (take 1 m.results)) =
-          ap (times ticket) (map-append (λ (g : Given). g.ticket) m.ledger (take 1 m.results)) ∙ times-append ticket (tickets_of m.ledger) (tickets_of (take 1 m.results)) in
+          ap (times ticket) (map-append (λ (g : GivenOutcome). g.ticket) m.ledger (take 1 m.results)) ∙ times-append ticket (tickets_of m.ledger) (tickets_of (take 1 m.results)) in
           omega (arith, times_in ticket (after m Gather), times_in ticket m, c.same ticket, cut, now);
       once = c.once;
     }

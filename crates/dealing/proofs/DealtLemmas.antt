@@ -2,9 +2,9 @@
 use Rattle.std.proofs.Common.{◌≡◌, ℕ, zero, suc, ◌+◌, ◌<◌, ◌==◌, Bool, true, false, cond, Some, List, [], ◌∷◌, ◌++◌, map, length, get_or, take, drop, option_to_list, refl, sym, ◌∙◌, ap, eq-eqb, take_at, drop_at, length-append, arith}
 use Rattle.std.specs.List.{filter, slice_get}
 use Rattle.std.proofs.lemmas.List.{length-map}
-use Rattle.cube_queue.specs.declared.outcome.Outcome.{Outcome}
+use Rattle.cube_jobs.specs.declared.outcome.Outcome.{Outcome}
 use Rattle.dealing.specs.declared.event.Event.{Event}
-use Rattle.dealing.specs.declared.given.Given.{Given}
+use Rattle.dealing.specs.declared.given_outcome.GivenOutcome.{GivenOutcome}
 use Rattle.dealing.specs.Machine.{State, given_of, hand_of, held_in, tickets_of}
 use Rattle.dealing.specs.Counting.{Answer, answered_by, given_in, given_by, gives, gathers, puts, times, IsByCounting, AreInOnePlace, AreGivenByTakers, AreAllSettled, IsDealt}
 use Rattle.dealing.proofs.TimesLemmas.{times_among, none_in_hands}
@@ -64,7 +64,7 @@ all_settled : (events : List Event) (m : State) → AreInOnePlace events m → A
 all_settled events m places jobs hands results ticket =
     let queued : times ticket m.jobs ≡ 0 = ap (times ticket) jobs in
     let held : times ticket (held_in m.hands) ≡ 0 = ap (times ticket) (none_in_hands m.hands hands) in
-    let given : times ticket (tickets_of m.results) ≡ 0 = ap (λ (gs : List Given). times ticket (tickets_of gs)) results in
+    let given : times ticket (tickets_of m.results) ≡ 0 = ap (λ (gs : List GivenOutcome). times ticket (tickets_of gs)) results in
     omega (arith, places ticket, queued, held, given)
 
 -- an answer's place among those of its worker
@@ -104,8 +104,8 @@ found (a ∷ answers) zero ticket outcome is =
     record {
       worker = a.worker;
       place = 0;
-      ticket_is = here.0 ∙ ap (λ (g : Given). Some g.ticket) same;
-      outcome_is = here.1 ∙ ap (λ (g : Given). Some g.outcome) same;
+      ticket_is = here.0 ∙ ap (λ (g : GivenOutcome). Some g.ticket) same;
+      outcome_is = here.1 ∙ ap (λ (g : GivenOutcome). Some g.outcome) same;
     }
 found (a ∷ answers) (suc place) ticket outcome is =
     let f = found answers place ticket outcome is in
@@ -125,7 +125,7 @@ module _ {X : Type 0} where
 given_by_takers : (events : List Event) (m : State) → CountedBy events m → AreGivenByTakers events m
 given_by_takers events m c ticket outcome there =
     let at : slice_get (m.ledger ++ m.results) there.0 ≡ Some (given_of ticket outcome) = get_front m.ledger m.results there.0 (given_of ticket outcome) (get_at m.ledger there.0 (given_of ticket outcome) there.1 there.2) in
-    let f = found c.answers there.0 ticket outcome (ap (λ (gs : List Given). slice_get gs there.0) c.kept ∙ at) in (
+    let f = found c.answers there.0 ticket outcome (ap (λ (gs : List GivenOutcome). slice_get gs there.0) c.kept ∙ at) in (
       f.worker,
       f.place,
       ap (λ (ts : List ℕ). slice_get ts f.place) (sym (c.each f.worker)) ∙ get_front (answered_by f.worker c.answers) (option_to_list (hand_of m f.worker)) f.place ticket f.ticket_is,

@@ -3,10 +3,10 @@ use Rattle.std.proofs.Common.{◌≡◌, ℕ, ◌+◌, ◌<◌, ◌==◌, Bool, 
 use Rattle.std.specs.List.{filter_map, cons_option}
 use Rattle.std.proofs.lemmas.Bool.{eqb-false, not-false}
 use Rattle.std.proofs.lemmas.List.Elements.{filter_map-append}
-use Rattle.cube_queue.specs.declared.outcome.Outcome.{Outcome}
+use Rattle.cube_jobs.specs.declared.outcome.Outcome.{Outcome}
 use Rattle.dealing.specs.declared.event.Event.{Event}
 use Rattle.dealing.specs.declared.event.Event.TheVariants.{Put, Take, Give, Gather}
-use Rattle.dealing.specs.declared.given.Given.{Given}
+use Rattle.dealing.specs.declared.given_outcome.GivenOutcome.{GivenOutcome}
 use Rattle.dealing.specs.declared.refused.EventCause.{EventCause}
 use Rattle.dealing.specs.declared.refused.EventCause.TheVariants.{NoJob, Busy, HoldsNothing, NoSuchWorker}
 use Rattle.dealing.specs.Machine.{State, empty_machine, hand_of, refusal_of, after}
@@ -55,7 +55,7 @@ front_of : (xs : List ℕ) → (length xs == 0) ≡ false → (front : ℕ) × (
 front_of [] some = absurd (eqb-false 0 0 some refl)
 front_of (x ∷ xs) some = (x, xs, refl)
 
-some_of : (xs : List Given) → (length xs == 0) ≡ false → 0 < length xs
+some_of : (xs : List GivenOutcome) → (length xs == 0) ≡ false → 0 < length xs
 some_of [] some = absurd (eqb-false 0 0 some refl)
 some_of (x ∷ xs) some = omega arith
 

@@ -3,10 +3,10 @@
 use Rattle.std.specs.Prelude.{◌≡◌, ℕ, ◌+◌, ◌≤◌, List, [], ◌∷◌, length, map, drop, take, Option, Some, None, ◌==◌, cond}
 use Rattle.std.specs.List.{Contains, slice_get, filter, filter_map, zip}
 use Rattle.std.specs.Option.{option_to_list}
-use Rattle.cube_queue.specs.declared.outcome.Outcome.{Outcome}
+use Rattle.cube_jobs.specs.declared.outcome.Outcome.{Outcome}
 use Rattle.dealing.specs.declared.event.Event.{Event}
 use Rattle.dealing.specs.declared.event.Event.TheVariants.{Put, Take, Give, Gather}
-use Rattle.dealing.specs.declared.given.Given.{Given}
+use Rattle.dealing.specs.declared.given_outcome.GivenOutcome.{GivenOutcome}
 use Rattle.dealing.specs.Machine.{State, given_of, hand_of, held_in, tickets_of, is_among}
 
 abbrev pub put_by : Event → Option ℕ
@@ -68,7 +68,7 @@ abbrev pub answered_by : ℕ → List Answer → List ℕ
 answered_by worker answers = map (λ (a : Answer). a.ticket) (filter (λ (a : Answer). a.worker == worker) answers)
 
 -- an answer as the machine keeps it
-abbrev pub given_in : Answer → Given
+abbrev pub given_in : Answer → GivenOutcome
 given_in a = given_of a.ticket a.outcome
 
 -- The answers of the Gives, in order: a worker's k-th Give answers its k-th Take.

@@ -2,10 +2,10 @@
 use Rattle.std.specs.Prelude.{◌≡◌, ℕ, Bool, true, false, not, List, [], ◌∷◌, ◌++◌, length, map, drop, take, replicate, slice_index_or, slice_set, Option, Some, None, is_some, Result, Ok, Err, nat_lt, ◌==◌, if◌then◌else◌, IsTrue}
 use Rattle.std.specs.List.{slice_get, list_any, flat_map, find}
 use Rattle.std.specs.Option.{option_to_list, option_map}
-use Rattle.cube_queue.specs.declared.outcome.Outcome.{Outcome}
+use Rattle.cube_jobs.specs.declared.outcome.Outcome.{Outcome}
 use Rattle.dealing.specs.declared.event.Event.{Event}
 use Rattle.dealing.specs.declared.event.Event.TheVariants.{Put, Take, Give, Gather}
-use Rattle.dealing.specs.declared.given.Given.{Given}
+use Rattle.dealing.specs.declared.given_outcome.GivenOutcome.{GivenOutcome}
 use Rattle.dealing.specs.declared.refused.EventCause.{EventCause}
 use Rattle.dealing.specs.declared.refused.EventCause.TheVariants.{PutTwice, NoJob, Busy, HoldsNothing, NoResult, NoSuchWorker}
 use Rattle.text_lines.specs.declared.plain_fault.PlainFault.{PlainFault}
@@ -16,15 +16,15 @@ use Rattle.text_lines.specs.declared.plain_fault.PlainFault.TheVariants.{OutOfMe
 pub record State : Type 0 where
   pub jobs : List ℕ
   pub hands : List (Option ℕ)
-  pub results : List Given
-  pub ledger : List Given
+  pub results : List GivenOutcome
+  pub ledger : List GivenOutcome
 
 -- the machine of so many workers before any event
 abbrev pub empty_machine : ℕ → State
 empty_machine workers = record { jobs = []; hands = replicate workers None; results = []; ledger = [] }
 
 -- an outcome under a ticket
-abbrev pub given_of : ℕ → Outcome → Given
+abbrev pub given_of : ℕ → Outcome → GivenOutcome
 given_of ticket outcome = record { ticket = ticket; outcome = outcome }
 
 -- what the worker has in its hand
@@ -41,8 +41,8 @@ is_in_hand ticket None = false
 is_in_hand ticket (Some held) = held == ticket
 
 -- the tickets of these outcomes
-abbrev pub tickets_of : List Given → List ℕ
-tickets_of given = map (λ (g : Given). g.ticket) given
+abbrev pub tickets_of : List GivenOutcome → List ℕ
+tickets_of given = map (λ (g : GivenOutcome). g.ticket) given
 
 -- all tickets in the machine: in the job queue, in a hand, in the result queue, in the ledger
 abbrev pub tickets_in : State → List ℕ
@@ -53,8 +53,8 @@ abbrev pub is_among : ℕ → List ℕ → Bool
 is_among ticket tickets = list_any (λ other. other == ticket) tickets
 
 -- what the ledger holds under the ticket
-abbrev pub outcome_under : ℕ → List Given → Option Outcome
-outcome_under ticket ledger = option_map (λ (g : Given). g.outcome) (find (λ (g : Given). g.ticket == ticket) ledger)
+abbrev pub outcome_under : ℕ → List GivenOutcome → Option Outcome
+outcome_under ticket ledger = option_map (λ (g : GivenOutcome). g.outcome) (find (λ (g : GivenOutcome). g.ticket == ticket) ledger)
 
 -- Why an event is refused. Put: the ticket is in the machine. Take: there is no such worker; the job queue is empty; the hand is
 -- not. Give: there is no such worker; its hand is empty. Gather: the result queue is empty.

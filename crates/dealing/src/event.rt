@@ -1,5 +1,5 @@
 //! The events of the dealing machine.
-use cube_queue::Outcome;
+use cube_jobs::Outcome;
 
 /// What happens to the dealing machine: one send or one receive on the way of a job.
 #[derive(Drop)]

@@ -6,12 +6,12 @@ ghost use Rattle.dealing.specs.Machine.{is_in_hand};
 use std::marker::Model;
 
 /// The most workers of a machine.
-pub(crate) const MOST_WORKERS: usize = 8;
+pub(crate) const MAX_WORKERS: usize = 8;
 
 /// What each worker has in its hand: a ticket, or nothing. Of the eight places those of the machine's workers count.
 #[derive(Drop)]
 pub(crate) struct Hands {
-    places: [Option<u32>; MOST_WORKERS],
+    places: [Option<u32>; MAX_WORKERS],
     workers: usize,
 }
 
@@ -42,7 +42,7 @@ impl Hands {
         ensures { result ≡ replicate workers None }
     {
         Hands {
-            places: [None; MOST_WORKERS],
+            places: [None; MAX_WORKERS],
             workers: workers as usize,
         }
     }

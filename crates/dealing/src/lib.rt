@@ -3,13 +3,13 @@
 #![tactic(auto)]
 
 mod event;
-mod given;
+mod given_outcome;
 mod hands;
 pub mod laws;
 mod machine;
 mod refused;
 
 pub use event::Event;
-pub use given::Given;
+pub use given_outcome::GivenOutcome;
 pub use machine::Machine;
 pub use refused::{EventCause, Refused};

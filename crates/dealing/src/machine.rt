@@ -6,10 +6,10 @@ ghost use Rattle.dealing.specs.Machine.{State, empty_machine, tickets_in, is_amo
 ghost use Rattle.dealing.specs.declared.event.Event.TheVariants.{Put, Take, Give, Gather};
 
 use crate::event::Event;
-use crate::given::Given;
+use crate::given_outcome::GivenOutcome;
 use crate::hands::Hands;
 use crate::refused::{EventCause, Refused};
-use cube_queue::Outcome;
+use cube_jobs::Outcome;
 use std::alloc::Global;
 use std::collections::VecDeque;
 use std::marker::Model;
@@ -21,7 +21,7 @@ use text_lines::plain_fault::PlainFault;
 pub struct Machine {
     jobs: VecDeque<u32>,
     hands: Hands,
-    given: Vec<Given>,
+    given: Vec<GivenOutcome>,
     gathered: usize,
 }
 
@@ -37,14 +37,14 @@ impl Model for Machine {
 }
 
 /// Whether one of these was given under the ticket.
-fn has_ticket(given: &[Given], ticket: u32) -> bool
+fn has_ticket(given: &[GivenOutcome], ticket: u32) -> bool
     ensures { result ≡ list_any (λ one. one.ticket == ticket) given.now }
 {
     given.iter().any(|one| one.ticket == ticket)
 }
 
 /// The outcome that was given under the ticket.
-fn find_outcome(given: &[Given], ticket: u32) -> Option<&Outcome>
+fn find_outcome(given: &[GivenOutcome], ticket: u32) -> Option<&Outcome>
     ensures { option_copied result ≡ outcome_under ticket given.now }
 {
     for one in given {
@@ -143,7 +143,7 @@ impl Machine {
         let Some(ticket) = self.hands.hand(worker) else {
             return Err(PlainFault::For(EventCause::HoldsNothing));
         };
-        self.given.push(Given { ticket, outcome })?;
+        self.given.push(GivenOutcome { ticket, outcome })?;
         self.hands.put(worker, None);
         Ok(())
     }

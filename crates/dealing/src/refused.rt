@@ -1,6 +1,6 @@
 //! Why the dealing machine refuses an event.
 
-use text_lines::fault::Cause;
+use text_lines::fault::FaultCause;
 use text_lines::plain_fault::PlainFault;
 
 /// What is wrong with an event.
@@ -23,7 +23,7 @@ pub enum EventCause {
 /// Why an event is refused: what is wrong with it, or that memory ran out.
 pub type Refused = PlainFault<EventCause>;
 
-impl Cause for EventCause {
+impl FaultCause for EventCause {
     ghost use Rattle.dealing.specs.EventCauses.{cause_number, cause_name};
 
     ghost number_of = { cause_number };

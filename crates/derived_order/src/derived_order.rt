@@ -1,9 +1,9 @@
 //! What stands before what in each legal schedule.
 
 use crate::finding_sources::{hider, initial_numbers, later_writer, sources_of};
-use numbered_log::{Budget, Log, NOBODY, Rows, WriterPlaces};
-use order_closure::tables::{at, size};
-use source_reasons::{Concerned, Edge, NO_EDGE, Reason, Reasons, Sources, Waiting};
+use numbered_log::{Budget, NOBODY, NumberedLog, Rows, WriterPlaces};
+use order_sets::tables::{at, size};
+use source_reasons::{Concerned, Edge, EdgeReason, NO_EDGE, Reasons, Sources, Waiting};
 use std::alloc::{AllocError, Global};
 
 /// Why work on an order ends before it is done.
@@ -22,7 +22,7 @@ impl From<AllocError> for Halt {
 
 /// What contradicts itself.
 #[derive(Clone, Copy)]
-pub enum Contradiction {
+pub enum OrderContradiction {
     /// Nothing yet.
     None,
     /// The pair would be added, and its second operation stands before its first one.
@@ -33,7 +33,7 @@ pub enum Contradiction {
 
 /// How far saturation came.
 #[derive(Clone, Copy, PartialEq, Eq)]
-pub enum Outcome {
+pub enum Saturation {
     /// Nothing more follows.
     Saturated,
     /// There is a contradiction.
@@ -54,7 +54,7 @@ struct Level {
 /// The order that program order, the pairs of a trace, its reads and decisions force, with a reason for all that was derived.
 #[derive(Drop)]
 pub struct DerivedOrder<'a> {
-    pub(crate) log: &'a Log,
+    pub(crate) log: &'a NumberedLog,
     pub(crate) rows: Rows,
     pub(crate) writers: WriterPlaces,
     pub(crate) sources: Sources,
@@ -62,7 +62,7 @@ pub struct DerivedOrder<'a> {
     pub(crate) reasons: Reasons,
     pub(crate) waiting: Waiting,
     pub(crate) budget: Budget,
-    pub(crate) contradiction: Contradiction,
+    pub(crate) contradiction: OrderContradiction,
     /// The time, which passes with each pair that is added and each source that is dropped.
     pub(crate) now: u32,
     levels: Vec<Level>,
@@ -76,7 +76,7 @@ impl<'a> DerivedOrder<'a> {
     /// that is its contradiction, and no source was looked for.
     pub fn new(
         alloc: Global,
-        log: &'a Log,
+        log: &'a NumberedLog,
         budget: Budget,
     ) -> Result<DerivedOrder<'a>, AllocError> {
         let readers = log.count().wrapping_add(log.locations());
@@ -89,7 +89,7 @@ impl<'a> DerivedOrder<'a> {
             reasons: Reasons::new(alloc, log.count())?,
             waiting: Waiting::new(alloc, readers)?,
             budget,
-            contradiction: Contradiction::None,
+            contradiction: OrderContradiction::None,
             now: 0,
             levels: Vec::new(alloc),
             lows: vec![in alloc; 0; log.processes() as usize]?,
@@ -109,7 +109,7 @@ impl<'a> DerivedOrder<'a> {
     fn add_pairs(&mut self) -> Result<bool, AllocError> {
         let log = self.log;
         for pair in log.pairs() {
-            match self.add(pair.first, pair.second, Reason::Given) {
+            match self.add(pair.first, pair.second, EdgeReason::Given) {
                 Ok(()) => {}
                 Err(Halt::OutOfMemory) => return Err(AllocError),
                 Err(Halt::Contradiction) => return Ok(false),
@@ -134,7 +134,7 @@ impl<'a> DerivedOrder<'a> {
     }
 
     /// The log.
-    pub fn log(&self) -> &'a Log {
+    pub fn log(&self) -> &'a NumberedLog {
         self.log
     }
 
@@ -154,13 +154,13 @@ impl<'a> DerivedOrder<'a> {
     }
 
     /// What contradicts itself.
-    pub fn contradiction(&self) -> Contradiction {
+    pub fn contradiction(&self) -> OrderContradiction {
         self.contradiction
     }
 
     /// Whether it contradicts itself.
     pub fn is_contradicted(&self) -> bool {
-        !matches!(self.contradiction, Contradiction::None)
+        !matches!(self.contradiction, OrderContradiction::None)
     }
 
     /// The time after all that has happened.
@@ -217,7 +217,7 @@ impl<'a> DerivedOrder<'a> {
     }
 
     /// Adds the pair of which the first operation must stand before the second. If the budget is spent, it is left out.
-    pub fn add(&mut self, first: u32, second: u32, reason: Reason) -> Result<(), Halt> {
+    pub fn add(&mut self, first: u32, second: u32, reason: EdgeReason) -> Result<(), Halt> {
         self.now = self.now.wrapping_add(1);
         let edge = Edge {
             first,
@@ -227,7 +227,7 @@ impl<'a> DerivedOrder<'a> {
             next: NOBODY,
         };
         if first == second || self.stands_before(second, first) {
-            self.contradiction = Contradiction::Cycle(edge);
+            self.contradiction = OrderContradiction::Cycle(edge);
             return Err(Halt::Contradiction);
         }
         if self.stands_before(first, second) || self.budget.is_spent() {
@@ -307,7 +307,7 @@ impl<'a> DerivedOrder<'a> {
             lemmas: self.reasons.lemmas(),
         };
         self.add_level(level)?;
-        self.add(first, second, Reason::Decision(self.decisions()))
+        self.add(first, second, EdgeReason::Decision(self.decisions()))
     }
 
     fn add_level(&mut self, level: Level) -> Result<(), AllocError> {
@@ -341,7 +341,7 @@ impl<'a> DerivedOrder<'a> {
             self.sources.take_back(level.drops, keeps);
             self.reasons.take_back(level.edges, level.lemmas);
         }
-        self.contradiction = Contradiction::None;
+        self.contradiction = OrderContradiction::None;
         self.waiting.clear();
     }
 
@@ -349,6 +349,6 @@ impl<'a> DerivedOrder<'a> {
     /// among these operations.
     pub fn learn(&mut self, pair: Edge, operations: &[u32], decisions: &[u32]) -> Result<(), Halt> {
         let lemma = self.reasons.add_lemma(operations, decisions)?;
-        self.add(pair.second, pair.first, Reason::Lemma(lemma))
+        self.add(pair.second, pair.first, EdgeReason::Lemma(lemma))
     }
 }

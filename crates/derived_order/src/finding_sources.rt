@@ -2,19 +2,27 @@
 //!
 //! These are the sources by which a part of the trace keeps a read: each one that is left must be in it.
 
-use numbered_log::{Budget, Log, NOBODY, Operation, Origin, Rows, WriterPlaces, WrittenValues};
+use numbered_log::{
+    Budget, NOBODY, NumberedLog, NumberedOrigin, Operation, Rows, WriterPlaces, WrittenValues,
+};
 use source_reasons::Sources;
 use std::alloc::{AllocError, Global};
 
 /// Whether some writer of the location stands between the two operations.
-fn is_hidden(log: &Log, rows: &Rows, writers: &WriterPlaces, source: u32, reader: u32) -> bool {
+fn is_hidden(
+    log: &NumberedLog,
+    rows: &Rows,
+    writers: &WriterPlaces,
+    source: u32,
+    reader: u32,
+) -> bool {
     hider(log, rows, writers, source, reader).is_some()
 }
 
 /// A writer of the location that stands between the two operations.
 #[inline(always)]
 pub fn hider(
-    log: &Log,
+    log: &NumberedLog,
     rows: &Rows,
     writers: &WriterPlaces,
     source: u32,
@@ -37,7 +45,7 @@ pub fn hider(
 /// A writer of the location that stands after the operation.
 #[inline(always)]
 pub fn later_writer(
-    log: &Log,
+    log: &NumberedLog,
     rows: &Rows,
     writers: &WriterPlaces,
     location: u32,
@@ -54,7 +62,7 @@ pub fn later_writer(
 }
 
 /// For each reader the number of the initial value that it may read.
-pub fn initial_numbers(alloc: Global, log: &Log) -> Result<Vec<u32>, AllocError> {
+pub fn initial_numbers(alloc: Global, log: &NumberedLog) -> Result<Vec<u32>, AllocError> {
     let mut numbers = Vec::new(alloc);
     for number in 0..log.count() {
         let location = log.operation(number).location;
@@ -69,7 +77,7 @@ pub fn initial_numbers(alloc: Global, log: &Log) -> Result<Vec<u32>, AllocError>
 /// What sources are looked for in.
 #[derive(Drop)]
 struct Finder<'a> {
-    log: &'a Log,
+    log: &'a NumberedLog,
     rows: &'a Rows,
     writers: &'a WriterPlaces,
     values: WrittenValues,
@@ -79,7 +87,7 @@ struct Finder<'a> {
 /// The possible sources of all readers, until the budget is spent. A reader that is not reached is untold.
 pub fn sources_of(
     alloc: Global,
-    log: &Log,
+    log: &NumberedLog,
     rows: &Rows,
     writers: &WriterPlaces,
     budget: &mut Budget,
@@ -130,8 +138,8 @@ impl<'a> Finder<'a> {
     fn add_of_reader(&mut self, sources: &mut Sources, number: u32) -> Result<bool, AllocError> {
         let operation = self.log.operation(number);
         let may_be_initial = match operation.origin {
-            Origin::Any | Origin::Initial => true,
-            Origin::Operation(_) => false,
+            NumberedOrigin::Any | NumberedOrigin::Initial => true,
+            NumberedOrigin::Operation(_) => false,
         };
         if may_be_initial
             && self.log.initial(operation.location) == Some(operation.needed)
@@ -157,9 +165,9 @@ impl<'a> Finder<'a> {
         let source = self.log.operation(writer);
         self.budget.spend(1);
         let is_told = match operation.origin {
-            Origin::Any => true,
-            Origin::Initial => false,
-            Origin::Operation(origin) => origin == writer,
+            NumberedOrigin::Any => true,
+            NumberedOrigin::Initial => false,
+            NumberedOrigin::Operation(origin) => origin == writer,
         };
         if !is_told
             || source.location != operation.location

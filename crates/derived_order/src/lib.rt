@@ -7,4 +7,4 @@ mod derived_order;
 mod finding_sources;
 mod saturation;
 
-pub use derived_order::{Contradiction, DerivedOrder, Halt, Outcome};
+pub use derived_order::{DerivedOrder, Halt, OrderContradiction, Saturation};

@@ -1,10 +1,10 @@
 //! What follows from possible sources, until nothing more follows.
 
-use crate::derived_order::{Contradiction, DerivedOrder, Halt, Outcome};
+use crate::derived_order::{DerivedOrder, Halt, OrderContradiction, Saturation};
 use crate::finding_sources::{hider, later_writer};
 use numbered_log::NOBODY;
-use order_closure::tables::{at, put, size};
-use source_reasons::{Fate, Reason};
+use order_sets::tables::{at, put, size};
+use source_reasons::{EdgeReason, Fate};
 use std::alloc::AllocError;
 
 /// A place before which nothing is known to stand.
@@ -12,17 +12,17 @@ const FAR: u32 = u32::MAX;
 
 impl<'a> DerivedOrder<'a> {
     /// Derives what follows, until nothing more does.
-    pub fn saturate(&mut self) -> Result<Outcome, AllocError> {
+    pub fn saturate(&mut self) -> Result<Saturation, AllocError> {
         if self.is_contradicted() {
-            return Ok(Outcome::Contradicted);
+            return Ok(Saturation::Contradicted);
         }
         let halted = self.look_at_waiting();
         let is_spent = self.budget.is_spent();
         self.waiting.clear();
         match halted {
-            Ok(()) if is_spent => Ok(Outcome::Spent),
-            Ok(()) => Ok(Outcome::Saturated),
-            Err(Halt::Contradiction) => Ok(Outcome::Contradicted),
+            Ok(()) if is_spent => Ok(Saturation::Spent),
+            Ok(()) => Ok(Saturation::Saturated),
+            Err(Halt::Contradiction) => Ok(Saturation::Contradicted),
             Err(Halt::OutOfMemory) => Err(AllocError),
         }
     }
@@ -50,7 +50,7 @@ impl<'a> DerivedOrder<'a> {
         }
         self.drop_sources(reader)?;
         if self.sources.living(reader) == 0 {
-            self.contradiction = Contradiction::NoSource(reader);
+            self.contradiction = OrderContradiction::NoSource(reader);
             return Err(Halt::Contradiction);
         }
         if self.budget.is_spent() {
@@ -178,7 +178,7 @@ impl<'a> DerivedOrder<'a> {
             let low = at(self.lows.as_slice(), process, FAR);
             if low != FAR && low > self.rows.before(reader, process) {
                 let first = self.log.number(process, low);
-                self.add(first, reader, Reason::BeforeSources(reader))?;
+                self.add(first, reader, EdgeReason::BeforeSources(reader))?;
             }
             let high = at(self.highs.as_slice(), process, 0);
             if high > 0
@@ -186,7 +186,7 @@ impl<'a> DerivedOrder<'a> {
                 && high < self.rows.after(reader, process)
             {
                 let second = self.log.number(process, high);
-                self.add(reader, second, Reason::AfterSources(reader))?;
+                self.add(reader, second, EdgeReason::AfterSources(reader))?;
             }
         }
         Ok(())
@@ -204,7 +204,7 @@ impl<'a> DerivedOrder<'a> {
             if place != 0 {
                 let writer = self.log.number(process, place);
                 if writer != only && !self.stands_before(writer, only) {
-                    self.add(writer, only, Reason::BeforeOnlySource(reader))?;
+                    self.add(writer, only, EdgeReason::BeforeOnlySource(reader))?;
                 }
             }
         }
@@ -266,7 +266,7 @@ impl<'a> DerivedOrder<'a> {
             }
         }
         if self.sources.living(reader) == 0 {
-            self.contradiction = Contradiction::NoSource(reader);
+            self.contradiction = OrderContradiction::NoSource(reader);
             return Err(Halt::Contradiction);
         }
         match self.sources.only(reader) {
@@ -283,7 +283,7 @@ impl<'a> DerivedOrder<'a> {
             if place != 0 {
                 let writer = self.log.number(process, place);
                 if writer != only && !self.stands_before(writer, only) {
-                    self.add(writer, only, Reason::BeforeLast(reader))?;
+                    self.add(writer, only, EdgeReason::BeforeLast(reader))?;
                 }
             }
         }

@@ -10,7 +10,7 @@ use Rattle.std.proofs.lemmas.Fmt.{length-decimal-le}
 use Rattle.std.proofs.lemmas.List.{length-take-le, take-take, take_more_set}
 use Rattle.std.proofs.lemmas.List.FromFn.{get_or-map-range_with_len}
 
--- a variable of six digits at most and a space are no longer than eight bytes
+-- a variable of at most six digits and a space take at most eight bytes
 pub short_text : (bytes line : List ℕ) (n end : ℕ) → n < 1000000 → take end line ≡ decimal n → end ≤ 8 → length line ≡ 16 → bytes ≡ take 8 (set line end 32) → (end + 1 ≤ 8) × (take (end + 1) bytes ≡ decimal n ++ 32 ∷ [])
 short_text bytes line n end small written low whole e =
     let count : length (take end line) ≡ end = length-take-le end line (omega (arith, low, whole)) in

@@ -1,4 +1,4 @@
-//! The two clauses that say that three literals agree: where the first two are alike, the third is what they are.
+//! The two clauses that say that three literals agree: if the first two are alike, the third is what they are.
 ghost use Rattle.std.specs.Prelude.{◌≡◌, ◌+◌, ◌≤◌, [], ◌∷◌, ◌++◌, length, take, neg_ℤ, IfSome};
 ghost use Rattle.std.specs.List.{flat_map};
 ghost use Rattle.dimacs.specs.CnfText.{clause_line, literal_text};
@@ -8,7 +8,7 @@ use crate::literal::Lit;
 use crate::variable_table::{VariableTable, VariableText};
 use std::marker::Model;
 
-/// Both lines are no longer, where a table has the variables' texts.
+/// Maximum length of both lines, in bytes, if a table has the variables' texts.
 pub(crate) const AGREEMENT: usize = 56;
 
 /// The texts of the three literals, each of which says that its variable is true.

@@ -7,7 +7,7 @@ use smallvec::SmallVec;
 use std::alloc::{AllocError, Global};
 use std::marker::Model;
 
-/// So many literals need no memory of their own.
+/// Clauses up to this length are stored inline.
 const INLINE: usize = 4;
 
 /// A list of literals, of which a true one makes it true.

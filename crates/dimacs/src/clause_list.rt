@@ -10,17 +10,17 @@ use crate::assignment::Assignment;
 use crate::formula::{FirstFalse, Formula};
 use crate::listed_clause::ListedClause;
 
-/// A formula that is seen by its clauses: stored ones, or ones that are made when they are asked for. Whoever evaluates,
-/// checks or searches a formula needs no more of it.
+/// A formula that is seen by its clauses: stored ones, or ones that are made when they are asked for. An evaluation, a
+/// check or a search needs no more of it, so large formulas need not be stored.
 pub trait ClauseList {
-    /// How many variables it has, and its clauses in their order.
+    /// The number of variables, and the clauses in their order.
     ghost formula: { Self → FormulaValue };
 
-    /// How many variables it has.
+    /// The number of variables.
     fn variables(&self) -> u32
         ensures { result ≡ (formula self.now).variables };
 
-    /// How many clauses it has.
+    /// The number of clauses.
     fn count(&self) -> usize
         ensures { result ≡ length (formula self.now).clauses };
 

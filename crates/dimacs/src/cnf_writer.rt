@@ -16,13 +16,13 @@ use crate::variable_table::VariableTable;
 use std::alloc::{AllocError, Global};
 use std::marker::Model;
 
-/// So many bytes of the text are made before they go to the sink.
+/// Bytes of the text that are made before they go to the sink, since each call of a sink may be slow.
 const BUFFER: usize = 65_536;
 
-/// A clause of so many literals is short.
+/// Literals of the longest clause that is short: its line is made without a look at the room for each literal.
 const SHORT: usize = 4;
 
-/// No short clause's line is longer.
+/// Maximum length of a short clause's line, in bytes.
 const SHORT_LINE: usize = 42;
 
 /// A buffer of that size.
@@ -32,8 +32,8 @@ fn new_buffer(alloc: Global) -> Result<Vec<u8>, AllocError>
     vec![in alloc; 0; BUFFER]
 }
 
-/// Where the buffer has no room for a literal any more, the sink takes what was made. Says how many bytes the buffer
-/// keeps.
+/// Sends what was made to the sink if the buffer has no room for one more literal. Returns the number of bytes that the
+/// buffer keeps.
 #[inline(always)]
 fn make_room<W: Sink>(buffer: &[u8], end: usize, sink: &mut W) -> Result<usize, Failed>
     requires within { end ≤ length buffer.now }
@@ -65,7 +65,7 @@ fn put_short_clause(literals: &[Lit], table: &VariableTable, buffer: &mut [u8], 
     put_bytes(b"0\n", buffer, end)
 }
 
-/// Writes the clause's line after what the buffer has. Where the buffer is full, the sink takes it.
+/// Writes the clause's line after what the buffer has. If the buffer is full, the sink takes it.
 fn put_long_clause<W: Sink>(
     literals: &[Lit],
     table: &VariableTable,
@@ -90,7 +90,7 @@ fn put_long_clause<W: Sink>(
     Ok(put_bytes(b"0\n", buffer, start))
 }
 
-/// Writes the line of the clause of these literals after what the buffer has. Where the buffer is full, the sink takes it.
+/// Writes the line of the clause of these literals after what the buffer has. If the buffer is full, the sink takes it.
 fn put_line<W: Sink>(
     literals: &[Lit],
     table: &VariableTable,
@@ -112,7 +112,7 @@ fn put_line<W: Sink>(
     put_long_clause(literals, table, buffer, at, sink)
 }
 
-/// Writes the clauses' lines after what the buffer has. Where the buffer is full, the sink takes it.
+/// Writes the clauses' lines after what the buffer has. If the buffer is full, the sink takes it.
 fn put_clauses<W: Sink>(
     clauses: &[Clause],
     table: &VariableTable,
@@ -160,7 +160,7 @@ fn put_each_line<W: Sink>(
     put_line(&same, table, buffer, kept, sink)
 }
 
-/// Writes the same two lines: at once, where the buffer has room and the table has the texts.
+/// Writes the same two lines: at once, if the buffer has room and the table has the texts.
 #[inline(always)]
 fn put_agreement<W: Sink>(
     first: Lit,
@@ -208,7 +208,7 @@ impl Model for CnfWriter {
 }
 
 impl CnfWriter {
-    /// The text's header, for so many variables and clauses.
+    /// The text's header, for these numbers of variables and clauses.
     pub fn begin(alloc: Global, variables: u32, clauses: usize) -> Result<CnfWriter, AllocError>
         ensures { IfOk result (λ writer. writer ≡ header_line variables clauses) }
     {
@@ -276,7 +276,7 @@ impl CnfWriter {
     }
 }
 
-/// Writes the formula's text. Where memory runs out or the sink fails, the sink has taken a prefix of it.
+/// Writes the formula's text. If memory runs out or the sink fails, the sink has taken a prefix of it.
 pub fn write_cnf<W: Sink>(alloc: Global, formula: &Formula, sink: &mut W) -> Result<(), SinkFault>
     ensures whole { OnOk result (W.written sink.new ≡ W.written sink.old ++ cnf_text formula.now) }
     ensures well { OnOk result (W.failures sink.new ≡ W.failures sink.old) }

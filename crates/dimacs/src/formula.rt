@@ -78,7 +78,7 @@ impl Formula {
         are_clauses(self.clauses.as_slice());
     }
 
-    /// How many variables it has.
+    /// The number of variables.
     pub fn variables(&self) -> u32
         ensures { result ≡ self.now.variables }
     {
@@ -92,7 +92,7 @@ impl Formula {
         self.clauses.as_slice()
     }
 
-    /// Its clauses, in order, and no formula any more.
+    /// Consumes the formula and returns its clauses in order.
     pub fn into_clauses(self) -> Vec<Clause>
         ensures { result.items ≡ self.clauses }
     {

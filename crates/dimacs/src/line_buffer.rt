@@ -6,17 +6,17 @@ use crate::literal::Lit;
 use crate::variable_table::VariableTable;
 use itoa::Buffer;
 
-/// No literal's text is longer, with its sign and its space.
+/// Maximum length of a literal's text, in bytes, with its sign and its space.
 pub(crate) const LITERAL: usize = 10;
 
-/// No header is longer.
+/// Maximum length of a header line, in bytes.
 pub(crate) const HEADER: usize = 128;
 
 /// The two digits of each number below 100.
 static PAIRS: [u8; 200] =
     *b"00010203040506070809101112131415161718192021222324252627282930313233343536373839404142434445464748495051525354555657585960616263646566676869707172737475767778798081828384858687888990919293949596979899";
 
-/// Writes two digits, also where the first is 0.
+/// Writes two digits, also if the first is 0.
 #[inline(always)]
 fn put_pair(pair: u32, buffer: &mut [u8], at: usize) -> usize
     requires small { pair < 100 }

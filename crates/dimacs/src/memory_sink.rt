@@ -5,7 +5,7 @@ use crate::sink::{Failed, Sink};
 use crate::transcript::FailureCount;
 use std::alloc::Global;
 
-/// Keeps the bytes that it takes. It fails where memory runs out.
+/// Keeps the bytes that it takes. It fails if memory runs out.
 #[derive(Drop)]
 pub struct MemorySink {
     bytes: Vec<u8>,

@@ -12,7 +12,7 @@ pub fn model_or_first_false()
     ensures { (value : ℕ → Bool) (clauses : List (List ℤ)) → IsModel value clauses ⊎ ((place : ℕ) × IsFirstFalse value clauses place) }
 {}
 
-/// Truth values have one first false clause at most.
+/// Truth values have at most one first false clause.
 pub fn one_first_false()
     ensures { (value : ℕ → Bool) (clauses : List (List ℤ)) (p q : ℕ) → IsFirstFalse value clauses p → IsFirstFalse value clauses q → p ≡ q }
 {}

@@ -14,7 +14,7 @@ pub struct ShortSink {
 }
 
 impl ShortSink {
-    /// A sink that takes at most `most` bytes a call, and at least one, and that fails only where memory runs out.
+    /// A sink that takes at most `most` bytes a call, and at least one, and that fails only if memory runs out.
     pub fn new(alloc: Global, most: usize) -> ShortSink
         ensures written { ⟦<ShortSink as Sink>⟧.written result ≡ [] }
         ensures failures { ⟦<ShortSink as Sink>⟧.failures result ≡ 0 }

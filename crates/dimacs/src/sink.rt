@@ -11,11 +11,11 @@ pub trait Sink {
     /// The bytes that it has taken so far.
     ghost written: { Self → List ℕ };
 
-    /// How often it has failed so far.
+    /// The number of its failures up to now.
     ghost failures: { Self → ℕ };
 
-    /// Takes the first bytes of a slice, at least one where there is one, and says how many. A sink that
-    /// fails takes none of them.
+    /// Takes the first bytes of a slice, at least one if there is one, and returns their number. A sink that fails
+    /// takes none of them.
     fn write(&mut self, bytes: &[u8]) -> Result<usize, Failed>
         ensures within { IfOk result (λ count. count ≤ length bytes.now) }
         ensures some { 0 < length bytes.now → IfOk result (λ count. 0 < count) }
@@ -25,8 +25,8 @@ pub trait Sink {
         ensures failed { OnErr result (failures self.new ≡ failures self.old + 1) };
 }
 
-/// Writes the whole slice, through however many calls that takes. Where the sink fails, it has taken a prefix of
-/// the slice and has failed once more.
+/// Writes the whole slice, through however many calls that takes. If the sink fails, it has taken a prefix of the slice
+/// and has failed once more.
 pub fn write_whole<S: Sink>(sink: &mut S, bytes: &[u8]) -> Result<(), Failed>
     ensures whole { OnOk result (S.written sink.new ≡ S.written sink.old ++ bytes.now) }
     ensures well { OnOk result (S.failures sink.new ≡ S.failures sink.old) }

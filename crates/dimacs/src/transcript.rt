@@ -31,7 +31,7 @@ impl Transcript {
     {}
 }
 
-/// How often a device has failed. It takes no memory: only clauses read it.
+/// The number of failures of a device. It takes no memory: only clauses read it.
 #[derive(Drop)]
 pub struct FailureCount {
     marker: PhantomData<u8>,

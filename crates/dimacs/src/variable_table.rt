@@ -8,7 +8,7 @@ use crate::literal::Lit;
 use std::alloc::{AllocError, Global};
 use std::marker::Model;
 
-/// No text of a variable in a table is longer, with its space.
+/// Maximum length of a variable's text in a table, in bytes, with its space.
 const TEXT: usize = 8;
 
 /// The variables below this number have a text in the table.
@@ -107,7 +107,7 @@ impl Model for VariableTable {
     ghost use Rattle.std.specs.List.{range_with_len};
     ghost use Rattle.dimacs.specs.CnfText.{variable_text};
 
-    /// How many texts it has.
+    /// The number of texts.
     ghost Value = { ℕ };
 
     ghost view = { λ table. length table.texts.items };
@@ -128,7 +128,7 @@ fn variable_texts(alloc: Global, count: u32) -> Result<Vec<VariableText>, AllocE
 }
 
 impl VariableTable {
-    /// A table for a text with so many variables.
+    /// A table for a text with this number of variables.
     pub(crate) fn of(alloc: Global, variables: u32) -> Result<VariableTable, AllocError> {
         let count = variables.min(LISTED - 1) + 1;
         Ok(VariableTable {

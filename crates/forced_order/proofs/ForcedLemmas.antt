@@ -2,9 +2,9 @@
 use Rattle.std.proofs.Common.{◌≡◌, ◌≤◌, List, [], ◌∷◌, ◌++◌, ap, sym, subst, arith, inl, inr}
 use Rattle.std.specs.Prelude.{IsSome}
 use Rattle.std.proofs.lemmas.Bool.{cases_order}
-use Rattle.traces.specs.declared.operation.OpName.{OpName}
-use Rattle.traces.specs.Interleaving.{StandsBefore, IsInterleaving}
-use Rattle.traces.specs.Trace.{TraceValue, operation_at}
+use Rattle.trace_semantics.specs.declared.operation.OpName.{OpName}
+use Rattle.trace_semantics.specs.Interleaving.{StandsBefore, IsInterleaving}
+use Rattle.trace_semantics.specs.Trace.{TraceValue, operation_at}
 use Rattle.forced_order.specs.Order.{IsInProgramOrder, IsStep, IsPath, IsForced}
 use Rattle.restriction.proofs.StandLemmas.{stands_over, stands_either}
 

@@ -4,9 +4,9 @@ use Rattle.std.specs.Prelude.{Some}
 use Rattle.std.specs.List.{slice_get}
 use Rattle.std.proofs.lemmas.Bool.{cases_lt, leb-true, le-leb}
 use Rattle.std.proofs.lemmas.Option.{slice_get_within}
-use Rattle.traces.specs.declared.trace.Process.{Process}
-use Rattle.traces.specs.PairOrder.{order_of}
-use Rattle.traces.specs.Trace.{TraceValue, IsTrace}
+use Rattle.trace_semantics.specs.declared.trace.Process.{Process}
+use Rattle.trace_semantics.specs.PairOrder.{order_of}
+use Rattle.trace_semantics.specs.Trace.{TraceValue, IsTrace}
 use Rattle.forced_order.specs.Order.{IsClosedForward}
 use Rattle.forced_order.specs.Rising.{AreAllRising}
 use Rattle.forced_order.specs.Rows.{OrderValue, last_before, numbered, ordered_by}

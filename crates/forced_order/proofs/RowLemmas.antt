@@ -8,13 +8,13 @@ use Rattle.std.proofs.lemmas.List.Elements.{All-contains, Contains-get_or}
 use Rattle.std.proofs.lemmas.List.Folds.{find_at}
 use Rattle.std.proofs.lemmas.List.Sums.{prefix_len-le-length}
 use Rattle.std.proofs.lemmas.Option.{option_and_then_some, slice_get_read, slice_get_within}
-use Rattle.traces.specs.declared.operation.OpName.{OpName}
-use Rattle.traces.specs.declared.trace.Process.{Process}
-use Rattle.traces.specs.PairOrder.{order_of}
-use Rattle.traces.specs.Trace.{TraceValue, IsTrace, at_place, process_named, operation_at}
-use Rattle.traces.proofs.ElementLemmas.{found, from_map}
-use Rattle.traces.proofs.NameLemmas.{same_bytes, some_value, known_named, named_known}
-use Rattle.forced_order.specs.declared.numbered.Numbered.{Numbered}
+use Rattle.trace_semantics.specs.declared.operation.OpName.{OpName}
+use Rattle.trace_semantics.specs.declared.trace.Process.{Process}
+use Rattle.trace_semantics.specs.PairOrder.{order_of}
+use Rattle.trace_semantics.specs.Trace.{TraceValue, IsTrace, at_place, process_named, operation_at}
+use Rattle.trace_semantics.proofs.ElementLemmas.{found, from_map}
+use Rattle.trace_semantics.proofs.NameLemmas.{same_bytes, some_value, known_named, named_known}
+use Rattle.forced_order.specs.declared.numbered.OperationNumber.{OperationNumber}
 use Rattle.forced_order.specs.Forced.{IsForcedByNumber, AreForced, numbered_pair, numbered_pairs}
 use Rattle.forced_order.specs.Order.{IsForced, IsPath, IsStep}
 use Rattle.forced_order.specs.Raised.{IsRaised}
@@ -69,7 +69,7 @@ forced_numbers t m n h k f =
 one_process : (t : TraceValue) (k : ℕ) (p q : Process) → slice_get t.processes k ≡ Some p → slice_get t.processes k ≡ Some q → p ≡ q
 one_process t k p q h g = let same : Some p ≡ Some q = sym h ∙ g in cc
 
-pub forced_through : (t : TraceValue) (m x n : Numbered) → IsForcedByNumber t m x → IsForcedByNumber t x n → IsForcedByNumber t m n
+pub forced_through : (t : TraceValue) (m x n : OperationNumber) → IsForcedByNumber t m x → IsForcedByNumber t x n → IsForcedByNumber t m n
 forced_through t m x n h k =
     let same = one_process t x.process k.first h.second k.first_at h.second_at in
     let after : IsForced t (record { process = h.second.name; place = x.place }) (record { process = k.second.name; place = n.place }) =
@@ -83,18 +83,18 @@ forced_through t m x n h k =
     }
 
 -- a place that is raised to one that is forced to stand before
-pub raised_to : (t : TraceValue) (old new : OrderValue) (at : Numbered) (process place : ℕ) → (place ≡ 0) ⊎ IsForcedByNumber t (record { process = process; place = place }) at → IsRaised old new at process place → AreForced t old → AreForced t new
+pub raised_to : (t : TraceValue) (old new : OrderValue) (at : OperationNumber) (process place : ℕ) → (place ≡ 0) ⊎ IsForcedByNumber t (record { process = process; place = place }) at → IsRaised old new at process place → AreForced t old → AreForced t new
 raised_to t old new at process place forced raised given n q =
     elim (raised n q) [
       | inl same ↦ subst (λ l. (l ≡ 0) ⊎ IsForcedByNumber t (record { process = q; place = l }) n) (sym same) (given n q)
       | inr here ↦ (let one : at ≡ n = λ i. record { process = sym here.0 i; place = sym here.1 i } in
           let there : (place ≡ 0) ⊎ IsForcedByNumber t (record { process = q; place = place }) n =
-          subst (λ (x : Numbered). (place ≡ 0) ⊎ IsForcedByNumber t (record { process = q; place = place }) x) one (subst (λ p. (place ≡ 0) ⊎ IsForcedByNumber t (record { process = p; place = place }) at) (sym here.2) forced) in
+          subst (λ (x : OperationNumber). (place ≡ 0) ⊎ IsForcedByNumber t (record { process = q; place = place }) x) one (subst (λ p. (place ≡ 0) ⊎ IsForcedByNumber t (record { process = p; place = place }) at) (sym here.2) forced) in
           subst (λ l. (l ≡ 0) ⊎ IsForcedByNumber t (record { process = q; place = l }) n) (sym here.3) there)
     ]
 
 -- a place that is raised to one before an operation that is forced to stand before
-pub raised_over : (t : TraceValue) (old new : OrderValue) (first second : Numbered) (process place : ℕ) → IsForcedByNumber t first second → place ≡ last_before old first process → IsRaised old new second process place → AreForced t old → AreForced t new
+pub raised_over : (t : TraceValue) (old new : OrderValue) (first second : OperationNumber) (process place : ℕ) → IsForcedByNumber t first second → place ≡ last_before old first process → IsRaised old new second process place → AreForced t old → AreForced t new
 raised_over t old new first second process place forced is raised given =
     let before : (place ≡ 0) ⊎ IsForcedByNumber t (record { process = process; place = place }) first = subst (λ l. (l ≡ 0) ⊎ IsForcedByNumber t (record { process = process; place = l }) first) (sym is) (given first process) in
     let through : (place ≡ 0) ⊎ IsForcedByNumber t (record { process = process; place = place }) second = elim before [
@@ -112,14 +112,14 @@ path_known t ok m [] n h = first_known t ok m n h
 path_known t ok m (x ∷ between) n h = first_known t ok m x h.0
 
 -- the pairs of a trace are forced
-pub pair_forced : (t : TraceValue) → IsTrace t → (pair : Numbered × Numbered) → Contains (numbered_pairs t) pair → IsForcedByNumber t pair.0 pair.1
+pub pair_forced : (t : TraceValue) → IsTrace t → (pair : OperationNumber × OperationNumber) → Contains (numbered_pairs t) pair → IsForcedByNumber t pair.0 pair.1
 pair_forced t ok pair c =
     let of = from_map (numbered_pair t.processes) t.before pair c in
     let known = All-contains (λ (p : OpName × OpName). IsSome (operation_at t p.0) × IsSome (operation_at t p.1)) t.before of.0 ok.known of.1 in
     let forced = forced_numbers t of.0.0 of.0.1 known.0 known.1 ([], inr of.1) in
-    subst (λ (p : Numbered × Numbered). IsForcedByNumber t p.0 p.1) of.2 forced
+    subst (λ (p : OperationNumber × OperationNumber). IsForcedByNumber t p.0 p.1) of.2 forced
 
-pub pair_forced_at : (t : TraceValue) → IsTrace t → (pairs : List (Numbered × Numbered)) (k : ℕ) (d : Numbered × Numbered) → pairs ≡ numbered_pairs t → k < length pairs → IsForcedByNumber t (get_or pairs k d).0 (get_or pairs k d).1
+pub pair_forced_at : (t : TraceValue) → IsTrace t → (pairs : List (OperationNumber × OperationNumber)) (k : ℕ) (d : OperationNumber × OperationNumber) → pairs ≡ numbered_pairs t → k < length pairs → IsForcedByNumber t (get_or pairs k d).0 (get_or pairs k d).1
 pair_forced_at t ok pairs k d e l = pair_forced t ok (get_or pairs k d) (subst (λ l. Contains l (get_or pairs k d)) e (Contains-get_or pairs k d l))
 
 pub at_least : (n : ℕ) → (n ≡ 0 → ⊥) → 1 ≤ n

@@ -1,10 +1,10 @@
 -- Orders that every legal schedule of a trace keeps.
 use Rattle.std.specs.Prelude.{◌≡◌, ◌⊎◌, ◌<◌, true, Bool, List, [], ◌∷◌, IsSome}
 use Rattle.std.specs.List.{Contains}
-use Rattle.traces.specs.declared.operation.OpName.{OpName}
-use Rattle.traces.specs.Interleaving.{StandsBefore}
-use Rattle.traces.specs.Legal.{IsLegal}
-use Rattle.traces.specs.Trace.{TraceValue, operation_at}
+use Rattle.trace_semantics.specs.declared.operation.OpName.{OpName}
+use Rattle.trace_semantics.specs.Interleaving.{StandsBefore}
+use Rattle.trace_semantics.specs.Legal.{IsLegal}
+use Rattle.trace_semantics.specs.Trace.{TraceValue, operation_at}
 
 -- both are operations of one process, and the first has the lower place
 pub record IsInProgramOrder (t : TraceValue) (m n : OpName) : Type 0 where

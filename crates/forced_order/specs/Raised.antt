@@ -1,6 +1,6 @@
 -- Rows in which one place may have been raised.
 use Rattle.std.specs.Prelude.{◌≡◌, ◌⊎◌, slice_index_or, ℕ, List, []}
-use Rattle.forced_order.specs.declared.numbered.Numbered.{Numbered}
+use Rattle.forced_order.specs.declared.numbered.OperationNumber.{OperationNumber}
 use Rattle.forced_order.specs.Rows.{OrderValue, last_before}
 
 -- each place is as it was, or is that of the process and now this one
@@ -12,7 +12,7 @@ AreRowsRaised old new at process place = (k q : ℕ) →
     (slice_index_or (slice_index_or new k []) q 0 ≡ slice_index_or (slice_index_or old k []) q 0)
     ⊎ ((k ≡ at) × (q ≡ process) × (slice_index_or (slice_index_or new k []) q 0 ≡ place))
 
-abbrev pub IsRaised : OrderValue → OrderValue → Numbered → ℕ → ℕ → Type 0
-IsRaised old new at process place = (n : Numbered) (q : ℕ) →
+abbrev pub IsRaised : OrderValue → OrderValue → OperationNumber → ℕ → ℕ → Type 0
+IsRaised old new at process place = (n : OperationNumber) (q : ℕ) →
     (last_before new n q ≡ last_before old n q)
     ⊎ ((n.process ≡ at.process) × (n.place ≡ at.place) × (q ≡ process) × (last_before new n q ≡ place))

@@ -1,12 +1,12 @@
 -- Rows that rise along program order.
 use Rattle.std.specs.Prelude.{◌≡◌, ◌≤◌, ◌<◌, ◌+◌, ℕ, Some, List, length}
 use Rattle.std.specs.List.{slice_get}
-use Rattle.traces.specs.declared.trace.Process.{Process}
-use Rattle.forced_order.specs.declared.numbered.Numbered.{Numbered}
+use Rattle.trace_semantics.specs.declared.trace.Process.{Process}
+use Rattle.forced_order.specs.declared.numbered.OperationNumber.{OperationNumber}
 use Rattle.forced_order.specs.Rows.{OrderValue, last_before}
 
 -- of so many processes, the first row has no place above that of the second
-abbrev pub IsRowWithin : OrderValue → ℕ → Numbered → Numbered → Type 0
+abbrev pub IsRowWithin : OrderValue → ℕ → OperationNumber → OperationNumber → Type 0
 IsRowWithin order width m n = (q : ℕ) → q < width → last_before order m q ≤ last_before order n q
 
 -- the rows of a process of so many operations rise

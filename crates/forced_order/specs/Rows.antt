@@ -1,10 +1,10 @@
 -- An order as rows of numbers: for each operation and each process, the last place there that is known to stand before it.
 use Rattle.std.specs.Prelude.{nat_le, slice_index_or, ℕ, Bool, List, []}
-use Rattle.traces.specs.declared.operation.OpName.{OpName}
-use Rattle.traces.specs.declared.trace.Process.{Process}
-use Rattle.traces.specs.PairOrder.{order_of}
-use Rattle.traces.specs.Trace.{TraceValue}
-use Rattle.forced_order.specs.declared.numbered.Numbered.{Numbered}
+use Rattle.trace_semantics.specs.declared.operation.OpName.{OpName}
+use Rattle.trace_semantics.specs.declared.trace.Process.{Process}
+use Rattle.trace_semantics.specs.PairOrder.{order_of}
+use Rattle.trace_semantics.specs.Trace.{TraceValue}
+use Rattle.forced_order.specs.declared.numbered.OperationNumber.{OperationNumber}
 use Rattle.forced_order.specs.Order.{IsWithinForced}
 
 -- the rows of each process by place, of which no operation has the one at 0; in each row a number for each process
@@ -12,15 +12,15 @@ abbrev pub OrderValue : Type 0
 OrderValue = List (List (List ℕ))
 
 -- the last place of the process that stands before the operation; 0 if none does
-abbrev pub last_before : OrderValue → Numbered → ℕ → ℕ
+abbrev pub last_before : OrderValue → OperationNumber → ℕ → ℕ
 last_before order n process = slice_index_or (slice_index_or (slice_index_or order n.process []) n.place []) process 0
 
 -- the first stands before the second
-abbrev pub stands_by : OrderValue → Numbered → Numbered → Bool
+abbrev pub stands_by : OrderValue → OperationNumber → OperationNumber → Bool
 stands_by order m n = nat_le m.place (last_before order n m.process)
 
 -- an operation by numbers
-abbrev pub numbered : List Process → OpName → Numbered
+abbrev pub numbered : List Process → OpName → OperationNumber
 numbered processes n = record { process = order_of processes n.process; place = n.place }
 
 -- the order of names that the rows give

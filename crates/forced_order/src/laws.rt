@@ -1,10 +1,10 @@
 //! Laws of the forced order.
 
 ghost use Rattle.std.specs.Prelude.{Bool, List};
-ghost use Rattle.traces.specs.declared.operation.OpName.{OpName};
-ghost use Rattle.traces.specs.Interleaving.{StandsBefore};
-ghost use Rattle.traces.specs.Legal.{IsLegal};
-ghost use Rattle.traces.specs.Trace.{TraceValue};
+ghost use Rattle.trace_semantics.specs.declared.operation.OpName.{OpName};
+ghost use Rattle.trace_semantics.specs.Interleaving.{StandsBefore};
+ghost use Rattle.trace_semantics.specs.Legal.{IsLegal};
+ghost use Rattle.trace_semantics.specs.Trace.{TraceValue};
 ghost use Rattle.forced_order.specs.Order.{IsForced, IsObeyed, IsWithinForced};
 
 /// Every legal schedule keeps the forced order.

@@ -2,15 +2,15 @@
 
 ghost use Rattle.std.specs.Prelude.{◌≡◌, ◌≤◌, IfOk, length, map, position};
 ghost use Rattle.std.specs.Str.{bytes_eq};
-ghost use Rattle.traces.specs.declared.trace.Process.{Process as Listed};
-ghost use Rattle.traces.specs.PairOrder.{order_of};
+ghost use Rattle.trace_semantics.specs.declared.trace.Process.{Process as Listed};
+ghost use Rattle.trace_semantics.specs.PairOrder.{order_of};
 ghost use Rattle.forced_order.specs.Forced.{numbered_pair, numbered_pairs};
 ghost use Rattle.forced_order.specs.Rows.{numbered};
 
-use crate::numbered::Numbered;
+use crate::numbered::OperationNumber;
 use std::alloc::{AllocError, Global};
-use traces::operation::OpName;
-use traces::trace::{Process, Trace};
+use trace_semantics::operation::OpName;
+use trace_semantics::trace::{Process, Trace};
 
 fn find_process(processes: &[Process], name: &[u8]) -> Option<usize>
     ensures { result ≡ position (λ (p : Listed). bytes_eq p.name name.now) processes.now }
@@ -29,11 +29,11 @@ fn order_of_name(processes: &[Process], name: &[u8]) -> usize
 }
 
 /// The operation by numbers.
-fn number(processes: &[Process], name: &OpName) -> Numbered
+fn number(processes: &[Process], name: &OpName) -> OperationNumber
     requires few { length processes.now ≤ 64 }
     ensures { result ≡ numbered processes.now name.now }
 {
-    Numbered {
+    OperationNumber {
         process: order_of_name(processes, name.process.as_bytes()) as u16,
         place: name.place,
     }
@@ -44,7 +44,7 @@ fn numbered_of(
     alloc: Global,
     processes: &[Process],
     pairs: &[(OpName, OpName)],
-) -> Result<Vec<(Numbered, Numbered)>, AllocError>
+) -> Result<Vec<(OperationNumber, OperationNumber)>, AllocError>
     requires few { length processes.now ≤ 64 }
     ensures { IfOk result (λ numbers. numbers.items ≡ map (numbered_pair processes.now) pairs.now) }
 {
@@ -56,7 +56,10 @@ fn numbered_of(
 }
 
 /// The before pairs of a trace, by numbers and in their order.
-pub fn pairs_of(alloc: Global, trace: &Trace) -> Result<Vec<(Numbered, Numbered)>, AllocError>
+pub fn pairs_of(
+    alloc: Global,
+    trace: &Trace,
+) -> Result<Vec<(OperationNumber, OperationNumber)>, AllocError>
     ensures { IfOk result (λ pairs. pairs.items ≡ numbered_pairs trace.now) }
 {
     trace.is_trace();

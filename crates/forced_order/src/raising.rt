@@ -1,15 +1,15 @@
 //! Raises the rows of a trace along the steps of its forced order.
 
 ghost use Rattle.std.specs.Prelude.{◌≡◌, IfOk};
-ghost use Rattle.traces.specs.Trace.{IsTrace};
+ghost use Rattle.trace_semantics.specs.Trace.{IsTrace};
 ghost use Rattle.forced_order.specs.Forced.{AreForced, numbered_pairs};
 
-use crate::numbered::Numbered;
+use crate::numbered::OperationNumber;
 use crate::pairs::pairs_of;
 use crate::rows::OrderRows;
-use crate::walk::{Step, steps_of};
+use crate::walk::{OrderStep, steps_of};
 use std::alloc::{AllocError, Global};
-use traces::trace::Trace;
+use trace_semantics::trace::Trace;
 
 /// Rows are raised along all steps at most so often. Once is enough unless pairs are cyclic; the second time finds nothing to raise.
 const ROUNDS: usize = 16;
@@ -25,7 +25,7 @@ fn row_counts(alloc: Global, trace: &Trace) -> Result<Vec<usize>, AllocError> {
 }
 
 /// Raises the row of the operation after this one in its process.
-fn raise_next(rows: &mut OrderRows, trace: &Trace, n: Numbered) -> bool
+fn raise_next(rows: &mut OrderRows, trace: &Trace, n: OperationNumber) -> bool
     ensures { IsTrace trace.now → AreForced trace.now rows.old → AreForced trace.now rows.new }
 {
     let processes = trace.processes();
@@ -37,7 +37,7 @@ fn raise_next(rows: &mut OrderRows, trace: &Trace, n: Numbered) -> bool
     if n.place == 0 || n.place == u16::MAX || n.place as usize >= count {
         return false;
     }
-    let next = Numbered {
+    let next = OperationNumber {
         process: n.process,
         place: n.place + 1,
     };
@@ -45,7 +45,12 @@ fn raise_next(rows: &mut OrderRows, trace: &Trace, n: Numbered) -> bool
 }
 
 /// Raises the row of the second operation of the pair under this number.
-fn raise_pair(rows: &mut OrderRows, trace: &Trace, pairs: &[(Numbered, Numbered)], k: usize) -> bool
+fn raise_pair(
+    rows: &mut OrderRows,
+    trace: &Trace,
+    pairs: &[(OperationNumber, OperationNumber)],
+    k: usize,
+) -> bool
     ensures { IsTrace trace.now → pairs.now ≡ numbered_pairs trace.now → AreForced trace.now rows.old → AreForced trace.now rows.new }
 {
     if k < pairs.len() {
@@ -59,14 +64,14 @@ fn raise_pair(rows: &mut OrderRows, trace: &Trace, pairs: &[(Numbered, Numbered)
 fn raise_step(
     rows: &mut OrderRows,
     trace: &Trace,
-    pairs: &[(Numbered, Numbered)],
-    step: Step,
+    pairs: &[(OperationNumber, OperationNumber)],
+    step: OrderStep,
 ) -> bool
     ensures { IsTrace trace.now → pairs.now ≡ numbered_pairs trace.now → AreForced trace.now rows.old → AreForced trace.now rows.new }
 {
     match step {
-        Step::Next(n) => raise_next(rows, trace, n),
-        Step::Pair(k) => raise_pair(rows, trace, pairs, k),
+        OrderStep::Next(n) => raise_next(rows, trace, n),
+        OrderStep::Pair(k) => raise_pair(rows, trace, pairs, k),
     }
 }
 
@@ -74,8 +79,8 @@ fn raise_step(
 fn raise_all(
     rows: &mut OrderRows,
     trace: &Trace,
-    pairs: &[(Numbered, Numbered)],
-    steps: &[Step],
+    pairs: &[(OperationNumber, OperationNumber)],
+    steps: &[OrderStep],
 ) -> bool
     ensures { IsTrace trace.now → pairs.now ≡ numbered_pairs trace.now → AreForced trace.now rows.old → AreForced trace.now rows.new }
 {
@@ -94,13 +99,18 @@ fn raise_forward(rows: &mut OrderRows, trace: &Trace)
 {
     for process in 0..64 {
         for place in 1..4096 {
-            raise_next(rows, trace, Numbered { process, place });
+            raise_next(rows, trace, OperationNumber { process, place });
         }
     }
 }
 
 /// Raises rows along all steps, again and again, until none is lower.
-fn raise_fully(rows: &mut OrderRows, trace: &Trace, pairs: &[(Numbered, Numbered)], steps: &[Step])
+fn raise_fully(
+    rows: &mut OrderRows,
+    trace: &Trace,
+    pairs: &[(OperationNumber, OperationNumber)],
+    steps: &[OrderStep],
+)
     ensures { IsTrace trace.now → pairs.now ≡ numbered_pairs trace.now → AreForced trace.now rows.old → AreForced trace.now rows.new }
 {
     for _ in 0..ROUNDS {

@@ -2,15 +2,15 @@
 
 ghost use Rattle.std.specs.Prelude.{◌≡◌, ◌≤◌, Some, length, true};
 ghost use Rattle.std.specs.List.{slice_get};
-ghost use Rattle.traces.specs.declared.trace.Process.{Process as Listed};
+ghost use Rattle.trace_semantics.specs.declared.trace.Process.{Process as Listed};
 ghost use Rattle.forced_order.specs.Rising.{IsRowWithin, AreRowsRising, AreAllRising};
 
-use crate::numbered::Numbered;
+use crate::numbered::OperationNumber;
 use crate::rows::OrderRows;
-use traces::trace::{Process, Trace};
+use trace_semantics::trace::{Process, Trace};
 
 /// Whether no place in the row of the first operation is above that in the row of the second.
-fn is_row_within(rows: &OrderRows, first: Numbered, second: Numbered) -> bool
+fn is_row_within(rows: &OrderRows, first: OperationNumber, second: OperationNumber) -> bool
     ensures { result ≡ true → IsRowWithin rows.now 64 first second }
 {
     for process in 0..64 {
@@ -31,11 +31,11 @@ fn are_rows_rising(rows: &OrderRows, process: u16, count: usize) -> bool
         return false;
     }
     for place in 1..count {
-        let first = Numbered {
+        let first = OperationNumber {
             process,
             place: place as u16,
         };
-        let second = Numbered {
+        let second = OperationNumber {
             process,
             place: (place + 1) as u16,
         };

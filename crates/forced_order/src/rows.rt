@@ -1,16 +1,16 @@
 //! Rows of places: what is known of each operation of a trace.
 
-use crate::numbered::Numbered;
+use crate::numbered::OperationNumber;
 use std::alloc::{AllocError, Global};
 use std::marker::Model;
 
 /// What is known of one operation: for each process the last place there that stands before it, or 0.
 #[derive(Drop)]
-pub struct Row {
+pub struct OperationRow {
     places: Vec<u16>,
 }
 
-impl Model for Row {
+impl Model for OperationRow {
     ghost use Rattle.std.specs.Prelude.{List, ℕ};
 
     ghost Value = { List ℕ };
@@ -18,19 +18,19 @@ impl Model for Row {
     ghost view = { λ row. row.places.items };
 }
 
-impl Row {
+impl OperationRow {
     ghost use Rattle.std.specs.Prelude.{◌≡◌, ℕ, IfOk, slice_index_or};
     ghost use Rattle.forced_order.specs.Raised.{IsRowRaised};
 
     /// A row of so many zeros.
-    fn zeros(alloc: Global, width: usize) -> Result<Row, AllocError>
+    fn zeros(alloc: Global, width: usize) -> Result<OperationRow, AllocError>
         ensures { IfOk result (λ row. (q : ℕ) → slice_index_or row q 0 ≡ 0) }
     {
         let mut places = Vec::with_capacity(alloc, width)?;
         for _ in 0..width {
             places.push(0)?;
         }
-        Ok(Row { places })
+        Ok(OperationRow { places })
     }
 
     /// The last place of the process, or 0.
@@ -62,7 +62,7 @@ impl Row {
 /// The rows of one process by place.
 #[derive(Drop)]
 pub struct ProcessRows {
-    rows: Vec<Row>,
+    rows: Vec<OperationRow>,
 }
 
 impl Model for ProcessRows {
@@ -83,7 +83,7 @@ impl ProcessRows {
     {
         let mut rows = Vec::with_capacity(alloc, count)?;
         for _ in 0..count {
-            rows.push(Row::zeros(alloc, width)?)?;
+            rows.push(OperationRow::zeros(alloc, width)?)?;
         }
         Ok(ProcessRows { rows })
     }
@@ -129,11 +129,11 @@ impl Model for OrderRows {
 
 impl OrderRows {
     ghost use Rattle.std.specs.Prelude.{◌≡◌, ℕ, IfOk};
-    ghost use Rattle.traces.specs.Trace.{TraceValue};
+    ghost use Rattle.trace_semantics.specs.Trace.{TraceValue};
     ghost use Rattle.forced_order.specs.Forced.{IsForcedByNumber, AreForced};
     ghost use Rattle.forced_order.specs.Raised.{IsRaised};
     ghost use Rattle.forced_order.specs.Rows.{last_before};
-    ghost use Rattle.forced_order.specs.declared.numbered.Numbered.{Numbered as Named};
+    ghost use Rattle.forced_order.specs.declared.numbered.OperationNumber.{OperationNumber as Named};
 
     /// No rows.
     pub fn none(alloc: Global) -> OrderRows
@@ -156,7 +156,7 @@ impl OrderRows {
     }
 
     /// The last place of the process that stands before the operation; 0 if none does.
-    pub fn last_before(&self, n: Numbered, process: u16) -> u16
+    pub fn last_before(&self, n: OperationNumber, process: u16) -> u16
         ensures { result ≡ last_before self.now n process }
     {
         let k = n.process as usize;
@@ -168,7 +168,7 @@ impl OrderRows {
     }
 
     /// Raises the place of the process in the row of the operation, and says whether it was lower.
-    fn raise(&mut self, n: Numbered, process: u16, place: u16) -> bool
+    fn raise(&mut self, n: OperationNumber, process: u16, place: u16) -> bool
         ensures { IsRaised self.old self.new n process place }
     {
         let k = n.process as usize;
@@ -180,7 +180,7 @@ impl OrderRows {
     }
 
     /// Raises the row of the second operation to what follows if the first stands before it, and says whether it was lower.
-    pub fn raise_from(&mut self, first: Numbered, second: Numbered) -> bool
+    pub fn raise_from(&mut self, first: OperationNumber, second: OperationNumber) -> bool
         ensures { (t : TraceValue) → IsForcedByNumber t first second → AreForced t self.old → AreForced t self.new }
     {
         let mut rose = self.raise(second, first.process, first.place);

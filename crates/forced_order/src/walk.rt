@@ -2,14 +2,14 @@
 //!
 //! Nothing rests on it but how soon the rows are complete.
 
-use crate::numbered::Numbered;
+use crate::numbered::OperationNumber;
 use std::alloc::{AllocError, Global};
 
 /// A step of the forced order.
 #[derive(Clone, Copy, Drop)]
-pub enum Step {
+pub enum OrderStep {
     /// From the operation to the next of its process.
-    Next(Numbered),
+    Next(OperationNumber),
     /// From the first of the pair under this number to the second.
     Pair(usize),
 }
@@ -49,27 +49,27 @@ impl Front {
 
 /// The walk: its fronts, and the steps that were made.
 #[derive(Drop)]
-struct Walk<'a> {
-    pairs: &'a [(Numbered, Numbered)],
+struct FrontWalk<'a> {
+    pairs: &'a [(OperationNumber, OperationNumber)],
     fronts: Vec<Front>,
-    steps: Vec<Step>,
+    steps: Vec<OrderStep>,
 }
 
 /// The number of the first pair whose first operation is of this process, or of no pair.
-fn first_pair_of(pairs: &[(Numbered, Numbered)], process: usize) -> usize {
+fn first_pair_of(pairs: &[(OperationNumber, OperationNumber)], process: usize) -> usize {
     pairs
         .iter()
         .position(|pair| pair.0.process as usize == process)
         .unwrap_or(pairs.len())
 }
 
-impl<'a> Walk<'a> {
+impl<'a> FrontWalk<'a> {
     /// A walk before its first step, over so many places of each process.
     fn new(
         alloc: Global,
         counts: &[usize],
-        pairs: &'a [(Numbered, Numbered)],
-    ) -> Result<Walk<'a>, AllocError> {
+        pairs: &'a [(OperationNumber, OperationNumber)],
+    ) -> Result<FrontWalk<'a>, AllocError> {
         let mut fronts = Vec::with_capacity(alloc, counts.len())?;
         for k in 0..counts.len() {
             fronts.push(Front {
@@ -78,7 +78,7 @@ impl<'a> Walk<'a> {
                 next_pair: first_pair_of(pairs, k),
             })?;
         }
-        let mut walk = Walk {
+        let mut walk = FrontWalk {
             pairs,
             fronts,
             steps: Vec::new(alloc),
@@ -89,14 +89,14 @@ impl<'a> Walk<'a> {
         Ok(walk)
     }
 
-    fn add_wait(&mut self, n: Numbered) {
+    fn add_wait(&mut self, n: OperationNumber) {
         let k = n.process as usize;
         if k < self.fronts.len() {
             self.fronts[k].add_wait(n.place);
         }
     }
 
-    fn remove_wait(&mut self, n: Numbered) {
+    fn remove_wait(&mut self, n: OperationNumber) {
         let k = n.process as usize;
         if k < self.fronts.len() {
             self.fronts[k].remove_wait(n.place);
@@ -108,20 +108,20 @@ impl<'a> Walk<'a> {
     }
 
     /// Goes on to the next operation of the process.
-    fn advance(&mut self, process: usize) -> Numbered {
+    fn advance(&mut self, process: usize) -> OperationNumber {
         let mut place = 0;
         if process < self.fronts.len() {
             place = self.fronts[process].visited.saturating_add(1);
             self.fronts[process].visited = place;
         }
-        Numbered {
+        OperationNumber {
             process: (process & 0xffff) as u16,
             place,
         }
     }
 
     /// The next pair, if it is one from this operation.
-    fn take_pair(&mut self, n: Numbered) -> Option<usize> {
+    fn take_pair(&mut self, n: OperationNumber) -> Option<usize> {
         let pairs = self.pairs;
         let process = n.process as usize;
         if process < self.fronts.len() {
@@ -138,12 +138,12 @@ impl<'a> Walk<'a> {
     fn visit(&mut self, process: usize) -> Result<(), AllocError> {
         let pairs = self.pairs;
         let n = self.advance(process);
-        self.steps.push(Step::Next(n))?;
+        self.steps.push(OrderStep::Next(n))?;
         for _ in 0..pairs.len() {
             let Some(k) = self.take_pair(n) else {
                 break;
             };
-            self.steps.push(Step::Pair(k))?;
+            self.steps.push(OrderStep::Pair(k))?;
             if k < pairs.len() {
                 self.remove_wait(pairs[k].1);
             }
@@ -181,9 +181,9 @@ impl<'a> Walk<'a> {
 pub fn steps_of(
     alloc: Global,
     counts: &[usize],
-    pairs: &[(Numbered, Numbered)],
-) -> Result<Vec<Step>, AllocError> {
-    let mut walk = Walk::new(alloc, counts, pairs)?;
+    pairs: &[(OperationNumber, OperationNumber)],
+) -> Result<Vec<OrderStep>, AllocError> {
+    let mut walk = FrontWalk::new(alloc, counts, pairs)?;
     for _ in 0..u16::MAX {
         if !walk.go_on()? && !walk.break_cycle()? {
             break;

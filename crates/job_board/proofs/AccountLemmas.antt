@@ -1,7 +1,7 @@
 -- Where the account's four numbers are equal, jobs put and results gathered weigh the same.
 use Rattle.std.proofs.Common.{◌≡◌, ℕ, ◌+◌, Bool, true, false, cond, nat_lt, List, [], ◌∷◌, ◌++◌, map, length, refl, sym, ◌∙◌, ap, arith}
-use Rattle.cube_queue.specs.declared.job.Job.{Job}
-use Rattle.cube_queue.specs.declared.job.Settled.{Settled}
+use Rattle.cube_jobs.specs.declared.job.Job.{Job}
+use Rattle.cube_jobs.specs.declared.job.Settled.{Settled}
 use Rattle.job_board.specs.Merge.{IsMergeOf}
 use Rattle.job_board.specs.Pairs.{Pair, of_job, of_result, of_jobs, of_results, below}
 use Rattle.job_board.specs.Hands.{held_in}

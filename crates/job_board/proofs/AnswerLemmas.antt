@@ -7,8 +7,8 @@ use Rattle.std.proofs.lemmas.Bool.{cases_lt}
 use Rattle.std.proofs.lemmas.Bool.Decides.{Decides-int_eq}
 use Rattle.std.proofs.lemmas.List.Elements.{All-head, All-tail, All-contains}
 use Rattle.std.proofs.lemmas.Slice.Eq.{slice_eq-Decides}
-use Rattle.cube_queue.specs.declared.job.Job.{Job}
-use Rattle.cube_queue.specs.declared.job.Settled.{Settled}
+use Rattle.cube_jobs.specs.declared.job.Job.{Job}
+use Rattle.cube_jobs.specs.declared.job.Settled.{Settled}
 use Rattle.job_board.specs.Pairs.{Pair, of_job, of_result, of_jobs, Rise}
 use Rattle.job_board.specs.Accounts.{total, AreAnswersTo}
 use Rattle.job_board.proofs.TotalLemmas.{total-map}

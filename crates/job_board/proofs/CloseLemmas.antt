@@ -3,8 +3,8 @@ use Rattle.std.proofs.Common.{◌≡◌, ℕ, suc, ◌+◌, ◌<◌, Bool, true,
 use Rattle.std.specs.List.{All, slice_get}
 use Rattle.std.proofs.lemmas.List.{map-append, length-map, append-nil}
 use Rattle.std.proofs.lemmas.List.Elements.{All-nil, All-cons, All-head, All-tail}
-use Rattle.cube_queue.specs.declared.job.Job.{Job}
-use Rattle.cube_queue.specs.declared.job.Settled.{Settled}
+use Rattle.cube_jobs.specs.declared.job.Job.{Job}
+use Rattle.cube_jobs.specs.declared.job.Settled.{Settled}
 use Rattle.job_board.specs.Merge.{IsMergeOf}
 use Rattle.job_board.specs.ChannelRules.{with_worker_joined, PutAddsUp, GotAddsUp}
 use Rattle.job_board.specs.Hands.{held_in, ticket_in, is_within}
@@ -14,8 +14,8 @@ use Rattle.job_board.specs.Accounts.{total, taken_below, given_below, AreJoined,
 use Rattle.job_board.specs.declared.channel_view.ChannelView.{ChannelView}
 use Rattle.job_board.specs.declared.channel_view.ChannelView.TheVariants.{Single}
 use Rattle.job_board.specs.declared.account.Account.{Account}
-use Rattle.job_board.specs.declared.hand.Hand.{Hand}
-use Rattle.job_board.specs.declared.hand.Hand.TheVariants.{Empty, Holds, Stopped, Cut}
+use Rattle.job_board.specs.declared.in_flight.InFlight.{InFlight}
+use Rattle.job_board.specs.declared.in_flight.InFlight.TheVariants.{Empty, Holds, Stopped, Cut}
 use Rattle.job_board.specs.declared.seats.DealerSeat.{DealerSeat}
 use Rattle.job_board.specs.declared.seats.WorkerSeat.{WorkerSeat}
 use Rattle.job_board.specs.declared.seats.CollectorSeat.{CollectorSeat}
@@ -188,7 +188,7 @@ all_equal cubes dealer seats collector account is dealt gathered same =
     (taken, given, same)
 
 -- a hand that weighs nothing holds no job
-no_job : (cubes : ℕ) (hand : Hand) → is_within cubes hand ≡ true → total (only cubes one) (held_in hand) ≡ 0 → ticket_in hand ≡ None
+no_job : (cubes : ℕ) (hand : InFlight) → is_within cubes hand ≡ true → total (only cubes one) (held_in hand) ≡ 0 → ticket_in hand ≡ None
 no_job cubes Empty within none = refl
 no_job cubes (Holds held) within none =
     let here : only cubes one (held.ticket, held.cube) ≡ 1 = ap {B = ℕ} (λ (b : Bool). cond b 1 0) within in

@@ -4,14 +4,14 @@ use Rattle.std.specs.List.{All}
 use Rattle.std.proofs.lemmas.List.{map-append, append-nil, length-append}
 use Rattle.std.proofs.lemmas.List.Elements.{All-map, All-push, filter-append}
 use Rattle.std.proofs.lemmas.List.Quantifiers.{all_pairs_push}
-use Rattle.cube_queue.specs.declared.job.Job.{Job}
-use Rattle.cube_queue.specs.declared.job.Settled.{Settled}
+use Rattle.cube_jobs.specs.declared.job.Job.{Job}
+use Rattle.cube_jobs.specs.declared.job.Settled.{Settled}
 use Rattle.job_board.specs.ChannelRules.{list_in, with_item}
 use Rattle.job_board.specs.Pairs.{Pair, of_job, of_result, of_jobs, of_results, below, Rise}
 use Rattle.job_board.specs.Hands.{held_in, ticket_in, is_done, is_within}
-use Rattle.job_board.specs.declared.hand.Hand.{Hand}
-use Rattle.job_board.specs.declared.hand.Hand.TheVariants.{Empty, Holds, Stopped, Cut}
-use Rattle.job_board.specs.declared.hand.HeldJob.{HeldJob}
+use Rattle.job_board.specs.declared.in_flight.InFlight.{InFlight}
+use Rattle.job_board.specs.declared.in_flight.InFlight.TheVariants.{Empty, Holds, Stopped, Cut}
+use Rattle.job_board.specs.declared.in_flight.HeldJob.{HeldJob}
 use Rattle.job_board.specs.declared.channel_view.ChannelView.{ChannelView}
 use Rattle.job_board.specs.declared.channel_view.ChannelView.TheVariants.{Single, Worker}
 
@@ -80,14 +80,14 @@ answers_give taken before after settled so more =
     so ∙ sym (map-append of_result before (settled ∷ [])) ∙ ap of_results (sym more) ∙ sym (append-nil (of_results after))
 
 -- a hand that holds no job, where nothing has ended, is empty
-pub empty_hand : (hand : Hand) → ticket_in hand ≡ None → is_done hand ≡ false → held_in hand ≡ []
+pub empty_hand : (hand : InFlight) → ticket_in hand ≡ None → is_done hand ≡ false → held_in hand ≡ []
 empty_hand Empty none running = refl
 empty_hand (Holds held) none running = absurd (cc)
 empty_hand (Stopped job) none running = absurd (cc)
 empty_hand Cut none running = refl
 
 -- the seat rule after a job or a stop ticket was taken
-pub took : (number : ℕ) (v w : ChannelView Job) (given : List Settled) (hand : Hand) (job : Job) → v ≡ Worker number (list_in v) → w ≡ with_item v job →
+pub took : (number : ℕ) (v w : ChannelView Job) (given : List Settled) (hand : InFlight) (job : Job) → v ≡ Worker number (list_in v) → w ≡ with_item v job →
     of_jobs (list_in v) ≡ of_results given ++ held_in hand → ticket_in hand ≡ None → is_done hand ≡ false → of_jobs (list_in w) ≡ of_results given ++ of_job job ∷ []
 took number v w given hand job is more so none running =
     answers_take (list_in v) (list_in w) given job (so ∙ ap (λ (pairs : List Pair). of_results given ++ pairs) (empty_hand hand none running)) (worker_more_item v w number (list_in v) job is more).0
@@ -104,18 +104,18 @@ took_stop cubes number v w job taken is more so high =
     job_counted cubes (list_in v) (list_in w) job taken false so (worker_more_item v w number (list_in v) job is more).0 (le-ltb job.ticket cubes high)
 
 -- a hand with a job in it
-pub held_within : (cubes : ℕ) (hand : Hand) (held : HeldJob) → hand ≡ Holds held → is_within cubes hand ≡ true → held.ticket < cubes
-held_within cubes hand held is within = ltb-true held.ticket cubes (sym (ap (λ (h : Hand). is_within cubes h) is) ∙ within)
+pub held_within : (cubes : ℕ) (hand : InFlight) (held : HeldJob) → hand ≡ Holds held → is_within cubes hand ≡ true → held.ticket < cubes
+held_within cubes hand held is within = ltb-true held.ticket cubes (sym (ap (λ (h : InFlight). is_within cubes h) is) ∙ within)
 
 -- the seat rule after the result of the job in the hand was given
-pub gave : (number : ℕ) (v w : ChannelView Settled) (taken : List Job) (hand : Hand) (held : HeldJob) (settled : Settled) → v ≡ Worker number (list_in v) → w ≡ with_item v settled →
+pub gave : (number : ℕ) (v w : ChannelView Settled) (taken : List Job) (hand : InFlight) (held : HeldJob) (settled : Settled) → v ≡ Worker number (list_in v) → w ≡ with_item v settled →
     of_jobs taken ≡ of_results (list_in v) ++ held_in hand → hand ≡ Holds held → (held.ticket, held.cube) ≡ of_result settled → of_jobs taken ≡ of_results (list_in w) ++ []
 gave number v w taken hand held settled is more so holds same =
     let mine : held_in hand ≡ of_result settled ∷ [] = ap held_in holds ∙ ap (λ (p : Pair). p ∷ []) same in
     answers_give taken (list_in v) (list_in w) settled (so ∙ ap (λ (pairs : List Pair). of_results (list_in v) ++ pairs) mine) (worker_more_item v w number (list_in v) settled is more).0
 
 -- the job in the hand is below, and so is its result
-pub held_low : (cubes : ℕ) (hand : Hand) (held : HeldJob) (settled : Settled) → hand ≡ Holds held → is_within cubes hand ≡ true → (held.ticket, held.cube) ≡ of_result settled → settled.ticket < cubes
+pub held_low : (cubes : ℕ) (hand : InFlight) (held : HeldJob) (settled : Settled) → hand ≡ Holds held → is_within cubes hand ≡ true → (held.ticket, held.cube) ≡ of_result settled → settled.ticket < cubes
 held_low cubes hand held settled holds within same =
     subst (λ (n : ℕ). n < cubes) (ap (λ (p : Pair). p.0) same) (held_within cubes hand held holds within)
 

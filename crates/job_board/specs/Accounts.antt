@@ -1,8 +1,8 @@
 -- What a board's account says.
 use Rattle.std.specs.Prelude.{◌≡◌, ◌≢◌, ℕ, ◌+◌, ◌<◌, List, [], ◌∷◌, ◌++◌, map, length}
 use Rattle.std.specs.List.{AllPairs, Contains}
-use Rattle.cube_queue.specs.declared.job.Job.{Job}
-use Rattle.cube_queue.specs.declared.job.Settled.{Settled}
+use Rattle.cube_jobs.specs.declared.job.Job.{Job}
+use Rattle.cube_jobs.specs.declared.job.Settled.{Settled}
 use Rattle.job_board.specs.Merge.{IsMergeOf}
 use Rattle.job_board.specs.Pairs.{of_job, of_result, of_jobs, of_results, below}
 use Rattle.job_board.specs.Seats.{put_by, taken_by, given_by, gathered_by}

@@ -1,8 +1,8 @@
 -- Jobs and results as pairs of a ticket and a cube.
 use Rattle.std.specs.Prelude.{ℕ, ◌<◌, ℤ, List, map, nat_lt}
 use Rattle.std.specs.List.{AllPairs, filter}
-use Rattle.cube_queue.specs.declared.job.Job.{Job}
-use Rattle.cube_queue.specs.declared.job.Settled.{Settled}
+use Rattle.cube_jobs.specs.declared.job.Job.{Job}
+use Rattle.cube_jobs.specs.declared.job.Settled.{Settled}
 
 -- a ticket and a cube
 abbrev pub Pair : Type 0

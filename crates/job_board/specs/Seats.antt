@@ -1,14 +1,14 @@
 -- Seats at a board, and the lists that they have.
 use Rattle.std.specs.Prelude.{◌≡◌, ℕ, List, [], length, Some}
 use Rattle.std.specs.List.{slice_get}
-use Rattle.cube_queue.specs.declared.job.Job.{Job}
-use Rattle.cube_queue.specs.declared.job.Settled.{Settled}
+use Rattle.cube_jobs.specs.declared.job.Job.{Job}
+use Rattle.cube_jobs.specs.declared.job.Settled.{Settled}
 use Rattle.crossbeam_channel.specs.Claims.{view, IsSeatAt}
 use Rattle.crossbeam_channel.specs.Ends.{sends_on, ruled_capacity}
 use Rattle.job_board.specs.ChannelRules.{list_in}
 use Rattle.job_board.specs.declared.board.Board.{Board}
 use Rattle.job_board.specs.declared.channel_view.ChannelView.TheVariants.{Single}
-use Rattle.job_board.specs.declared.hand.Hand.TheVariants.{Empty}
+use Rattle.job_board.specs.declared.in_flight.InFlight.TheVariants.{Empty}
 use Rattle.job_board.specs.declared.seats.DealerSeat.{DealerSeat}
 use Rattle.job_board.specs.declared.seats.WorkerSeat.{WorkerSeat}
 use Rattle.job_board.specs.declared.seats.CollectorSeat.{CollectorSeat}

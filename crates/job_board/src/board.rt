@@ -5,7 +5,7 @@ ghost use Rattle.crossbeam_channel.specs.Ends.{sends_on, receives_on};
 use crate::channel_rules::{JobRule, ResultRule};
 use crate::channel_view::ChannelView;
 use crossbeam_channel::{RuledReceiver, RuledSender};
-use cube_queue::{Job, Settled};
+use cube_jobs::{Job, Settled};
 
 /// A channel of jobs from one dealer to the workers, and a channel of results from these to one collector. It has both ends of both, and
 /// all seats share it.

@@ -3,8 +3,8 @@ ghost use Rattle.std.specs.Prelude.{◌≡◌, ◌<◌, ℕ, List, [], length, m
 ghost use Rattle.std.specs.List.{All};
 ghost use Rattle.crossbeam_channel.specs.Claims.{view, IsSeatAt};
 ghost use Rattle.crossbeam_channel.specs.Ends.{sends_on};
-ghost use Rattle.cube_queue.specs.declared.job.Job.{Job};
-ghost use Rattle.cube_queue.specs.declared.job.Settled.{Settled};
+ghost use Rattle.cube_jobs.specs.declared.job.Job.{Job};
+ghost use Rattle.cube_jobs.specs.declared.job.Settled.{Settled};
 ghost use Rattle.job_board.specs.declared.channel_view.ChannelView.TheVariants.{Single};
 ghost use Rattle.job_board.specs.ChannelRules.{list_in, PutAddsUp, GotAddsUp, with_worker_joined};
 ghost use Rattle.job_board.specs.Hands.{ticket_in};

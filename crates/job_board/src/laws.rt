@@ -1,7 +1,7 @@
 //! Laws of the two channels.
 ghost use Rattle.std.specs.Prelude.{List};
-ghost use Rattle.cube_queue.specs.declared.job.Job.{Job};
-ghost use Rattle.cube_queue.specs.declared.job.Settled.{Settled};
+ghost use Rattle.cube_jobs.specs.declared.job.Job.{Job};
+ghost use Rattle.cube_jobs.specs.declared.job.Settled.{Settled};
 ghost use Rattle.job_board.specs.declared.channel_view.ChannelView.{ChannelView};
 ghost use Rattle.job_board.specs.ChannelRules.{MeetsJobRule, MeetsResultRule, PutIsMerge, GotIsMerge};
 

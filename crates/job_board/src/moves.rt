@@ -1,8 +1,8 @@
 //! What the seats do at a board while it is open.
 ghost use Rattle.std.specs.Prelude.{◌≡◌, ◌<◌, ◌≤◌, ◌⊎◌, [], ◌∷◌, ◌++◌, true, false, None, Some, IfOk, IfErr, OnOk, OnErr};
 ghost use Rattle.std.specs.List.{All};
-ghost use Rattle.cube_queue.specs.declared.job.Job.{Job};
-ghost use Rattle.job_board.specs.declared.hand.Hand.TheVariants.{Empty};
+ghost use Rattle.cube_jobs.specs.declared.job.Job.{Job};
+ghost use Rattle.job_board.specs.declared.in_flight.InFlight.TheVariants.{Empty};
 ghost use Rattle.job_board.specs.Pairs.{of_job, of_result};
 ghost use Rattle.job_board.specs.Hands.{ticket_in, is_done, held_in};
 ghost use Rattle.job_board.specs.Seats.{put_by, taken_by, given_by, gathered_by, IsDealerAt, IsWorkerAt, IsCollectorAt};
@@ -11,9 +11,9 @@ use crate::board::Board;
 use crate::channel_rules::OneItem;
 use crate::counts::added;
 use crate::ended::Ended;
-use crate::hand::{Hand, HeldJob};
+use crate::in_flight::{HeldJob, InFlight};
 use crate::seats::{CollectorSeat, DealerSeat, WorkerSeat};
-use cube_queue::{Job, Settled};
+use cube_jobs::{Job, Settled};
 use std::alloc::Global;
 use std::sync::Wait;
 
@@ -77,16 +77,16 @@ impl Board {
         match self.job_receiver.recv_as::<OneItem, R>(rt, &mut seat.jobs) {
             Ok(job) => {
                 if job.ticket() < seat.cubes {
-                    seat.hand = Hand::Holds(HeldJob::of(alloc, &job));
+                    seat.hand = InFlight::Holds(HeldJob::of(alloc, &job));
                     seat.taken = next;
                     Ok(job)
                 } else {
-                    seat.hand = Hand::Stopped(job);
+                    seat.hand = InFlight::Stopped(job);
                     Err(Ended)
                 }
             }
             Err(_) => {
-                seat.hand = Hand::Cut;
+                seat.hand = InFlight::Cut;
                 Err(Ended)
             }
         }
@@ -115,7 +115,7 @@ impl Board {
             .send_as::<OneItem, R>(rt, &mut seat.results, settled)
         {
             Ok(()) => {
-                seat.hand = Hand::Empty;
+                seat.hand = InFlight::Empty;
                 seat.given = next;
                 Ok(())
             }

@@ -8,16 +8,16 @@ ghost use Rattle.job_board.specs.Seats.{job_room, result_room, put_by, gathered_
 
 use crate::board::Board;
 use crate::channel_rules::NewWorker;
-use crate::hand::Hand;
+use crate::in_flight::InFlight;
 use crate::seats::{CollectorSeat, DealerSeat, JobPass, ResultPass, WorkerSeat};
 use crossbeam_channel::bounded_with;
 use std::alloc::{AllocError, Global};
 
 /// The most workers at a board.
-pub const MOST_WORKERS: u32 = 8;
+pub const MAX_WORKERS: u32 = 8;
 
 /// The most cubes of a board, and the most jobs that wait at one.
-pub const MOST_CUBES: u32 = 1024;
+pub const MAX_CUBES: u32 = 1024;
 
 impl Board {
     /// A board for so many workers, from 1 to 8, and so many cubes, from 1 to 1,024, at which so many jobs may wait, from 1 to 1,024;
@@ -28,9 +28,9 @@ impl Board {
         cubes: u32,
         capacity: u32,
     ) -> Result<(Board, DealerSeat, Vec<WorkerSeat>, CollectorSeat), AllocError>
-        requires workers { (1 ≤ workers) × (workers ≤ MOST_WORKERS) }
-        requires cubes { (1 ≤ cubes) × (cubes ≤ MOST_CUBES) }
-        requires capacity { (1 ≤ capacity) × (capacity ≤ MOST_CUBES) }
+        requires workers { (1 ≤ workers) × (workers ≤ MAX_WORKERS) }
+        requires cubes { (1 ≤ cubes) × (cubes ≤ MAX_CUBES) }
+        requires capacity { (1 ≤ capacity) × (capacity ≤ MAX_CUBES) }
         ensures board { IfOk result (λ r. (r.0.workers ≡ workers) × (r.0.cubes ≡ cubes)) }
         ensures room { IfOk result (λ r. (job_room r.0 ≡ capacity) × (result_room r.0 ≡ cubes)) }
         ensures dealer { IfOk result (λ r. IsDealerAt r.0 r.1 × (put_by r.1 ≡ [])) }
@@ -116,7 +116,7 @@ impl Board {
             cubes: self.cubes,
             jobs: self.job_sender.another::<NewWorker>(jobs),
             results: self.result_sender.another::<NewWorker>(results),
-            hand: Hand::Empty,
+            hand: InFlight::Empty,
             taken: 0,
             given: 0,
         }

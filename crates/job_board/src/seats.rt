@@ -8,9 +8,9 @@ ghost use Rattle.job_board.specs.Pairs.{of_jobs, of_results, below, Rise};
 ghost use Rattle.job_board.specs.Hands.{held_in, is_within};
 
 use crate::channel_view::ChannelView;
-use crate::hand::Hand;
+use crate::in_flight::InFlight;
 use crossbeam_channel::Pass;
-use cube_queue::{Job, Settled};
+use cube_jobs::{Job, Settled};
 
 /// What a seat knows of the job channel.
 pub(crate) type JobPass = Pass<Job, ChannelView<Job>>;
@@ -36,7 +36,7 @@ pub struct WorkerSeat {
     pub(crate) cubes: u32,
     pub(crate) jobs: JobPass,
     pub(crate) results: ResultPass,
-    pub(crate) hand: Hand,
+    pub(crate) hand: InFlight,
     pub(crate) taken: u32,
     pub(crate) given: u32,
     ghost takes: { view jobs ≡ Worker number (list_in (view jobs)) },

@@ -11,8 +11,8 @@ use Rattle.lrat_check.specs.declared.derivation.Step.{Step}
 use Rattle.lrat_check.specs.declared.derivation.Step.TheVariants.{Addition}
 use Rattle.lrat_check.specs.declared.refusal.StepFault.{StepFault}
 use Rattle.lrat_check.specs.declared.refusal.StepFault.TheVariants.{NoEmptyClause}
-use Rattle.text_lines.specs.declared.fault.Fault.{Fault}
-use Rattle.text_lines.specs.declared.fault.Fault.TheVariants.{OutOfMemory, At}
+use Rattle.text_lines.specs.declared.fault.PlacedFault.{PlacedFault}
+use Rattle.text_lines.specs.declared.fault.PlacedFault.TheVariants.{OutOfMemory, At}
 use Rattle.text_lines.specs.Fault.{IsRefusal, IsRefusalAt}
 
 -- what happens to the steps that are left happens to all
@@ -41,7 +41,7 @@ pub walk_ends : (start : ℕ → Option (List ℤ)) (steps : List Step) (active 
 walk_ends start steps active next left step rest h e right end =
     h.accepts (subst (λ (l : List Step). Accepts active l) (sym e) (right, inl end))
 
-pub walk_fails : (clauses : List (List ℤ)) (cube : List ℤ) (steps : List Step) (active : ℕ → Option (List ℤ)) (next : ℕ) (left : List Step) (step : Step) (rest : List Step) (refusal : Fault StepFault) →
+pub walk_fails : (clauses : List (List ℤ)) (cube : List ℤ) (steps : List Step) (active : ℕ → Option (List ℤ)) (next : ℕ) (left : List Step) (step : Step) (rest : List Step) (refusal : PlacedFault StepFault) →
     IsWalked (at_start clauses cube) steps active next left → left ≡ step ∷ rest → IsRefusalAt (λ fault. IsWrong active step fault) next refusal → IsRefusal (IsRefused clauses cube steps) refusal
 walk_fails clauses cube steps active next left step rest OutOfMemory h e wrong = tt
 walk_fails clauses cube steps active next left step rest (At fault place) h e wrong =
@@ -63,7 +63,7 @@ pub next_step : (steps : List Step) (i : ℕ) (step : Step) → i < length steps
 next_step steps i step h e = drop-cons steps i step h ∙ (λ j. sym e j ∷ drop (sym (add-one i) j) steps)
 
 -- a refusal that is handed on
-pub handed_on : (clauses : List (List ℤ)) (cube : List ℤ) (steps : List Step) (r : Result Accepted (Fault StepFault)) (refusal : Fault StepFault) →
+pub handed_on : (clauses : List (List ℤ)) (cube : List ℤ) (steps : List Step) (r : Result Accepted (PlacedFault StepFault)) (refusal : PlacedFault StepFault) →
     IsErrAnd r (λ other. other ≡ refusal) → IsRefusal (IsRefused clauses cube steps) refusal → IfErr r (λ other. IsRefusal (IsRefused clauses cube steps) other)
 handed_on clauses cube steps (Ok x) refusal e h = tt
-handed_on clauses cube steps (Err other) refusal e h = subst (λ (o : Fault StepFault). IsRefusal (IsRefused clauses cube steps) o) (sym e) h
+handed_on clauses cube steps (Err other) refusal e h = subst (λ (o : PlacedFault StepFault). IsRefusal (IsRefused clauses cube steps) o) (sym e) h

@@ -16,8 +16,8 @@ use Rattle.lrat_check.specs.LratRead.{IsSkippedLine, IsLineOf}
 use Rattle.lrat_check.specs.LratText.{IsStepLine, SpellsDerivation, is_lrat_step, is_skipped, kept}
 use Rattle.lrat_check.specs.declared.derivation.Step.{Step}
 use Rattle.lrat_check.specs.declared.lrat_fault.LratCause.{LratCause}
-use Rattle.text_lines.specs.declared.fault.Fault.{Fault}
-use Rattle.text_lines.specs.declared.fault.Fault.TheVariants.{OutOfMemory, At}
+use Rattle.text_lines.specs.declared.fault.PlacedFault.{PlacedFault}
+use Rattle.text_lines.specs.declared.fault.PlacedFault.TheVariants.{OutOfMemory, At}
 use Rattle.text_lines.specs.Fault.{IsRefusal, IsRefusalAt}
 use Rattle.lrat_check.proofs.ClearLemmas.{step_clear}
 
@@ -95,7 +95,7 @@ turn_step text number rest steps line after step h cut shorter new =
     }
 
 -- a refusal of the next line is one of the text
-pub refused : (text : List ℕ) (number : ℕ) (rest : List ℕ) (steps : List Step) (line after : List ℕ) (fault : Fault LratCause) → IsReadSoFar text number rest steps →
+pub refused : (text : List ℕ) (number : ℕ) (rest : List ℕ) (steps : List Step) (line after : List ℕ) (fault : PlacedFault LratCause) → IsReadSoFar text number rest steps →
     lines_of rest ≡ line ∷ lines_of after → IsRefusalAt (λ cause. line_fault [] line ≡ Some cause) (number + 1) fault → IsRefusal (HasLratFault text) fault
 refused text number rest steps line after OutOfMemory h cut refusal = tt
 refused text number rest steps line after (At cause place) h cut refusal =

@@ -16,18 +16,18 @@ use Rattle.lrat_check.specs.LratText.{is_id, is_id_number, most_id, Says, ended}
 use Rattle.lrat_check.specs.declared.derivation.Step.TheVariants.{Addition, Deletion}
 use Rattle.lrat_check.specs.declared.lrat_fault.LratCause.{LratCause}
 use Rattle.lrat_check.specs.declared.lrat_fault.LratCause.TheVariants.{BadNumber}
-use Rattle.text_lines.specs.declared.fault.Fault.{Fault}
-use Rattle.text_lines.specs.declared.fault.Fault.TheVariants.{OutOfMemory, At}
+use Rattle.text_lines.specs.declared.fault.PlacedFault.{PlacedFault}
+use Rattle.text_lines.specs.declared.fault.PlacedFault.TheVariants.{OutOfMemory, At}
 use Rattle.text_lines.specs.Fault.{IsRefusalAt}
 use Rattle.text_lines.proofs.IntegerLemmas.{not_negative}
 
 -- a refusal that says more
-pub refusal_weaker : (P Q : LratCause → Type 0) (number : ℕ) (fault : Fault LratCause) → ((cause : LratCause) → P cause → Q cause) → IsRefusalAt P number fault → IsRefusalAt Q number fault
+pub refusal_weaker : (P Q : LratCause → Type 0) (number : ℕ) (fault : PlacedFault LratCause) → ((cause : LratCause) → P cause → Q cause) → IsRefusalAt P number fault → IsRefusalAt Q number fault
 refusal_weaker P Q number OutOfMemory h k = tt
 refusal_weaker P Q number (At cause place) h k = (h cause k.0, k.1)
 
 -- a refusal that is handed on
-pub handed : {A : Type 0} (P : A → Type 0) (Q : Fault LratCause → Type 0) (r : Result A (Fault LratCause)) (fault : Fault LratCause) → IsErrAnd r (λ other. other ≡ fault) → Q fault → MatchResult r P Q
+pub handed : {A : Type 0} (P : A → Type 0) (Q : PlacedFault LratCause → Type 0) (r : Result A (PlacedFault LratCause)) (fault : PlacedFault LratCause) → IsErrAnd r (λ other. other ≡ fault) → Q fault → MatchResult r P Q
 handed P Q (Ok x) fault e h = absurd e
 handed P Q (Err other) fault e h = subst Q (sym e) h
 
@@ -69,7 +69,7 @@ deletion_read word words behind number ids e most list none = record {
   written = and_from _ _ (le-leb number most_id most) (all_ids ids list.good);
 }
 
--- where the first number is right, the other words tell
+-- if the first number is right, the fault is one of the other words
 pub first_passes : (least n : ℕ) (word : List ℕ) (other : Option LratCause) (cause : LratCause) → solver_number word ≡ Some (pos n) → least ≤ n → n ≤ most_id → other ≡ Some cause →
     option_or (first_fault least (solver_number word)) other ≡ Some cause
 first_passes least n word other cause e h k faulty = ap (λ o. option_or (first_fault least o) other) e ∙ ap (λ o. option_or o other) (first_right least n h k) ∙ faulty

@@ -208,7 +208,7 @@ all_or_not active pivot reached (group ∷ groups) = elim (settled_or_not active
 abbrev IsBelow : ℕ → (ℕ → Option (List ℤ)) → Type 0
 IsBelow end active = (id : ℕ) → end ≤ id → active id ≡ None
 
--- each clause before an id has a group where it needs one, or one lacks it
+-- each clause before an id has a group if it needs one, or one has none
 abbrev HasGroupsBefore : ℕ → (ℕ → Option (List ℤ)) → ℤ → List Group → Type 0
 HasGroupsBefore end active pivot groups = (id : ℕ) (clause : List ℤ) → id < end → active id ≡ Some clause → has clause (neg_ℤ pivot) ≡ true → has_group groups id ≡ true
 

@@ -18,8 +18,8 @@ times_at active literal id = unwrap_or (option_map (λ clause. times clause lite
 abbrev pub repeats : List ℕ → ℕ → ℕ
 repeats ids id = length (filter (λ other. other == id) ids)
 
--- The literal stands so often in the active clauses: there are so many ids, if each is listed as often as its clause holds the
--- literal.
+-- The number of times that the literal stands in the active clauses: the number of ids, if each is listed as often as its
+-- clause holds the literal.
 abbrev pub IsCount : (ℕ → Option (List ℤ)) → ℤ → ℕ → Type 0
 IsCount active literal count = (ids : List ℕ) × ((id : ℕ) → repeats ids id ≡ times_at active literal id) × (length ids ≡ count)
 
@@ -31,6 +31,6 @@ count_in counts place = slice_index_or counts place 0
 abbrev pub count_of : LiteralCounts → ℤ → ℕ
 count_of counts literal = count_in counts.counts.items (place_of literal)
 
--- each literal stands so often in the active clauses
+-- the counts are those of each literal in the active clauses
 abbrev pub AreCounts : (ℕ → Option (List ℤ)) → LiteralCounts → Type 0
 AreCounts active counts = (literal : ℤ) → IsCount active literal (count_of counts literal)

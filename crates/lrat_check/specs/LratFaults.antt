@@ -1,4 +1,4 @@
--- What is wrong with the text of a derivation. Words are looked at from left to right.
+-- What is wrong with the text of a derivation. Words are read from left to right.
 use Rattle.std.specs.Prelude.{ℕ, ℤ, nat_abs, Bool, false, not, List, [], ◌∷◌, drop, Option, Some, None, is_some, ◌==◌, ◌&&◌, nat_le, slice_index_or, codes, if◌then◌else◌}
 use Rattle.std.specs.Int.{is_negative}
 use Rattle.std.specs.Option.{option_or}

@@ -1,4 +1,4 @@
--- The text of a derivation (LRAT).
+-- The text of a derivation (LRAT, CADE 2017).
 use Rattle.std.specs.Prelude.{◌≡◌, ℕ, ℤ, pos, nat_abs, Bool, true, not, List, [], ◌∷◌, ◌++◌, map, Some, ◌==◌, ◌&&◌, nat_lt, nat_le, codes, slice_index}
 use Rattle.std.specs.List.{list_all, filter, AllZip}
 use Rattle.dimacs.specs.Literal.{is_clause}

@@ -1,5 +1,5 @@
--- Clauses that may be added though they do not follow: whatever opposes their first literal, the pivot, is settled by groups
--- of hints.
+-- Clauses that may be added though they do not follow (RAT: Järvisalo, Heule, Biere 2012): each active clause that holds the
+-- negation of their first literal, the pivot, is a candidate, whose resolvent follows by a group of hints.
 use Rattle.std.specs.Prelude.{◌≡◌, ⊤, ◌⊎◌, ℕ, ℤ, neg_ℤ, true, false, List, [], ◌∷◌, ◌++◌, Option, Some, None, if◌then◌else◌}
 use Rattle.std.specs.List.{list_any}
 use Rattle.std.specs.Ordering.{int_eq}
@@ -20,14 +20,14 @@ abbrev pub others : ℤ → List ℤ → List ℤ
 others pivot [] = []
 others pivot (z ∷ clause) = if int_eq z (neg_ℤ pivot) then others pivot clause else z ∷ others pivot clause
 
--- The group's clause is active and holds the pivot's negation, and one of its other literals is true, or the hints refute that
--- they are all false.
+-- The candidate passes: its clause is active and holds the pivot's negation, and one of its other literals is true, or the
+-- hints refute that they are all false.
 abbrev pub IsSettled : (ℕ → Option (List ℤ)) → ℤ → List ℤ → Group → Type 0
 IsSettled active pivot reached group =
     (clause : List ℤ) × (active group.id ≡ Some clause) × (has clause (neg_ℤ pivot) ≡ true)
     × ((list_any (has reached) (others pivot clause) ≡ true) ⊎ Refutes active (reached ++ negated (others pivot clause)) group.hints)
 
--- the group does not, and this is why
+-- the candidate fails, and this is why
 abbrev pub IsUnsettled : (ℕ → Option (List ℤ)) → ℤ → List ℤ → Group → StepFault → Type 0
 IsUnsettled active pivot reached group fault =
     ((active group.id ≡ None) × (fault ≡ UnknownHint))
@@ -35,12 +35,12 @@ IsUnsettled active pivot reached group fault =
     × (((has clause (neg_ℤ pivot) ≡ false) × (fault ≡ NotOpposed))
     ⊎ ((has clause (neg_ℤ pivot) ≡ true) × (list_any (has reached) (others pivot clause) ≡ false) × FailsToRefute active (reached ++ negated (others pivot clause)) group.hints fault)))
 
--- all groups do
+-- all candidates pass
 abbrev pub AreSettled : (ℕ → Option (List ℤ)) → ℤ → List ℤ → List Group → Type 0
 AreSettled active pivot reached [] = ⊤
 AreSettled active pivot reached (group ∷ groups) = IsSettled active pivot reached group × AreSettled active pivot reached groups
 
--- the first that does not is wrong for this
+-- the first that fails does so for this
 abbrev pub AreUnsettled : (ℕ → Option (List ℤ)) → ℤ → List ℤ → List Group → StepFault → Type 0
 AreUnsettled active pivot reached [] fault = ⊥
 AreUnsettled active pivot reached (group ∷ groups) fault =
@@ -50,17 +50,18 @@ AreUnsettled active pivot reached (group ∷ groups) fault =
 abbrev pub HasAllGroups : (ℕ → Option (List ℤ)) → ℤ → List Group → Type 0
 HasAllGroups active pivot groups = (id : ℕ) (clause : List ℤ) → active id ≡ Some clause → has clause (neg_ℤ pivot) ≡ true → has_group groups id ≡ true
 
--- one of them has none
+-- one of them has no group
 abbrev pub LacksGroup : (ℕ → Option (List ℤ)) → ℤ → List Group → Type 0
 LacksGroup active pivot groups = (id : ℕ) × (clause : List ℤ) × (active id ≡ Some clause) × (has clause (neg_ℤ pivot) ≡ true) × (has_group groups id ≡ false)
 
 -- After the first hints, with which these literals are true, the groups show that the clause may be added: it has a pivot, and
--- all that opposes it is settled.
+-- each candidate has a group and passes.
 abbrev pub IsRat : (ℕ → Option (List ℤ)) → List ℤ → List Group → List ℤ → Type 0
 IsRat active [] groups reached = ⊥
 IsRat active (pivot ∷ rest) groups reached = AreSettled active pivot reached groups × HasAllGroups active pivot groups
 
--- what is wrong with a clause that lacks a group: without any group it is only that the first hints end without a conflict
+-- what is wrong with a clause with a candidate that has no group: without any group it is only that the first hints end
+-- without a conflict
 abbrev pub missing : List Group → StepFault
 missing [] = NoConflict
 missing (group ∷ groups) = GroupMissing

@@ -2,11 +2,11 @@
 use Rattle.std.specs.Prelude.{◌≡◌, ℤ, Bool, true, false, List}
 use Rattle.lrat_check.specs.Refuted.{negated}
 use Rattle.lrat_check.specs.Propagation.{is_tautology, Falsifies, IsUnit, HasTwoUnfalsified}
-use Rattle.lrat_check.specs.declared.propagation.Standing.{Standing}
-use Rattle.lrat_check.specs.declared.propagation.Standing.TheVariants.{Falsified, Unit, Unfalsified}
+use Rattle.lrat_check.specs.declared.propagation.ClauseStatus.{ClauseStatus}
+use Rattle.lrat_check.specs.declared.propagation.ClauseStatus.TheVariants.{Falsified, Unit, Unfalsified}
 
 -- the clause stands so under these true literals
-abbrev pub IsStanding : List ℤ → List ℤ → Standing → Type 0
+abbrev pub IsStanding : List ℤ → List ℤ → ClauseStatus → Type 0
 IsStanding trues clause Falsified = Falsifies trues clause
 IsStanding trues clause (Unit unit) = IsUnit trues clause unit
 IsStanding trues clause Unfalsified = HasTwoUnfalsified trues clause

@@ -8,7 +8,7 @@ use dimacs::Clause;
 use std::alloc::{AllocError, Global};
 use std::collections::BTreeMap;
 
-/// How many rows there may be for each clause that was added.
+/// The largest number of rows for each clause that was added, so that far ids cost no memory.
 const ROWS_FOR_EACH: usize = 8;
 
 /// The clauses that steps have added. Solvers number them upwards with few gaps, so there is a row for each id from the first one
@@ -103,7 +103,7 @@ impl<'a> AddedClauses<'a> {
         self.late(id)
     }
 
-    /// Lets the rows begin with this id, where there are none.
+    /// Lets the rows begin with this id, if there are none.
     fn begin(&mut self, id: u64)
         ensures { (other : ℕ) → held_at self.new other ≡ held_at self.old other }
     {

@@ -63,8 +63,8 @@ fn take_step<'a, F: ClauseList>(
     }
 }
 
-/// Checks whether the derivation shows that no model of the formula makes all literals of the cube true. If not, the
-/// first step that fails.
+/// Checks whether the derivation (LRAT, CADE 2017) shows that no model of the formula makes all literals of the cube
+/// true. If not, the first step that fails.
 pub fn check<F: ClauseList>(
     alloc: Global,
     formula: &F,

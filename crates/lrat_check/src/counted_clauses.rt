@@ -28,7 +28,7 @@ fn count_in(counts: &mut Option<LiteralCounts>, clause: &Clause) -> Result<(), A
     Ok(())
 }
 
-/// Counts the clause of this id no longer, if clauses are counted and one is active.
+/// Takes the clause of this id off the counts, if clauses are counted and one is active.
 fn count_out<F: ClauseList>(
     counts: &mut Option<LiteralCounts>,
     formula: &F,
@@ -107,7 +107,8 @@ impl<'a> CountedClauses<'a> {
         Ok(())
     }
 
-    /// How often the literal stands in the active clauses. The first time that this is asked all literals are counted.
+    /// The number of times that the literal stands in the active clauses. All literals are counted when this is first
+    /// asked, since a derivation without RAT steps needs no counts.
     pub fn count_of<F: ClauseList>(
         &mut self,
         alloc: Global,

@@ -1,4 +1,5 @@
-//! Groups of hints: each is for an active clause that holds the negation of the added clause's first literal, the pivot.
+//! Groups of hints, one for each candidate of a RAT check (Järvisalo, Heule, Biere 2012): an active clause that holds
+//! the negation of the added clause's first literal, the pivot.
 
 ghost use Rattle.std.specs.Prelude.{◌≡◌, List, ℤ, neg_ℤ, take, IfOk, MatchBool, MatchResult, OnOk};
 ghost use Rattle.lrat_check.specs.ClauseAt.{clause_at};
@@ -19,9 +20,9 @@ use dimacs::{ClauseList, Lit};
 use std::alloc::{AllocError, Global};
 use std::collections::BTreeSet;
 
-/// Looks whether the group of this id and these hints settles its clause, where the first of the true literals, of this count, were
-/// true after the first hints. The later ones are taken back, so a group costs no more than what it makes true itself.
-fn settle<F: ClauseList>(
+/// Checks that the resolvent with the candidate of this id follows by these hints, if the first `count` true literals were true
+/// after the first hints. The later ones are taken back, so a candidate costs no more than what it makes true itself.
+fn check_candidate<F: ClauseList>(
     formula: &F,
     active: &ActiveClauses,
     trues: &mut TrueLiterals,
@@ -54,8 +55,8 @@ fn settle<F: ClauseList>(
     }
 }
 
-/// Looks whether all groups among the hints settle their clauses, in order, where these literals are true after the first hints.
-pub fn settle_all<F: ClauseList>(
+/// Checks the candidates of all groups among the hints, in order, if these literals are true after the first hints.
+pub fn check_candidates<F: ClauseList>(
     formula: &F,
     active: &ActiveClauses,
     trues: &mut TrueLiterals,
@@ -70,13 +71,13 @@ pub fn settle_all<F: ClauseList>(
     let count = trues.len();
     let mut rest = hints;
     while let Some((id, after)) = cut_group(rest) {
-        settle(formula, active, trues, pivot, count, id, after, number)?;
+        check_candidate(formula, active, trues, pivot, count, id, after, number)?;
         rest = after;
     }
     Ok(())
 }
 
-/// How often the active clause of this id holds the literal: 0 if none is active.
+/// The number of times that the active clause of this id holds the literal: 0 if none is active.
 fn times_at<F: ClauseList>(formula: &F, active: &ActiveClauses, id: u64, literal: Lit) -> usize
     ensures { result ≡ times_at (clause_at (F.formula formula.now).clauses active.now) literal id }
 {
@@ -86,8 +87,9 @@ fn times_at<F: ClauseList>(formula: &F, active: &ActiveClauses, id: u64, literal
     }
 }
 
-/// Whether each active clause that holds the pivot's negation has a group among the hints, where the negation stands so often in
-/// the active clauses. What the clauses of the distinct groups hold of it is taken off the count, and no other clause is looked at.
+/// Whether each active clause that holds the pivot's negation has a group among the hints, if the negation stands `count` times in
+/// the active clauses. What the clauses of the distinct groups hold of it is taken off the count, and no other clause is read, so
+/// the check costs no walk through all clauses.
 pub fn has_all<F: ClauseList>(
     alloc: Global,
     formula: &F,

@@ -10,12 +10,12 @@ use arrayvec::ArrayVec;
 use std::alloc::{AllocError, Global};
 use std::marker::Model;
 
-/// So many numbers of 32 bits take no more room than a list does, and need no memory of their own.
+/// Numbers of 32 bits that take no more room than a list does, and need no memory of their own.
 const FEW: usize = 4;
 
-/// Numbers, in 32 bits each where all of them fit. A few of those stand in the value itself.
+/// Numbers, in 32 bits each if all of them fit. A few of those stand in the value itself.
 #[derive(Drop)]
-pub enum Numbers {
+pub enum NumberList {
     Few(ArrayVec<i32, FEW>),
     Short(Vec<i32>),
     Long(Vec<i64>),
@@ -25,7 +25,7 @@ pub enum Numbers {
 /// group.
 #[derive(Drop)]
 pub struct Hints {
-    numbers: Numbers,
+    numbers: NumberList,
 }
 
 impl Model for Hints {
@@ -37,14 +37,14 @@ impl Model for Hints {
     ghost view = { λ hints. numbers_in hints.numbers };
 }
 
-/// The number, where it fits 32 bits.
+/// The number, if it fits 32 bits.
 fn shorten(number: i64) -> Option<i32>
     ensures { IfSome result (λ short. short ≡ number) }
 {
     i32::try_from(number).ok()
 }
 
-/// The numbers, where they are few and each of them fits 32 bits.
+/// The numbers, if they are few and each of them fits 32 bits.
 fn few_of(numbers: &[i64]) -> Option<ArrayVec<i32, FEW>>
     ensures { IfSome result (λ few. few.items ≡ numbers.now) }
 {
@@ -57,7 +57,7 @@ fn few_of(numbers: &[i64]) -> Option<ArrayVec<i32, FEW>>
     Some(few)
 }
 
-/// The numbers, where each of them fits 32 bits. They take no more room than they need.
+/// The numbers, if each of them fits 32 bits. They take no more room than they need.
 fn shorten_all(alloc: Global, numbers: &[i64]) -> Result<Option<Vec<i32>>, AllocError>
     ensures { IfOk result (λ found. IfSome found (λ short. short.items ≡ numbers.now)) }
 {
@@ -97,7 +97,7 @@ impl Hints {
         ensures { result ≡ numbers.items }
     {
         Hints {
-            numbers: Numbers::Long(numbers),
+            numbers: NumberList::Long(numbers),
         }
     }
 
@@ -107,12 +107,12 @@ impl Hints {
     {
         if let Some(few) = few_of(numbers) {
             return Ok(Hints {
-                numbers: Numbers::Few(few),
+                numbers: NumberList::Few(few),
             });
         }
         if let Some(short) = shorten_all(alloc, numbers)? {
             return Ok(Hints {
-                numbers: Numbers::Short(short),
+                numbers: NumberList::Short(short),
             });
         }
         Ok(Hints::new(Vec::from_slice(alloc, numbers)?))
@@ -132,9 +132,9 @@ impl Hints {
         ensures { OnOk result (numbers.new.items ≡ self.now) }
     {
         match &self.numbers {
-            Numbers::Few(few) => lengthen_all(numbers, few.as_slice()),
-            Numbers::Short(short) => lengthen_all(numbers, short.as_slice()),
-            Numbers::Long(long) => {
+            NumberList::Few(few) => lengthen_all(numbers, few.as_slice()),
+            NumberList::Short(short) => lengthen_all(numbers, short.as_slice()),
+            NumberList::Long(long) => {
                 numbers.clear();
                 numbers.extend_from_slice(long.as_slice())
             }
@@ -146,12 +146,12 @@ impl Hints {
         ensures { result ≡ list_all is_id_number self.now }
     {
         match &self.numbers {
-            Numbers::Few(few) => few
+            NumberList::Few(few) => few
                 .as_slice()
                 .iter()
                 .all(|number| is_hint(i64::from(*number))),
-            Numbers::Short(short) => short.iter().all(|number| is_hint(i64::from(*number))),
-            Numbers::Long(long) => long.iter().all(|number| is_hint(*number)),
+            NumberList::Short(short) => short.iter().all(|number| is_hint(i64::from(*number))),
+            NumberList::Long(long) => long.iter().all(|number| is_hint(*number)),
         }
     }
 }

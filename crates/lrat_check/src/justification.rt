@@ -1,4 +1,5 @@
-//! Whether a clause may be added.
+//! Whether a clause may be added: it follows by unit propagation along its hints (RUP), or it is RAT on its first
+//! literal (Järvisalo, Heule, Biere 2012).
 
 ghost use Rattle.std.specs.Prelude.{◌≡◌, [], ℕ, ℤ, List, Option, OnOk, MatchResult};
 ghost use Rattle.lrat_check.specs.ClauseAt.{clause_at};
@@ -9,7 +10,7 @@ ghost use Rattle.lrat_check.specs.Rat.{IsRat, IsNoRat, missing};
 ghost use Rattle.text_lines.specs.Fault.{IsRefusalAt};
 
 use crate::counted_clauses::CountedClauses;
-use crate::groups::{has_all, settle_all};
+use crate::groups::{check_candidates, has_all};
 use crate::hint_groups::cut_group;
 use crate::propagation::is_implied;
 use crate::refusal::{Refusal, StepFault};
@@ -27,7 +28,7 @@ fn without_pivot(hints: &[i64]) -> StepFault
     }
 }
 
-/// What is wrong where an active clause that holds the pivot's negation has no group.
+/// What is wrong if an active clause that holds the pivot's negation has no group.
 fn without_group(hints: &[i64]) -> StepFault
     ensures { result ≡ missing (groups_of hints.now) }
 {
@@ -37,8 +38,8 @@ fn without_group(hints: &[i64]) -> StepFault
     }
 }
 
-/// Looks whether the groups among the hints show that the clause may be added, where its first hints lead to no conflict.
-fn oppose<F: ClauseList>(
+/// Checks that the clause is RAT on its first literal by the groups among the hints, if its first hints lead to no conflict.
+fn check_rat<F: ClauseList>(
     alloc: Global,
     formula: &F,
     active: &mut CountedClauses,
@@ -57,7 +58,7 @@ fn oppose<F: ClauseList>(
         return Err(Refusal::At(without_pivot(hints), number));
     }
     let pivot = clause[0];
-    settle_all(formula, &active.clauses, trues, pivot, hints, number)?;
+    check_candidates(formula, &active.clauses, trues, pivot, hints, number)?;
     let count = active.count_of(alloc, formula, pivot.negated())?;
     if has_all(alloc, formula, &active.clauses, pivot, count, hints)? {
         Ok(())
@@ -66,7 +67,7 @@ fn oppose<F: ClauseList>(
     }
 }
 
-/// Looks whether the clause of the step of this number is justified.
+/// Checks that the clause of the step of this number may be added. Propagation comes first, since almost all steps need no more.
 pub fn justify<F: ClauseList>(
     alloc: Global,
     formula: &F,
@@ -85,5 +86,5 @@ pub fn justify<F: ClauseList>(
     if is_implied(formula, &active.clauses, trues, clause, hints, number)? {
         return Ok(());
     }
-    oppose(alloc, formula, active, trues, clause, hints, number)
+    check_rat(alloc, formula, active, trues, clause, hints, number)
 }

@@ -25,13 +25,13 @@ pub fn step_keeps_models()
         HasModel active → HasModel (after active step) }
 {}
 
-/// Where a derivation is accepted, no model of the clauses makes all literals of the cube true.
+/// If a derivation is accepted, no model of the clauses makes all literals of the cube true.
 pub fn accepted_has_no_model()
     ensures { (clauses : List (List ℤ)) (cube : List ℤ) (steps : List Step) → list_all has_no_zero clauses ≡ true → has_no_zero cube ≡ true →
         are_steps steps ≡ true → IsAccepted clauses cube steps → HasNoModelIn clauses cube }
 {}
 
-/// A derivation has one refusal at most.
+/// A derivation has at most one refusal.
 pub fn one_refusal()
     ensures { (clauses : List (List ℤ)) (cube : List ℤ) (steps : List Step) (f g : StepFault) (p q : ℕ) →
         IsRefused clauses cube steps f p → IsRefused clauses cube steps g q → (f ≡ g) × (p ≡ q) }

@@ -1,4 +1,5 @@
-//! LRAT derivations: what they are, whether one shows that a formula has no model in a cube, and their texts.
+//! LRAT derivations (Cruz-Filipe, Heule, Hunt, Kaufmann, Schneider-Kamp: CADE 2017): what they are, whether one shows
+//! that a formula has no model in a cube, and their texts.
 #![tactic(auto)]
 
 mod active_clauses;

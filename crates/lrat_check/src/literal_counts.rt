@@ -7,7 +7,7 @@ use crate::marks::place_of;
 use dimacs::Lit;
 use std::alloc::{AllocError, Global};
 
-/// How often the clause holds the literal.
+/// The number of times that the clause holds the literal.
 pub fn times(clause: &[Lit], literal: Lit) -> usize
     ensures { result ≡ times clause.now literal }
 {
@@ -61,7 +61,7 @@ fn lower_at(counts: &mut Vec<usize>, place: usize)
     }
 }
 
-/// How often each literal stands in the clauses that are counted.
+/// The number of times that each literal stands in the clauses that are counted.
 #[derive(Drop)]
 pub struct LiteralCounts {
     counts: Vec<usize>,
@@ -77,7 +77,7 @@ impl LiteralCounts {
         }
     }
 
-    /// How often this literal stands in them.
+    /// The number of times that this literal stands in them.
     pub fn of(&self, literal: Lit) -> usize
         ensures { result ≡ count_of self.now literal }
     {
@@ -94,7 +94,7 @@ impl LiteralCounts {
         Ok(())
     }
 
-    /// Counts a clause no longer.
+    /// Removes a clause from the counts.
     pub fn remove(&mut self, clause: &[Lit])
         ensures { (z : ℤ) → count_of self.new z ≡ count_of self.old z - times clause.now z }
     {

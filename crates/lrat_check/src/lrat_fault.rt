@@ -1,6 +1,6 @@
 //! What may be wrong with the text of a derivation.
 
-use text_lines::fault::{Cause, Fault};
+use text_lines::fault::{FaultCause, PlacedFault};
 
 /// What is wrong with a line of a derivation's text.
 #[derive(Clone, Copy, Debug, PartialEq, Eq)]
@@ -14,9 +14,9 @@ pub enum LratCause {
 }
 
 /// Why a text is not read as a derivation: its first fault and its line, counted from 1, or that memory ran out.
-pub type LratFault = Fault<LratCause>;
+pub type LratFault = PlacedFault<LratCause>;
 
-impl Cause for LratCause {
+impl FaultCause for LratCause {
     ghost use Rattle.lrat_check.specs.LratFault.{cause_number, cause_name};
 
     ghost number_of = { cause_number };

@@ -8,12 +8,12 @@ ghost use Rattle.lrat_check.specs.LratWritten.{canonical_derivation};
 ghost use Rattle.lrat_check.specs.declared.derivation.Step.{Step};
 ghost use Rattle.lrat_check.specs.declared.lrat_fault.LratCause.{LratCause};
 
-/// A text spells one derivation at most.
+/// A text spells at most one derivation.
 pub fn one_derivation()
     ensures { (text : List ℕ) (m n : List Step) → SpellsDerivation text m → SpellsDerivation text n → m ≡ n }
 {}
 
-/// A text has one first fault at most.
+/// A text has at most one first fault.
 pub fn one_lrat_fault()
     ensures { (text : List ℕ) (c d : LratCause) (p q : ℕ) → HasLratFault text c p → HasLratFault text d q → (c ≡ d) × (p ≡ q) }
 {}

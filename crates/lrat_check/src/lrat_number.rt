@@ -58,7 +58,7 @@ pub fn read_first(word: &[u8], least: u64) -> Result<u64, LratCause>
     Ok(id)
 }
 
-/// The hint that the word writes, or nothing where it writes 0.
+/// The hint that the word writes, or nothing if it writes 0.
 pub fn read_hint(word: &[u8]) -> Result<Option<i64>, LratCause>
     ensures { MatchResult result
         (λ found. MatchOption found (solver_number word.now ≡ Some (pos 0)) (λ hint. (solver_number word.now ≡ Some hint) × IsTrue (is_id_number hint)))
@@ -81,7 +81,7 @@ pub fn read_hint(word: &[u8]) -> Result<Option<i64>, LratCause>
     }
 }
 
-/// The literal that the word writes, or nothing where it writes 0.
+/// The literal that the word writes, or nothing if it writes 0.
 pub fn read_literal(word: &[u8]) -> Result<Option<Lit>, LratCause>
     ensures { MatchResult result
         (λ found. MatchOption found (solver_number word.now ≡ Some (pos 0)) (λ literal. (solver_number word.now ≡ Some literal) × IsTrue (is_literal literal)))

@@ -86,7 +86,7 @@ fn read_literals(alloc: Global, line: &[u8], number: usize) -> Result<(Clause, &
     Err(LratFault::At(LratCause::Unended, number))
 }
 
-/// Looks that no word follows.
+/// Checks that no word follows.
 fn end_line(rest: &[u8], number: usize) -> Result<(), LratFault>
     ensures { MatchResult result
         (λ _. words_of rest.now ≡ [])
@@ -139,7 +139,7 @@ fn read_deletion(alloc: Global, word: &[u8], rest: &[u8], number: usize) -> Resu
     Ok(Step::Deletion { first, ids })
 }
 
-/// What follows the `d`, where the next word is one.
+/// What follows the `d`, if the next word is one.
 fn behind_letter(rest: &[u8]) -> Option<&[u8]>
     ensures { MatchOption result (is_deletion (words_of rest.now) ≡ false) (λ after. words_of rest.now ≡ codes "d" ∷ words_of after.now) }
 {
@@ -151,7 +151,7 @@ fn behind_letter(rest: &[u8]) -> Option<&[u8]>
     }
 }
 
-/// The step on the line of this number; nothing where the line is skipped.
+/// The step on the line of this number; nothing if the line is skipped.
 fn read_line(alloc: Global, line: &[u8], number: usize) -> Result<Option<Step>, LratFault>
     ensures { MatchResult result
         (λ found. MatchOption found (IsSkippedLine line.now) (λ step. IsLineOf line.now step))

@@ -17,9 +17,9 @@ use crate::true_literals::{TrueLiterals, keep_first};
 use dimacs::{ClauseList, Lit, are_literals};
 use std::alloc::AllocError;
 
-/// How a clause stands under the literals that are true.
+/// The status of a clause under the literals that are true.
 #[derive(Clone, Copy)]
-pub enum Standing {
+pub enum ClauseStatus {
     /// All of its literals are false.
     Falsified,
     /// This literal alone is not false.
@@ -28,53 +28,53 @@ pub enum Standing {
     Unfalsified,
 }
 
-/// How a clause stands with one more literal, which is not false.
-fn with_unfalsified(standing: Standing, literal: Lit) -> Standing
+/// The status of a clause with one more literal, which is not false.
+fn with_unfalsified(standing: ClauseStatus, literal: Lit) -> ClauseStatus
     ensures { (trues clause : List ℤ) → IsStanding trues clause standing → is_falsified trues literal ≡ false →
         IsStanding trues (clause ++ literal ∷ []) result }
 {
     match standing {
-        Standing::Falsified => Standing::Unit(literal),
-        Standing::Unit(unit) => {
+        ClauseStatus::Falsified => ClauseStatus::Unit(literal),
+        ClauseStatus::Unit(unit) => {
             if unit.number() == literal.number() {
-                Standing::Unit(unit)
+                ClauseStatus::Unit(unit)
             } else {
-                Standing::Unfalsified
+                ClauseStatus::Unfalsified
             }
         }
-        Standing::Unfalsified => Standing::Unfalsified,
+        ClauseStatus::Unfalsified => ClauseStatus::Unfalsified,
     }
 }
 
-/// How a clause stands with one more literal.
-fn with_literal(standing: Standing, literal: Lit, trues: &TrueLiterals) -> Standing
+/// The status of a clause with one more literal.
+fn with_literal(standing: ClauseStatus, literal: Lit, trues: &TrueLiterals) -> ClauseStatus
     ensures { (clause : List ℤ) → IsStanding trues.now clause standing → IsStanding trues.now (clause ++ literal ∷ []) result }
 {
-    if trues.falsify(literal) {
+    if trues.is_false(literal) {
         standing
     } else {
         with_unfalsified(standing, literal)
     }
 }
 
-/// How the clause stands.
-fn standing_of(clause: &[Lit], trues: &TrueLiterals) -> Standing
+/// The status of the clause.
+fn standing_of(clause: &[Lit], trues: &TrueLiterals) -> ClauseStatus
     ensures { IsStanding trues.now clause.now result }
 {
-    let mut standing = Standing::Falsified;
+    let mut standing = ClauseStatus::Falsified;
     for literal in clause {
         standing = with_literal(standing, *literal, trues);
     }
     standing
 }
 
-/// How the active clause of this id stands, if one is active.
+/// The status of the active clause of this id, if one is active.
 fn standing_at<'b, F: ClauseList>(
     formula: &'b F,
     active: &'b ActiveClauses<'_>,
     id: u64,
     trues: &TrueLiterals,
-) -> Option<Standing>
+) -> Option<ClauseStatus>
     ensures { MatchOption result
         (clause_at (F.formula formula.now).clauses active.now id ≡ None)
         (λ standing. (clause : List ℤ) × (clause_at (F.formula formula.now).clauses active.now id ≡ Some clause) × IsStanding trues.now clause standing) }
@@ -83,8 +83,8 @@ fn standing_at<'b, F: ClauseList>(
     Some(standing_of(clause.as_slice(), trues))
 }
 
-/// Makes the negations of the clause's literals true and no other literal. Where the clause is a tautology this cannot
-/// be, and the answer is true.
+/// Makes the negations of the clause's literals true and no other literal. If the clause is a tautology this cannot be,
+/// and the answer is true.
 fn assume_negation(trues: &mut TrueLiterals, clause: &[Lit]) -> Result<bool, AllocError>
     ensures { IfOk result (λ is_tautology. IsAssumed clause.now trues.new is_tautology) }
 {
@@ -92,7 +92,7 @@ fn assume_negation(trues: &mut TrueLiterals, clause: &[Lit]) -> Result<bool, All
     keep_first(trues, 0);
     for literal in clause {
         let negation = literal.negated();
-        if trues.falsify(negation) {
+        if trues.is_false(negation) {
             return Ok(true);
         }
         trues.push(negation)?;
@@ -100,8 +100,8 @@ fn assume_negation(trues: &mut TrueLiterals, clause: &[Lit]) -> Result<bool, All
     Ok(false)
 }
 
-/// Follows the hints before the first group, of the step of this number. Whether they refute that the literals are all true; if
-/// not, the literals that are true with those that were reached.
+/// Follows the hints before the first group, of the step of this number. Returns whether they refute that the literals are all
+/// true; if not, the literals that are true with those that were reached.
 pub fn propagate<F: ClauseList>(
     formula: &F,
     active: &ActiveClauses,
@@ -124,16 +124,16 @@ pub fn propagate<F: ClauseList>(
             return Err(Refusal::At(StepFault::UnknownHint, number));
         };
         match standing {
-            Standing::Falsified => return Ok(true),
-            Standing::Unit(unit) => trues.push(unit)?,
-            Standing::Unfalsified => return Err(Refusal::At(StepFault::NotUnit, number)),
+            ClauseStatus::Falsified => return Ok(true),
+            ClauseStatus::Unit(unit) => trues.push(unit)?,
+            ClauseStatus::Unfalsified => return Err(Refusal::At(StepFault::NotUnit, number)),
         }
     }
     Ok(false)
 }
 
-/// Looks whether the clause of the step of this number follows: it is a tautology, or its hints before the first group refute that
-/// all of its literals are false. If not, the literals that are true then.
+/// Checks that the clause of the step of this number follows (RUP): it is a tautology, or its hints before the first group
+/// refute that all of its literals are false. If not, it leaves the literals that are true then.
 pub fn is_implied<F: ClauseList>(
     formula: &F,
     active: &ActiveClauses,

@@ -1,6 +1,6 @@
 //! Why a derivation is refused.
 
-use text_lines::fault::{Cause, Fault};
+use text_lines::fault::{FaultCause, PlacedFault};
 
 /// What is wrong with a step of a derivation, or with its end.
 #[derive(Clone, Copy, Debug, PartialEq, Eq)]
@@ -23,11 +23,11 @@ pub enum StepFault {
     GroupMissing,
 }
 
-/// Why a derivation is refused: the first step that fails, counted from 1, or that memory ran out. Where the empty clause is
+/// Why a derivation is refused: the first step that fails, counted from 1, or that memory ran out. If the empty clause is
 /// missing, the step is the one after the last.
-pub type Refusal = Fault<StepFault>;
+pub type Refusal = PlacedFault<StepFault>;
 
-impl Cause for StepFault {
+impl FaultCause for StepFault {
     ghost use Rattle.lrat_check.specs.Refusal.{fault_number, fault_name};
 
     ghost number_of = { fault_number };

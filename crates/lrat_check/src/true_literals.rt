@@ -1,4 +1,4 @@
-//! The literals that are true while hints are looked at.
+//! The literals that are true while hints are followed.
 
 ghost use Rattle.std.specs.Prelude.{◌≡◌, [], ◌∷◌, ◌++◌, ◌-◌, length, take, OnOk};
 ghost use Rattle.lrat_check.specs.Propagation.{has, is_falsified};
@@ -47,7 +47,7 @@ impl TrueLiterals {
     }
 
     /// Whether the literal is false.
-    pub fn falsify(&self, literal: Lit) -> bool
+    pub fn is_false(&self, literal: Lit) -> bool
         ensures { result ≡ is_falsified self.now literal }
     {
         marked_at(self.marks.as_slice(), place_of(literal.negated()))
@@ -60,14 +60,14 @@ impl TrueLiterals {
         marked_at(self.marks.as_slice(), place_of(literal))
     }
 
-    /// How many have become true.
+    /// The number of true literals.
     pub fn len(&self) -> usize
         ensures { result ≡ length self.now }
     {
         self.trail.len()
     }
 
-    /// Makes the literal true.
+    /// Assigns the literal.
     pub fn push(&mut self, literal: Lit) -> Result<(), AllocError>
         ensures { OnOk result (self.new ≡ self.old ++ literal ∷ []) }
     {

@@ -5,13 +5,13 @@
 #![tactic(auto)]
 
 mod budget;
-mod log;
+mod numbered_log;
 mod rows;
 mod writer_places;
 mod written_values;
 
 pub use budget::Budget;
-pub use log::{Log, NOBODY, Operation, Origin, Pair};
+pub use numbered_log::{NOBODY, NumberedLog, NumberedOrigin, NumberedPair, Operation};
 pub use rows::Rows;
 pub use writer_places::WriterPlaces;
 pub use written_values::WrittenValues;

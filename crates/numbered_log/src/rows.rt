@@ -1,7 +1,7 @@
 //! What stands before what, as rows of places.
 
-use crate::log::Log;
-use order_closure::tables::{at, put};
+use crate::numbered_log::NumberedLog;
+use order_sets::tables::{at, put};
 use std::alloc::{AllocError, Global};
 
 /// An entry of a row as it was.
@@ -13,7 +13,7 @@ struct Change {
 }
 
 /// The most changes that are kept, which is memory for some 50 MB while it grows.
-const MOST_CHANGES: usize = 1 << 22;
+const MAX_CHANGES: usize = 1 << 22;
 
 /// For each operation two rows with a place for each process: the first of its operations that stands after this one, and the last one
 /// that stands before it.
@@ -43,7 +43,7 @@ fn entry_of(place: u32) -> u16 {
 
 impl Rows {
     /// The rows of program order alone.
-    pub fn new(alloc: Global, log: &Log) -> Result<Rows, AllocError> {
+    pub fn new(alloc: Global, log: &NumberedLog) -> Result<Rows, AllocError> {
         let width = log.processes();
         let entries = log.count().wrapping_mul(width) as usize;
         let mut rows = Rows {
@@ -61,7 +61,7 @@ impl Rows {
         Ok(rows)
     }
 
-    fn set_program_order(&mut self, log: &Log, number: u32) {
+    fn set_program_order(&mut self, log: &NumberedLog, number: u32) {
         let operation = log.operation(number);
         let base = number.wrapping_mul(self.width);
         for process in 0..self.width {
@@ -92,7 +92,7 @@ impl Rows {
 
     /// Whether one operation stands before the other.
     #[inline(always)]
-    pub fn stands_before(&self, log: &Log, first: u32, second: u32) -> bool {
+    pub fn stands_before(&self, log: &NumberedLog, first: u32, second: u32) -> bool {
         let other = log.operation(second);
         self.after(first, other.process) <= other.place
     }
@@ -104,7 +104,7 @@ impl Rows {
     }
 
     /// Notes what a new pair says of the operations around it.
-    pub fn begin_pair(&mut self, log: &Log, first: u32, second: u32) {
+    pub fn begin_pair(&mut self, log: &NumberedLog, first: u32, second: u32) {
         for process in 0..self.width {
             let before = entry_of(self.before(first, process));
             put(self.floor.as_mut_slice(), process, before);
@@ -176,7 +176,7 @@ impl Rows {
     /// Whether there is no room for a further change.
     #[inline(always)]
     pub fn is_full(&self) -> bool {
-        self.changes.len() >= MOST_CHANGES
+        self.changes.len() >= MAX_CHANGES
     }
 
     /// How many changes are kept. From now on each change is kept, so that it can be taken back.

@@ -1,7 +1,7 @@
 //! The next and the previous writer of a location in a process.
 
-use crate::log::Log;
-use order_closure::tables::{at, put, size};
+use crate::numbered_log::NumberedLog;
+use order_sets::tables::{at, put, size};
 use std::alloc::{AllocError, Global};
 
 /// For each location and each process the places of the writers, rising.
@@ -22,7 +22,7 @@ fn entry_of(place: u32) -> u16 {
 
 impl WriterPlaces {
     /// Those of the log.
-    pub fn new(alloc: Global, log: &Log) -> Result<WriterPlaces, AllocError> {
+    pub fn new(alloc: Global, log: &NumberedLog) -> Result<WriterPlaces, AllocError> {
         let pairs = log.locations().wrapping_mul(log.processes());
         let mut places = WriterPlaces {
             processes: log.processes(),
@@ -46,7 +46,7 @@ impl WriterPlaces {
     }
 
     /// Counts the operation if it writes, two places behind where those of its location and process will begin.
-    fn count_one(&mut self, log: &Log, number: u32) {
+    fn count_one(&mut self, log: &NumberedLog, number: u32) {
         let operation = log.operation(number);
         if operation.writes {
             let place = self
@@ -67,7 +67,7 @@ impl WriterPlaces {
     }
 
     /// Enters the operation if it writes. When all are entered, the writers of each pair begin at its own place.
-    fn enter(&mut self, log: &Log, number: u32) {
+    fn enter(&mut self, log: &NumberedLog, number: u32) {
         let operation = log.operation(number);
         if operation.writes {
             let place = self
@@ -101,7 +101,7 @@ impl WriterPlaces {
 
     /// The place of the first writer of the location in the process from this place on, or the place after the last.
     #[inline(always)]
-    pub fn next(&self, log: &Log, process: u32, location: u32, place: u32) -> u32 {
+    pub fn next(&self, log: &NumberedLog, process: u32, location: u32, place: u32) -> u32 {
         let pair = self.pair_of(location, process);
         let begin = at(self.begins.as_slice(), pair, 0);
         let end = at(self.begins.as_slice(), pair.wrapping_add(1), 0);

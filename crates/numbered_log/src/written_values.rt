@@ -1,7 +1,7 @@
 //! Who writes a value.
 
-use crate::log::{Log, NOBODY};
-use order_closure::tables::{at, put};
+use crate::numbered_log::{NOBODY, NumberedLog};
+use order_sets::tables::{at, put};
 use std::alloc::{AllocError, Global};
 
 /// The writers of each location and value, as lists by a hash of both.
@@ -16,7 +16,7 @@ pub struct WrittenValues {
 
 impl WrittenValues {
     /// Those of the log.
-    pub fn new(alloc: Global, log: &Log) -> Result<WrittenValues, AllocError> {
+    pub fn new(alloc: Global, log: &NumberedLog) -> Result<WrittenValues, AllocError> {
         let mut lists: u32 = 16;
         for _ in 0..14 {
             if lists < log.count() {

@@ -1,9 +1,9 @@
 //! Why there is a contradiction: the operations and the decisions from which it follows.
 
-use derived_order::{Contradiction, DerivedOrder};
+use derived_order::{DerivedOrder, OrderContradiction};
 use numbered_log::NOBODY;
-use order_closure::tables::{at, put, size};
-use source_reasons::{Edge, Fate, Reason, Source};
+use order_sets::tables::{at, put, size};
+use source_reasons::{Edge, EdgeReason, Fate, PossibleSource};
 use std::alloc::{AllocError, Global};
 
 /// What has still to be explained.
@@ -27,7 +27,7 @@ enum Arrival {
 
 /// Where the search for the shortest way came to an operation.
 #[derive(Clone, Copy)]
-struct Visit {
+struct PathNode {
     /// The search in which that was.
     search: u32,
     /// How many new pairs there are on the way.
@@ -36,14 +36,14 @@ struct Visit {
 }
 
 /// No visit.
-const UNSEEN: Visit = Visit {
+const UNSEEN: PathNode = PathNode {
     search: 0,
     distance: 0,
     arrival: Arrival::Start,
 };
 
 /// The most questions that wait, which is memory for some 50 MB while they grow.
-const MOST_QUESTIONS: usize = 1 << 20;
+const MAX_QUESTIONS: usize = 1 << 20;
 
 /// The operations and decisions that a contradiction needs.
 #[derive(Drop)]
@@ -56,7 +56,7 @@ pub struct Explanation {
     /// For each reader until when its drops are told.
     told: Vec<u32>,
     questions: Vec<Question>,
-    visits: Vec<Visit>,
+    visits: Vec<PathNode>,
     search: u32,
     /// The operations to go on from at the distance at hand, and at the next one.
     near: Vec<u32>,
@@ -90,15 +90,15 @@ impl Explanation {
     pub fn explain(&mut self, order: &DerivedOrder<'_>) -> Result<(), AllocError> {
         self.begin(order)?;
         match order.contradiction() {
-            Contradiction::None => {}
-            Contradiction::Cycle(edge) => {
+            OrderContradiction::None => {}
+            OrderContradiction::Cycle(edge) => {
                 self.explain_pair(order, edge)?;
                 self.ask_order(edge.second, edge.first, edge.time)?;
             }
-            Contradiction::NoSource(reader) => self.ask_drops(reader, order.later())?,
+            OrderContradiction::NoSource(reader) => self.ask_drops(reader, order.later())?,
         }
         self.answer(order)?;
-        if let Contradiction::NoSource(reader) = order.contradiction() {
+        if let OrderContradiction::NoSource(reader) = order.contradiction() {
             self.need_some_writer(order, reader);
         }
         Ok(())
@@ -137,7 +137,7 @@ impl Explanation {
     /// Notes a question. If too many wait, all steps count as taken: what is found then explains too little.
     fn ask(&mut self, question: Question) -> Result<(), AllocError> {
         self.step(1);
-        if self.questions.len() >= MOST_QUESTIONS {
+        if self.questions.len() >= MAX_QUESTIONS {
             self.steps = u64::MAX;
             return Ok(());
         }
@@ -232,7 +232,7 @@ impl Explanation {
 
     /// The visit of this search to the operation, or none.
     #[inline(always)]
-    fn visit(&self, operation: u32) -> Visit {
+    fn visit(&self, operation: u32) -> PathNode {
         let visit = at(self.visits.as_slice(), operation, UNSEEN);
         if visit.search == self.search {
             visit
@@ -284,7 +284,7 @@ impl Explanation {
         arrival: Arrival,
     ) -> Result<(), AllocError> {
         let search = self.search;
-        let visit = Visit {
+        let visit = PathNode {
             search,
             distance,
             arrival,
@@ -356,7 +356,7 @@ impl Explanation {
         arrival: Arrival,
     ) -> Result<(), AllocError> {
         let search = self.search;
-        let visit = Visit {
+        let visit = PathNode {
             search,
             distance,
             arrival,
@@ -371,16 +371,16 @@ impl Explanation {
         self.need(edge.first);
         self.need(edge.second);
         match edge.reason {
-            Reason::Given => {}
-            Reason::BeforeSources(reader) => self.explain_before(order, edge, reader)?,
-            Reason::AfterSources(reader) => self.explain_after(order, edge, reader)?,
-            Reason::BeforeOnlySource(reader) => {
+            EdgeReason::Given => {}
+            EdgeReason::BeforeSources(reader) => self.explain_before(order, edge, reader)?,
+            EdgeReason::AfterSources(reader) => self.explain_after(order, edge, reader)?,
+            EdgeReason::BeforeOnlySource(reader) => {
                 self.ask_drops(reader, edge.time)?;
                 self.ask_order(edge.first, reader, edge.time)?;
             }
-            Reason::BeforeLast(reader) => self.ask_drops(reader, edge.time)?,
-            Reason::Decision(number) => self.need_decision(number),
-            Reason::Lemma(number) => self.need_lemma(order, number),
+            EdgeReason::BeforeLast(reader) => self.ask_drops(reader, edge.time)?,
+            EdgeReason::Decision(number) => self.need_decision(number),
+            EdgeReason::Lemma(number) => self.need_lemma(order, number),
         }
         Ok(())
     }
@@ -401,7 +401,7 @@ impl Explanation {
     }
 
     /// Whether the source was not dropped before that time.
-    fn was_possible(source: Source, time: u32) -> bool {
+    fn was_possible(source: PossibleSource, time: u32) -> bool {
         source.is_possible() || source.time >= time
     }
 
@@ -468,7 +468,7 @@ impl Explanation {
         &mut self,
         order: &DerivedOrder<'_>,
         reader: u32,
-        source: Source,
+        source: PossibleSource,
     ) -> Result<(), AllocError> {
         match source.fate {
             Fate::Possible => {}

@@ -3,7 +3,7 @@
 use crate::explanation::Explanation;
 use derived_order::DerivedOrder;
 use numbered_log::{Budget, NOBODY};
-use order_closure::tables::{at, put, size};
+use order_sets::tables::{at, put, size};
 use std::alloc::{AllocError, Global};
 
 /// A set of processes of which none can go on before another one of the set does: its next operation stands after that of another one, or

@@ -8,4 +8,4 @@ mod knot;
 mod walk;
 
 pub use explanation::Explanation;
-pub use walk::{Ending, Walk};
+pub use walk::{Walk, WalkEnd};

@@ -2,14 +2,14 @@
 
 use crate::explanation::Explanation;
 use crate::knot::Knot;
-use derived_order::{DerivedOrder, Halt, Outcome};
+use derived_order::{DerivedOrder, Halt, Saturation};
 use numbered_log::{NOBODY, Operation};
-use order_closure::tables::{at, put, size};
+use order_sets::tables::{at, put, size};
 use std::alloc::{AllocError, Global};
 
 /// How a walk ended.
 #[derive(Clone, Copy, PartialEq, Eq)]
-pub enum Ending {
+pub enum WalkEnd {
     /// All operations are placed.
     Scheduled,
     /// The trace contradicts itself. The explanation says why.
@@ -24,7 +24,7 @@ enum Turn {
     /// The walk can go on, from the front.
     Back,
     /// The walk has ended.
-    End(Ending),
+    End(WalkEnd),
 }
 
 /// A walk over the operations of a log: which are placed, in which order, and what memory holds.
@@ -90,13 +90,13 @@ impl<'a> Walk<'a> {
     }
 
     /// Saturates the order and then walks, until there is a schedule, a contradiction that rests on no decision, or no budget.
-    pub fn run(&mut self) -> Result<Ending, AllocError> {
+    pub fn run(&mut self) -> Result<WalkEnd, AllocError> {
         match self.order.saturate()? {
-            Outcome::Saturated => {}
-            Outcome::Spent => return Ok(Ending::GivenUp),
-            Outcome::Contradicted => {
+            Saturation::Saturated => {}
+            Saturation::Spent => return Ok(WalkEnd::GivenUp),
+            Saturation::Contradicted => {
                 self.explain()?;
-                return Ok(Ending::Contradicted);
+                return Ok(WalkEnd::Contradicted);
             }
         }
         for _ in 0..self.order.budget().left() {
@@ -104,7 +104,7 @@ impl<'a> Walk<'a> {
                 return Ok(ending);
             }
         }
-        Ok(Ending::GivenUp)
+        Ok(WalkEnd::GivenUp)
     }
 
     /// Explains the contradiction of the order.
@@ -133,18 +133,18 @@ impl<'a> Walk<'a> {
         }
         for _ in 0..self.order.log().count() {
             if self.order.budget().is_spent() {
-                return Ok(Turn::End(Ending::GivenUp));
+                return Ok(Turn::End(WalkEnd::GivenUp));
             }
             let Some(next) = self.next_operation() else {
                 return self.turn_at_knot();
             };
             match self.settle(next)? {
-                Outcome::Saturated => self.place(next)?,
-                Outcome::Spent => return Ok(Turn::End(Ending::GivenUp)),
-                Outcome::Contradicted => return self.turn_back(),
+                Saturation::Saturated => self.place(next)?,
+                Saturation::Spent => return Ok(Turn::End(WalkEnd::GivenUp)),
+                Saturation::Contradicted => return self.turn_back(),
             }
         }
-        Ok(Turn::End(Ending::Scheduled))
+        Ok(Turn::End(WalkEnd::Scheduled))
     }
 
     /// Places the operation.
@@ -299,7 +299,7 @@ impl<'a> Walk<'a> {
     }
 
     /// Decides that the operation comes before all others on its location that are not placed, and saturates.
-    fn settle(&mut self, number: u32) -> Result<Outcome, AllocError> {
+    fn settle(&mut self, number: u32) -> Result<Saturation, AllocError> {
         let operation = self.order.log().operation(number);
         for process in 0..self.order.log().processes() {
             if process != operation.process {
@@ -307,7 +307,7 @@ impl<'a> Walk<'a> {
                     if !self.order.stands_before(number, rival) {
                         match self.order.decide(number, rival) {
                             Ok(()) => {}
-                            Err(Halt::Contradiction) => return Ok(Outcome::Contradicted),
+                            Err(Halt::Contradiction) => return Ok(Saturation::Contradicted),
                             Err(Halt::OutOfMemory) => return Err(AllocError),
                         }
                     }
@@ -324,7 +324,7 @@ impl<'a> Walk<'a> {
         let knot = Knot::find(self.alloc, &self.order, self.fronts.as_slice(), &mut budget)?;
         self.order.spend(before.saturating_sub(budget.left()));
         let Some(knot) = knot else {
-            return Ok(Turn::End(Ending::GivenUp));
+            return Ok(Turn::End(WalkEnd::GivenUp));
         };
         self.explanation.begin(&self.order)?;
         knot.ask_why(&self.order, &mut self.explanation)?;
@@ -352,19 +352,19 @@ impl<'a> Walk<'a> {
             let all = self.order.decisions();
             let last = self.explanation.decision_before(all.wrapping_add(1));
             if last == 0 {
-                return Ok(Turn::End(Ending::Contradicted));
+                return Ok(Turn::End(WalkEnd::Contradicted));
             }
             match self.turn_decision(last)? {
-                Outcome::Saturated => return Ok(Turn::Back),
-                Outcome::Spent => return Ok(Turn::End(Ending::GivenUp)),
-                Outcome::Contradicted => self.explain()?,
+                Saturation::Saturated => return Ok(Turn::Back),
+                Saturation::Spent => return Ok(Turn::End(WalkEnd::GivenUp)),
+                Saturation::Contradicted => self.explain()?,
             }
         }
-        Ok(Turn::End(Ending::GivenUp))
+        Ok(Turn::End(WalkEnd::GivenUp))
     }
 
     /// Takes back all decisions from this one on and those before it that the contradiction does not need, and turns it round.
-    fn turn_decision(&mut self, last: u32) -> Result<Outcome, AllocError> {
+    fn turn_decision(&mut self, last: u32) -> Result<Saturation, AllocError> {
         let earlier = self.explanation.decision_before(last);
         let pair = self.order.decision(last);
         let operations = self.explanation.operations(self.alloc)?;
@@ -375,7 +375,7 @@ impl<'a> Walk<'a> {
             .learn(pair, operations.as_slice(), decisions.as_slice());
         match learned {
             Ok(()) => self.order.saturate(),
-            Err(Halt::Contradiction) => Ok(Outcome::Contradicted),
+            Err(Halt::Contradiction) => Ok(Saturation::Contradicted),
             Err(Halt::OutOfMemory) => Err(AllocError),
         }
     }

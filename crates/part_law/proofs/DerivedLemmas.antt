@@ -4,13 +4,13 @@ use Rattle.std.specs.Prelude.{Option, Some, None, IsSome, is_some}
 use Rattle.std.specs.List.{Contains}
 use Rattle.std.proofs.lemmas.List.Elements.{Contains-append_cases}
 use Rattle.std.proofs.lemmas.Option.{same_Some}
-use Rattle.traces.specs.declared.operation.OpName.{OpName}
-use Rattle.traces.specs.Interleaving.{StandsBefore}
-use Rattle.traces.specs.Legal.{IsLegal}
-use Rattle.traces.specs.Trace.{TraceValue, IsTrace, operation_at}
-use Rattle.traces.specs.ValueAfter.{value_left_at, value_after}
-use Rattle.traces.proofs.ElementLemmas.{placed, cases_in, in_middle}
-use Rattle.traces.proofs.OrderLemmas.{stands_behind, stands_ahead}
+use Rattle.trace_semantics.specs.declared.operation.OpName.{OpName}
+use Rattle.trace_semantics.specs.Interleaving.{StandsBefore}
+use Rattle.trace_semantics.specs.Legal.{IsLegal}
+use Rattle.trace_semantics.specs.Trace.{TraceValue, IsTrace, operation_at}
+use Rattle.trace_semantics.specs.ValueAfter.{value_left_at, value_after}
+use Rattle.trace_semantics.proofs.ElementLemmas.{placed, cases_in, in_middle}
+use Rattle.trace_semantics.proofs.OrderLemmas.{stands_behind, stands_ahead}
 use Rattle.part_law.specs.Derived.{IsOnlySource, IsDerived, Source, After, Before}
 use Rattle.forced_order.specs.Order.{Obeys}
 use Rattle.part_law.specs.Part.{writes_at}

@@ -1,10 +1,10 @@
 -- Two parts of a small trace, computed.
 use Rattle.std.proofs.Common.{◌≡◌, List, [], ◌∷◌, ℕ, false, not, refl}
 use Rattle.std.specs.Str.{bytes_eq}
-use Rattle.traces.specs.declared.operation.Op.TheVariants.{Read, Write, Update}
-use Rattle.traces.specs.declared.operation.Origin.TheVariants.{Any}
-use Rattle.traces.specs.Operation.{same_op}
-use Rattle.traces.specs.Trace.{TraceValue}
+use Rattle.trace_semantics.specs.declared.operation.Op.TheVariants.{Read, Write, Update}
+use Rattle.trace_semantics.specs.declared.operation.Origin.TheVariants.{Any}
+use Rattle.trace_semantics.specs.Operation.{same_op}
+use Rattle.trace_semantics.specs.Trace.{TraceValue}
 use Rattle.part_law.specs.Part.{part}
 
 abbrev p_name : List ℕ

@@ -7,21 +7,21 @@ use Rattle.std.specs.Str.{bytes_eq}
 use Rattle.std.proofs.lemmas.Bool.{and_parts, and_from, not_from_false, false_from_ne_true}
 use Rattle.std.proofs.lemmas.List.Elements.{Contains-append_cases}
 use Rattle.std.proofs.lemmas.Option.{same_Some}
-use Rattle.traces.specs.declared.operation.Op.{Op}
-use Rattle.traces.specs.declared.operation.Op.TheVariants.{Read, Write, Update}
-use Rattle.traces.specs.declared.operation.OpName.{OpName}
-use Rattle.traces.specs.declared.operation.Origin.{Origin}
-use Rattle.traces.specs.declared.operation.Origin.TheVariants.{Any, Initial, Operation}
-use Rattle.traces.specs.Interleaving.{StandsBefore}
-use Rattle.traces.specs.Judgement.{is_held}
-use Rattle.traces.specs.Legal.{ComesFrom, ReadsRight, IsLegal}
-use Rattle.traces.specs.Operation.{location_of, value_read, value_left, origin_of, same_op}
-use Rattle.traces.specs.Trace.{TraceValue, IsTrace, operation_at, operation_names, value_of}
-use Rattle.traces.specs.ValueAfter.{value_left_at, value_after, last_writer}
-use Rattle.traces.proofs.CauseLemmas.{same_held}
-use Rattle.traces.proofs.ElementLemmas.{cases_in, in_middle, all_pass, some_passes, from_map, from_filter, to_filter, from_flat_map}
-use Rattle.traces.proofs.NameLemmas.{known_listed, listed_known, same_name}
-use Rattle.traces.proofs.OrderLemmas.{stands_behind, stands_ahead, given_entry, entry_given}
+use Rattle.trace_semantics.specs.declared.operation.Op.{Op}
+use Rattle.trace_semantics.specs.declared.operation.Op.TheVariants.{Read, Write, Update}
+use Rattle.trace_semantics.specs.declared.operation.OpName.{OpName}
+use Rattle.trace_semantics.specs.declared.operation.Origin.{Origin}
+use Rattle.trace_semantics.specs.declared.operation.Origin.TheVariants.{Any, Initial, Operation}
+use Rattle.trace_semantics.specs.Interleaving.{StandsBefore}
+use Rattle.trace_semantics.specs.Judgement.{is_held}
+use Rattle.trace_semantics.specs.Legal.{ComesFrom, ReadsRight, IsLegal}
+use Rattle.trace_semantics.specs.Operation.{location_of, value_read, written_value, origin_of, same_op}
+use Rattle.trace_semantics.specs.Trace.{TraceValue, IsTrace, operation_at, operation_names, value_of}
+use Rattle.trace_semantics.specs.ValueAfter.{value_left_at, value_after, last_writer}
+use Rattle.trace_semantics.proofs.CauseLemmas.{same_held}
+use Rattle.trace_semantics.proofs.ElementLemmas.{cases_in, in_middle, all_pass, some_passes, from_map, from_filter, to_filter, from_flat_map}
+use Rattle.trace_semantics.proofs.NameLemmas.{known_listed, listed_known, same_name}
+use Rattle.trace_semantics.proofs.OrderLemmas.{stands_behind, stands_ahead, given_entry, entry_given}
 use Rattle.restriction.specs.Left.{is_left, new_name, new_origin, new_op, new_pair, restricted}
 use Rattle.forced_order.specs.Order.{Obeys}
 use Rattle.part_law.specs.Part.{writes_at, writers_of, is_overwritten, may_be_source, sources, may_be_last, last_writers, keeps_read, stays_of, stays, stays_final, left_names, left_pairs, is_told, part}
@@ -201,7 +201,7 @@ module _ (t : TraceValue) (ok : IsTrace t) (ordered : OpName → OpName → Bool
   writer_left front n back location d Initial e keeps value source w v last = absurd (let clash : Some w ≡ None = sym (last_writes t location front w v last) ∙ source in cc)
   writer_left front n back location d (Operation u) e keeps value source w v last =
       let same : w ≡ u = same_Some w u (sym (last_writes t location front w v last) ∙ source) in
-      writer_stays t ordered chosen location w v (ap chosen same ∙ (and_parts (chosen u) (is_some (option_and_then value_left (operation_at t u))) keeps).0) last.leaves
+      writer_stays t ordered chosen location w v (ap chosen same ∙ (and_parts (chosen u) (is_some (option_and_then written_value (operation_at t u))) keeps).0) last.leaves
 
   comes_from : (front : List OpName) (location : List ℕ) (origin : Origin) → last_writer (part t ordered chosen) location (restricted left front) ≡ option_map (new_name left) (last_writer t location front) →
       ComesFrom t front location origin → ComesFrom (part t ordered chosen) (restricted left front) location (new_origin left origin)

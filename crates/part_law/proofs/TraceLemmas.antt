@@ -12,18 +12,18 @@ use Rattle.std.proofs.lemmas.List.{length-map, length-take}
 use Rattle.std.proofs.lemmas.List.Elements.{Contains-append_cases, Contains-append_left, Contains-append_right}
 use Rattle.std.proofs.lemmas.List.Kept.{AllPairs-filter}
 use Rattle.std.proofs.lemmas.Option.{same_Some}
-use Rattle.traces.specs.declared.operation.Op.{Op}
-use Rattle.traces.specs.declared.operation.Op.TheVariants.{Read, Write, Update}
-use Rattle.traces.specs.declared.operation.OpName.{OpName}
-use Rattle.traces.specs.declared.operation.Origin.TheVariants.{Any, Operation}
-use Rattle.traces.specs.declared.trace.Process.{Process}
-use Rattle.traces.specs.Names.{is_name}
-use Rattle.traces.specs.Operation.{location_of, value_left, origin_of}
-use Rattle.traces.specs.PairOrder.{order_of, pair_order, ArePairsRising}
-use Rattle.traces.specs.Trace.{TraceValue, IsTrace, operation_at, operation_names, is_written_value, is_written_name, is_written_origin, is_written_op, is_written_process, is_written_pair, locations_of}
-use Rattle.traces.proofs.DistinctLemmas.{few_named}
-use Rattle.traces.proofs.ElementLemmas.{all_pass, pass_all, from_map, to_map, from_filter, from_flat_map}
-use Rattle.traces.proofs.NameLemmas.{bytes_same, from_first}
+use Rattle.trace_semantics.specs.declared.operation.Op.{Op}
+use Rattle.trace_semantics.specs.declared.operation.Op.TheVariants.{Read, Write, Update}
+use Rattle.trace_semantics.specs.declared.operation.OpName.{OpName}
+use Rattle.trace_semantics.specs.declared.operation.Origin.TheVariants.{Any, Operation}
+use Rattle.trace_semantics.specs.declared.trace.Process.{Process}
+use Rattle.trace_semantics.specs.Names.{is_name}
+use Rattle.trace_semantics.specs.Operation.{location_of, written_value, origin_of}
+use Rattle.trace_semantics.specs.PairOrder.{order_of, pair_order, ArePairsRising}
+use Rattle.trace_semantics.specs.Trace.{TraceValue, IsTrace, operation_at, operation_names, is_written_value, is_written_name, is_written_origin, is_written_op, is_written_process, is_written_pair, locations_of}
+use Rattle.trace_semantics.proofs.DistinctLemmas.{few_named}
+use Rattle.trace_semantics.proofs.ElementLemmas.{all_pass, pass_all, from_map, to_map, from_filter, from_flat_map}
+use Rattle.trace_semantics.proofs.NameLemmas.{bytes_same, from_first}
 use Rattle.restriction.specs.Left.{is_left, new_name, new_pair, names_of, left_process}
 use Rattle.part_law.specs.Part.{keeps_read, stays_of, stays, stays_final, left_names, left_pairs, is_told, part}
 use Rattle.restriction.proofs.OrderedPairLemmas.{all_from, pairs_in_front, pairs_flat, pairs_mapped, IsEarlierName, IsEarlierPair, pair_less, processes_rise, names_rise}
@@ -33,10 +33,10 @@ use Rattle.restriction.proofs.TraceLeftLemmas.{StaysWell, few_in_all, distinct_n
 
 -- what stays in a part
 module _ (t : TraceValue) (ordered : OpName → OpName → Bool) (chosen : OpName → Bool) where
-  origin_left : (w : OpName) (o : Option Op) → operation_at t w ≡ o → chosen w ≡ true → is_some (option_and_then value_left o) ≡ true → is_left (stays t ordered chosen) w ≡ true
+  origin_left : (w : OpName) (o : Option Op) → operation_at t w ≡ o → chosen w ≡ true → is_some (option_and_then written_value o) ≡ true → is_left (stays t ordered chosen) w ≡ true
   origin_left w o e h k = (λ i. is_some (cond (h i) (option_and_then (stays_of t ordered chosen w) (e i)) None)) ∙ by_op o k
     where
-      by_op : (p : Option Op) → is_some (option_and_then value_left p) ≡ true → is_some (option_and_then (stays_of t ordered chosen w) p) ≡ true
+      by_op : (p : Option Op) → is_some (option_and_then written_value p) ≡ true → is_some (option_and_then (stays_of t ordered chosen w) p) ≡ true
       by_op None l = absurd (cc)
       by_op (Some (Read place value origin)) l = absurd (cc)
       by_op (Some (Write place value)) l = refl
@@ -76,11 +76,11 @@ module _ (t : TraceValue) (ordered : OpName → OpName → Bool) (chosen : OpNam
   stays_from n (Write location value) new w (Whole same keeps) e = absurd (let clash : Any ≡ Operation w = ap origin_of same ∙ e in cc)
   stays_from n (Read location value origin) new w (Whole same keeps) e =
       let named : origin ≡ Operation w = ap origin_of same ∙ e in
-      let kept = and_parts (chosen w) (is_some (option_and_then value_left (operation_at t w))) (ap (keeps_read t ordered chosen n location value) (sym named) ∙ keeps value refl) in
+      let kept = and_parts (chosen w) (is_some (option_and_then written_value (operation_at t w))) (ap (keeps_read t ordered chosen n location value) (sym named) ∙ keeps value refl) in
       origin_left w (operation_at t w) refl kept.0 kept.1
   stays_from n (Update location read left origin) new w (Whole same keeps) e =
       let named : origin ≡ Operation w = ap origin_of same ∙ e in
-      let kept = and_parts (chosen w) (is_some (option_and_then value_left (operation_at t w))) (ap (keeps_read t ordered chosen n location read) (sym named) ∙ keeps read refl) in
+      let kept = and_parts (chosen w) (is_some (option_and_then written_value (operation_at t w))) (ap (keeps_read t ordered chosen n location read) (sym named) ∙ keeps read refl) in
       origin_left w (operation_at t w) refl kept.0 kept.1
 
   -- what stays of an operation is what stays of the one that is known

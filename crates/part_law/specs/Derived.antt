@@ -1,9 +1,9 @@
 -- What follows from an order and the only possible source of a reading operation.
 use Rattle.std.specs.Prelude.{◌≡◌, ◌≢◌, true, ℕ, List, Some, Bool}
-use Rattle.traces.specs.declared.operation.Op.{Op}
-use Rattle.traces.specs.declared.operation.OpName.{OpName}
-use Rattle.traces.specs.Operation.{location_of, value_read}
-use Rattle.traces.specs.Trace.{TraceValue, operation_at, value_of}
+use Rattle.trace_semantics.specs.declared.operation.Op.{Op}
+use Rattle.trace_semantics.specs.declared.operation.OpName.{OpName}
+use Rattle.trace_semantics.specs.Operation.{location_of, value_read}
+use Rattle.trace_semantics.specs.Trace.{TraceValue, operation_at, value_of}
 use Rattle.part_law.specs.Part.{writes_at, may_be_source}
 
 -- n reads at the location a value that is not the initial one, and w alone may be its source

@@ -6,15 +6,15 @@ use Rattle.std.specs.Prelude.{ℕ, List, length, map, take, Option, Some, None, 
 use Rattle.std.specs.List.{filter, flat_map, list_all, list_any}
 use Rattle.std.specs.Option.{option_and_then}
 use Rattle.std.specs.Str.{bytes_eq}
-use Rattle.traces.specs.declared.operation.Op.{Op}
-use Rattle.traces.specs.declared.operation.Op.TheVariants.{Read, Write, Update}
-use Rattle.traces.specs.declared.operation.OpName.{OpName}
-use Rattle.traces.specs.declared.operation.Origin.{Origin}
-use Rattle.traces.specs.declared.operation.Origin.TheVariants.{Any, Initial, Operation}
-use Rattle.traces.specs.Judgement.{is_held}
-use Rattle.traces.specs.Operation.{value_left, same_op}
-use Rattle.traces.specs.Trace.{TraceValue, operation_at, operation_names}
-use Rattle.traces.specs.ValueAfter.{value_left_at}
+use Rattle.trace_semantics.specs.declared.operation.Op.{Op}
+use Rattle.trace_semantics.specs.declared.operation.Op.TheVariants.{Read, Write, Update}
+use Rattle.trace_semantics.specs.declared.operation.OpName.{OpName}
+use Rattle.trace_semantics.specs.declared.operation.Origin.{Origin}
+use Rattle.trace_semantics.specs.declared.operation.Origin.TheVariants.{Any, Initial, Operation}
+use Rattle.trace_semantics.specs.Judgement.{is_held}
+use Rattle.trace_semantics.specs.Operation.{written_value, same_op}
+use Rattle.trace_semantics.specs.Trace.{TraceValue, operation_at, operation_names}
+use Rattle.trace_semantics.specs.ValueAfter.{value_left_at}
 use Rattle.restriction.specs.Left.{is_left, new_pair, left_process}
 
 -- the operation writes the location
@@ -50,7 +50,7 @@ last_writers t ordered location d = filter (may_be_last t ordered location d) (w
 abbrev pub keeps_read : TraceValue → (OpName → OpName → Bool) → (OpName → Bool) → OpName → List ℕ → ℕ → Origin → Bool
 keeps_read t ordered chosen n location d Any = list_all chosen (sources t ordered n location d)
 keeps_read t ordered chosen n location d Initial = true
-keeps_read t ordered chosen n location d (Operation w) = chosen w && is_some (option_and_then value_left (operation_at t w))
+keeps_read t ordered chosen n location d (Operation w) = chosen w && is_some (option_and_then written_value (operation_at t w))
 
 -- what stays of a chosen operation: where the part does not say what it reads, a read is left out, and an update becomes a write
 abbrev pub stays_of : TraceValue → (OpName → OpName → Bool) → (OpName → Bool) → OpName → Op → Option Op

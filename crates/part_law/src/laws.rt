@@ -1,10 +1,10 @@
 //! Laws of parts.
 
 ghost use Rattle.std.specs.Prelude.{◌≡◌, ◌≢◌, true, Bool, List, IsSome};
-ghost use Rattle.traces.specs.declared.operation.OpName.{OpName};
-ghost use Rattle.traces.specs.Interleaving.{StandsBefore};
-ghost use Rattle.traces.specs.Legal.{IsLegal};
-ghost use Rattle.traces.specs.Trace.{TraceValue, IsTrace, operation_at};
+ghost use Rattle.trace_semantics.specs.declared.operation.OpName.{OpName};
+ghost use Rattle.trace_semantics.specs.Interleaving.{StandsBefore};
+ghost use Rattle.trace_semantics.specs.Legal.{IsLegal};
+ghost use Rattle.trace_semantics.specs.Trace.{TraceValue, IsTrace, operation_at};
 ghost use Rattle.part_law.specs.Derived.{IsDerived};
 ghost use Rattle.restriction.specs.Left.{restricted};
 ghost use Rattle.forced_order.specs.Order.{Obeys, IsObeyed};

@@ -2,12 +2,12 @@
 use Rattle.std.proofs.Common.{ℕ, List, Bool, subst, sym}
 use Rattle.std.specs.Prelude.{Result, Ok, Err, OnOk}
 use Rattle.text_lines.specs.Fault.{IsRefusal}
-use Rattle.text_lines.specs.declared.fault.Fault.{Fault as PartFault}
-use Rattle.text_lines.specs.declared.fault.Fault.TheVariants.{OutOfMemory as NoPartMemory, At}
-use Rattle.traces.specs.declared.operation.OpName.{OpName}
-use Rattle.traces.specs.Judgement.{has_come}
-use Rattle.traces.specs.Legal.{IsLegal}
-use Rattle.traces.specs.Trace.{TraceValue, IsTrace}
+use Rattle.text_lines.specs.declared.fault.PlacedFault.{PlacedFault as PartFault}
+use Rattle.text_lines.specs.declared.fault.PlacedFault.TheVariants.{OutOfMemory as NoPartMemory, At}
+use Rattle.trace_semantics.specs.declared.operation.OpName.{OpName}
+use Rattle.trace_semantics.specs.Judgement.{has_come}
+use Rattle.trace_semantics.specs.Legal.{IsLegal}
+use Rattle.trace_semantics.specs.Trace.{TraceValue, IsTrace}
 use Rattle.trace_text.specs.TraceText.{SpellsTrace}
 use Rattle.schedule_text.specs.ScheduleText.{SpellsSchedule, HasScheduleFault}
 use Rattle.schedule_text.specs.declared.schedule_fault.ScheduleCause.{ScheduleCause}

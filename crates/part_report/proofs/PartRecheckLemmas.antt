@@ -8,10 +8,10 @@ use Rattle.certificate.specs.declared.certificate.Certificate.{Certificate}
 use Rattle.reducer.specs.Reduced.{HasReduceFault, ReducedValue}
 use Rattle.reducer.specs.declared.reduce_fault.ReduceCause.{ReduceCause}
 use Rattle.text_lines.specs.Fault.{IsRefusal}
-use Rattle.text_lines.specs.declared.fault.Fault.{Fault as PartFault}
-use Rattle.text_lines.specs.declared.fault.Fault.TheVariants.{OutOfMemory as NoPartMemory, At}
-use Rattle.traces.specs.declared.operation.OpName.{OpName}
-use Rattle.traces.specs.Trace.{TraceValue, IsTrace}
+use Rattle.text_lines.specs.declared.fault.PlacedFault.{PlacedFault as PartFault}
+use Rattle.text_lines.specs.declared.fault.PlacedFault.TheVariants.{OutOfMemory as NoPartMemory, At}
+use Rattle.trace_semantics.specs.declared.operation.OpName.{OpName}
+use Rattle.trace_semantics.specs.Trace.{TraceValue, IsTrace}
 use Rattle.trace_text.specs.TraceText.{SpellsTrace}
 use Rattle.schedule_text.specs.ScheduleText.{SpellsSchedule, HasScheduleFault}
 use Rattle.schedule_text.specs.declared.schedule_fault.ScheduleCause.{ScheduleCause}
@@ -23,7 +23,7 @@ use Rattle.verdict_report.specs.declared.fault.Fault.TheVariants.{OutOfMemory, D
 use Rattle.verdict_report.specs.declared.status.Status.{Status}
 use Rattle.verdict_report.specs.Fault.{fault_of_part}
 use Rattle.part_report.specs.PartRecheckEngine.{AreRecheckedByPart, IsSaidByPart}
-use Rattle.verdict_report.specs.RecheckEngine.{IsRecheckedFor, HandsOutUnschedulable}
+use Rattle.verdict_report.specs.RecheckEngine.{IsRecheckedFor, InputHasNoLegalSchedule}
 use Rattle.verdict_report.specs.Runs.{SourceRun, HandsOut}
 use Rattle.part_report.proofs.PartLemmas.{whole_refuted}
 
@@ -92,7 +92,7 @@ module _ (trace_text cert_text names_text : List ℕ) (value : TraceValue) (is_t
 
 -- a certificate that is accepted shows that the trace has no schedule
 pub shown : (trace : SourceRun) (trace_text cert_text names_text : List ℕ) (count : ℕ) → HandsOut trace trace_text → AreRecheckedByPart trace_text cert_text names_text count → (result : Result Status Fault) →
-    OnOk result (HandsOutUnschedulable trace)
+    OnOk result (InputHasNoLegalSchedule trace)
 shown trace trace_text cert_text names_text count handed accepted (Ok status) = record {
   text = trace_text;
   handed = handed;

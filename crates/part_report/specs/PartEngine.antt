@@ -1,7 +1,7 @@
 -- What the engine that makes parts of traces answers and writes.
 use Rattle.std.specs.Prelude.{◌≡◌, ⊤, ℕ, Bool, List, [], ◌∷◌, ◌++◌, Result, Ok, Err}
-use Rattle.traces.specs.declared.operation.OpName.{OpName}
-use Rattle.traces.specs.Trace.{TraceValue, IsTrace}
+use Rattle.trace_semantics.specs.declared.operation.OpName.{OpName}
+use Rattle.trace_semantics.specs.Trace.{TraceValue, IsTrace}
 use Rattle.trace_text.specs.TraceFault.{HasTraceFault}
 use Rattle.trace_text.specs.TraceText.{SpellsTrace}
 use Rattle.schedule_text.specs.ScheduleText.{SpellsSchedule}

@@ -11,7 +11,7 @@ use part_text::named_part::named_part;
 use part_text::part_writer::write_part;
 use schedule_text::schedule_reader::read_schedule;
 use std::alloc::Global;
-use trace_part::part::Part;
+use trace_part::part::TracePart;
 use trace_text::trace_reader::read_trace;
 use verdict_report::{Fault, Source, Status, read_two};
 
@@ -42,7 +42,7 @@ pub fn run_part<T: Source, N: Source, W: Sink>(
 }
 
 /// The part of the trace that the first text spells, of the operations that the second one names.
-fn part_of_texts(alloc: Global, trace_text: &[u8], names_text: &[u8]) -> Result<Part, Fault>
+fn part_of_texts(alloc: Global, trace_text: &[u8], names_text: &[u8]) -> Result<TracePart, Fault>
     ensures { IsSaidOfChoice trace_text.now names_text.now result }
 {
     let trace = read_trace(alloc, trace_text)?;
@@ -53,7 +53,7 @@ fn part_of_texts(alloc: Global, trace_text: &[u8], names_text: &[u8]) -> Result<
 /// Writes the text of the part to the sink.
 fn put_part<W: Sink>(
     alloc: Global,
-    part: &Part,
+    part: &TracePart,
     shows_names: bool,
     out: &mut W,
 ) -> Result<Status, Fault>

@@ -2,7 +2,7 @@
 
 ghost use Rattle.std.specs.Prelude.{OnOk};
 ghost use Rattle.part_report.specs.PartRecheckEngine.{IsRunOfPartRecheck, IsSaidByPart};
-ghost use Rattle.verdict_report.specs.RecheckEngine.{HandsOutUnschedulable};
+ghost use Rattle.verdict_report.specs.RecheckEngine.{InputHasNoLegalSchedule};
 ghost use Rattle.verdict_report.specs.Runs.{source_run, sink_run};
 
 use certificate::take_cert;
@@ -35,7 +35,7 @@ pub fn run_part_recheck<T: Source, C: Source, N: Source, W: Sink>(
         (source_run N.handed_out N.is_at_end N.failures names.old names.new)
         (sink_run W.written W.failures out.old out.new)
         result }
-    ensures sound { OnOk result (HandsOutUnschedulable (source_run T.handed_out T.is_at_end T.failures trace.old trace.new)) }
+    ensures sound { OnOk result (InputHasNoLegalSchedule (source_run T.handed_out T.is_at_end T.failures trace.old trace.new)) }
 {
     let (trace_text, cert_text, names_text) = read_three(alloc, trace, cert, names)?;
     let count = recheck_part(

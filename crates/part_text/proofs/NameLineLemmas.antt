@@ -7,14 +7,14 @@ use Rattle.text_lines.specs.Lines.{lines_of}
 use Rattle.text_lines.specs.Words.{words_of}
 use Rattle.text_lines.proofs.KeptLemmas.{kept_append, kept_skipped, kept_more}
 use Rattle.text_lines.proofs.ListLemmas.{next_parts}
-use Rattle.traces.specs.declared.operation.OpName.{OpName}
-use Rattle.traces.specs.Trace.{TraceValue}
+use Rattle.trace_semantics.specs.declared.operation.OpName.{OpName}
+use Rattle.trace_semantics.specs.Trace.{TraceValue}
 use Rattle.schedule_text.specs.ScheduleText.{SpellsSchedule, name_word}
 use Rattle.trace_part.specs.Choice.{fault_of_choice}
 use Rattle.trace_part.specs.declared.part_fault.PartCause.{PartCause}
 use Rattle.part_text.specs.NameLine.{StandsAt, HasChoiceFault}
 
--- so many lines were passed, of which so many say something, and none of these had the place
+-- `number` lines were passed, of which `said` say something, and none of these had the place
 pub record IsCounted (text : List ℕ) (place number said : ℕ) (rest : List ℕ) : Type 0 where
   pub done : List (List ℕ)
   pub parts : lines_of text ≡ done ++ lines_of rest

@@ -13,12 +13,12 @@ use Rattle.text_lines.specs.Kept.{kept, is_skipped}
 use Rattle.text_lines.specs.Lines.{lines_of, is_line_feed}
 use Rattle.text_lines.specs.Words.{is_blank, is_empty}
 use Rattle.text_lines.proofs.LineLemmas.{line_ended}
-use Rattle.traces.specs.declared.operation.Op.{Op}
-use Rattle.traces.specs.declared.operation.OpName.{OpName}
-use Rattle.traces.specs.declared.trace.Process.{Process}
-use Rattle.traces.specs.Judgement.{has_come}
-use Rattle.traces.specs.Names.{is_name}
-use Rattle.traces.specs.Trace.{TraceValue, IsTrace, is_written_process}
+use Rattle.trace_semantics.specs.declared.operation.Op.{Op}
+use Rattle.trace_semantics.specs.declared.operation.OpName.{OpName}
+use Rattle.trace_semantics.specs.declared.trace.Process.{Process}
+use Rattle.trace_semantics.specs.Judgement.{has_come}
+use Rattle.trace_semantics.specs.Names.{is_name}
+use Rattle.trace_semantics.specs.Trace.{TraceValue, IsTrace, is_written_process}
 use Rattle.restriction.specs.Left.{is_left}
 use Rattle.restriction.proofs.PlaceLemmas.{names_from}
 use Rattle.part_law.specs.Part.{stays}

@@ -4,8 +4,8 @@ use Rattle.text_lines.specs.FirstFault.{IsFirstFault}
 use Rattle.text_lines.specs.Kept.{kept, is_skipped}
 use Rattle.text_lines.specs.Lines.{lines_of}
 use Rattle.text_lines.specs.Words.{words_of}
-use Rattle.traces.specs.declared.operation.OpName.{OpName}
-use Rattle.traces.specs.Trace.{TraceValue}
+use Rattle.trace_semantics.specs.declared.operation.OpName.{OpName}
+use Rattle.trace_semantics.specs.Trace.{TraceValue}
 use Rattle.trace_part.specs.Choice.{fault_of_choice}
 use Rattle.trace_part.specs.declared.part_fault.PartCause.{PartCause}
 

@@ -1,9 +1,9 @@
 -- The text of a part.
 use Rattle.std.specs.Prelude.{◌+◌, ℕ, Bool, true, false, List, [], ◌∷◌, ◌++◌, map, codes, Option, None, Some, slice_index_or}
 use Rattle.std.specs.List.{flat_map, slice_get}
-use Rattle.traces.specs.declared.operation.Op.{Op}
-use Rattle.traces.specs.declared.operation.OpName.{OpName}
-use Rattle.traces.specs.declared.trace.Process.{Process}
+use Rattle.trace_semantics.specs.declared.operation.Op.{Op}
+use Rattle.trace_semantics.specs.declared.operation.OpName.{OpName}
+use Rattle.trace_semantics.specs.declared.trace.Process.{Process}
 use Rattle.schedule_text.specs.ScheduleText.{name_word}
 use Rattle.trace_text.specs.TraceText.{header_line, init_line, final_line, proc_line, op_line, before_line, needs_version_2}
 use Rattle.trace_text.specs.TraceWritten.{line_text, canonical_trace}

@@ -1,8 +1,8 @@
 //! Laws of the texts of parts.
 
 ghost use Rattle.std.specs.Prelude.{Bool, List};
-ghost use Rattle.traces.specs.declared.operation.OpName.{OpName};
-ghost use Rattle.traces.specs.Trace.{TraceValue, IsTrace};
+ghost use Rattle.trace_semantics.specs.declared.operation.OpName.{OpName};
+ghost use Rattle.trace_semantics.specs.Trace.{TraceValue, IsTrace};
 ghost use Rattle.trace_text.specs.TraceText.{SpellsTrace};
 ghost use Rattle.trace_part.specs.TraceParts.{PartValue, IsPart};
 ghost use Rattle.part_text.specs.PartText.{part_text};

@@ -8,11 +8,11 @@ ghost use Rattle.part_text.specs.NameLine.{HasChoiceFault};
 
 use crate::name_line::line_of_place;
 use std::alloc::Global;
-use text_lines::fault::Fault;
-use trace_part::part::{Part, part_of};
+use text_lines::fault::PlacedFault;
+use trace_part::part::{TracePart, part_of};
 use trace_part::part_fault::PartFault;
-use traces::schedule::Schedule;
-use traces::trace::Trace;
+use trace_semantics::schedule::Schedule;
+use trace_semantics::trace::Trace;
 
 /// The part of the trace that the operations of these names make up, which were read from the text. The error has the line of the
 /// first name that is not of the trace or stands there before.
@@ -21,13 +21,16 @@ pub fn named_part(
     trace: &Trace,
     names: &Schedule,
     text: &[u8],
-) -> Result<Part, PartFault>
+) -> Result<TracePart, PartFault>
     ensures part { IfOk result (IsPart trace.now names.now) }
     ensures refused { SpellsSchedule text.now names.now → IfErr result (IsRefusal (HasChoiceFault trace.now names.now text.now)) }
 {
     match part_of(alloc, trace, names.names()) {
         Ok(part) => Ok(part),
-        Err(Fault::OutOfMemory) => Err(Fault::OutOfMemory),
-        Err(Fault::At(cause, place)) => Err(Fault::At(cause, line_of_place(text, place))),
+        Err(PlacedFault::OutOfMemory) => Err(PlacedFault::OutOfMemory),
+        Err(PlacedFault::At(cause, place)) => Err(PlacedFault::At(
+            cause,
+            line_of_place(text, place),
+        )),
     }
 }

@@ -7,13 +7,13 @@ ghost use Rattle.part_text.specs.PartText.{name_comment, named_op, named_ops, na
 
 use itoa::Buffer;
 use std::alloc::{AllocError, Global};
-use trace_part::part::Part;
+use trace_part::part::TracePart;
+use trace_semantics::name::Name;
+use trace_semantics::operation::Op;
+use trace_semantics::trace::Process;
 use trace_text::trace_writer::{
     push_entries, push_header, push_op, push_pairs, wants_version_2, write_trace,
 };
-use traces::name::Name;
-use traces::operation::Op;
-use traces::trace::Process;
 
 /// Appends the comment with the name of an operation.
 fn push_name_comment(text: &mut Vec<u8>, process: &Name, place: u16) -> Result<(), AllocError>
@@ -87,7 +87,7 @@ fn push_named_process(
 }
 
 /// Appends the processes of the part.
-fn push_named_processes(text: &mut Vec<u8>, part: &Part) -> Result<(), AllocError>
+fn push_named_processes(text: &mut Vec<u8>, part: &TracePart) -> Result<(), AllocError>
     ensures { OnOk result (text.new.items ≡ text.old.items ++ flat_map line_text (named_processes part.now.places 0 part.now.trace.processes)) }
 {
     let processes = part.trace().processes();
@@ -98,7 +98,7 @@ fn push_named_processes(text: &mut Vec<u8>, part: &Part) -> Result<(), AllocErro
 }
 
 /// The text of the part with a comment before each operation, which has its name in the whole.
-fn write_named(alloc: Global, part: &Part) -> Result<Vec<u8>, AllocError>
+fn write_named(alloc: Global, part: &TracePart) -> Result<Vec<u8>, AllocError>
     ensures { IfOk result (λ text. text.items ≡ part_text true part.now) }
 {
     let trace = part.trace();
@@ -112,7 +112,7 @@ fn write_named(alloc: Global, part: &Part) -> Result<Vec<u8>, AllocError>
 }
 
 /// The text of the part, a trace's, with the names of its operations in the whole as comments, or without.
-pub fn write_part(alloc: Global, part: &Part, shows_names: bool) -> Result<Vec<u8>, AllocError>
+pub fn write_part(alloc: Global, part: &TracePart, shows_names: bool) -> Result<Vec<u8>, AllocError>
     ensures { IfOk result (λ text. text.items ≡ part_text shows_names part.now) }
 {
     if shows_names {

@@ -7,13 +7,13 @@ use Rattle.std.proofs.lemmas.List.{length-map, length-append, get_or-map, get_or
 use Rattle.std.proofs.lemmas.List.Elements.{Contains-get_or, filter_map-append}
 use Rattle.std.proofs.lemmas.List.Sums.{sum_by-cons, sum_by_more_le}
 use Rattle.std.proofs.lemmas.Option.{slice_get-get_or}
-use Rattle.traces.specs.declared.operation.Op.{Op}
-use Rattle.traces.specs.declared.operation.OpName.{OpName}
-use Rattle.traces.specs.declared.trace.Process.{Process}
-use Rattle.traces.specs.Operation.{origin_of}
-use Rattle.traces.specs.Trace.{TraceValue, IsTrace, IsKnownOrigin, at_place, process_named, operation_at, operation_count}
-use Rattle.traces.proofs.ElementLemmas.{head_in, tail_in, from_filter}
-use Rattle.traces.proofs.NameLemmas.{from_first}
+use Rattle.trace_semantics.specs.declared.operation.Op.{Op}
+use Rattle.trace_semantics.specs.declared.operation.OpName.{OpName}
+use Rattle.trace_semantics.specs.declared.trace.Process.{Process}
+use Rattle.trace_semantics.specs.Operation.{origin_of}
+use Rattle.trace_semantics.specs.Trace.{TraceValue, IsTrace, IsKnownOrigin, at_place, process_named, operation_at, operation_count}
+use Rattle.trace_semantics.proofs.ElementLemmas.{head_in, tail_in, from_filter}
+use Rattle.trace_semantics.proofs.NameLemmas.{from_first}
 use Rattle.reducer.specs.Reduction.{is_kept, names_of, kept_names, new_op, kept_process, kept_trace}
 use Rattle.reducer.specs.Runs.{bounds_of, AreBounds}
 use Rattle.reducer.proofs.KeptLemmas.{process_of, listed_name}

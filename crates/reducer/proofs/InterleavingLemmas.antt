@@ -4,12 +4,12 @@ use Rattle.std.specs.Prelude.{IsSome}
 use Rattle.std.specs.List.{Contains, filter}
 use Rattle.std.proofs.lemmas.List.Elements.{All-contains}
 use Rattle.std.proofs.lemmas.Bool.{or_left, or_right}
-use Rattle.traces.specs.declared.operation.OpName.{OpName}
-use Rattle.traces.specs.Interleaving.{StandsBefore, IsInterleaving}
-use Rattle.traces.specs.Operation.{same_op}
-use Rattle.traces.specs.Trace.{TraceValue, IsTrace, operation_at}
-use Rattle.traces.proofs.ElementLemmas.{passes_some, from_map, to_map, from_filter, to_filter, from_flat_map, to_flat_map}
-use Rattle.traces.proofs.NameLemmas.{name_same}
+use Rattle.trace_semantics.specs.declared.operation.OpName.{OpName}
+use Rattle.trace_semantics.specs.Interleaving.{StandsBefore, IsInterleaving}
+use Rattle.trace_semantics.specs.Operation.{same_op}
+use Rattle.trace_semantics.specs.Trace.{TraceValue, IsTrace, operation_at}
+use Rattle.trace_semantics.proofs.ElementLemmas.{passes_some, from_map, to_map, from_filter, to_filter, from_flat_map, to_flat_map}
+use Rattle.trace_semantics.proofs.NameLemmas.{name_same}
 use Rattle.reducer.specs.Expansion.{expanded, expansion}
 use Rattle.reducer.specs.Reduction.{repeats, previous, is_in_pair, is_an_origin, is_kept, new_name, new_pair, kept_trace}
 use Rattle.reducer.proofs.KeptLemmas.{IsFirst, one_first, first_known, known_first, kept_first, first_kept}

@@ -8,11 +8,11 @@ use Rattle.std.specs.declared.cmp.Ordering.TheVariants.{Less, Equal, Greater}
 use Rattle.std.specs.Ordering.{nat_cmp, ordering_then}
 use Rattle.std.specs.Str.{bytes_eq}
 use Rattle.std.proofs.lemmas.Bool.{cases_order}
-use Rattle.traces.specs.declared.operation.OpName.{OpName}
-use Rattle.traces.specs.declared.trace.Process.{Process}
-use Rattle.traces.specs.PairOrder.{order_of, pair_order}
-use Rattle.traces.specs.Trace.{TraceValue, operation_at}
-use Rattle.traces.proofs.ProcessOrderLemmas.{same_process}
+use Rattle.trace_semantics.specs.declared.operation.OpName.{OpName}
+use Rattle.trace_semantics.specs.declared.trace.Process.{Process}
+use Rattle.trace_semantics.specs.PairOrder.{order_of, pair_order}
+use Rattle.trace_semantics.specs.Trace.{TraceValue, operation_at}
+use Rattle.trace_semantics.proofs.ProcessOrderLemmas.{same_process}
 use Rattle.reducer.specs.Reduction.{is_kept, new_name, new_pair, kept_process, kept_trace}
 use Rattle.reducer.proofs.RunLemmas.{higher}
 

@@ -5,9 +5,9 @@ use Rattle.std.specs.Prelude.{Option, Some, None, IsSome}
 use Rattle.std.specs.List.{Contains, filter, filter_map, cons_option, slice_get}
 use Rattle.std.specs.Option.{option_and_then}
 use Rattle.text_lines.proofs.ListLemmas.{get_behind}
-use Rattle.traces.specs.declared.operation.OpName.{OpName}
-use Rattle.traces.specs.Trace.{at_place, first_names}
-use Rattle.traces.proofs.ElementLemmas.{head_in, tail_in}
+use Rattle.trace_semantics.specs.declared.operation.OpName.{OpName}
+use Rattle.trace_semantics.specs.Trace.{at_place, first_names}
+use Rattle.trace_semantics.proofs.ElementLemmas.{head_in, tail_in}
 use Rattle.reducer.specs.Runs.{names_from}
 
 pub joined_names : (process : List ℕ) (low m n : ℕ) → names_from process low (m + n) ≡ names_from process low m ++ names_from process (low + m) n

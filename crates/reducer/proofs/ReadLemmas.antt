@@ -7,18 +7,18 @@ use Rattle.std.specs.Str.{bytes_eq}
 use Rattle.std.proofs.lemmas.List.Elements.{All-contains}
 use Rattle.std.proofs.lemmas.Option.{option_and_then_some, same_Some}
 use Rattle.text_lines.proofs.LastLemmas.{over, last_given}
-use Rattle.traces.specs.declared.operation.Op.{Op}
-use Rattle.traces.specs.declared.operation.Op.TheVariants.{Read, Write, Update}
-use Rattle.traces.specs.declared.operation.OpName.{OpName}
-use Rattle.traces.specs.declared.operation.Origin.{Origin}
-use Rattle.traces.specs.declared.operation.Origin.TheVariants.{Any, Initial, Operation}
-use Rattle.traces.specs.declared.trace.Process.{Process}
-use Rattle.traces.specs.Legal.{ComesFrom, ReadsRight}
-use Rattle.traces.specs.Operation.{location_of, value_read, value_left, origin_of}
-use Rattle.traces.specs.Trace.{TraceValue, IsTrace, IsKnownOrigin, at_place, process_named, operation_at, value_of}
-use Rattle.traces.specs.ValueAfter.{value_left_at, value_after, last_writer}
-use Rattle.traces.proofs.ElementLemmas.{found, passes_some}
-use Rattle.traces.proofs.NameLemmas.{name_same, bytes_same}
+use Rattle.trace_semantics.specs.declared.operation.Op.{Op}
+use Rattle.trace_semantics.specs.declared.operation.Op.TheVariants.{Read, Write, Update}
+use Rattle.trace_semantics.specs.declared.operation.OpName.{OpName}
+use Rattle.trace_semantics.specs.declared.operation.Origin.{Origin}
+use Rattle.trace_semantics.specs.declared.operation.Origin.TheVariants.{Any, Initial, Operation}
+use Rattle.trace_semantics.specs.declared.trace.Process.{Process}
+use Rattle.trace_semantics.specs.Legal.{ComesFrom, ReadsRight}
+use Rattle.trace_semantics.specs.Operation.{location_of, value_read, written_value, origin_of}
+use Rattle.trace_semantics.specs.Trace.{TraceValue, IsTrace, IsKnownOrigin, at_place, process_named, operation_at, value_of}
+use Rattle.trace_semantics.specs.ValueAfter.{value_left_at, value_after, last_writer}
+use Rattle.trace_semantics.proofs.ElementLemmas.{found, passes_some}
+use Rattle.trace_semantics.proofs.NameLemmas.{name_same, bytes_same}
 use Rattle.reducer.specs.Reduction.{value_behind, is_from, previous, is_dropped, is_kept, new_name, new_origin, new_op, kept_trace}
 use Rattle.reducer.proofs.InterleavingLemmas.{reduced, kept_as_origin}
 use Rattle.reducer.proofs.KeptLemmas.{IsFirst, one_first, known_first}
@@ -98,7 +98,7 @@ reads_with t ok names op known at right = record {
       (subst (λ l. ComesFrom (kept_trace t) (reduced t names) l (origin_of (new_op t op))) (same_location t op) right.source));
 }
 
-held_by : (op : Op) (o : Option ℕ) → ((d : ℕ) → value_read op ≡ Some d → o ≡ Some d) → over (cond true (value_left op) None) o ≡ Some (value_behind op)
+held_by : (op : Op) (o : Option ℕ) → ((d : ℕ) → value_read op ≡ Some d → o ≡ Some d) → over (cond true (written_value op) None) o ≡ Some (value_behind op)
 held_by (Read location value origin) o h = h value refl
 held_by (Write location value) o h = refl
 held_by (Update location read left origin) o h = refl
@@ -107,7 +107,7 @@ pub held_behind : (t : TraceValue) (names : List OpName) (n : OpName) (op : Op) 
 held_behind t names n op e right =
     last_given (value_left_at t (location_of op)) (value_of t.initial (location_of op)) names n
     ∙ ap (λ o. over (option_and_then (left_by (location_of op)) o) (value_after t (location_of op) names)) e
-    ∙ ap (λ b. over (cond b (value_left op) None) (value_after t (location_of op) names)) (bytes_same (location_of op) (location_of op) refl)
+    ∙ ap (λ b. over (cond b (written_value op) None) (value_after t (location_of op) names)) (bytes_same (location_of op) (location_of op) refl)
     ∙ held_by op (value_after t (location_of op) names) right.value
 
 -- so a read that is dropped after it reads right

@@ -10,11 +10,11 @@ use Rattle.std.proofs.lemmas.List.{length-map, length-append, map-append, get_or
 use Rattle.std.proofs.lemmas.List.Elements.{Contains-get_or, Contains-append_cases, filter-append}
 use Rattle.std.proofs.lemmas.Option.{slice_get-map, slice_get_past}
 use Rattle.text_lines.proofs.ListLemmas.{few_pass}
-use Rattle.traces.specs.declared.operation.OpName.{OpName}
-use Rattle.traces.specs.declared.trace.Process.{Process}
-use Rattle.traces.specs.Trace.{TraceValue, IsTrace, process_named, operation_at, first_names}
-use Rattle.traces.proofs.ElementLemmas.{none_in, cases_in, from_map, from_filter}
-use Rattle.traces.proofs.NameLemmas.{known_named}
+use Rattle.trace_semantics.specs.declared.operation.OpName.{OpName}
+use Rattle.trace_semantics.specs.declared.trace.Process.{Process}
+use Rattle.trace_semantics.specs.Trace.{TraceValue, IsTrace, process_named, operation_at, first_names}
+use Rattle.trace_semantics.proofs.ElementLemmas.{none_in, cases_in, from_map, from_filter}
+use Rattle.trace_semantics.proofs.NameLemmas.{known_named}
 use Rattle.reducer.specs.Reduction.{is_kept, names_of, new_name}
 use Rattle.reducer.specs.Runs.{names_from, bounds_of, AreBounds}
 use Rattle.reducer.proofs.BoundsLemmas.{few_listed}

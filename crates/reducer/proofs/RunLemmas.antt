@@ -7,12 +7,12 @@ use Rattle.std.proofs.lemmas.List.{length-append, drop_at}
 use Rattle.std.proofs.lemmas.List.Sums.{take_while-cons}
 use Rattle.std.proofs.lemmas.List.Elements.{filter-append}
 use Rattle.std.specs.Option.{option_and_then}
-use Rattle.traces.specs.declared.operation.OpName.{OpName}
-use Rattle.traces.specs.declared.trace.Process.{Process}
-use Rattle.traces.specs.Interleaving.{StandsBefore}
-use Rattle.traces.specs.Trace.{TraceValue, IsTrace, at_place, process_named, operation_at, first_names}
-use Rattle.traces.proofs.ElementLemmas.{none_in, cases_in, head_in, tail_in, from_filter, to_filter}
-use Rattle.traces.proofs.NameLemmas.{from_first, to_first, known_named, some_value, within_place}
+use Rattle.trace_semantics.specs.declared.operation.OpName.{OpName}
+use Rattle.trace_semantics.specs.declared.trace.Process.{Process}
+use Rattle.trace_semantics.specs.Interleaving.{StandsBefore}
+use Rattle.trace_semantics.specs.Trace.{TraceValue, IsTrace, at_place, process_named, operation_at, first_names}
+use Rattle.trace_semantics.proofs.ElementLemmas.{none_in, cases_in, head_in, tail_in, from_filter, to_filter}
+use Rattle.trace_semantics.proofs.NameLemmas.{from_first, to_first, known_named, some_value, within_place}
 use Rattle.reducer.specs.Expansion.{run_at, with_run, expanded}
 use Rattle.reducer.specs.Reduction.{repeats, is_in_pair, is_an_origin, is_dropped, is_kept, names_of, kept_names, new_name}
 use Rattle.reducer.proofs.KeptLemmas.{IsFirst, found_process, process_of, listed_name, first_known, one_more_place}

@@ -7,13 +7,13 @@ use Rattle.std.proofs.lemmas.List.{map-append}
 use Rattle.std.proofs.lemmas.List.Elements.{Contains-append_left, filter-append}
 use Rattle.std.proofs.lemmas.List.Sums.{take_while-cons}
 use Rattle.std.proofs.lemmas.Option.{same_Some}
-use Rattle.traces.specs.declared.operation.Op.{Op}
-use Rattle.traces.specs.declared.operation.OpName.{OpName}
-use Rattle.traces.specs.Legal.{ReadsRight, IsLegal}
-use Rattle.traces.specs.Trace.{TraceValue, IsTrace, operation_at, value_of}
-use Rattle.traces.specs.ValueAfter.{value_after}
-use Rattle.traces.proofs.ElementLemmas.{in_middle, head_in, tail_in, from_flat_map}
-use Rattle.traces.proofs.NameLemmas.{some_value}
+use Rattle.trace_semantics.specs.declared.operation.Op.{Op}
+use Rattle.trace_semantics.specs.declared.operation.OpName.{OpName}
+use Rattle.trace_semantics.specs.Legal.{ReadsRight, IsLegal}
+use Rattle.trace_semantics.specs.Trace.{TraceValue, IsTrace, operation_at, value_of}
+use Rattle.trace_semantics.specs.ValueAfter.{value_after}
+use Rattle.trace_semantics.proofs.ElementLemmas.{in_middle, head_in, tail_in, from_flat_map}
+use Rattle.trace_semantics.proofs.NameLemmas.{some_value}
 use Rattle.reducer.specs.Expansion.{expanded, expansion}
 use Rattle.reducer.specs.Reduction.{previous, is_dropped, is_kept, new_name, new_op, kept_trace}
 use Rattle.reducer.proofs.InterleavingLemmas.{reduced, expansion_interleaves, reduction_interleaves}

@@ -2,9 +2,9 @@
 use Rattle.std.proofs.Common.{◌≡◌, ◌⊎◌, ◌<◌, ◌+◌, ℕ, zero, suc, List, [], ◌∷◌, ◌++◌, map, Bool, true, false, cond, refl, ap, sym, ◌∙◌, arith, inl, inr, subst, append_assoc}
 use Rattle.std.specs.List.{Contains, filter, flat_map, range_with_len}
 use Rattle.std.proofs.lemmas.List.Elements.{Contains-append_right, Contains-append_cases}
-use Rattle.traces.specs.declared.operation.OpName.{OpName}
-use Rattle.traces.specs.Interleaving.{StandsBefore}
-use Rattle.traces.proofs.ElementLemmas.{placed, in_middle, none_in, cases_in, head_in, tail_in, to_map, from_map, to_filter, from_filter, from_flat_map, to_flat_map, from_range}
+use Rattle.trace_semantics.specs.declared.operation.OpName.{OpName}
+use Rattle.trace_semantics.specs.Interleaving.{StandsBefore}
+use Rattle.trace_semantics.proofs.ElementLemmas.{placed, in_middle, none_in, cases_in, head_in, tail_in, to_map, from_map, to_filter, from_filter, from_flat_map, to_flat_map, from_range}
 
 pub none_stands : (a b : OpName) → StandsBefore [] a b → ⊥
 none_stands a b ([], middle, back, e) = absurd (cc)

@@ -10,18 +10,18 @@ use Rattle.std.proofs.lemmas.List.{length-map, get_or-map}
 use Rattle.std.proofs.lemmas.List.Elements.{All-contains, Contains-get_or, Contains-append_cases, Contains-append_left, Contains-append_right}
 use Rattle.std.proofs.lemmas.List.Sums.{sum_by-cons}
 use Rattle.text_lines.proofs.ListLemmas.{few_pass}
-use Rattle.traces.specs.declared.operation.Op.{Op}
-use Rattle.traces.specs.declared.operation.Op.TheVariants.{Read, Write, Update}
-use Rattle.traces.specs.declared.operation.OpName.{OpName}
-use Rattle.traces.specs.declared.operation.Origin.{Origin}
-use Rattle.traces.specs.declared.operation.Origin.TheVariants.{Any, Initial, Operation}
-use Rattle.traces.specs.declared.trace.Process.{Process}
-use Rattle.traces.specs.Names.{is_name}
-use Rattle.traces.specs.Operation.{location_of, origin_of}
-use Rattle.traces.specs.PairOrder.{pair_order, ArePairsRising}
-use Rattle.traces.specs.Trace.{TraceValue, IsTrace, IsKnownOrigin, operation_at, first_names, is_written_name, is_written_origin, is_written_op, is_written_process, is_written_pair, locations_of}
-use Rattle.traces.proofs.ElementLemmas.{none_in, cases_in, head_in, tail_in, all_pass, pass_all, from_map, to_map, from_flat_map, to_flat_map}
-use Rattle.traces.proofs.DistinctLemmas.{few_named}
+use Rattle.trace_semantics.specs.declared.operation.Op.{Op}
+use Rattle.trace_semantics.specs.declared.operation.Op.TheVariants.{Read, Write, Update}
+use Rattle.trace_semantics.specs.declared.operation.OpName.{OpName}
+use Rattle.trace_semantics.specs.declared.operation.Origin.{Origin}
+use Rattle.trace_semantics.specs.declared.operation.Origin.TheVariants.{Any, Initial, Operation}
+use Rattle.trace_semantics.specs.declared.trace.Process.{Process}
+use Rattle.trace_semantics.specs.Names.{is_name}
+use Rattle.trace_semantics.specs.Operation.{location_of, origin_of}
+use Rattle.trace_semantics.specs.PairOrder.{pair_order, ArePairsRising}
+use Rattle.trace_semantics.specs.Trace.{TraceValue, IsTrace, IsKnownOrigin, operation_at, first_names, is_written_name, is_written_origin, is_written_op, is_written_process, is_written_pair, locations_of}
+use Rattle.trace_semantics.proofs.ElementLemmas.{none_in, cases_in, head_in, tail_in, all_pass, pass_all, from_map, to_map, from_flat_map, to_flat_map}
+use Rattle.trace_semantics.proofs.DistinctLemmas.{few_named}
 use Rattle.reducer.specs.Reduction.{is_kept, names_of, kept_names, new_name, new_origin, new_op, kept_process, new_pair, kept_trace}
 use Rattle.reducer.proofs.InterleavingLemmas.{first_in_pair, second_in_pair}
 use Rattle.reducer.proofs.KeptLemmas.{IsFirst, one_first, known_first, first_kept}

@@ -6,15 +6,15 @@ use Rattle.std.specs.Option.{option_and_then, option_map}
 use Rattle.std.specs.Str.{bytes_eq}
 use Rattle.std.proofs.lemmas.Bool.{and_parts, eqb-true}
 use Rattle.text_lines.proofs.BoolLemmas.{hidden_none}
-use Rattle.traces.specs.declared.operation.Op.{Op}
-use Rattle.traces.specs.declared.operation.Op.TheVariants.{Read, Write, Update}
-use Rattle.traces.specs.declared.operation.OpName.{OpName}
-use Rattle.traces.specs.declared.operation.Origin.TheVariants.{Any, Initial, Operation}
-use Rattle.traces.specs.Operation.{location_of, value_read, value_left, origin_of}
-use Rattle.traces.specs.Trace.{TraceValue, IsTrace, operation_at, value_of}
-use Rattle.traces.specs.ValueAfter.{value_left_at, value_after, last_writer}
-use Rattle.traces.proofs.ElementLemmas.{head_in, tail_in, from_filter}
-use Rattle.traces.proofs.NameLemmas.{same_bytes}
+use Rattle.trace_semantics.specs.declared.operation.Op.{Op}
+use Rattle.trace_semantics.specs.declared.operation.Op.TheVariants.{Read, Write, Update}
+use Rattle.trace_semantics.specs.declared.operation.OpName.{OpName}
+use Rattle.trace_semantics.specs.declared.operation.Origin.TheVariants.{Any, Initial, Operation}
+use Rattle.trace_semantics.specs.Operation.{location_of, value_read, written_value, origin_of}
+use Rattle.trace_semantics.specs.Trace.{TraceValue, IsTrace, operation_at, value_of}
+use Rattle.trace_semantics.specs.ValueAfter.{value_left_at, value_after, last_writer}
+use Rattle.trace_semantics.proofs.ElementLemmas.{head_in, tail_in, from_filter}
+use Rattle.trace_semantics.proofs.NameLemmas.{same_bytes}
 use Rattle.reducer.specs.Reduction.{value_behind, repeats, previous, is_in_pair, is_an_origin, is_dropped, is_kept, new_name, new_origin, new_op, kept_trace}
 use Rattle.reducer.proofs.InterleavingLemmas.{reduced}
 use Rattle.reducer.proofs.KeptLemmas.{known_first, first_operation}
@@ -61,7 +61,7 @@ same_read t (Read location value origin) = refl
 same_read t (Write location value) = refl
 same_read t (Update location read left origin) = refl
 
-pub same_left : (t : TraceValue) (op : Op) → value_left (new_op t op) ≡ value_left op
+pub same_left : (t : TraceValue) (op : Op) → written_value (new_op t op) ≡ written_value op
 same_left t (Read location value origin) = refl
 same_left t (Write location value) = refl
 same_left t (Update location read left origin) = refl
@@ -73,7 +73,7 @@ same_origin t (Update location read left origin) = refl
 
 -- what an operation leaves at a location
 abbrev pub left_by : List ℕ → Op → Option ℕ
-left_by location op = cond (bytes_eq (location_of op) location) (value_left op) None
+left_by location op = cond (bytes_eq (location_of op) location) (written_value op) None
 
 left_mapped : (t : TraceValue) (location : List ℕ) (o : Option Op) → option_and_then (left_by location) (option_map (new_op t) o) ≡ option_and_then (left_by location) o
 left_mapped t location None = refl

@@ -1,9 +1,9 @@
 -- The expansion of a schedule: the dropped reads are put back.
 use Rattle.std.specs.Prelude.{List, [], ◌∷◌, drop, Option, Some, None}
 use Rattle.std.specs.List.{flat_map, take_while}
-use Rattle.traces.specs.declared.operation.OpName.{OpName}
-use Rattle.traces.specs.declared.trace.Process.{Process}
-use Rattle.traces.specs.Trace.{TraceValue, at_place, process_named}
+use Rattle.trace_semantics.specs.declared.operation.OpName.{OpName}
+use Rattle.trace_semantics.specs.declared.trace.Process.{Process}
+use Rattle.trace_semantics.specs.Trace.{TraceValue, at_place, process_named}
 use Rattle.reducer.specs.Reduction.{is_dropped, names_of, kept_names}
 
 -- a name of the whole trace, and after it the names of the run of dropped reads that stands directly after it in its process

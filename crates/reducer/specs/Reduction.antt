@@ -2,14 +2,14 @@
 use Rattle.std.specs.Prelude.{ℕ, List, length, map, Option, Some, None, Bool, false, not, ◌==◌, ◌&&◌, ◌||◌, ◌-◌}
 use Rattle.std.specs.List.{filter, filter_map, list_any}
 use Rattle.std.specs.Str.{bytes_eq}
-use Rattle.traces.specs.declared.operation.Op.{Op}
-use Rattle.traces.specs.declared.operation.Op.TheVariants.{Read, Write, Update}
-use Rattle.traces.specs.declared.operation.OpName.{OpName}
-use Rattle.traces.specs.declared.operation.Origin.{Origin}
-use Rattle.traces.specs.declared.operation.Origin.TheVariants.{Any, Initial, Operation}
-use Rattle.traces.specs.declared.trace.Process.{Process}
-use Rattle.traces.specs.Operation.{location_of, origin_of, same_op}
-use Rattle.traces.specs.Trace.{TraceValue, operation_at, first_names}
+use Rattle.trace_semantics.specs.declared.operation.Op.{Op}
+use Rattle.trace_semantics.specs.declared.operation.Op.TheVariants.{Read, Write, Update}
+use Rattle.trace_semantics.specs.declared.operation.OpName.{OpName}
+use Rattle.trace_semantics.specs.declared.operation.Origin.{Origin}
+use Rattle.trace_semantics.specs.declared.operation.Origin.TheVariants.{Any, Initial, Operation}
+use Rattle.trace_semantics.specs.declared.trace.Process.{Process}
+use Rattle.trace_semantics.specs.Operation.{location_of, origin_of, same_op}
+use Rattle.trace_semantics.specs.Trace.{TraceValue, operation_at, first_names}
 
 -- what its location holds directly after an operation: what it leaves, or else what it reads
 abbrev pub value_behind : Op → ℕ

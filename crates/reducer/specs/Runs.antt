@@ -1,10 +1,10 @@
 -- Where the runs of dropped reads lie in the processes of the whole trace.
 use Rattle.std.specs.Prelude.{◌≡◌, ◌+◌, ◌-◌, ℕ, List, [], ◌∷◌, ◌++◌, length, map, Bool, not, ◌&&◌}
 use Rattle.std.specs.List.{filter, range_with_len}
-use Rattle.traces.specs.declared.operation.OpName.{OpName}
-use Rattle.traces.specs.declared.trace.Process.{Process}
-use Rattle.traces.specs.Trace.{TraceValue, at_place}
-use Rattle.reducer.specs.declared.op_set.OpSet.{OpSet}
+use Rattle.trace_semantics.specs.declared.operation.OpName.{OpName}
+use Rattle.trace_semantics.specs.declared.trace.Process.{Process}
+use Rattle.trace_semantics.specs.Trace.{TraceValue, at_place}
+use Rattle.reducer.specs.declared.named_ops.NamedOps.{NamedOps}
 use Rattle.reducer.specs.Named.{has}
 use Rattle.reducer.specs.Reduction.{repeats, is_kept, names_of}
 
@@ -21,7 +21,7 @@ abbrev pub AreBounds : TraceValue → List (List ℕ) → Type 0
 AreBounds t bounds = bounds ≡ map (bounds_of t) t.processes
 
 -- an operation of the process is kept, where the set has those that are named
-abbrev pub keeps : OpSet → Process → OpName → Bool
+abbrev pub keeps : NamedOps → Process → OpName → Bool
 keeps set p n = not (repeats (at_place p.operations (n.place - 1)) (at_place p.operations n.place) && not (has set n))
 
 -- names of a process, from one place on

@@ -1,17 +1,17 @@
 //! Schedules of the whole trace.
 
 ghost use Rattle.std.specs.Prelude.{◌≡◌, ◌++◌, ◌-◌, IfOk, IsSome, OnOk};
-ghost use Rattle.traces.specs.Interleaving.{IsInterleaving};
-ghost use Rattle.traces.specs.Trace.{operation_at};
+ghost use Rattle.trace_semantics.specs.Interleaving.{IsInterleaving};
+ghost use Rattle.trace_semantics.specs.Trace.{operation_at};
 ghost use Rattle.reducer.specs.Expansion.{expanded, expansion};
 ghost use Rattle.reducer.specs.Runs.{names_from};
 
 use crate::reduced::Reduced;
 use crate::renamed::bounds_at;
 use std::alloc::{AllocError, Global};
-use traces::name::Name;
-use traces::operation::OpName;
-use traces::schedule::Schedule;
+use trace_semantics::name::Name;
+use trace_semantics::operation::OpName;
+use trace_semantics::schedule::Schedule;
 
 /// Appends the names of a process from one place on, before another.
 fn push_names(

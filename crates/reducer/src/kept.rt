@@ -2,19 +2,19 @@
 
 ghost use Rattle.std.specs.Prelude.{◌≡◌, ◌≤◌, List, ℕ, map, IfOk};
 ghost use Rattle.std.specs.List.{Contains};
-ghost use Rattle.traces.specs.Trace.{operation_count};
+ghost use Rattle.trace_semantics.specs.Trace.{operation_count};
 ghost use Rattle.reducer.specs.Reduction as reduction;
 ghost use Rattle.reducer.specs.Runs.{bounds_of, AreBounds};
 
-use crate::bounds::Bounds;
+use crate::kept_places::KeptPlaces;
 use crate::renamed::{new_name, new_op};
 use std::alloc::{AllocError, Global};
-use traces::name::Name;
-use traces::operation::{Op, OpName};
-use traces::trace::{Operations, Process, Trace};
+use trace_semantics::name::Name;
+use trace_semantics::operation::{Op, OpName};
+use trace_semantics::trace::{Operations, Process, Trace};
 
 /// How many operations are kept.
-pub fn count_kept(trace: &Trace, all: &[Bounds]) -> usize
+pub fn count_kept(trace: &Trace, all: &[KeptPlaces]) -> usize
     requires { AreBounds trace.now all.now }
     ensures { result ≡ operation_count (reduction.kept_trace trace.now) }
 {
@@ -30,7 +30,7 @@ pub fn count_kept(trace: &Trace, all: &[Bounds]) -> usize
 fn kept_operations(
     alloc: Global,
     trace: &Trace,
-    all: &[Bounds],
+    all: &[KeptPlaces],
     process: &Process,
     places: &[u16],
 ) -> Result<Vec<Op>, AllocError>
@@ -54,9 +54,9 @@ fn kept_operations(
 fn kept_process(
     alloc: Global,
     trace: &Trace,
-    all: &[Bounds],
+    all: &[KeptPlaces],
     process: &Process,
-    bounds: &Bounds,
+    bounds: &KeptPlaces,
 ) -> Result<Process, AllocError>
     requires bounds { AreBounds trace.now all.now }
     requires listed { Contains trace.now.processes process.now }
@@ -71,7 +71,11 @@ fn kept_process(
     })
 }
 
-fn kept_processes(alloc: Global, trace: &Trace, all: &[Bounds]) -> Result<Vec<Process>, AllocError>
+fn kept_processes(
+    alloc: Global,
+    trace: &Trace,
+    all: &[KeptPlaces],
+) -> Result<Vec<Process>, AllocError>
     requires { AreBounds trace.now all.now }
     ensures { IfOk result (λ new. new.items ≡ map (reduction.kept_process trace.now) trace.now.processes) }
 {
@@ -87,7 +91,7 @@ fn kept_processes(alloc: Global, trace: &Trace, all: &[Bounds]) -> Result<Vec<Pr
 fn new_pairs(
     alloc: Global,
     trace: &Trace,
-    all: &[Bounds],
+    all: &[KeptPlaces],
 ) -> Result<Vec<(OpName, OpName)>, AllocError>
     requires { AreBounds trace.now all.now }
     ensures { IfOk result (λ new. new.items ≡ map (reduction.new_pair trace.now) trace.now.before) }
@@ -115,7 +119,7 @@ fn copy_of(alloc: Global, values: &[(Name, u64)]) -> Result<Vec<(Name, u64)>, Al
 }
 
 /// The kept trace, by the bounds of the runs.
-pub fn kept_trace(alloc: Global, trace: &Trace, all: &[Bounds]) -> Result<Trace, AllocError>
+pub fn kept_trace(alloc: Global, trace: &Trace, all: &[KeptPlaces]) -> Result<Trace, AllocError>
     requires { AreBounds trace.now all.now }
     ensures { IfOk result (λ kept. kept ≡ reduction.kept_trace trace.now) }
 {

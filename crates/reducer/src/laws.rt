@@ -3,10 +3,10 @@
 ghost use Rattle.std.specs.Prelude.{◌≡◌, ◌↔◌, true, List, IsSome};
 ghost use Rattle.std.specs.List.{Contains};
 ghost use Rattle.std.specs.Option.{option_map};
-ghost use Rattle.traces.specs.declared.operation.OpName.{OpName};
-ghost use Rattle.traces.specs.Interleaving.{IsInterleaving};
-ghost use Rattle.traces.specs.Legal.{IsLegal};
-ghost use Rattle.traces.specs.Trace.{TraceValue, IsTrace, operation_at};
+ghost use Rattle.trace_semantics.specs.declared.operation.OpName.{OpName};
+ghost use Rattle.trace_semantics.specs.Interleaving.{IsInterleaving};
+ghost use Rattle.trace_semantics.specs.Legal.{IsLegal};
+ghost use Rattle.trace_semantics.specs.Trace.{TraceValue, IsTrace, operation_at};
 ghost use Rattle.reducer.specs.Expansion.{expanded, expansion};
 ghost use Rattle.reducer.specs.Reduction.{is_kept, new_name, new_op, kept_trace};
 

@@ -5,12 +5,12 @@
 //! directly after the operation that it repeats.
 #![tactic(auto)]
 
-mod bounds;
 pub mod expand;
 mod kept;
+mod kept_places;
 pub mod laws;
 mod named;
-mod op_set;
+mod named_ops;
 pub mod reduce_fault;
 pub mod reduced;
 mod renamed;

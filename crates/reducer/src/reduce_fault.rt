@@ -1,6 +1,6 @@
 //! Why a trace is not reduced.
 
-use text_lines::fault::{Cause, Fault};
+use text_lines::fault::{FaultCause, PlacedFault};
 
 /// What is wrong with a trace that is not reduced.
 #[derive(Clone, Copy, Debug, PartialEq, Eq)]
@@ -10,9 +10,9 @@ pub enum ReduceCause {
 }
 
 /// Why a trace is not reduced: a cause and how many operations are left, or that memory ran out.
-pub type ReduceFault = Fault<ReduceCause>;
+pub type ReduceFault = PlacedFault<ReduceCause>;
 
-impl Cause for ReduceCause {
+impl FaultCause for ReduceCause {
     ghost use Rattle.reducer.specs.ReduceCauses.{cause_number, cause_name};
 
     ghost number_of = { cause_number };

@@ -2,30 +2,30 @@
 
 ghost use Rattle.std.specs.Prelude.{◌≡◌, ◌≤◌, IfOk, IfErr};
 ghost use Rattle.reducer.specs.Reduced.{IsReduced, HasReduceFault};
-ghost use Rattle.traces.specs.Trace.{operation_count};
+ghost use Rattle.trace_semantics.specs.Trace.{operation_count};
 ghost use Rattle.reducer.specs.Reduction as reduction;
 ghost use Rattle.reducer.specs.Runs.{AreBounds};
 ghost use Rattle.text_lines.specs.Fault.{IsRefusal};
 
-use crate::bounds::{Bounds, all_bounds};
 use crate::kept::{count_kept, kept_trace};
+use crate::kept_places::{KeptPlaces, all_bounds};
 use crate::named::named_ops;
 use crate::reduce_fault::{ReduceCause, ReduceFault};
 use std::alloc::Global;
 use std::marker::Model;
 use std::snapshot::Snapshot;
-use text_lines::fault::Fault;
-use traces::trace::Trace;
+use text_lines::fault::PlacedFault;
+use trace_semantics::trace::Trace;
 
 /// As many operations are kept at most.
-const MOST_KEPT: usize = 160;
+const MAX_KEPT: usize = 160;
 
 /// A trace without its repeated local reads, and where these belong. The whole trace is seen by clauses alone.
 #[derive(Drop)]
 pub struct Reduced {
     whole: Snapshot<Trace>,
     kept: Trace,
-    bounds: Vec<Bounds>,
+    bounds: Vec<KeptPlaces>,
 }
 
 impl Model for Reduced {
@@ -53,7 +53,7 @@ impl Reduced {
     }
 
     /// The bounds of the runs of dropped reads, for each process.
-    pub(crate) fn bounds(&self) -> &[Bounds]
+    pub(crate) fn bounds(&self) -> &[KeptPlaces]
         ensures { AreBounds self.now.whole result.now }
     {
         self.bounds.as_slice()
@@ -72,8 +72,8 @@ pub fn reduce(alloc: Global, trace: &Trace) -> Result<Reduced, ReduceFault>
     let set = named_ops(alloc, trace)?;
     let bounds = all_bounds(alloc, &set, trace)?;
     let left = count_kept(trace, bounds.as_slice());
-    if left > MOST_KEPT {
-        return Err(Fault::At(ReduceCause::StillTooLarge, left));
+    if left > MAX_KEPT {
+        return Err(PlacedFault::At(ReduceCause::StillTooLarge, left));
     }
     let kept = kept_trace(alloc, trace, bounds.as_slice())?;
     Ok(Reduced {

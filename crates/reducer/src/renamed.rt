@@ -5,17 +5,17 @@ ghost use Rattle.std.specs.List.{slice_get};
 ghost use Rattle.std.specs.List.Sorted.{IsPartitionedBy, IsPartitionPoint};
 ghost use Rattle.std.specs.Option.{option_copied, option_and_then};
 ghost use Rattle.std.specs.Str.{bytes_eq};
-ghost use Rattle.traces.specs.declared.trace.Process.{Process as Listed};
-ghost use Rattle.traces.specs.Operation.{origin_of};
-ghost use Rattle.traces.specs.Trace as value;
+ghost use Rattle.trace_semantics.specs.declared.trace.Process.{Process as Listed};
+ghost use Rattle.trace_semantics.specs.Operation.{origin_of};
+ghost use Rattle.trace_semantics.specs.Trace as value;
 ghost use Rattle.reducer.specs.Reduction as reduction;
 ghost use Rattle.reducer.specs.Runs.{AreBounds};
 
-use crate::bounds::Bounds;
+use crate::kept_places::KeptPlaces;
 use std::alloc::{AllocError, Global};
-use traces::name::Name;
-use traces::operation::{Op, OpName, Origin};
-use traces::trace::{Process, Trace};
+use trace_semantics::name::Name;
+use trace_semantics::operation::{Op, OpName, Origin};
+use trace_semantics::trace::{Process, Trace};
 
 fn place_of_process(processes: &[Process], name: &[u8]) -> Option<usize>
     ensures { result ≡ position (λ (p : Listed). bytes_eq p.name name.now) processes.now }
@@ -24,7 +24,11 @@ fn place_of_process(processes: &[Process], name: &[u8]) -> Option<usize>
 }
 
 /// The bounds of the process of this name.
-pub fn bounds_at<'a>(processes: &[Process], all: &'a [Bounds], name: &[u8]) -> Option<&'a Bounds>
+pub fn bounds_at<'a>(
+    processes: &[Process],
+    all: &'a [KeptPlaces],
+    name: &[u8],
+) -> Option<&'a KeptPlaces>
     ensures { option_copied result ≡ option_and_then (slice_get all.now) (position (λ (p : Listed). bytes_eq p.name name.now) processes.now) }
 {
     match place_of_process(processes, name) {
@@ -43,7 +47,7 @@ fn count_up_to(places: &[u16], place: u16) -> usize
 }
 
 /// The operation's place in the kept trace.
-fn new_place(trace: &Trace, all: &[Bounds], name: &OpName) -> u16
+fn new_place(trace: &Trace, all: &[KeptPlaces], name: &OpName) -> u16
     requires bounds { AreBounds trace.now all.now }
     requires known { IsSome (value.operation_at trace.now name.now) }
     ensures { result ≡ (reduction.new_name trace.now name.now).place }
@@ -59,7 +63,7 @@ fn new_place(trace: &Trace, all: &[Bounds], name: &OpName) -> u16
 pub fn new_name(
     alloc: Global,
     trace: &Trace,
-    all: &[Bounds],
+    all: &[KeptPlaces],
     name: &OpName,
 ) -> Result<OpName, AllocError>
     requires bounds { AreBounds trace.now all.now }
@@ -75,7 +79,7 @@ pub fn new_name(
 fn new_origin(
     alloc: Global,
     trace: &Trace,
-    all: &[Bounds],
+    all: &[KeptPlaces],
     origin: &Origin,
 ) -> Result<Origin, AllocError>
     requires bounds { AreBounds trace.now all.now }
@@ -90,7 +94,7 @@ fn new_origin(
 }
 
 /// The operation as it stands in the kept trace.
-pub fn new_op(alloc: Global, trace: &Trace, all: &[Bounds], op: &Op) -> Result<Op, AllocError>
+pub fn new_op(alloc: Global, trace: &Trace, all: &[KeptPlaces], op: &Op) -> Result<Op, AllocError>
     requires bounds { AreBounds trace.now all.now }
     requires known { value.IsKnownOrigin trace.now (origin_of op.now) }
     ensures { IfOk result (λ new. new ≡ reduction.new_op trace.now op.now) }

@@ -7,12 +7,12 @@ use Rattle.std.specs.Str.{bytes_eq}
 use Rattle.std.proofs.lemmas.List.{length-append}
 use Rattle.std.proofs.lemmas.Option.{slice_get-map, same_Some}
 use Rattle.std.proofs.lemmas.List.Elements.{filter-append}
-use Rattle.traces.specs.declared.operation.Op.{Op}
-use Rattle.traces.specs.declared.operation.OpName.{OpName}
-use Rattle.traces.specs.declared.trace.Process.{Process}
-use Rattle.traces.specs.Trace.{TraceValue, IsTrace, at_place, process_named, operation_at, first_names}
-use Rattle.traces.proofs.ElementLemmas.{found, finds, same_from_key, from_filter}
-use Rattle.traces.proofs.NameLemmas.{same_bytes, bytes_same, from_first, known_named, named_known}
+use Rattle.trace_semantics.specs.declared.operation.Op.{Op}
+use Rattle.trace_semantics.specs.declared.operation.OpName.{OpName}
+use Rattle.trace_semantics.specs.declared.trace.Process.{Process}
+use Rattle.trace_semantics.specs.Trace.{TraceValue, IsTrace, at_place, process_named, operation_at, first_names}
+use Rattle.trace_semantics.proofs.ElementLemmas.{found, finds, same_from_key, from_filter}
+use Rattle.trace_semantics.proofs.NameLemmas.{same_bytes, bytes_same, from_first, known_named, named_known}
 use Rattle.restriction.specs.Left.{is_left, new_name, new_op, names_of, left_process}
 use Rattle.restriction.proofs.PlaceLemmas.{names_from, joined_names, one_more_name, cut_names, chosen, choose, place_more, value_left, in_list}
 

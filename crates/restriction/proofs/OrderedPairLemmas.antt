@@ -11,12 +11,12 @@ use Rattle.std.specs.Str.{bytes_eq}
 use Rattle.std.proofs.lemmas.Bool.{false_from_ne_true}
 use Rattle.std.proofs.lemmas.List.Elements.{Contains-get_or, Contains-append_cases}
 use Rattle.std.proofs.lemmas.List.Kept.{AllPairs-cons}
-use Rattle.traces.specs.declared.operation.Op.{Op}
-use Rattle.traces.specs.declared.operation.OpName.{OpName}
-use Rattle.traces.specs.declared.trace.Process.{Process}
-use Rattle.traces.specs.PairOrder.{order_of, pair_order}
-use Rattle.traces.proofs.ElementLemmas.{head_in, tail_in, from_map, from_flat_map}
-use Rattle.traces.proofs.NameLemmas.{same_bytes, bytes_same}
+use Rattle.trace_semantics.specs.declared.operation.Op.{Op}
+use Rattle.trace_semantics.specs.declared.operation.OpName.{OpName}
+use Rattle.trace_semantics.specs.declared.trace.Process.{Process}
+use Rattle.trace_semantics.specs.PairOrder.{order_of, pair_order}
+use Rattle.trace_semantics.proofs.ElementLemmas.{head_in, tail_in, from_map, from_flat_map}
+use Rattle.trace_semantics.proofs.NameLemmas.{same_bytes, bytes_same}
 use Rattle.restriction.specs.Left.{is_left, new_name, new_pair, left_process}
 use Rattle.restriction.proofs.LeftLemmas.{higher}
 use Rattle.restriction.proofs.PlaceLemmas.{names_from, in_names, in_front}

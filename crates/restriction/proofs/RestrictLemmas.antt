@@ -2,11 +2,11 @@
 use Rattle.std.proofs.Common.{◌≡◌, ◌<◌, List, [], ◌∷◌, ◌++◌, map, Bool, true, false, cond, refl, ap, sym, ◌∙◌, arith, subst}
 use Rattle.std.specs.Prelude.{Option, IsSome}
 use Rattle.std.specs.List.{Contains, filter}
-use Rattle.traces.specs.declared.operation.Op.{Op}
-use Rattle.traces.specs.declared.operation.OpName.{OpName}
-use Rattle.traces.specs.Interleaving.{StandsBefore, IsInterleaving}
-use Rattle.traces.specs.Trace.{TraceValue, IsTrace, operation_at}
-use Rattle.traces.proofs.ElementLemmas.{from_map, to_map, from_filter, to_filter}
+use Rattle.trace_semantics.specs.declared.operation.Op.{Op}
+use Rattle.trace_semantics.specs.declared.operation.OpName.{OpName}
+use Rattle.trace_semantics.specs.Interleaving.{StandsBefore, IsInterleaving}
+use Rattle.trace_semantics.specs.Trace.{TraceValue, IsTrace, operation_at}
+use Rattle.trace_semantics.proofs.ElementLemmas.{from_map, to_map, from_filter, to_filter}
 use Rattle.std.proofs.lemmas.List.{map-append}
 use Rattle.std.proofs.lemmas.List.Elements.{filter-append}
 use Rattle.restriction.specs.Left.{is_left, new_name, left_process, restricted}

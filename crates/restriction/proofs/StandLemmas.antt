@@ -2,10 +2,10 @@
 use Rattle.std.proofs.Common.{◌≡◌, ◌⊎◌, List, [], ◌∷◌, ◌++◌, map, Bool, true, false, cond, refl, ap, sym, ◌∙◌, inl, inr, subst, append_assoc}
 use Rattle.std.specs.List.{Contains, filter}
 use Rattle.std.proofs.lemmas.List.Elements.{Contains-append_right, Contains-append_cases}
-use Rattle.traces.specs.declared.operation.OpName.{OpName}
-use Rattle.traces.specs.Interleaving.{StandsBefore}
-use Rattle.traces.proofs.OrderLemmas.{stands_behind, stands_ahead}
-use Rattle.traces.proofs.ElementLemmas.{placed, in_middle, none_in, cases_in, head_in, tail_in, to_map, from_map, to_filter, from_filter}
+use Rattle.trace_semantics.specs.declared.operation.OpName.{OpName}
+use Rattle.trace_semantics.specs.Interleaving.{StandsBefore}
+use Rattle.trace_semantics.proofs.OrderLemmas.{stands_behind, stands_ahead}
+use Rattle.trace_semantics.proofs.ElementLemmas.{placed, in_middle, none_in, cases_in, head_in, tail_in, to_map, from_map, to_filter, from_filter}
 
 pub none_stands : (a b : OpName) → StandsBefore [] a b → ⊥
 none_stands a b ([], middle, back, e) = absurd (cc)

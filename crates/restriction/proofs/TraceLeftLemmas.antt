@@ -8,17 +8,17 @@ use Rattle.std.proofs.lemmas.List.{length-map}
 use Rattle.std.proofs.lemmas.List.Sums.{sum_by-cons}
 use Rattle.std.proofs.lemmas.Option.{option_and_then_some}
 use Rattle.text_lines.proofs.ListLemmas.{few_pass}
-use Rattle.traces.specs.declared.operation.Op.{Op}
-use Rattle.traces.specs.declared.operation.Op.TheVariants.{Read, Write, Update}
-use Rattle.traces.specs.declared.operation.OpName.{OpName}
-use Rattle.traces.specs.declared.operation.Origin.{Origin}
-use Rattle.traces.specs.declared.operation.Origin.TheVariants.{Any, Initial, Operation}
-use Rattle.traces.specs.declared.trace.Process.{Process}
-use Rattle.traces.specs.Names.{is_name}
-use Rattle.traces.specs.Operation.{location_of, origin_of}
-use Rattle.traces.specs.Trace.{TraceValue, IsTrace, IsKnownOrigin, at_place, process_named, operation_at, first_names, is_written_name, is_written_origin, is_written_op, is_written_process}
-use Rattle.traces.proofs.ElementLemmas.{none_in, cases_in, head_in, tail_in, all_pass, pass_all, from_map, to_map, from_flat_map, to_flat_map, found}
-use Rattle.traces.proofs.NameLemmas.{some_value, known_named}
+use Rattle.trace_semantics.specs.declared.operation.Op.{Op}
+use Rattle.trace_semantics.specs.declared.operation.Op.TheVariants.{Read, Write, Update}
+use Rattle.trace_semantics.specs.declared.operation.OpName.{OpName}
+use Rattle.trace_semantics.specs.declared.operation.Origin.{Origin}
+use Rattle.trace_semantics.specs.declared.operation.Origin.TheVariants.{Any, Initial, Operation}
+use Rattle.trace_semantics.specs.declared.trace.Process.{Process}
+use Rattle.trace_semantics.specs.Names.{is_name}
+use Rattle.trace_semantics.specs.Operation.{location_of, origin_of}
+use Rattle.trace_semantics.specs.Trace.{TraceValue, IsTrace, IsKnownOrigin, at_place, process_named, operation_at, first_names, is_written_name, is_written_origin, is_written_op, is_written_process}
+use Rattle.trace_semantics.proofs.ElementLemmas.{none_in, cases_in, head_in, tail_in, all_pass, pass_all, from_map, to_map, from_flat_map, to_flat_map, found}
+use Rattle.trace_semantics.proofs.NameLemmas.{some_value, known_named}
 use Rattle.restriction.specs.Left.{is_left, new_name, new_origin, new_op, names_of, left_process}
 use Rattle.restriction.proofs.LeftLemmas.{known_old, old_left, listed_name, higher}
 use Rattle.restriction.proofs.OrderedPairLemmas.{all_from, pairs_mapped}

@@ -4,13 +4,13 @@ use Rattle.std.specs.Prelude.{Option, Some, None, is_some}
 use Rattle.std.specs.List.{Contains, filter, filter_map, cons_option, last_or}
 use Rattle.std.specs.Option.{option_and_then, option_map}
 use Rattle.std.specs.Str.{bytes_eq}
-use Rattle.traces.specs.declared.operation.Op.{Op}
-use Rattle.traces.specs.declared.operation.Op.TheVariants.{Read, Write, Update}
-use Rattle.traces.specs.declared.operation.OpName.{OpName}
-use Rattle.traces.specs.Operation.{location_of, value_left}
-use Rattle.traces.specs.Trace.{TraceValue, IsTrace, value_of}
-use Rattle.traces.specs.ValueAfter.{value_left_at, value_after, last_writer}
-use Rattle.traces.proofs.ElementLemmas.{head_in, tail_in, cases_in, none_in}
+use Rattle.trace_semantics.specs.declared.operation.Op.{Op}
+use Rattle.trace_semantics.specs.declared.operation.Op.TheVariants.{Read, Write, Update}
+use Rattle.trace_semantics.specs.declared.operation.OpName.{OpName}
+use Rattle.trace_semantics.specs.Operation.{location_of, written_value}
+use Rattle.trace_semantics.specs.Trace.{TraceValue, IsTrace, value_of}
+use Rattle.trace_semantics.specs.ValueAfter.{value_left_at, value_after, last_writer}
+use Rattle.trace_semantics.proofs.ElementLemmas.{head_in, tail_in, cases_in, none_in}
 use Rattle.restriction.specs.Left.{is_left, new_name, new_op, left_process, restricted}
 use Rattle.restriction.specs.LastWriter.{AreSilent, IsLast}
 use Rattle.restriction.specs.Restriction.{left_by, StaysAlike}
@@ -89,7 +89,7 @@ same_location stays (Read location value origin) = refl
 same_location stays (Write location value) = refl
 same_location stays (Update location read left origin) = refl
 
-pub same_left : (stays : OpName → Option Op) (op : Op) → value_left (new_op stays op) ≡ value_left op
+pub same_left : (stays : OpName → Option Op) (op : Op) → written_value (new_op stays op) ≡ written_value op
 same_left stays (Read location value origin) = refl
 same_left stays (Write location value) = refl
 same_left stays (Update location read left origin) = refl

@@ -1,9 +1,9 @@
 -- The last of some operations that writes a location.
 use Rattle.std.specs.Prelude.{◌≡◌, ℕ, List, ◌∷◌, ◌++◌, Some, None}
 use Rattle.std.specs.List.{Contains}
-use Rattle.traces.specs.declared.operation.OpName.{OpName}
-use Rattle.traces.specs.Trace.{TraceValue}
-use Rattle.traces.specs.ValueAfter.{value_left_at}
+use Rattle.trace_semantics.specs.declared.operation.OpName.{OpName}
+use Rattle.trace_semantics.specs.Trace.{TraceValue}
+use Rattle.trace_semantics.specs.ValueAfter.{value_left_at}
 
 -- none of the names writes the location
 abbrev pub AreSilent : TraceValue → List ℕ → List OpName → Type 0

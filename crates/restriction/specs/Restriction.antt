@@ -3,17 +3,17 @@ use Rattle.std.specs.Prelude.{◌≡◌, true, List, ℕ, map, Option, None, IsS
 use Rattle.std.specs.List.{Contains}
 use Rattle.std.specs.Option.{option_and_then}
 use Rattle.std.specs.Str.{bytes_eq}
-use Rattle.traces.specs.declared.operation.Op.{Op}
-use Rattle.traces.specs.declared.operation.OpName.{OpName}
-use Rattle.traces.specs.Interleaving.{StandsBefore}
-use Rattle.traces.specs.Operation.{location_of, value_left}
-use Rattle.traces.specs.Trace.{TraceValue, operation_at}
-use Rattle.traces.specs.ValueAfter.{value_left_at}
+use Rattle.trace_semantics.specs.declared.operation.Op.{Op}
+use Rattle.trace_semantics.specs.declared.operation.OpName.{OpName}
+use Rattle.trace_semantics.specs.Interleaving.{StandsBefore}
+use Rattle.trace_semantics.specs.Operation.{location_of, written_value}
+use Rattle.trace_semantics.specs.Trace.{TraceValue, operation_at}
+use Rattle.trace_semantics.specs.ValueAfter.{value_left_at}
 use Rattle.restriction.specs.Left.{is_left, new_name, left_process}
 
 -- what an operation leaves at a location
 abbrev pub left_by : List ℕ → Op → Option ℕ
-left_by location op = if bytes_eq (location_of op) location then value_left op else None
+left_by location op = if bytes_eq (location_of op) location then written_value op else None
 
 -- of operations of the trace alone something stays, and it leaves at each location what the operation leaves there
 pub record StaysAlike (t : TraceValue) (stays : OpName → Option Op) : Type 0 where

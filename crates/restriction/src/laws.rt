@@ -2,11 +2,11 @@
 
 ghost use Rattle.std.specs.Prelude.{◌≡◌, true, List, ℕ, Option, IsSome};
 ghost use Rattle.std.specs.Option.{option_map};
-ghost use Rattle.traces.specs.declared.operation.Op.{Op};
-ghost use Rattle.traces.specs.declared.operation.OpName.{OpName};
-ghost use Rattle.traces.specs.Interleaving.{IsInterleaving};
-ghost use Rattle.traces.specs.Trace.{TraceValue, IsTrace, operation_at};
-ghost use Rattle.traces.specs.ValueAfter.{value_after, last_writer};
+ghost use Rattle.trace_semantics.specs.declared.operation.Op.{Op};
+ghost use Rattle.trace_semantics.specs.declared.operation.OpName.{OpName};
+ghost use Rattle.trace_semantics.specs.Interleaving.{IsInterleaving};
+ghost use Rattle.trace_semantics.specs.Trace.{TraceValue, IsTrace, operation_at};
+ghost use Rattle.trace_semantics.specs.ValueAfter.{value_after, last_writer};
 ghost use Rattle.restriction.specs.LastWriter.{IsLast};
 ghost use Rattle.restriction.specs.Left.{is_left, new_name, new_op, restricted};
 ghost use Rattle.restriction.specs.Restriction.{AreProcessesLeft, ArePairsLeft, StaysAlike};

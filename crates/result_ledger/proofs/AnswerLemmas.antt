@@ -3,11 +3,11 @@ use Rattle.std.proofs.Common.{◌≡◌, ℕ, ◌<◌, ◌+◌, ℤ, Bool, List,
 use Rattle.std.specs.Prelude.{IsTrue, ◌↔◌}
 use Rattle.std.specs.List.{slice_get}
 use Rattle.std.proofs.lemmas.Option.{slice_get_read}
-use Rattle.cube_queue.specs.declared.outcome.Outcome.TheVariants.{Model, Refuted}
+use Rattle.cube_jobs.specs.declared.outcome.Outcome.TheVariants.{Model, Refuted}
 use Rattle.dimacs.specs.Assignment.{value_of}
 use Rattle.lrat_check.specs.declared.derivation.Step.{Step}
 use Rattle.result_ledger.specs.declared.slot.Slot.{Slot}
-use Rattle.cube_queue.specs.Models.{IsModelIn}
+use Rattle.cube_jobs.specs.Models.{IsModelIn}
 use Rattle.result_ledger.specs.Verdict.{IsProofIn, IsModelAnswer, IsProofAnswer, HasProofAt, HaveNoModelBefore}
 use Rattle.result_ledger.proofs.WithoutLemmas.{below_next}
 

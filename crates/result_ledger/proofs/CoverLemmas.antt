@@ -2,7 +2,7 @@
 use Rattle.std.proofs.Common.{◌≡◌, ℕ, ℤ, Bool, true, List, [], ◌∷◌, ◌++◌, map, length, Some, refl, sym, ◌∙◌, inl, inr, subst}
 use Rattle.std.specs.List.{list_all, Contains, slice_get}
 use Rattle.std.proofs.lemmas.Option.{slice_get_within, get_or_from_slice_get}
-use Rattle.traces.proofs.ElementLemmas.{all_pass, to_map}
+use Rattle.trace_semantics.proofs.ElementLemmas.{all_pass, to_map}
 use Rattle.cube_tree.specs.Covers.{Covers}
 use Rattle.dimacs.specs.Assignment.{makes_all}
 use Rattle.dimacs.specs.Formula.{FormulaValue, is_formula}
@@ -13,7 +13,7 @@ use Rattle.lrat_check.proofs.SoundLemmas.{no_model, formula_no_zero, cube_no_zer
 use Rattle.result_ledger.specs.declared.slot.Slot.{Slot}
 use Rattle.result_ledger.specs.declared.verdict.Verdict.TheVariants.{Inconsistent, Unknown}
 use Rattle.result_ledger.specs.Ledger.{cubes_in}
-use Rattle.cube_queue.specs.Models.{IsModelIn}
+use Rattle.cube_jobs.specs.Models.{IsModelIn}
 use Rattle.result_ledger.specs.Verdict.{HasProofAt, IsVerdict}
 
 -- the element between the two parts of a list, at its place

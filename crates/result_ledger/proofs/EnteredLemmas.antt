@@ -12,11 +12,11 @@ use Rattle.std.proofs.lemmas.List.Sorted.{Contains-permutation, IsPermutation-ma
 use Rattle.std.proofs.lemmas.Map.Keys.{IsDistinct-IsPermutation}
 use Rattle.std.proofs.lemmas.Map.Made.{AllPairs-from_IsDistinct, IsDistinct-from_AllPairs}
 use Rattle.std.proofs.lemmas.Option.{slice_get_within}
-use Rattle.traces.proofs.ElementLemmas.{cases_in, from_map, head_in, in_middle, none_in, tail_in, to_map}
-use Rattle.cube_queue.specs.declared.job.Settled.{Settled}
-use Rattle.cube_queue.specs.declared.outcome.Outcome.{Outcome}
-use Rattle.cube_queue.specs.declared.outcome.Outcome.TheVariants.{Skipped}
-use Rattle.cube_queue.specs.Results.{AreResultsOf}
+use Rattle.trace_semantics.proofs.ElementLemmas.{cases_in, from_map, head_in, in_middle, none_in, tail_in, to_map}
+use Rattle.cube_jobs.specs.declared.job.Settled.{Settled}
+use Rattle.cube_jobs.specs.declared.outcome.Outcome.{Outcome}
+use Rattle.cube_jobs.specs.declared.outcome.Outcome.TheVariants.{Skipped}
+use Rattle.cube_jobs.specs.Results.{AreResultsOf}
 use Rattle.result_ledger.specs.declared.slot.Slot.{Slot}
 use Rattle.result_ledger.specs.declared.verdict.Verdict.{Verdict}
 use Rattle.result_ledger.specs.declared.verdict.Verdict.TheVariants.{Consistent, Inconsistent, Unknown}

@@ -1,7 +1,7 @@
 -- Rising lists of numbers that have the same elements are the same.
 use Rattle.std.proofs.Common.{◌≡◌, ℕ, ◌<◌, zero, suc, List, [], ◌∷◌, refl, sym, inl, inr, subst, arith}
 use Rattle.std.specs.List.{AllPairs, Contains}
-use Rattle.traces.proofs.ElementLemmas.{head_in, tail_in, none_in, cases_in}
+use Rattle.trace_semantics.proofs.ElementLemmas.{head_in, tail_in, none_in, cases_in}
 
 abbrev pub IsRising : List ℕ → Type 0
 IsRising xs = AllPairs (λ x y. x < y) xs

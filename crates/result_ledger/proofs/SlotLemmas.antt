@@ -4,8 +4,8 @@ use Rattle.std.specs.Prelude.{slice_set, IsSome}
 use Rattle.std.specs.List.{slice_get, insert}
 use Rattle.std.proofs.Math.Seq.{take-suc}
 use Rattle.std.proofs.lemmas.List.{map-append, take-append-le, take_all}
-use Rattle.cube_queue.specs.Results.{AreLeaves}
-use Rattle.cube_queue.specs.declared.job.Settled.{Settled}
+use Rattle.cube_jobs.specs.Results.{AreLeaves}
+use Rattle.cube_jobs.specs.declared.job.Settled.{Settled}
 use Rattle.result_ledger.specs.declared.slot.Slot.{Slot}
 use Rattle.result_ledger.specs.Ledger.{empty_slot, cubes_in, HasAnswerAt, Fills, SplitsCube, IsSplitAt}
 use Rattle.result_ledger.specs.Verdict.{AreWithout}

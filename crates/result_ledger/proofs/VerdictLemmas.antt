@@ -3,8 +3,8 @@ use Rattle.std.proofs.Common.{◌≡◌, ℕ, eqb, false, ◌<◌, suc, ℤ, Boo
 use Rattle.std.specs.List.{Contains, slice_get}
 use Rattle.std.proofs.lemmas.Bool.{cases_order}
 use Rattle.std.proofs.lemmas.Option.{slice_get_within}
-use Rattle.traces.proofs.ElementLemmas.{head_in, none_in}
-use Rattle.cube_queue.specs.declared.outcome.Outcome.TheVariants.{Model}
+use Rattle.trace_semantics.proofs.ElementLemmas.{head_in, none_in}
+use Rattle.cube_jobs.specs.declared.outcome.Outcome.TheVariants.{Model}
 use Rattle.result_ledger.specs.declared.slot.Slot.{Slot}
 use Rattle.result_ledger.specs.declared.verdict.Verdict.{Verdict}
 use Rattle.result_ledger.specs.declared.verdict.Verdict.TheVariants.{Consistent, Inconsistent, Unknown}

@@ -5,7 +5,7 @@ use Rattle.std.proofs.lemmas.Bool.{cases_lt, cases_order}
 use Rattle.std.proofs.lemmas.List.Elements.{All-append, Contains-append_cases, Contains-append_left, Contains-append_right, Contains-get_or}
 use Rattle.std.proofs.lemmas.List.Kept.{AllPairs-cons}
 use Rattle.std.proofs.lemmas.List.Quantifiers.{all_pairs_push}
-use Rattle.traces.proofs.ElementLemmas.{head_in, tail_in, none_in, cases_in}
+use Rattle.trace_semantics.proofs.ElementLemmas.{head_in, tail_in, none_in, cases_in}
 use Rattle.result_ledger.specs.Pieces.{AreWithoutBetween}
 use Rattle.result_ledger.specs.Verdict.{AreWithout}
 

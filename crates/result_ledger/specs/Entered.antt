@@ -1,7 +1,7 @@
 -- The results of a search in a ledger.
 use Rattle.std.specs.Prelude.{◌≡◌, ◌≢◌, ℕ, List, [], ◌∷◌, map, Some}
 use Rattle.std.specs.List.{AllPairs, Contains, slice_get}
-use Rattle.cube_queue.specs.declared.job.Settled.{Settled}
+use Rattle.cube_jobs.specs.declared.job.Settled.{Settled}
 use Rattle.result_ledger.specs.declared.slot.Slot.{Slot}
 use Rattle.result_ledger.specs.Ledger.{empty_slot, Fills}
 

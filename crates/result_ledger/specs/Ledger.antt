@@ -2,9 +2,9 @@
 use Rattle.std.specs.Prelude.{◌≡◌, ◌≢◌, ℕ, ◌+◌, ◌<◌, ℤ, List, ◌∷◌, ◌++◌, map, length, take, drop, slice_set, filter_map, Option, Some, None, IsSome, codes}
 use Rattle.std.specs.List.{slice_get}
 use Rattle.lrat_check.specs.declared.derivation.Step.{Step}
-use Rattle.cube_queue.specs.declared.job.Settled.{Settled}
-use Rattle.cube_queue.specs.declared.outcome.Outcome.{Outcome}
-use Rattle.cube_queue.specs.declared.outcome.Outcome.TheVariants.{Refuted}
+use Rattle.cube_jobs.specs.declared.job.Settled.{Settled}
+use Rattle.cube_jobs.specs.declared.outcome.Outcome.{Outcome}
+use Rattle.cube_jobs.specs.declared.outcome.Outcome.TheVariants.{Refuted}
 use Rattle.result_ledger.specs.declared.entry_fault.EntryFault.{EntryFault}
 use Rattle.result_ledger.specs.declared.entry_fault.EntryFault.TheVariants.{Stranger, Double, WrongCube}
 use Rattle.result_ledger.specs.declared.slot.Slot.{Slot}

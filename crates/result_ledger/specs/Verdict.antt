@@ -5,8 +5,8 @@ use Rattle.dimacs.specs.Assignment.{value_of}
 use Rattle.lrat_check.specs.declared.derivation.Step.{Step}
 use Rattle.lrat_check.specs.Checked.{IsAccepted}
 use Rattle.lrat_check.specs.LratText.{is_lrat_step}
-use Rattle.cube_queue.specs.declared.outcome.Outcome.TheVariants.{Model, Refuted}
-use Rattle.cube_queue.specs.Models.{IsModelIn}
+use Rattle.cube_jobs.specs.declared.outcome.Outcome.TheVariants.{Model, Refuted}
+use Rattle.cube_jobs.specs.Models.{IsModelIn}
 use Rattle.result_ledger.specs.declared.slot.Slot.{Slot}
 use Rattle.result_ledger.specs.declared.verdict.Verdict.{Verdict}
 use Rattle.result_ledger.specs.declared.verdict.Verdict.TheVariants.{Consistent, Inconsistent, Unknown}

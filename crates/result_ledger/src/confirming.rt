@@ -1,13 +1,13 @@
 //! Whether answers are right.
 ghost use Rattle.std.specs.Prelude.{◌≡◌, ◌<◌, ◌↔◌, Bool, List, length, IsTrue, IfOk, MatchOption, Some};
-ghost use Rattle.cube_queue.specs.declared.outcome.Outcome.TheVariants.{Model, Refuted};
+ghost use Rattle.cube_jobs.specs.declared.outcome.Outcome.TheVariants.{Model, Refuted};
 ghost use Rattle.lrat_check.specs.Checked.{IsAccepted};
 ghost use Rattle.lrat_check.specs.declared.derivation.Step.{Step};
 ghost use Rattle.result_ledger.specs.Verdict.{IsProofIn, IsModelAnswer, IsProofAnswer, HasModelAt, HaveNoModelBefore};
 
 use crate::lrat_steps::can_be_written;
 use crate::slot::Slot;
-use cube_queue::{Outcome, is_model_in};
+use cube_jobs::{Outcome, is_model_in};
 use dimacs::{Assignment, ClauseList, Lit};
 use lrat_check::checker::check;
 use lrat_check::derivation::Derivation;

@@ -3,7 +3,7 @@ ghost use Rattle.std.specs.Prelude.{◌≡◌, ◌++◌, IfOk, OnOk, option_to_l
 ghost use Rattle.result_ledger.specs.Ledger.{derivation_of, derivations_in, said_derivation};
 
 use crate::slot::Slot;
-use cube_queue::Outcome;
+use cube_jobs::Outcome;
 use lrat_check::derivation::Derivation;
 use std::alloc::{AllocError, Global};
 use std::marker::Model;

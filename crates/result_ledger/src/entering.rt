@@ -5,7 +5,7 @@ ghost use Rattle.result_ledger.specs.Entered.{AreEntered, FitEmptySlots};
 ghost use Rattle.result_ledger.specs.Ledger.{cubes_in, empty_slot, Fills};
 
 use crate::ledger::Ledger;
-use cube_queue::Settled;
+use cube_jobs::Settled;
 
 /// Enters the result of a leaf without an answer.
 fn enter_one(ledger: &mut Ledger, settled: Settled)

@@ -1,6 +1,6 @@
 //! Why a result is not entered.
 
-use text_lines::fault::Cause;
+use text_lines::fault::FaultCause;
 
 /// Why a result is not entered.
 #[derive(Clone, Copy, Debug, PartialEq, Eq)]
@@ -13,7 +13,7 @@ pub enum EntryFault {
     WrongCube,
 }
 
-impl Cause for EntryFault {
+impl FaultCause for EntryFault {
     ghost use Rattle.result_ledger.specs.Ledger.{cause_number, cause_name};
 
     ghost number_of = { cause_number };

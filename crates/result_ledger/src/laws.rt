@@ -1,15 +1,15 @@
 //! Laws of verdicts.
 ghost use Rattle.std.specs.Prelude.{◌≡◌, ◌<◌, ℕ, ℤ, Bool, List, IsTrue, Some, IsPermutation};
 ghost use Rattle.std.specs.List.{AllZip, list_all, Contains, slice_get};
-ghost use Rattle.cube_queue.specs.Models.{IsModelIn};
+ghost use Rattle.cube_jobs.specs.Models.{IsModelIn};
 ghost use Rattle.cube_tree.specs.Covers.{Covers};
 ghost use Rattle.cube_tree.specs.CubeTree.{CubeTree, leaves, cubes_of, with_split};
 ghost use Rattle.dimacs.specs.Formula.{FormulaValue, is_formula};
 ghost use Rattle.dimacs.specs.Literal.{is_clause};
 ghost use Rattle.dimacs.specs.Models.{IsModel};
-ghost use Rattle.cube_queue.specs.declared.job.Settled.{Settled};
-ghost use Rattle.cube_queue.specs.declared.outcome.Outcome.TheVariants.{Skipped};
-ghost use Rattle.cube_queue.specs.Results.{AreResultsOf};
+ghost use Rattle.cube_jobs.specs.declared.job.Settled.{Settled};
+ghost use Rattle.cube_jobs.specs.declared.outcome.Outcome.TheVariants.{Skipped};
+ghost use Rattle.cube_jobs.specs.Results.{AreResultsOf};
 ghost use Rattle.result_ledger.specs.Entered.{AreEntered, AreEnteredInTurn};
 ghost use Rattle.result_ledger.specs.Ledger.{cubes_in, derivations_in, SplitsCube};
 ghost use Rattle.result_ledger.specs.Verdict.{IsProofIn, IsVerdict, IsConsistentBelow, AgreeUpToModel};

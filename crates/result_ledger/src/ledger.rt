@@ -4,7 +4,7 @@ ghost use Rattle.std.specs.List.{list_all, slice_get};
 ghost use Rattle.cube_tree.specs.CubeTree.{cubes_of};
 ghost use Rattle.dimacs.specs.Literal.{is_clause};
 ghost use Rattle.result_ledger.specs.Ledger.{empty_slot, cubes_in, derivations_in, Fills, IsEntryFault, HasAnswerAt, SplitsCube, IsSplitAt};
-ghost use Rattle.cube_queue.specs.Results.{AreLeaves};
+ghost use Rattle.cube_jobs.specs.Results.{AreLeaves};
 ghost use Rattle.result_ledger.specs.Verdict.{IsVerdict, AreWithout};
 
 use crate::confirming::first_model;
@@ -14,7 +14,7 @@ use crate::leaves::Leaves;
 use crate::slot::Slot;
 use crate::unproved::without_proof;
 use crate::verdict::Verdict;
-use cube_queue::{JobCube, MOST_LITERALS, Settled};
+use cube_jobs::{JobCube, MAX_LITERALS, Settled};
 use cube_tree::laws::a_cube_for_each_leaf;
 use cube_tree::{Cube, Tree, cubes};
 use dimacs::{ClauseList, Lit};
@@ -70,7 +70,7 @@ fn empty_slots(alloc: Global, cubes: &[Cube]) -> Result<Vec<Slot>, AllocError>
 
 /// A slot of this cube without an answer.
 fn empty(alloc: Global, cube: &[Lit]) -> Slot
-    requires { length cube.now ≤ MOST_LITERALS }
+    requires { length cube.now ≤ MAX_LITERALS }
     ensures { result ≡ empty_slot cube.now }
 {
     Slot {
@@ -192,7 +192,7 @@ impl Ledger {
     pub fn cube(&self, leaf: u32) -> &[Lit]
         requires { leaf < length self.now }
         ensures cube { slice_get (cubes_in self.now) leaf ≡ Some result.now }
-        ensures short { length result.now ≤ MOST_LITERALS }
+        ensures short { length result.now ≤ MAX_LITERALS }
     {
         let slots = self.slots.as_slice();
         slots[leaf as usize].cube.as_slice()

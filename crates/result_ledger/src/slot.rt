@@ -1,5 +1,5 @@
 //! What a ledger holds of a leaf.
-use cube_queue::{JobCube, Outcome};
+use cube_jobs::{JobCube, Outcome};
 
 /// A leaf: its cube, and the answer that was entered for it, if one was.
 #[derive(Drop)]

@@ -1,8 +1,8 @@
 -- The order of a model as a schedule.
 use Rattle.std.proofs.Common.{◌≡◌, ℕ, List, Bool, ap, sym, ◌∙◌, subst}
 use Rattle.std.specs.List.{filter_map, slice_get}
-use Rattle.traces.specs.declared.operation.OpName.{OpName}
-use Rattle.traces.specs.Trace.{TraceValue, operation_names}
+use Rattle.trace_semantics.specs.declared.operation.OpName.{OpName}
+use Rattle.trace_semantics.specs.Trace.{TraceValue, operation_names}
 use Rattle.var_layout.specs.Numbers.{name_at}
 use Rattle.clause_blocks.specs.ModelOrder.{IsInOrderOf}
 

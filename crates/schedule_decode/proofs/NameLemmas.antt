@@ -5,8 +5,8 @@ use Rattle.std.specs.List.{cons_option, filter_map, slice_get}
 use Rattle.std.proofs.lemmas.List.{take_more}
 use Rattle.std.proofs.lemmas.List.Elements.{filter_map-append}
 use Rattle.std.proofs.lemmas.List.FromFn.{map-range_with_len_more}
-use Rattle.traces.specs.declared.operation.OpName.{OpName}
-use Rattle.traces.specs.Trace.{first_names}
+use Rattle.trace_semantics.specs.declared.operation.OpName.{OpName}
+use Rattle.trace_semantics.specs.Trace.{first_names}
 
 -- one name more of a process
 pub pushed_name : (process : List ℕ) (k : ℕ) (old items new : List OpName) → items ≡ old ++ first_names process k → new ≡ items ++ record { process = process; place = k + 1 } ∷ [] → new ≡ old ++ first_names process (k + 1)

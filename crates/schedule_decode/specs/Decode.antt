@@ -2,7 +2,7 @@
 use Rattle.std.specs.Prelude.{◌≡◌, ℕ, ℤ, Bool, List}
 use Rattle.clause_blocks.specs.Clauses.{clauses_of}
 use Rattle.dimacs.specs.Models.{IsFirstFalse, IsModel}
-use Rattle.traces.specs.Trace.{TraceValue}
+use Rattle.trace_semantics.specs.Trace.{TraceValue}
 use Rattle.schedule_decode.specs.declared.decode_fault.DecodeCause.{DecodeCause}
 use Rattle.schedule_decode.specs.declared.decode_fault.DecodeCause.TheVariants.{NotAModel}
 

@@ -3,7 +3,7 @@
 ghost use Rattle.std.specs.Prelude.{◌≡◌, IfOk, IfErr, OnOk};
 ghost use Rattle.dimacs.specs.Assignment.{value_of};
 ghost use Rattle.dimacs.specs.Models.{IsModel};
-ghost use Rattle.traces.specs.Legal.{IsLegal};
+ghost use Rattle.trace_semantics.specs.Legal.{IsLegal};
 ghost use Rattle.clause_blocks.specs.Clauses.{clauses_of, formula_of};
 ghost use Rattle.clause_blocks.specs.ModelOrder.{IsInOrderOf};
 ghost use Rattle.text_lines.specs.Fault.{IsRefusal};
@@ -15,11 +15,11 @@ use crate::operation_order::order_of;
 use dimacs::{Assignment, Formula};
 use reducer::reduced::Reduced;
 use std::alloc::{AllocError, Global};
-use text_lines::fault::Fault;
-use traces::schedule::Schedule;
+use text_lines::fault::PlacedFault;
+use trace_semantics::schedule::Schedule;
 use var_layout::layout::Layout;
 
-/// The schedule in which the truth values put the operations, by the variables of what is kept. Where they are a model it is
+/// The schedule in which the truth values put the operations, by the variables of what is kept. If they are a model it is
 /// legal. No clause is tried: of truth values that are no model it is only said that the call returns.
 pub fn schedule_of(
     alloc: Global,
@@ -53,7 +53,7 @@ pub fn decode(
     ensures refused { IfErr result (IsRefusal (HasDecodeFault (value_of assignment.now) formula.now.clauses)) }
 {
     if let Err(found) = formula.eval(assignment) {
-        return Err(Fault::At(DecodeCause::NotAModel, found.clause));
+        return Err(PlacedFault::At(DecodeCause::NotAModel, found.clause));
     }
     let layout = Layout::of(alloc, reduced)?;
     Ok(schedule_of(alloc, reduced, &layout, assignment)?)

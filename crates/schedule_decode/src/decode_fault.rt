@@ -1,6 +1,6 @@
 //! Why an assignment is not decoded.
 
-use text_lines::fault::{Cause, Fault};
+use text_lines::fault::{FaultCause, PlacedFault};
 
 /// What is wrong with an assignment that is not decoded.
 #[derive(Clone, Copy, Debug, PartialEq, Eq)]
@@ -10,9 +10,9 @@ pub enum DecodeCause {
 }
 
 /// Why an assignment is not decoded: a cause and the number of a clause, or that memory ran out.
-pub type DecodeFault = Fault<DecodeCause>;
+pub type DecodeFault = PlacedFault<DecodeCause>;
 
-impl Cause for DecodeCause {
+impl FaultCause for DecodeCause {
     ghost use Rattle.schedule_decode.specs.DecodeCauses.{cause_number, cause_name};
 
     ghost number_of = { cause_number };

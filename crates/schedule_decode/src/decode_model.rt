@@ -3,7 +3,7 @@
 ghost use Rattle.std.specs.Prelude.{◌≡◌, IfOk, IfErr, OnOk};
 ghost use Rattle.dimacs.specs.Assignment.{value_of};
 ghost use Rattle.dimacs.specs.Models.{IsModel};
-ghost use Rattle.traces.specs.Legal.{IsLegal};
+ghost use Rattle.trace_semantics.specs.Legal.{IsLegal};
 ghost use Rattle.clause_blocks.specs.Clauses.{clauses_of};
 ghost use Rattle.clause_blocks.specs.ModelOrder.{IsInOrderOf};
 ghost use Rattle.text_lines.specs.Fault.{IsRefusal};
@@ -15,8 +15,8 @@ use clause_blocks::trace_clauses::TraceClauses;
 use dimacs::{Assignment, ClauseList};
 use reducer::reduced::Reduced;
 use std::alloc::Global;
-use text_lines::fault::Fault;
-use traces::schedule::Schedule;
+use text_lines::fault::PlacedFault;
+use trace_semantics::schedule::Schedule;
 
 /// The schedule in which a model of the trace's clauses puts the operations, as `decode` gives it. No formula is
 /// held: of transitivity, single clauses are made only if the truth values put the operations in no order.
@@ -32,7 +32,7 @@ pub fn decode_model(
 {
     let clauses = TraceClauses::of(alloc, reduced)?;
     if let Err(found) = clauses.eval(assignment) {
-        return Err(Fault::At(DecodeCause::NotAModel, found.clause));
+        return Err(PlacedFault::At(DecodeCause::NotAModel, found.clause));
     }
     Ok(schedule_of(alloc, reduced, clauses.layout(), assignment)?)
 }

@@ -2,14 +2,14 @@
 
 ghost use Rattle.std.specs.Prelude.{◌≡◌, ◌≤◌, ◌++◌, length, IfOk, OnOk};
 ghost use Rattle.std.specs.List.{filter_map, slice_get};
-ghost use Rattle.traces.specs.Trace.{operation_names};
+ghost use Rattle.trace_semantics.specs.Trace.{operation_names};
 ghost use Rattle.reducer.specs.Reduction.{names_of};
 
 use std::alloc::{AllocError, Global};
 use std::marker::Model;
-use traces::name::Name;
-use traces::operation::OpName;
-use traces::trace::{Process, Trace};
+use trace_semantics::name::Name;
+use trace_semantics::operation::OpName;
+use trace_semantics::trace::{Process, Trace};
 
 /// The name of an operation, with the process's name lent by the trace.
 #[derive(Drop)]
@@ -19,7 +19,7 @@ pub(crate) struct LentName<'a> {
 }
 
 impl<'a> Model for LentName<'a> {
-    ghost use Rattle.traces.specs.declared.operation.OpName.{OpName};
+    ghost use Rattle.trace_semantics.specs.declared.operation.OpName.{OpName};
 
     ghost Value = { OpName };
 

@@ -3,17 +3,17 @@ use Rattle.std.proofs.Common.{◌≡◌, ◌<◌, ◌+◌, ℕ, List, [], ◌∷
 use Rattle.std.specs.Prelude.{Option, Some, None, is_some}
 use Rattle.std.specs.List.{slice_get, list_any, list_all, filter}
 use Rattle.std.proofs.lemmas.List.Folds.{list_any_more}
-use Rattle.schedule_judge.specs.declared.op_table.OpTable.{OpTable}
-use Rattle.traces.specs.declared.operation.OpName.{OpName}
-use Rattle.traces.specs.Judgement.{has_come, put_before}
-use Rattle.traces.specs.Operation.{same_op}
+use Rattle.schedule_judge.specs.declared.op_numbers.OpNumbers.{OpNumbers}
+use Rattle.trace_semantics.specs.declared.operation.OpName.{OpName}
+use Rattle.trace_semantics.specs.Judgement.{has_come, put_before}
+use Rattle.trace_semantics.specs.Operation.{same_op}
 use Rattle.schedule_judge.specs.Tables.{number_at, is_below, is_broken, FindsFirst, FindsEarly}
-use Rattle.traces.specs.Trace.{TraceValue}
-use Rattle.traces.proofs.NameLemmas.{same_name}
+use Rattle.trace_semantics.specs.Trace.{TraceValue}
+use Rattle.trace_semantics.proofs.NameLemmas.{same_name}
 use Rattle.schedule_judge.proofs.PlaceLemmas.{below_first, first_at, same_op_refl}
 
 -- the pair is broken, and this operation is its second
-abbrev pub is_early_by : OpTable → OpName → OpName × OpName → Bool
+abbrev pub is_early_by : OpNumbers → OpName → OpName × OpName → Bool
 is_early_by places n pair = same_op pair.1 n && is_broken (number_at places pair.0) (number_at places pair.1)
 
 more : (s b : Bool) (old : Option ℕ) → b ≡ true → is_some (cond s (Some 0) old) ≡ (is_some old || (s && b))
@@ -35,12 +35,12 @@ step f before i pair old new l at there here =
     here ∙ (λ j. there j || f (at j)) ∙ sym (list_any_more f before i pair l)
 
 -- one more pair, which is broken
-pub early_more : (before : List (OpName × OpName)) (places : OpTable) (i : ℕ) (pair : OpName × OpName) (n : OpName) (old new : Option ℕ) → i < length before → pair ≡ get_or before i pair → is_some old ≡ list_any (is_early_by places n) (take i before) → is_broken (number_at places pair.0) (number_at places pair.1) ≡ true → new ≡ cond (same_op pair.1 n) (Some 0) old → is_some new ≡ list_any (is_early_by places n) (take (i + 1) before)
+pub early_more : (before : List (OpName × OpName)) (places : OpNumbers) (i : ℕ) (pair : OpName × OpName) (n : OpName) (old new : Option ℕ) → i < length before → pair ≡ get_or before i pair → is_some old ≡ list_any (is_early_by places n) (take i before) → is_broken (number_at places pair.0) (number_at places pair.1) ≡ true → new ≡ cond (same_op pair.1 n) (Some 0) old → is_some new ≡ list_any (is_early_by places n) (take (i + 1) before)
 early_more before places i pair n old new l at there broken here =
     step (is_early_by places n) before i pair (is_some old) (is_some new) l at there (ap is_some here ∙ more (same_op pair.1 n) (is_broken (number_at places pair.0) (number_at places pair.1)) old broken)
 
 -- one more pair, which is kept
-pub early_same : (before : List (OpName × OpName)) (places : OpTable) (i : ℕ) (pair : OpName × OpName) (n : OpName) (old : Option ℕ) → i < length before → pair ≡ get_or before i pair → is_some old ≡ list_any (is_early_by places n) (take i before) → is_broken (number_at places pair.0) (number_at places pair.1) ≡ false → is_some old ≡ list_any (is_early_by places n) (take (i + 1) before)
+pub early_same : (before : List (OpName × OpName)) (places : OpNumbers) (i : ℕ) (pair : OpName × OpName) (n : OpName) (old : Option ℕ) → i < length before → pair ≡ get_or before i pair → is_some old ≡ list_any (is_early_by places n) (take i before) → is_broken (number_at places pair.0) (number_at places pair.1) ≡ false → is_some old ≡ list_any (is_early_by places n) (take (i + 1) before)
 early_same before places i pair n old l at there kept =
     step (is_early_by places n) before i pair (is_some old) (is_some old) l at there (same (same_op pair.1 n) (is_broken (number_at places pair.0) (number_at places pair.1)) old kept)
 
@@ -59,7 +59,7 @@ any_not_all q b first h each (x ∷ xs) =
     any_step (q x) (b x) first h x (filter q xs) (list_any (λ x. q x && b x) xs) (each x) (any_not_all q b first h each xs)
 
 -- an operation that comes first here comes before one that the trace puts before it, if and only if not all of those have come
-pub early_is : (t : TraceValue) (names : List OpName) (places early : OpTable) (i : ℕ) (n : OpName) → FindsFirst names places → FindsEarly t.before places early → slice_get names i ≡ Some n → has_come (take i names) n ≡ false → is_some (number_at early n) ≡ not (list_all (has_come (take i names)) (put_before t n))
+pub early_is : (t : TraceValue) (names : List OpName) (places early : OpNumbers) (i : ℕ) (n : OpName) → FindsFirst names places → FindsEarly t.before places early → slice_get names i ≡ Some n → has_come (take i names) n ≡ false → is_some (number_at early n) ≡ not (list_all (has_come (take i names)) (put_before t n))
 early_is t names places early i n first finds at fresh =
     let zeros : 0 + i ≡ i = omega arith in
     let here : number_at places n ≡ Some i = first n ∙ first_at (same_op n) names 0 i n at (same_op_refl n) fresh ∙ ap Some zeros in

@@ -7,13 +7,13 @@ use Rattle.std.specs.Str.{bytes_eq}
 use Rattle.text_lines.proofs.LastLemmas.{over, last_given}
 use Rattle.text_lines.proofs.BoolLemmas.{hidden_none}
 use Rattle.schedule_judge.specs.declared.memory.Memory.{Memory}
-use Rattle.traces.specs.declared.operation.Op.{Op}
-use Rattle.traces.specs.declared.operation.OpName.{OpName}
+use Rattle.trace_semantics.specs.declared.operation.Op.{Op}
+use Rattle.trace_semantics.specs.declared.operation.OpName.{OpName}
 use Rattle.schedule_judge.specs.Memory.{IsMemoryAfter, Writes, Runs, writer_of}
-use Rattle.traces.specs.Operation.{location_of, value_left}
-use Rattle.traces.specs.NameNumbers.{number_of}
-use Rattle.traces.specs.Trace.{TraceValue, operation_at, value_of}
-use Rattle.traces.specs.ValueAfter.{value_left_at, value_after, last_writer}
+use Rattle.trace_semantics.specs.Operation.{location_of, written_value}
+use Rattle.trace_semantics.specs.NameNumbers.{number_of}
+use Rattle.trace_semantics.specs.Trace.{TraceValue, operation_at, value_of}
+use Rattle.trace_semantics.specs.ValueAfter.{value_left_at, value_after, last_writer}
 
 last_push : {X : Type 0} (p : X → Bool) (o : Option X) (xs : List X) (x : X) → last_or o (filter p (xs ++ x ∷ [])) ≡ cond (p x) (Some x) (last_or o (filter p xs))
 last_push {X = X} p o [] x = chosen (p x)
@@ -33,8 +33,8 @@ value_push t location done n o e = last_given (value_left_at t location) (value_
 writer_push : (t : TraceValue) (location : List ℕ) (done : List OpName) (n : OpName) (o : Option ℕ) → value_left_at t location n ≡ o → last_writer t location (done ++ n ∷ []) ≡ cond (is_some o) (Some n) (last_writer t location done)
 writer_push t location done n o e = last_push (λ m. is_some (value_left_at t location m)) None done n ∙ ap (λ v. cond (is_some v) (Some n) (last_writer t location done)) e
 
-left_at : (t : TraceValue) (location : List ℕ) (n : OpName) (op : Op) (w : Option ℕ) → operation_at t n ≡ Some op → value_left op ≡ w → value_left_at t location n ≡ cond (bytes_eq (location_of op) location) w None
-left_at t location n op w known value = ap (option_and_then (λ op. cond (bytes_eq (location_of op) location) (value_left op) None)) known ∙ ap (λ v. cond (bytes_eq (location_of op) location) v None) value
+left_at : (t : TraceValue) (location : List ℕ) (n : OpName) (op : Op) (w : Option ℕ) → operation_at t n ≡ Some op → written_value op ≡ w → value_left_at t location n ≡ cond (bytes_eq (location_of op) location) w None
+left_at t location n op w known value = ap (option_and_then (λ op. cond (bytes_eq (location_of op) location) (written_value op) None)) known ∙ ap (λ v. cond (bytes_eq (location_of op) location) v None) value
 
 chosen_value : (b : Bool) (v : ℕ) (o : Option ℕ) → cond b (Some v) o ≡ over (cond b (Some v) None) o
 chosen_value true v o = refl
@@ -45,7 +45,7 @@ chosen_writer names place n true v o w at e = at
 chosen_writer names place n false v o w at e = e
 
 -- one more operation is run
-run_step : (t : TraceValue) (names done : List OpName) (old new : Memory) (n : OpName) (op : Op) (place : ℕ) (w : Option ℕ) → value_left op ≡ w → IsMemoryAfter t names done old → slice_get names place ≡ Some n → operation_at t n ≡ Some op → MatchOption w (new ≡ old) (λ value. Writes old (location_of op) value place new) → IsMemoryAfter t names (done ++ n ∷ []) new
+run_step : (t : TraceValue) (names done : List OpName) (old new : Memory) (n : OpName) (op : Op) (place : ℕ) (w : Option ℕ) → written_value op ≡ w → IsMemoryAfter t names done old → slice_get names place ≡ Some n → operation_at t n ≡ Some op → MatchOption w (new ≡ old) (λ value. Writes old (location_of op) value place new) → IsMemoryAfter t names (done ++ n ∷ []) new
 run_step t names done old new n op place None value before at known stays = record {
   values = λ location. ap (λ (m : Memory). number_of m.values location) stays ∙ before.values location ∙ sym (value_push t location done n None (left_at t location n op None known value ∙ hidden_none (bytes_eq (location_of op) location) None refl));
   writers = λ location. ap (λ (m : Memory). writer_of names m location) stays ∙ before.writers location ∙ sym (writer_push t location done n None (left_at t location n op None known value ∙ hidden_none (bytes_eq (location_of op) location) None refl));
@@ -56,4 +56,4 @@ run_step t names done old new n op place (Some v) value before at known writes =
 }
 
 pub memory_run : (t : TraceValue) (names done : List OpName) (old new : Memory) (n : OpName) (op : Op) (place : ℕ) → IsMemoryAfter t names done old → slice_get names place ≡ Some n → operation_at t n ≡ Some op → Runs old op place new → IsMemoryAfter t names (done ++ n ∷ []) new
-memory_run t names done old new n op place before at known runs = run_step t names done old new n op place (value_left op) refl before at known runs
+memory_run t names done old new n op place before at known runs = run_step t names done old new n op place (written_value op) refl before at known runs

@@ -9,11 +9,11 @@ use Rattle.std.proofs.lemmas.Bool.Decides.{nat_tests, Decides-eqb}
 use Rattle.std.proofs.lemmas.Bool.{le-ltb, or_parts}
 use Rattle.std.proofs.lemmas.Option.{slice_get-get_or}
 use Rattle.std.proofs.lemmas.Slice.Eq.{bytes_eq-Decides}
-use Rattle.traces.specs.declared.operation.OpName.{OpName}
-use Rattle.traces.specs.declared.trace.Process.{Process}
-use Rattle.traces.specs.Operation.{same_op}
-use Rattle.traces.proofs.NameLemmas.{name_turned}
-use Rattle.traces.proofs.ValueLemmas.{drop_front}
+use Rattle.trace_semantics.specs.declared.operation.OpName.{OpName}
+use Rattle.trace_semantics.specs.declared.trace.Process.{Process}
+use Rattle.trace_semantics.specs.Operation.{same_op}
+use Rattle.trace_semantics.proofs.NameLemmas.{name_turned}
+use Rattle.trace_semantics.proofs.ValueLemmas.{drop_front}
 use Rattle.schedule_judge.specs.Tables.{is_below}
 
 -- no name yet

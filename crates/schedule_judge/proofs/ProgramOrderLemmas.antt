@@ -3,9 +3,9 @@ use Rattle.std.proofs.Common.{◌≡◌, ◌≢◌, ◌<◌, ◌≤◌, ◌+◌,
 use Rattle.std.proofs.Math.Bool.{and-true}
 use Rattle.std.specs.List.{list_all, range_with_len, flat_map}
 use Rattle.std.proofs.lemmas.List.Folds.{list_all-map, list_all-append, list_all_at}
-use Rattle.traces.specs.declared.operation.OpName.{OpName}
-use Rattle.traces.specs.Judgement.{has_come}
-use Rattle.traces.specs.Trace.{first_names}
+use Rattle.trace_semantics.specs.declared.operation.OpName.{OpName}
+use Rattle.trace_semantics.specs.Judgement.{has_come}
+use Rattle.trace_semantics.specs.Trace.{first_names}
 use Rattle.schedule_judge.specs.Walk.{IsInProgramOrder}
 
 absorbed : (b c : Bool) → (c ≡ true → b ≡ true) → (b && c) ≡ c

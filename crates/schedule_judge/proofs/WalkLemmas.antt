@@ -8,18 +8,18 @@ use Rattle.std.proofs.lemmas.List.Folds.{list_any-append}
 use Rattle.std.proofs.lemmas.Option.{slice_get_within, get_or_from_slice_get, slice_get_read}
 use Rattle.text_lines.specs.FirstFault.{IsFaultless, IsFirstFault}
 use Rattle.text_lines.proofs.FaultLemmas.{faultless_nil, faultless_push}
-use Rattle.traces.specs.declared.judgement.Cause.{Cause}
-use Rattle.traces.specs.declared.judgement.Cause.TheVariants.{RepeatedOp, OutOfProgramOrder}
-use Rattle.traces.specs.declared.judgement.Judgement.TheVariants.{Legal, Illegal}
+use Rattle.trace_semantics.specs.declared.judgement.IllegalCause.{IllegalCause}
+use Rattle.trace_semantics.specs.declared.judgement.IllegalCause.TheVariants.{RepeatedOp, OutOfProgramOrder}
+use Rattle.trace_semantics.specs.declared.judgement.Judgement.TheVariants.{Legal, Illegal}
 use Rattle.schedule_judge.specs.declared.memory.Memory.{Memory}
-use Rattle.traces.specs.declared.operation.Op.{Op}
-use Rattle.traces.specs.declared.operation.OpName.{OpName}
+use Rattle.trace_semantics.specs.declared.operation.Op.{Op}
+use Rattle.trace_semantics.specs.declared.operation.OpName.{OpName}
 use Rattle.schedule_judge.specs.declared.survey.Survey.{Survey}
-use Rattle.traces.specs.Judgement.{has_come, fault_at, fault_of_op, fault_of_named, fault_of_whole, IsJudgement}
+use Rattle.trace_semantics.specs.Judgement.{has_come, fault_at, fault_of_op, fault_of_named, fault_of_whole, IsJudgement}
 use Rattle.schedule_judge.specs.Memory.{IsMemoryAfter, Runs}
-use Rattle.traces.specs.Operation.{same_op}
-use Rattle.traces.specs.Trace.{TraceValue, operation_at, first_names}
-use Rattle.traces.proofs.NameLemmas.{same_name}
+use Rattle.trace_semantics.specs.Operation.{same_op}
+use Rattle.trace_semantics.specs.Trace.{TraceValue, operation_at, first_names}
+use Rattle.trace_semantics.proofs.NameLemmas.{same_name}
 use Rattle.schedule_judge.specs.Walk.{IsWalk, IsInProgramOrder}
 use Rattle.schedule_judge.proofs.MemoryLemmas.{memory_run}
 use Rattle.schedule_judge.proofs.ProgramOrderLemmas.{first_have_come}
@@ -33,7 +33,7 @@ walk_none s state start = record {
 }
 
 -- an operation without a fault is in program order
-in_order : (a b : Bool) (rest : Option Cause) → cond a (Some RepeatedOp) (cond (not b) (Some OutOfProgramOrder) rest) ≡ None → b ≡ true
+in_order : (a b : Bool) (rest : Option IllegalCause) → cond a (Some RepeatedOp) (cond (not b) (Some OutOfProgramOrder) rest) ≡ None → b ≡ true
 in_order true b rest e = absurd (cc)
 in_order false true rest e = refl
 in_order false false rest e = absurd (cc)
@@ -79,7 +79,7 @@ walk_more s old new i n op walk at known right runs =
 parts_at : (names : List OpName) (i : ℕ) (n : OpName) → slice_get names i ≡ Some n → names ≡ take i names ++ n ∷ drop (suc i) names
 parts_at names i n at = sym (take-append-drop i names) ∙ ap (λ rest. take i names ++ rest) (drop-cons names i n (slice_get_within names i n at) ∙ ap (λ m. m ∷ drop (suc i) names) (get_or_from_slice_get names i n n at))
 
-here : (s : Survey) (state : Memory) (i : ℕ) (n : OpName) (cause : Cause) → IsWalk s state i → slice_get s.names.now i ≡ Some n → fault_at s.trace.now (take i s.names.now) n ≡ Some cause → IsFirstFault (fault_at s.trace.now) s.names.now (i + 1) cause
+here : (s : Survey) (state : Memory) (i : ℕ) (n : OpName) (cause : IllegalCause) → IsWalk s state i → slice_get s.names.now i ≡ Some n → fault_at s.trace.now (take i s.names.now) n ≡ Some cause → IsFirstFault (fault_at s.trace.now) s.names.now (i + 1) cause
 here s state i n cause walk at wrong = record {
   before = take i s.names.now;
   item = n;
@@ -91,7 +91,7 @@ here s state i n cause walk at wrong = record {
 }
 
 -- the name at this place has a fault
-pub judged_here : (s : Survey) (state : Memory) (i : ℕ) (n : OpName) (cause : Cause) (t : TraceValue) (names : List OpName) → s.trace.now ≡ t → s.names.now ≡ names → IsWalk s state i → slice_get s.names.now i ≡ Some n → fault_at s.trace.now (take i s.names.now) n ≡ Some cause → IsJudgement t names (Illegal cause (i + 1))
+pub judged_here : (s : Survey) (state : Memory) (i : ℕ) (n : OpName) (cause : IllegalCause) (t : TraceValue) (names : List OpName) → s.trace.now ≡ t → s.names.now ≡ names → IsWalk s state i → slice_get s.names.now i ≡ Some n → fault_at s.trace.now (take i s.names.now) n ≡ Some cause → IsJudgement t names (Illegal cause (i + 1))
 judged_here s state i n cause t names same_trace same_names walk at wrong =
     inl (subst (λ u. IsFirstFault (fault_at u) names (i + 1) cause) same_trace (subst (λ ms. IsFirstFault (fault_at s.trace.now) ms (i + 1) cause) same_names (here s state i n cause walk at wrong)))
 
@@ -106,7 +106,7 @@ judged_legal s state last t names same_trace same_names walk all right = (
 )
 
 -- no name has a fault, and the whole has
-pub judged_whole : (s : Survey) (state : Memory) (cause : Cause) (last place : ℕ) (t : TraceValue) (names : List OpName) → s.trace.now ≡ t → s.names.now ≡ names → IsWalk s state last → last ≡ length s.names.now → place ≡ last + 1 → fault_of_whole s.trace.now s.names.now ≡ Some cause → IsJudgement t names (Illegal cause place)
+pub judged_whole : (s : Survey) (state : Memory) (cause : IllegalCause) (last place : ℕ) (t : TraceValue) (names : List OpName) → s.trace.now ≡ t → s.names.now ≡ names → IsWalk s state last → last ≡ length s.names.now → place ≡ last + 1 → fault_of_whole s.trace.now s.names.now ≡ Some cause → IsJudgement t names (Illegal cause place)
 judged_whole s state cause last place t names same_trace same_names walk all here wrong =
     inr (
       subst (λ u. IsFaultless (fault_at u) names) same_trace (subst (λ ms. IsFaultless (fault_at s.trace.now) ms) same_names (whole s state (subst (λ l. IsWalk s state l) all walk))),

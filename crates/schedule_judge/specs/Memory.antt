@@ -4,12 +4,12 @@ use Rattle.std.specs.List.{slice_get}
 use Rattle.std.specs.Option.{option_and_then}
 use Rattle.std.specs.Str.{bytes_eq}
 use Rattle.schedule_judge.specs.declared.memory.Memory.{Memory}
-use Rattle.traces.specs.declared.operation.Op.{Op}
-use Rattle.traces.specs.declared.operation.OpName.{OpName}
-use Rattle.traces.specs.Operation.{location_of, value_left}
-use Rattle.traces.specs.NameNumbers.{number_of}
-use Rattle.traces.specs.Trace.{TraceValue}
-use Rattle.traces.specs.ValueAfter.{value_after, last_writer}
+use Rattle.trace_semantics.specs.declared.operation.Op.{Op}
+use Rattle.trace_semantics.specs.declared.operation.OpName.{OpName}
+use Rattle.trace_semantics.specs.Operation.{location_of, written_value}
+use Rattle.trace_semantics.specs.NameNumbers.{number_of}
+use Rattle.trace_semantics.specs.Trace.{TraceValue}
+use Rattle.trace_semantics.specs.ValueAfter.{value_after, last_writer}
 
 -- the last writer of a location, by its place in the list of names
 abbrev pub writer_of : List OpName → Memory → List ℕ → Option OpName
@@ -27,4 +27,4 @@ pub record Writes (old : Memory) (location : List ℕ) (value place : ℕ) (new 
 
 -- the operation is run
 abbrev pub Runs : Memory → Op → ℕ → Memory → Type 0
-Runs old op place new = MatchOption (value_left op) (new ≡ old) (λ value. Writes old (location_of op) value place new)
+Runs old op place new = MatchOption (written_value op) (new ≡ old) (λ value. Writes old (location_of op) value place new)

@@ -2,9 +2,9 @@
 use Rattle.std.specs.Prelude.{◌≡◌, ◌+◌, ℕ, List, take, true}
 use Rattle.text_lines.specs.FirstFault.{IsFaultless}
 use Rattle.schedule_judge.specs.declared.memory.Memory.{Memory}
-use Rattle.traces.specs.declared.operation.OpName.{OpName}
+use Rattle.trace_semantics.specs.declared.operation.OpName.{OpName}
 use Rattle.schedule_judge.specs.declared.survey.Survey.{Survey}
-use Rattle.traces.specs.Judgement.{fault_at, has_come}
+use Rattle.trace_semantics.specs.Judgement.{fault_at, has_come}
 use Rattle.schedule_judge.specs.Memory.{IsMemoryAfter}
 
 -- with an operation, the one before it in its process has come

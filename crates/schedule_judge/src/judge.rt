@@ -2,21 +2,21 @@
 
 ghost use Rattle.std.specs.Prelude.{◌≡◌, List, ℕ, IfOk, take, length};
 ghost use Rattle.std.specs.List.{slice_get, list_all, flat_map};
-ghost use Rattle.traces.specs.Judgement as judgement;
-ghost use Rattle.traces.specs.Judgement.{has_come, IsJudgement};
+ghost use Rattle.trace_semantics.specs.Judgement as judgement;
+ghost use Rattle.trace_semantics.specs.Judgement.{has_come, IsJudgement};
 ghost use Rattle.schedule_judge.specs.Survey.{IsSurvey};
-ghost use Rattle.traces.specs.NameNumbers.{number_of};
-ghost use Rattle.traces.specs.Trace.{first_names};
+ghost use Rattle.trace_semantics.specs.NameNumbers.{number_of};
+ghost use Rattle.trace_semantics.specs.Trace.{first_names};
 ghost use Rattle.schedule_judge.specs.Walk.{IsWalk, IsInProgramOrder};
 
 use crate::memory::Memory;
 use crate::survey::Survey;
 use std::alloc::{AllocError, Global};
-use traces::judgement::{Cause, Judgement};
-use traces::name::Name;
-use traces::operation::{Op, OpName};
-use traces::schedule::Schedule;
-use traces::trace::{Process, Trace};
+use trace_semantics::judgement::{IllegalCause, Judgement};
+use trace_semantics::name::Name;
+use trace_semantics::operation::{Op, OpName};
+use trace_semantics::schedule::Schedule;
+use trace_semantics::trace::{Process, Trace};
 
 /// Whether the first `n` operations of the process are among the first `count` names.
 fn have_come<'a>(survey: &Survey<'a>, process: &'a [u8], n: usize, count: usize) -> bool
@@ -34,7 +34,7 @@ fn fault_of_op<'a>(
     count: usize,
     name: &'a OpName,
     op: &'a Op,
-) -> Option<Cause>
+) -> Option<IllegalCause>
     requires survey { IsSurvey survey.now }
     requires walk { IsWalk survey.now memory.now count }
     requires name { slice_get survey.now.names.now count ≡ Some name.now }
@@ -43,15 +43,15 @@ fn fault_of_op<'a>(
     let process = name.process.as_bytes();
     let place = name.place as usize;
     if survey.has_come(process, place, count) {
-        Some(Cause::RepeatedOp)
+        Some(IllegalCause::RepeatedOp)
     } else if !have_come(survey, process, place.saturating_sub(1), count) {
-        Some(Cause::OutOfProgramOrder)
+        Some(IllegalCause::OutOfProgramOrder)
     } else if !memory.reads_right(op) {
-        Some(Cause::WrongRead)
+        Some(IllegalCause::WrongRead)
     } else if survey.is_early(name) {
-        Some(Cause::BeforeBroken)
+        Some(IllegalCause::BeforeBroken)
     } else if !memory.has_right_source(survey.names, op) {
-        Some(Cause::WrongSource)
+        Some(IllegalCause::WrongSource)
     } else {
         None
     }
@@ -84,16 +84,16 @@ fn holds_all<'a>(memory: &Memory<'a>, values: &'a [(Name, u64)]) -> bool
     true
 }
 
-/// What is wrong with the whole list, where no name has a fault.
-fn fault_of_whole<'a>(survey: &Survey<'a>, memory: &Memory<'a>) -> Option<Cause>
+/// What is wrong with the whole list, if no name has a fault.
+fn fault_of_whole<'a>(survey: &Survey<'a>, memory: &Memory<'a>) -> Option<IllegalCause>
     requires survey { IsSurvey survey.now }
     requires walk { IsWalk survey.now memory.now (length survey.now.names.now) }
     ensures { result ≡ judgement.fault_of_whole survey.now.trace.now survey.now.names.now }
 {
     if !has_all(survey, survey.trace.processes()) {
-        Some(Cause::MissingOp)
+        Some(IllegalCause::MissingOp)
     } else if !holds_all(memory, survey.trace.final_values()) {
-        Some(Cause::WrongFinal)
+        Some(IllegalCause::WrongFinal)
     } else {
         None
     }
@@ -109,7 +109,7 @@ pub fn judge(alloc: Global, trace: &Trace, schedule: &Schedule) -> Result<Judgem
     for i in 0..names.len() {
         let name = &names[i];
         let Some(op) = survey.operation_at(name) else {
-            return Ok(Judgement::Illegal(Cause::UnknownOp, i + 1));
+            return Ok(Judgement::Illegal(IllegalCause::UnknownOp, i + 1));
         };
         if let Some(cause) = fault_of_op(&survey, &memory, i, name, op) {
             return Ok(Judgement::Illegal(cause, i + 1));

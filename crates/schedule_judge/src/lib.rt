@@ -1,7 +1,8 @@
-//! The judge of a schedule: whether it is legal, and if not, what its first fault is and where.
+//! The judge of a schedule: whether it is legal, which is sequential consistency (Lamport, 1979), and if not, what its first fault is
+//! and where.
 #![tactic(auto)]
 
 pub mod judge;
 mod memory;
-mod op_table;
+mod op_numbers;
 mod survey;

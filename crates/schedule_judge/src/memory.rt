@@ -3,17 +3,17 @@
 ghost use Rattle.std.specs.Prelude.{◌≡◌, List, ℕ, IfOk, OnOk, []};
 ghost use Rattle.std.specs.List.{slice_get};
 ghost use Rattle.std.specs.Option.{option_copied, option_and_then};
-ghost use Rattle.traces.specs.declared.operation.OpName.{OpName};
-ghost use Rattle.traces.specs.Judgement as judgement;
+ghost use Rattle.trace_semantics.specs.declared.operation.OpName.{OpName};
+ghost use Rattle.trace_semantics.specs.Judgement as judgement;
 ghost use Rattle.schedule_judge.specs.Memory.{IsMemoryAfter, Runs, Writes, writer_of};
-ghost use Rattle.traces.specs.Operation as operation;
-ghost use Rattle.traces.specs.NameNumbers.{number_of};
-ghost use Rattle.traces.specs.Trace.{TraceValue};
+ghost use Rattle.trace_semantics.specs.Operation as operation;
+ghost use Rattle.trace_semantics.specs.NameNumbers.{number_of};
+ghost use Rattle.trace_semantics.specs.Trace.{TraceValue};
 
 use std::alloc::{AllocError, Global};
-use traces::name::Name;
-use traces::name_table::NameTable;
-use traces::operation::{Op, OpName, Origin};
+use trace_semantics::name::Name;
+use trace_semantics::name_table::NameTable;
+use trace_semantics::operation::{Op, OpName, Origin};
 
 /// What each location holds, and which name of the schedule wrote it last.
 #[derive(Drop)]
@@ -142,7 +142,7 @@ impl<'a> Memory<'a> {
     pub fn run(&mut self, op: &'a Op, place: usize) -> Result<(), AllocError>
         ensures { OnOk result (Runs self.old op.now place self.new) }
     {
-        match op.value_left() {
+        match op.written_value() {
             Some(value) => self.write(op.location().as_bytes(), value, place),
             None => Ok(()),
         }

@@ -3,17 +3,17 @@
 ghost use Rattle.std.specs.Prelude.{◌≡◌, ℕ, IfOk, take, not, false};
 ghost use Rattle.std.specs.List.{slice_get, list_all};
 ghost use Rattle.std.specs.Option.{option_copied, option_and_then};
-ghost use Rattle.traces.specs.Judgement as judgement;
+ghost use Rattle.trace_semantics.specs.Judgement as judgement;
 ghost use Rattle.schedule_judge.specs.Survey.{IsSurvey};
 ghost use Rattle.schedule_judge.specs.Tables.{number_at, FindsProcesses, FindsFirst, FindsEarly};
 ghost use Rattle.schedule_judge.specs.Tables as tables;
-ghost use Rattle.traces.specs.Trace as trace_value;
+ghost use Rattle.trace_semantics.specs.Trace as trace_value;
 
-use crate::op_table::OpTable;
+use crate::op_numbers::OpNumbers;
 use std::alloc::{AllocError, Global};
-use traces::name_table::NameTable;
-use traces::operation::{Op, OpName};
-use traces::trace::{Process, Trace};
+use trace_semantics::name_table::NameTable;
+use trace_semantics::operation::{Op, OpName};
+use trace_semantics::trace::{Process, Trace};
 
 /// What is looked up while a schedule is judged.
 #[derive(Drop)]
@@ -21,8 +21,8 @@ pub struct Survey<'a> {
     pub trace: &'a Trace,
     pub names: &'a [OpName],
     pub processes: NameTable<'a>,
-    pub places: OpTable<'a>,
-    pub early: OpTable<'a>,
+    pub places: OpNumbers<'a>,
+    pub early: OpNumbers<'a>,
 }
 
 /// The place of each process, by its name.
@@ -39,11 +39,11 @@ fn places_of_processes<'a>(
     Ok(places)
 }
 
-/// Where each operation comes first in a schedule.
-fn first_places<'a>(alloc: Global, names: &'a [OpName]) -> Result<OpTable<'a>, AllocError>
+/// The first place of each operation in a schedule.
+fn first_places<'a>(alloc: Global, names: &'a [OpName]) -> Result<OpNumbers<'a>, AllocError>
     ensures { IfOk result (FindsFirst names.now) }
 {
-    let mut places = OpTable::with_capacity(alloc, names.len())?;
+    let mut places = OpNumbers::with_capacity(alloc, names.len())?;
     for k in (0..names.len()).rev() {
         places.insert(&names[k], k)?;
     }
@@ -71,7 +71,7 @@ fn is_broken(first: Option<usize>, second: Option<usize>) -> bool
 }
 
 /// Whether the second operation comes, and the first not before it.
-fn breaks<'a>(places: &OpTable<'a>, first: &'a OpName, second: &'a OpName) -> bool
+fn breaks<'a>(places: &OpNumbers<'a>, first: &'a OpName, second: &'a OpName) -> bool
     ensures { result ≡ tables.is_broken (number_at places.now first.now) (number_at places.now second.now) }
 {
     is_broken(places.of(first), places.of(second))
@@ -81,11 +81,11 @@ fn breaks<'a>(places: &OpTable<'a>, first: &'a OpName, second: &'a OpName) -> bo
 fn early_ops<'a>(
     alloc: Global,
     before: &'a [(OpName, OpName)],
-    places: &OpTable<'a>,
-) -> Result<OpTable<'a>, AllocError>
+    places: &OpNumbers<'a>,
+) -> Result<OpNumbers<'a>, AllocError>
     ensures { IfOk result (FindsEarly before.now places.now) }
 {
-    let mut early = OpTable::with_capacity(alloc, 0)?;
+    let mut early = OpNumbers::with_capacity(alloc, 0)?;
     for pair in before {
         if breaks(places, &pair.0, &pair.1) {
             early.insert(&pair.1, 0)?;

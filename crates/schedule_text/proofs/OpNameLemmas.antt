@@ -12,12 +12,12 @@ use Rattle.std.proofs.lemmas.List.Folds.{list_any-append, list_any_at}
 use Rattle.std.proofs.lemmas.List.Sums.{split_at_first, passes_at_first}
 use Rattle.text_lines.specs.Numbers.{plain_number, plain_number_up_to}
 use Rattle.text_lines.proofs.PlainLemmas.{plain_is_decimal, decimal_is_plain}
-use Rattle.traces.specs.declared.operation.OpName.{OpName}
+use Rattle.trace_semantics.specs.declared.operation.OpName.{OpName}
 use Rattle.schedule_text.specs.declared.schedule_fault.ScheduleCause.{ScheduleCause}
 use Rattle.schedule_text.specs.declared.schedule_fault.ScheduleCause.TheVariants.{BadName, BadNumber, TooMany}
-use Rattle.traces.proofs.NameByteLemmas.{apart, none_in_name, name_bytes}
-use Rattle.traces.specs.Names.{is_name, may_be_in_name}
-use Rattle.traces.specs.Place.{place_of}
+use Rattle.trace_semantics.proofs.NameByteLemmas.{apart, none_in_name, name_bytes}
+use Rattle.trace_semantics.specs.Names.{is_name, may_be_in_name}
+use Rattle.trace_semantics.specs.Place.{place_of}
 use Rattle.schedule_text.specs.ScheduleText.{name_word, is_op_name, is_dot, name_fault}
 
 -- an element passes if and only if the first place that passes is within the list

@@ -13,15 +13,15 @@ use Rattle.text_lines.specs.Words.{words_of}
 use Rattle.text_lines.proofs.FaultLemmas.{faultless_nil, faultless_push}
 use Rattle.text_lines.proofs.KeptLemmas.{kept_append, kept_skipped, kept_more}
 use Rattle.text_lines.proofs.ListLemmas.{next_parts}
-use Rattle.traces.specs.declared.operation.OpName.{OpName}
-use Rattle.text_lines.specs.declared.fault.Fault.{Fault}
-use Rattle.text_lines.specs.declared.fault.Fault.TheVariants.{OutOfMemory, At}
+use Rattle.trace_semantics.specs.declared.operation.OpName.{OpName}
+use Rattle.text_lines.specs.declared.fault.PlacedFault.{PlacedFault}
+use Rattle.text_lines.specs.declared.fault.PlacedFault.TheVariants.{OutOfMemory, At}
 use Rattle.text_lines.specs.Kept.{kept, is_skipped}
 use Rattle.schedule_text.specs.declared.schedule_fault.ScheduleCause.{ScheduleCause}
 use Rattle.schedule_text.specs.ScheduleLine.{IsSkippedLine, IsNameLine, line_fault, IsLineRefusal}
 use Rattle.schedule_text.specs.ScheduleText.{SpellsSchedule, name_word, is_op_name, schedule_words_fault, schedule_line_fault, HasScheduleFault}
 use Rattle.schedule_text.proofs.OpNameLemmas.{writable, name_clear}
-use Rattle.traces.proofs.NameByteLemmas.{begins_no_comment}
+use Rattle.trace_semantics.proofs.NameByteLemmas.{begins_no_comment}
 
 -- the line of each name
 abbrev pub name_lines : List OpName → List (List (List ℕ))
@@ -108,7 +108,7 @@ turn_name text number rest names line after n h cut shorter new =
     }
 
 -- a refusal of the next line is one of the text
-pub refused : (text : List ℕ) (number : ℕ) (rest : List ℕ) (names : List OpName) (line after : List ℕ) (fault : Fault ScheduleCause) → IsReadSoFar text number rest names →
+pub refused : (text : List ℕ) (number : ℕ) (rest : List ℕ) (names : List OpName) (line after : List ℕ) (fault : PlacedFault ScheduleCause) → IsReadSoFar text number rest names →
     lines_of rest ≡ line ∷ lines_of after → IsLineRefusal (length names) line (number + 1) fault → IsRefusal (HasScheduleFault text) fault
 refused text number rest names line after OutOfMemory h cut refusal = tt
 refused text number rest names line after (At cause place) h cut refusal =

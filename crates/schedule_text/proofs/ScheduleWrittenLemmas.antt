@@ -10,13 +10,13 @@ use Rattle.text_lines.specs.Lines.{lines_of, is_line_feed}
 use Rattle.text_lines.specs.Words.{words_of, is_blank}
 use Rattle.text_lines.proofs.LineLemmas.{line_ended, one_word}
 use Rattle.text_lines.proofs.PlainLemmas.{own}
-use Rattle.traces.specs.declared.operation.OpName.{OpName}
+use Rattle.trace_semantics.specs.declared.operation.OpName.{OpName}
 use Rattle.text_lines.specs.Kept.{kept, is_skipped}
-use Rattle.traces.specs.Names.{may_begin_name, may_be_in_name}
+use Rattle.trace_semantics.specs.Names.{may_begin_name, may_be_in_name}
 use Rattle.schedule_text.specs.ScheduleText.{SpellsSchedule, name_word, is_op_name}
 use Rattle.schedule_text.specs.ScheduleWritten.{canonical_schedule}
 use Rattle.schedule_text.proofs.OpNameLemmas.{writable}
-use Rattle.traces.proofs.NameByteLemmas.{name_bytes, apart, none_in_name, begins_no_comment}
+use Rattle.trace_semantics.proofs.NameByteLemmas.{name_bytes, apart, none_in_name, begins_no_comment}
 use Rattle.schedule_text.proofs.ScheduleLemmas.{name_lines}
 use Rattle.text_lines.proofs.KeptLemmas.{kept_more}
 

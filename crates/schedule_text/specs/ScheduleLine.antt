@@ -1,10 +1,10 @@
 -- What one line of a schedule's text says.
 use Rattle.std.specs.Prelude.{◌≡◌, ◌<◌, ℕ, true, List, [], ◌∷◌, Option, Some, None, if◌then◌else◌}
 use Rattle.text_lines.specs.Words.{words_of}
-use Rattle.traces.specs.declared.operation.OpName.{OpName}
+use Rattle.trace_semantics.specs.declared.operation.OpName.{OpName}
 use Rattle.schedule_text.specs.declared.schedule_fault.ScheduleCause.{ScheduleCause}
 use Rattle.text_lines.specs.Fault.{IsRefusalAt}
-use Rattle.text_lines.specs.declared.fault.Fault.{Fault}
+use Rattle.text_lines.specs.declared.fault.PlacedFault.{PlacedFault}
 use Rattle.text_lines.specs.Kept.{is_skipped}
 use Rattle.schedule_text.specs.ScheduleText.{name_word, is_op_name, schedule_words_fault}
 
@@ -23,5 +23,5 @@ abbrev pub line_fault : ℕ → List ℕ → Option ScheduleCause
 line_fault earlier line = if is_skipped (words_of line) then None else schedule_words_fault earlier (words_of line)
 
 -- a refusal of the line of this number says what is wrong with it, or that there was no memory
-abbrev pub IsLineRefusal : ℕ → List ℕ → ℕ → Fault ScheduleCause → Type 0
+abbrev pub IsLineRefusal : ℕ → List ℕ → ℕ → PlacedFault ScheduleCause → Type 0
 IsLineRefusal earlier line number fault = IsRefusalAt (λ cause. line_fault earlier line ≡ Some cause) number fault

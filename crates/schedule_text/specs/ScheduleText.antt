@@ -5,12 +5,12 @@ use Rattle.std.specs.Fmt.{decimal}
 use Rattle.text_lines.specs.FirstFault.{IsFirstFault}
 use Rattle.text_lines.specs.Lines.{lines_of}
 use Rattle.text_lines.specs.Words.{words_of}
-use Rattle.traces.specs.Place.{place_of}
-use Rattle.traces.specs.declared.operation.OpName.{OpName}
+use Rattle.trace_semantics.specs.Place.{place_of}
+use Rattle.trace_semantics.specs.declared.operation.OpName.{OpName}
 use Rattle.schedule_text.specs.declared.schedule_fault.ScheduleCause.{ScheduleCause}
 use Rattle.schedule_text.specs.declared.schedule_fault.ScheduleCause.TheVariants.{BadName, BadNumber, TooMany}
 use Rattle.text_lines.specs.Kept.{kept, is_skipped}
-use Rattle.traces.specs.Names.{is_name}
+use Rattle.trace_semantics.specs.Names.{is_name}
 
 -- how an operation's name is written: its process, a dot and its place
 abbrev pub name_word : OpName → List ℕ

@@ -1,6 +1,6 @@
 //! What may be wrong with the text of a schedule.
 
-use text_lines::fault::{Cause, Fault};
+use text_lines::fault::{FaultCause, PlacedFault};
 
 /// What is wrong with a line of a schedule text.
 #[derive(Clone, Copy, Debug, PartialEq, Eq)]
@@ -14,9 +14,9 @@ pub enum ScheduleCause {
 }
 
 /// Why a text is not read as a schedule: its first fault and its line, counted from 1, or that memory ran out.
-pub type ScheduleFault = Fault<ScheduleCause>;
+pub type ScheduleFault = PlacedFault<ScheduleCause>;
 
-impl Cause for ScheduleCause {
+impl FaultCause for ScheduleCause {
     ghost use Rattle.schedule_text.specs.ScheduleCauses.{cause_number, cause_name};
 
     ghost number_of = { cause_number };

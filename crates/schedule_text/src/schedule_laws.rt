@@ -2,17 +2,17 @@
 
 ghost use Rattle.std.specs.Prelude.{◌≡◌, ◌≤◌, ◌⊎◌, ℕ, List, length, true};
 ghost use Rattle.std.specs.List.{list_all};
-ghost use Rattle.traces.specs.declared.operation.OpName.{OpName};
+ghost use Rattle.trace_semantics.specs.declared.operation.OpName.{OpName};
 ghost use Rattle.schedule_text.specs.declared.schedule_fault.ScheduleCause.{ScheduleCause};
 ghost use Rattle.schedule_text.specs.ScheduleText.{SpellsSchedule, HasScheduleFault, is_op_name};
 ghost use Rattle.schedule_text.specs.ScheduleWritten.{canonical_schedule};
 
-/// A text spells one schedule at most.
+/// A text spells at most one schedule.
 pub fn one_schedule()
     ensures { (text : List ℕ) (m n : List OpName) → SpellsSchedule text m → SpellsSchedule text n → m ≡ n }
 {}
 
-/// A text has one first fault at most.
+/// A text has at most one first fault.
 pub fn one_schedule_fault()
     ensures { (text : List ℕ) (c d : ScheduleCause) (p q : ℕ) → HasScheduleFault text c p → HasScheduleFault text d q → (c ≡ d) × (p ≡ q) }
 {}

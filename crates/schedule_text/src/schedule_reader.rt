@@ -4,22 +4,22 @@ ghost use Rattle.std.specs.Prelude.{◌≡◌, ◌==◌, true, false, position, 
 ghost use Rattle.std.specs.List.{before_first, after_first, list_any};
 ghost use Rattle.text_lines.specs.Fault.{IsRefusal};
 ghost use Rattle.schedule_text.specs.ScheduleLine.{IsSkippedLine, IsNameLine, line_fault, IsLineRefusal};
-ghost use Rattle.traces.specs.Place.{place_of};
+ghost use Rattle.trace_semantics.specs.Place.{place_of};
 ghost use Rattle.schedule_text.specs.ScheduleText.{SpellsSchedule, is_dot, name_fault, HasScheduleFault};
 
 use crate::schedule_fault::{ScheduleCause, ScheduleFault};
 use std::alloc::{AllocError, Global};
 use text_lines::comments::begins_comment;
-use text_lines::fault::Fault;
+use text_lines::fault::PlacedFault;
 use text_lines::lines::cut_line;
 use text_lines::numbers::read_plain;
 use text_lines::words::cut_word;
-use traces::name::{Name, is_name_word};
-use traces::operation::OpName;
-use traces::schedule::Schedule;
+use trace_semantics::name::{Name, is_name_word};
+use trace_semantics::operation::OpName;
+use trace_semantics::schedule::Schedule;
 
 /// The most names of a schedule.
-const MOST_NAMES: usize = 4096;
+const MAX_NAMES: usize = 4096;
 
 fn find_dot(word: &[u8]) -> Option<usize>
     ensures { result ≡ position is_dot word.now }
@@ -62,13 +62,13 @@ fn read_name(word: &[u8], earlier: usize) -> Result<(&[u8], u16), ScheduleCause>
     let Some(place) = read_place(place) else {
         return Err(ScheduleCause::BadNumber);
     };
-    if earlier >= MOST_NAMES {
+    if earlier >= MAX_NAMES {
         return Err(ScheduleCause::TooMany);
     }
     Ok((process, place))
 }
 
-/// The process and the place of the name on the line, after that many names; nothing where the line is skipped.
+/// The process and the place of the name on the line, after that many names; nothing if the line is skipped.
 fn read_line(line: &[u8], earlier: usize) -> Result<Option<(&[u8], u16)>, ScheduleCause>
     ensures { MatchResult result
         (λ found. MatchOption found (IsSkippedLine line.now) (λ name. IsNameLine earlier line.now (record { process = name.0.now; place = name.1 })))
@@ -89,7 +89,7 @@ fn read_line(line: &[u8], earlier: usize) -> Result<Option<(&[u8], u16)>, Schedu
     }
 }
 
-/// The name on the line of this number, after that many names; nothing where the line is skipped.
+/// The name on the line of this number, after that many names; nothing if the line is skipped.
 fn name_on_line(
     alloc: Global,
     line: &[u8],
@@ -106,7 +106,7 @@ fn name_on_line(
             let process = Name::copy_of(alloc, process)?;
             Ok(Some(OpName { process, place }))
         }
-        Err(cause) => Err(Fault::At(cause, number)),
+        Err(cause) => Err(PlacedFault::At(cause, number)),
     }
 }
 

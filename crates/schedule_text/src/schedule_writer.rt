@@ -5,8 +5,8 @@ ghost use Rattle.schedule_text.specs.ScheduleWritten.{name_line, canonical_sched
 
 use itoa::Buffer;
 use std::alloc::{AllocError, Global};
-use traces::operation::OpName;
-use traces::schedule::Schedule;
+use trace_semantics::operation::OpName;
+use trace_semantics::schedule::Schedule;
 
 /// Appends the name as its line: its process, a dot, its place and a line feed.
 fn push_name_line(text: &mut Vec<u8>, name: &OpName) -> Result<(), AllocError>

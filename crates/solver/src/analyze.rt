@@ -1,21 +1,22 @@
-//! From a conflict to a learned clause: the first unique implication point.
+//! Conflict analysis: resolves from a conflict back to the first unique implication point (1-UIP; Marques-Silva and Sakallah, 1996, and
+//! Zhang, Madigan, Moskewicz and Malik, 2001), and learns the clause that is left.
 
 use crate::search::Search;
-use clause_store::Reason;
-use order_closure::tables::{at, put};
+use clause_database::ReasonClause;
+use order_sets::tables::{at, put};
 use std::alloc::AllocError;
 
 /// Nothing is known of the variable.
 pub const UNSEEN: u8 = 0;
 /// It is in the learned clause, or in a clause that was resolved away.
 pub const SEEN: u8 = 1;
-/// What is in the learned clause already implies it.
+/// It is implied by other literals of the learned clause, so it can be left out.
 pub const IMPLIED: u8 = 2;
-/// The clause that made it true is a hint.
+/// Its reason is a hint of the learned clause.
 pub const NEEDED: u8 = 3;
 
 impl<'a> Search<'a> {
-    /// The mark of the variable.
+    /// Returns the mark of the variable.
     #[inline(always)]
     pub fn mark(&self, variable: u32) -> u8 {
         at(self.marks.as_slice(), variable, SEEN)
@@ -29,7 +30,7 @@ impl<'a> Search<'a> {
         Ok(())
     }
 
-    /// Takes all marks away.
+    /// Clears all marks.
     pub fn clear_marks(&mut self) {
         for variable in &self.marked {
             put(self.marks.as_mut_slice(), *variable, UNSEEN);
@@ -37,9 +38,9 @@ impl<'a> Search<'a> {
         self.marked.clear();
     }
 
-    /// A clause is part of the conflict. Its literals of earlier levels go into the learned clause, those of level 0 among the
-    /// hints. How many are new and of this level.
-    fn resolve(&mut self, reason: Reason) -> Result<u32, AllocError> {
+    /// Resolves with this clause. Its literals of earlier levels join the learned clause; those of level 0 are false for good, and are
+    /// justified by hints. Returns how many new literals are of the current level.
+    fn resolve(&mut self, reason: ReasonClause) -> Result<u32, AllocError> {
         self.resolved.push(reason.id)?;
         if reason.place != 0 {
             self.note_use(reason.place);
@@ -51,14 +52,14 @@ impl<'a> Search<'a> {
             if self.mark(variable) != UNSEEN {
                 continue;
             }
-            let level = self.trail.trail.standing(variable).level;
+            let level = self.trail.trail.state(variable).level;
             if level == 0 {
                 self.set_mark(variable, NEEDED)?;
                 self.pending.push(variable)?;
                 continue;
             }
             self.set_mark(variable, SEEN)?;
-            self.activities.note(variable);
+            self.activities.bump(variable);
             if level == self.trail.trail.level() {
                 of_this_level = of_this_level.wrapping_add(1);
             } else {
@@ -68,9 +69,9 @@ impl<'a> Search<'a> {
         Ok(of_this_level)
     }
 
-    /// Learns from the conflict: goes back over the trail until one literal of this level is left, and puts its negation first.
-    /// At level 0 nothing is left, and the learned clause is empty.
-    pub fn analyze(&mut self, conflict: Reason) -> Result<(), AllocError> {
+    /// Learns from the conflict: walks back over the trail until one literal of the current level is left, the first unique implication
+    /// point, and puts its negation first. At level 0 none is left, and the learned clause is empty.
+    pub fn analyze(&mut self, conflict: ReasonClause) -> Result<(), AllocError> {
         self.learned.clear();
         self.resolved.clear();
         self.pending.clear();

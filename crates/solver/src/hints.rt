@@ -1,47 +1,47 @@
-//! The hints of a learned clause: which clauses justify it, in the order of their use.
+//! LRAT hints of a learned clause: the clauses by which unit propagation refutes its negation, in the order of their use.
 
 use crate::analyze::{NEEDED, SEEN, UNSEEN};
 use crate::search::Search;
-use order_closure::tables::put;
+use order_sets::tables::put;
 use std::alloc::AllocError;
 
 impl<'a> Search<'a> {
-    /// The literal of the variable that is true.
+    /// Returns the true literal of an assigned variable. For one without a value the answer has no meaning.
     #[inline(always)]
     pub fn true_literal(&self, variable: u32) -> u32 {
-        let standing = self.trail.trail.standing(variable);
-        self.trail.trail.literal(standing.place)
+        let state = self.trail.trail.state(variable);
+        self.trail.trail.literal(state.place)
     }
 
-    /// The variables in the clause that made this one true are needed too, but for those of the learned clause.
+    /// Marks the antecedents of this variable as needed, but for those in the learned clause, which its negation makes false.
     fn need_causes(&mut self, variable: u32) -> Result<(), AllocError> {
         let reason = self.trail.reason(&self.store, self.true_literal(variable));
         for number in 0..reason.count {
-            let cause = reason.literal(self.store.words(), number) >> 1;
-            let mark = self.mark(cause);
+            let antecedent = reason.literal(self.store.words(), number) >> 1;
+            let mark = self.mark(antecedent);
             if mark == SEEN || mark == NEEDED {
                 continue;
             }
             if mark == UNSEEN {
-                self.set_mark(cause, NEEDED)?;
+                self.set_mark(antecedent, NEEDED)?;
             } else {
-                put(self.marks.as_mut_slice(), cause, NEEDED);
+                put(self.marks.as_mut_slice(), antecedent, NEEDED);
             }
-            self.pending.push(cause)?;
+            self.pending.push(antecedent)?;
         }
         Ok(())
     }
 
-    /// Gathers the hints of the learned clause. First come the causes of what is true at level 0 or was left out of the clause, in
-    /// the order of the trail, so that each finds its own causes before it; then the clauses that were resolved, from the last
-    /// one back to the conflict.
+    /// Gathers the hints of the learned clause. First come the reasons of literals that are true at level 0 or were left out by
+    /// minimisation, in trail order, so that each becomes unit when it is reached; then the resolved clauses, from the last one back to
+    /// the conflict, since propagation runs against the direction of resolution.
     pub fn gather_hints(&mut self) -> Result<(), AllocError> {
         self.needed.clear();
         for _ in 0..=self.trail.trail.count() {
             let Some(variable) = self.pending.pop() else {
                 break;
             };
-            let place = self.trail.trail.standing(variable).place;
+            let place = self.trail.trail.state(variable).place;
             self.needed.push(place)?;
             self.need_causes(variable)?;
         }

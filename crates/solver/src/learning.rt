@@ -1,15 +1,15 @@
-//! The search as one that learns from each conflict.
+//! The search as a `Learner`: conflict-driven clause learning, one addition of the proof for each conflict.
 
 use crate::search::Search;
 use assignment_trail::TRUE;
-use derivation_log::{Learner, Log};
 use dimacs::Assignment;
 use lrat_check::derivation::Derivation;
+use proof_log::{Learner, ProofLog};
 use std::alloc::AllocError;
 
 impl<'a> Learner for Search<'a> {
     fn meets_conflict(&mut self) -> Result<bool, AllocError> {
-        self.conflict = self.descend()?;
+        self.conflict = self.propagate_and_decide()?;
         Ok(self.conflict.is_some())
     }
 
@@ -29,20 +29,24 @@ impl<'a> Learner for Search<'a> {
     }
 
     fn go_on(&mut self, id: u32) -> Result<(), AllocError> {
-        self.follow(id)?;
-        self.keep_house()
+        self.backjump_and_assert(id)?;
+        self.after_conflict()
     }
 
-    /// By counting. To go back where there is nothing to count would only disturb the search.
-    fn refute_at_root(&mut self, log: &Log, budget: u64) -> Result<Option<Derivation>, AllocError> {
+    /// Looks for a Hall violator at level 0. If no event reads and writes there is nothing to count, and going back would only disturb the
+    /// search.
+    fn refute_at_root(
+        &mut self,
+        log: &ProofLog,
+        budget: u64,
+    ) -> Result<Option<Derivation>, AllocError> {
         if budget == 0 || !self.has_updates() || !self.resume_at_root()? {
             return Ok(None);
         }
         self.refute_by_counting(log, budget)
     }
 
-    /// The values of an order that is known in part are those of an order of all elements that extends it; where nothing is known of
-    /// another variable, it is false.
+    /// Returns the model. A partial order takes the values of a total order that extends it, and any other open variable is false.
     fn model(&self) -> Result<Assignment, AllocError> {
         let ranks = self.trail.ranks(self.alloc)?;
         let mut values = Vec::with_capacity(self.alloc, self.variables as usize)?;

@@ -1,26 +1,26 @@
-//! A solver that learns: it answers a formula with a model, or with a derivation that there is none.
+//! A clause-learning solver: it answers a formula with a model, or with a derivation that there is none.
 //!
-//! - `solve` takes a formula, a cube, a guide and a budget.
-//! - `Preparation` is what all cubes of a formula share, and `solve_cube` searches one of them.
-//! - `Answer` is what it answers.
-//! - `Guide` tells it which clauses say that an order is transitive.
+//! - `solve` takes a formula, a cube, hints and a budget.
+//! - `PreparedFormula` is what all cubes of a formula share, and `solve_cube` searches one of them.
+//! - `Answer` is its answer.
+//! - `EncodingHints` says which clauses are the transitivity of an order.
 //!
-//! Here is the search: unit propagation, what is learned from a conflict, restarts, reductions and decisions. Its clauses are of the
-//! crate `clause_store`, what is true of `assignment_trail`, and what it has learned, with the budget, of `derivation_log`.
+//! This crate has the search: unit propagation, conflict analysis, restarts, reductions and decisions. Its clauses are in the crate
+//! `clause_database`, the true literals in `assignment_trail`, and the proof log, with the budget, in `proof_log`.
 //!
-//! Nobody believes it. So nothing is proved of its answers but that they keep to the budget, and its tables keep no invariants:
-//! a look past the end of one reads a fixed value.
+//! The solver is untrusted. So nothing is proved of its answers but that they keep to the budget, and its tables keep no invariants: a read
+//! past the end of one gives a fixed value.
 #![tactic(auto)]
 
 mod analyze;
 mod hints;
 mod learning;
 mod minimise;
-mod preparation;
+mod prepared_formula;
 mod propagate;
 mod reduce;
 mod restart;
-mod schedule;
+mod schedule_heuristic;
 mod search;
 mod solving;
 mod source_count;
@@ -28,7 +28,7 @@ mod told_reads;
 mod units;
 mod wanted;
 
-pub use clause_store::{Choice, Guide, LastWriter, Readings};
-pub use derivation_log::Answer;
-pub use preparation::Preparation;
+pub use clause_database::{EncodingHints, LastWriter, ReadsFromTable, ReadsFromVariable};
+pub use prepared_formula::PreparedFormula;
+pub use proof_log::Answer;
 pub use solving::{solve, solve_cube};

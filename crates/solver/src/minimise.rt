@@ -1,21 +1,23 @@
-//! Literals that the rest of a learned clause implies are left out of it.
+//! Recursive minimisation of learned clauses: a literal that the others imply is left out (Sörensson and Biere, "Minimizing learned
+//! clauses", 2009). Shorter clauses propagate sooner, and cost the checker less.
 
 use crate::analyze::{IMPLIED, NEEDED, UNSEEN};
 use crate::search::Search;
-use order_closure::tables::{at, put, size};
+use order_sets::tables::{at, put, size};
 use std::alloc::AllocError;
 
-/// So many causes are looked at for one literal at most. A literal for which that is not enough stays in the clause.
+/// Bound on the antecedents that are visited for one literal. A literal that exceeds it is kept, so that minimisation stays cheap.
 const FUEL: u32 = 2000;
 
 impl<'a> Search<'a> {
-    /// A bit for the level of the variable, one of 32: where a level has no bit among those of the clause, it has no literal there.
+    /// Returns the bit of the variable's level, one of 32. A level whose bit is missing among those of the clause has no literal in it, so a
+    /// walk that meets it can stop early.
     #[inline(always)]
     fn level_bit(&self, variable: u32) -> u32 {
-        1 << (self.trail.trail.standing(variable).level & 31)
+        1 << (self.trail.trail.state(variable).level & 31)
     }
 
-    /// The levels of the learned clause's literals.
+    /// Returns the bits of the levels of the learned clause's literals.
     fn levels_of_learned(&self) -> u32 {
         let mut levels: u32 = 0;
         for literal in &self.learned {
@@ -24,29 +26,29 @@ impl<'a> Search<'a> {
         levels
     }
 
-    /// Looks at the causes of the false literals in the reason of this variable, and puts those to be looked at further on the
-    /// stack. Whether one of them cannot be implied by the rest of the clause.
+    /// Visits the antecedents of this variable, and puts those that need a further visit on the stack. Returns whether one of them cannot
+    /// be implied by the rest of the clause: a decision, or one of a level that the clause has not.
     fn leads_elsewhere(&mut self, variable: u32, levels: u32) -> Result<bool, AllocError> {
         // The literal of the variable that is true: of the two codes, the one without the falsehood.
         let literal = self.true_literal(variable);
         let reason = self.trail.reason(&self.store, literal);
         for number in 0..reason.count {
             let other = reason.literal(self.store.words(), number);
-            let cause = other >> 1;
-            if self.mark(cause) != UNSEEN || self.trail.trail.standing(cause).level == 0 {
+            let antecedent = other >> 1;
+            if self.mark(antecedent) != UNSEEN || self.trail.trail.state(antecedent).level == 0 {
                 continue;
             }
-            if self.trail.was_decided(other) || levels & self.level_bit(cause) == 0 {
+            if self.trail.was_decided(other) || levels & self.level_bit(antecedent) == 0 {
                 return Ok(true);
             }
-            self.set_mark(cause, IMPLIED)?;
-            self.stack.push(cause)?;
+            self.set_mark(antecedent, IMPLIED)?;
+            self.stack.push(antecedent)?;
         }
         Ok(false)
     }
 
-    /// Whether the other literals of the learned clause imply this one. The variables that were passed stay marked if so, and
-    /// have no mark again if not.
+    /// Whether the other literals of the learned clause imply this one. Visited variables stay marked as implied if so, and lose their marks
+    /// if not.
     fn is_implied(&mut self, literal: u32, levels: u32) -> Result<bool, AllocError> {
         if self.trail.was_decided(literal) {
             return Ok(false);
@@ -70,7 +72,7 @@ impl<'a> Search<'a> {
         Ok(false)
     }
 
-    /// Leaves out of the learned clause what its other literals imply. The clauses that show it become hints.
+    /// Minimises the learned clause. The reasons that show a literal to be implied become hints.
     pub fn minimise(&mut self) -> Result<(), AllocError> {
         let levels = self.levels_of_learned();
         let mut kept: u32 = 1;

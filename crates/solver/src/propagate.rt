@@ -1,24 +1,27 @@
-//! Unit propagation.
+//! Unit propagation: small clauses by occurrence lists, longer ones by two watched literals (Moskewicz, Madigan, Zhao, Zhang and
+//! Malik, "Chaff", 2001).
 
 use crate::search::Search;
 use assignment_trail::{FALSE, OPEN, OrderedTrail, TRUE};
-use clause_store::{Cause, HEADER, Others, Reason, SmallClauses, Store, Watch, Watches, watch_at};
-use order_closure::tables::{at, piece, put, size};
+use clause_database::{
+    HEADER, Others, Reason, ReasonClause, SmallClauses, Store, Watch, Watches, watch_at,
+};
+use order_sets::tables::{at, piece, put, size};
 use std::alloc::AllocError;
 
-/// What came of a look at a clause one of whose watched literals has become false.
+/// What becomes of a clause when one of its watched literals is falsified.
 #[derive(Clone, Copy)]
-enum Visit {
-    /// It watches the literal on, and this is its other one.
+enum WatchVisit {
+    /// It keeps the watch; this is its other watched literal.
     Stays(u32),
-    /// It watches another one in its place.
+    /// It watches this literal instead.
     Moves(u32),
-    /// All of its literals are false.
+    /// It is a conflict: all of its literals are false.
     Fails,
 }
 
-/// The place of the first clause, from this place on, of whose two other literals one is false and the other is not true. Only
-/// for these anything has to be done, and most of the time is spent in finding none.
+/// Returns the place of the first clause, from this place on, that is unit or in conflict: of its two other literals one is false and the
+/// other is not true. Most of the time of a search is spent here, finding none, so the loop reads nothing but values.
 #[inline(always)]
 fn next_touched(others: &[Others], from: u32, values: &[u8]) -> u32 {
     let length = size(others);
@@ -35,13 +38,12 @@ fn next_touched(others: &[Others], from: u32, values: &[u8]) -> u32 {
     length
 }
 
-/// Propagates through the clauses of two and three literals with this one, which has become false. The clause whose literals
-/// are all false, if there is one.
+/// Propagates a falsified literal through the clauses of two and three literals. Returns a conflict, if there is one.
 fn visit_small(
     trail: &mut OrderedTrail<'_>,
     small: &SmallClauses,
     falsified: u32,
-) -> Option<Reason> {
+) -> Option<ReasonClause> {
     let others = small.others(falsified);
     let start = small.start(falsified);
     let mut place: u32 = 0;
@@ -61,11 +63,11 @@ fn visit_small(
         } else if trail.value(second) == OPEN {
             (second, first)
         } else {
-            return Some(Reason::of_literals(id, falsified, first, second));
+            return Some(ReasonClause::of_literals(id, falsified, first, second));
         };
         trail.assign(
             literal,
-            Cause::Clause {
+            Reason::Clause {
                 id,
                 first: falsified,
                 second: other,
@@ -76,7 +78,7 @@ fn visit_small(
     None
 }
 
-/// How many of these literals, from the first one on, are false.
+/// Returns how many of these literals, from the first one on, are false.
 #[inline(always)]
 fn count_false(literals: &[u32], values: &[u8]) -> u32 {
     let length = size(literals);
@@ -88,14 +90,14 @@ fn count_false(literals: &[u32], values: &[u8]) -> u32 {
     length
 }
 
-/// Looks at a clause one of whose watched literals has become false.
+/// Visits a clause one of whose watched literals has been falsified: it finds another watch, or is unit, or is a conflict.
 #[inline(always)]
 fn visit_clause(
     trail: &mut OrderedTrail<'_>,
     words: &mut [u32],
     clause: u32,
     falsified: u32,
-) -> Visit {
+) -> WatchVisit {
     let begin = clause.wrapping_add(HEADER);
     let behind_first = begin.wrapping_add(1);
     let mut first = at(words, begin, 0);
@@ -106,7 +108,7 @@ fn visit_clause(
     }
     let value = trail.value(first);
     if value == TRUE {
-        return Visit::Stays(first);
+        return WatchVisit::Stays(first);
     }
     let rest = begin.wrapping_add(2);
     let literals = piece(words, rest, begin.wrapping_add(at(words, clause, 0)));
@@ -116,17 +118,16 @@ fn visit_clause(
         let literal = at(words, place, 0);
         put(words, behind_first, literal);
         put(words, place, falsified);
-        return Visit::Moves(literal);
+        return WatchVisit::Moves(literal);
     }
     if value == FALSE {
-        return Visit::Fails;
+        return WatchVisit::Fails;
     }
-    trail.assign(first, Cause::Stored { place: clause });
-    Visit::Stays(first)
+    trail.assign(first, Reason::Stored { place: clause });
+    WatchVisit::Stays(first)
 }
 
-/// Propagates through the clauses of the store that watch this literal, which has become false. The clause whose literals are
-/// all false, if there is one, or 0.
+/// Propagates a falsified literal through the clauses that watch it. Returns a conflict, if there is one, or 0.
 fn visit_stored(
     trail: &mut OrderedTrail<'_>,
     store: &mut Store,
@@ -143,14 +144,14 @@ fn visit_stored(
         let mut watch = watch_at(list.as_slice(), place);
         if conflict == 0 && trail.value(watch.blocker) != TRUE {
             match visit_clause(trail, store.words_mut(), watch.clause, falsified) {
-                Visit::Stays(first) => watch.blocker = first,
-                Visit::Moves(literal) => {
+                WatchVisit::Stays(first) => watch.blocker = first,
+                WatchVisit::Moves(literal) => {
                     let clause = watch.clause;
                     let blocker = at(store.words(), clause.wrapping_add(HEADER), 0);
                     watches.add(literal, Watch { clause, blocker })?;
                     continue;
                 }
-                Visit::Fails => conflict = watch.clause,
+                WatchVisit::Fails => conflict = watch.clause,
             }
         }
         put(list.as_mut_slice(), kept, watch);
@@ -161,15 +162,14 @@ fn visit_stored(
     Ok(conflict)
 }
 
-/// Makes true what follows from the literals that are true, of so many variables, until nothing more follows, or until all literals of a
-/// clause are false: that clause.
+/// Propagates all literals of the trail, over this many variables, to a fixed point or to a conflict, which it returns.
 pub fn propagate(
     trail: &mut OrderedTrail<'_>,
     small: &SmallClauses,
     store: &mut Store,
     watches: &mut Watches,
     variables: u32,
-) -> Result<Option<Reason>, AllocError> {
+) -> Result<Option<ReasonClause>, AllocError> {
     for _ in 0..=variables {
         let Some(literal) = trail.trail.next() else {
             return Ok(None);
@@ -190,9 +190,8 @@ pub fn propagate(
 }
 
 impl<'a> Search<'a> {
-    /// Makes true what follows from the literals that are true, until nothing more follows, or until all literals of a clause are
-    /// false: that clause.
-    pub fn propagate(&mut self) -> Result<Option<Reason>, AllocError> {
+    /// Propagates to a fixed point or to a conflict, which it returns.
+    pub fn propagate(&mut self) -> Result<Option<ReasonClause>, AllocError> {
         propagate(
             &mut self.trail,
             &self.small,
@@ -202,8 +201,11 @@ impl<'a> Search<'a> {
         )
     }
 
-    /// The same by these clauses of two and three literals.
-    pub fn propagate_by(&mut self, small: &SmallClauses) -> Result<Option<Reason>, AllocError> {
+    /// Propagates likewise, with these clauses of two and three literals.
+    pub fn propagate_by(
+        &mut self,
+        small: &SmallClauses,
+    ) -> Result<Option<ReasonClause>, AllocError> {
         propagate(
             &mut self.trail,
             small,

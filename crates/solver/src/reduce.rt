@@ -1,72 +1,73 @@
-//! Learned clauses that do not help are dropped from time to time.
+//! Reduction of the clause database: learned clauses that do not help are dropped from time to time.
 
 use crate::search::Search;
 use assignment_trail::TRUE;
-use clause_store::{Cause, DROPPED, HEADER, Store};
-use order_closure::tables::{at, put, size};
+use clause_database::{DROPPED, HEADER, Reason, Store};
+use order_sets::tables::{at, put, size};
 use std::alloc::AllocError;
 use std::mem;
 
-/// The first reduction comes after so many conflicts.
+/// Conflicts before the first reduction.
 pub const FIRST_REDUCTION: u32 = 500;
 
-/// The conflicts between two reductions grow by so many each time.
+/// Increment of the interval between two reductions, in conflicts.
 pub const REDUCTION_GROWTH: u32 = 50;
 
-/// Clauses of so many levels and fewer are kept for good.
-const KEPT_RANK: u32 = 2;
+/// Learned clauses up to this LBD are kept for ever: they connect two levels, and propagate again and again ("glue clauses").
+const TIER1_LBD: u32 = 2;
 
 impl<'a> Search<'a> {
-    /// The clause was used in this conflict, if it is a learned one.
+    /// Records that the clause was used in this conflict, if it is a learned one: age decides between clauses of one LBD.
     pub fn note_use(&mut self, place: u32) {
         let clause = place.wrapping_sub(HEADER);
         self.store.set_used(clause, self.conflicts);
     }
 
-    /// How many levels the literals of the learned clause have. The fewer they are, the sooner the clause is of use again.
-    pub fn rank_of_learned(&mut self) -> u32 {
+    /// Returns the LBD (literal block distance, "glue") of the learned clause: how many different levels its literals have (Audemard and
+    /// Simon, "Predicting learnt clauses quality in modern SAT solvers", 2009). The fewer, the sooner the clause propagates again.
+    pub fn lbd_of_learned(&mut self) -> u32 {
         self.stamp = self.stamp.wrapping_add(1);
-        let mut rank: u32 = 0;
+        let mut lbd: u32 = 0;
         for literal in &self.learned {
-            let level = self.trail.trail.standing(*literal >> 1).level;
+            let level = self.trail.trail.state(*literal >> 1).level;
             if at(self.level_stamps.as_slice(), level, 0) != self.stamp {
                 put(self.level_stamps.as_mut_slice(), level, self.stamp);
-                rank = rank.wrapping_add(1);
+                lbd = lbd.wrapping_add(1);
             }
         }
-        rank
+        lbd
     }
 
-    /// Whether the clause made its first literal true, and so cannot be dropped.
+    /// Whether the clause is the reason of its first literal. Such a clause is kept, since later analysis asks for it.
     fn is_in_use(&self, clause: u32) -> bool {
         let literal = self.store.literal(clause, 0);
-        match self.trail.trail.standing(literal >> 1).cause {
-            Cause::Stored { place } => place == clause && self.trail.value(literal) == TRUE,
+        match self.trail.trail.state(literal >> 1).reason {
+            Reason::Stored { place } => place == clause && self.trail.value(literal) == TRUE,
             _ => false,
         }
     }
 
-    /// For each learned clause how little it is worth, by its rank and by how long ago it was used, and its place. (By the rank alone
+    /// Returns the eviction score of each learned clause, LBD first and then age, with its place. The highest are dropped first. (By LBD alone
     /// the search was two to three times slower.)
-    fn worths(&self) -> Result<Vec<u64>, AllocError> {
-        let mut worths = Vec::with_capacity(self.alloc, self.clauses.len())?;
+    fn eviction_scores(&self) -> Result<Vec<u64>, AllocError> {
+        let mut eviction_scores = Vec::with_capacity(self.alloc, self.clauses.len())?;
         for clause in &self.clauses {
-            let rank = self.store.rank(*clause);
-            if rank > KEPT_RANK && !self.is_in_use(*clause) {
+            let lbd = self.store.lbd(*clause);
+            if lbd > TIER1_LBD && !self.is_in_use(*clause) {
                 let idle = self.conflicts.wrapping_sub(self.store.used(*clause));
-                let worth = rank.min(1 << 20).wrapping_mul(64).saturating_add(idle);
-                worths.push((u64::from(worth) << 32) | u64::from(*clause))?;
+                let score = lbd.min(1 << 20).wrapping_mul(64).saturating_add(idle);
+                eviction_scores.push((u64::from(score) << 32) | u64::from(*clause))?;
             }
         }
-        Ok(worths)
+        Ok(eviction_scores)
     }
 
-    /// The clauses have moved from the old store.
+    /// Redirects reasons, watches and the list of learned clauses after the clauses have moved from the old store.
     fn follow_moves(&mut self, old: &Store) {
         self.watches.move_all(old);
         for place in 0..self.trail.trail.count() {
             let variable = self.trail.trail.literal(place) >> 1;
-            if let Cause::Stored { place: clause } = self.trail.trail.standing(variable).cause {
+            if let Reason::Stored { place: clause } = self.trail.trail.state(variable).reason {
                 self.trail.trail.move_cause(variable, old.moved(clause));
             }
         }
@@ -81,18 +82,18 @@ impl<'a> Search<'a> {
         self.clauses.truncate(kept as usize);
     }
 
-    /// Drops the worse half of the learned clauses.
+    /// Drops the half of the learned clauses with the higher eviction scores.
     fn reduce(&mut self) -> Result<(), AllocError> {
-        let mut worths = self.worths()?;
-        worths.sort_unstable();
-        drop_half(&mut self.store, worths.as_slice());
+        let mut eviction_scores = self.eviction_scores()?;
+        eviction_scores.sort_unstable();
+        drop_half(&mut self.store, eviction_scores.as_slice());
         let compact = self.store.compacted(self.alloc)?;
         let old = mem::replace(&mut self.store, compact);
         self.follow_moves(&old);
         Ok(())
     }
 
-    /// Drops learned clauses, if it is time.
+    /// Reduces the clause database if a reduction is due.
     pub fn reduce_in_time(&mut self) -> Result<(), AllocError> {
         if self.conflicts < self.next_reduction {
             return Ok(());
@@ -103,9 +104,9 @@ impl<'a> Search<'a> {
     }
 }
 
-/// Marks the worse half of the clauses, those at the end, as dropped.
-fn drop_half(store: &mut Store, worths: &[u64]) {
-    for place in worths.len() / 2..worths.len() {
-        store.set_rank((worths[place] & 0xffff_ffff) as u32, DROPPED);
+/// Marks the half with the higher scores, which stands at the end, as dropped.
+fn drop_half(store: &mut Store, eviction_scores: &[u64]) {
+    for place in eviction_scores.len() / 2..eviction_scores.len() {
+        store.set_lbd((eviction_scores[place] & 0xffff_ffff) as u32, DROPPED);
     }
 }

@@ -1,14 +1,15 @@
-//! When the search begins anew, with all that it has learned.
+//! Restarts: when the search goes back to level 0, with all that it has learned.
 
-/// So many conflicts are between two restarts, times a number of Luby's sequence. With 100 a search may stay for long with bad first
-/// decisions, and with 20 and fewer it takes more conflicts on the whole.
+/// Unit of the restart interval, in conflicts: restart i comes after UNIT * luby(i) of them. With 100 a search may stay for long with bad
+/// first decisions, and with 20 and fewer it takes more conflicts on the whole.
 pub const UNIT: u64 = 30;
 
-/// So many along a schedule, where each restart takes another way.
+/// Unit of the restart interval along a schedule. It is shorter, since each restart there takes another way.
 pub const SHORT_UNIT: u64 = 10;
 
-/// The number of Luby's sequence 1, 1, 2, 1, 1, 2, 4, .. at this place, counted from 0. Where nothing is known of the
-/// search, no other sequence is better by more than a constant factor (Luby, Sinclair and Zuckerman, 1993).
+/// Returns term `place`, counted from 0, of Luby's sequence 1, 1, 2, 1, 1, 2, 4, .. If nothing is known of the distribution of run times,
+/// no other sequence is better by more than a constant factor (Luby, Sinclair and Zuckerman, "Optimal speedup of Las Vegas
+/// algorithms", 1993).
 fn luby(place: u64) -> u64 {
     let mut place = place;
     let mut size: u64 = 1;
@@ -42,7 +43,7 @@ pub struct Restarts {
 }
 
 impl Restarts {
-    /// No conflict yet. So many are between two restarts, times a number of Luby's sequence.
+    /// Starts counting, with this unit.
     pub fn new(unit: u64) -> Restarts {
         Restarts {
             unit,
@@ -51,7 +52,7 @@ impl Restarts {
         }
     }
 
-    /// Counts a conflict. Whether to restart.
+    /// Counts a conflict, and answers whether a restart is due.
     pub fn count(&mut self) -> bool {
         self.left = self.left.saturating_sub(1);
         if self.left > 0 {

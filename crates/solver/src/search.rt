@@ -1,23 +1,25 @@
-//! The search: it decides, propagates, and learns from each conflict.
+//! The state of a conflict-driven search (CDCL): it decides, propagates, and learns from each conflict.
 
-use crate::preparation::Preparation;
+use crate::prepared_formula::PreparedFormula;
 use crate::reduce::FIRST_REDUCTION;
 use crate::restart::{Restarts, SHORT_UNIT, UNIT};
-use crate::schedule::{MOST_STATES, Schedule};
+use crate::schedule_heuristic::{MAX_STATES, ScheduleHeuristic};
 use assignment_trail::{Activities, FALSE, OPEN, OrderedTrail, TRUE};
-use clause_store::{Cause, Guide, Reason, SmallClause, SmallClauses, Store, Unit, Watches};
-use derivation_log::codes::{NEVER, code_of};
+use clause_database::{
+    EncodingHints, Reason, ReasonClause, SmallClause, SmallClauses, Store, Unit, Watches,
+};
 use dimacs::Lit;
-use order_closure::tables::{at, put, size};
+use order_sets::tables::{at, put, size};
+use proof_log::codes::{NEVER, code_of};
 use std::alloc::{AllocError, Global};
 
-/// All that the search knows.
+/// State of one search of one cube.
 #[derive(Drop)]
 pub struct Search<'a> {
     pub alloc: Global,
     pub variables: u32,
-    /// What is known of the formula.
-    pub guide: Guide<'a>,
+    /// Hints about the encoding.
+    pub encoding: EncodingHints<'a>,
 
     // The clauses.
     pub small: SmallClauses,
@@ -25,25 +27,25 @@ pub struct Search<'a> {
     pub watches: Watches,
     /// The learned clauses in the store.
     pub clauses: Vec<u32>,
-    /// A clause all of whose literals are false, which was found and has not been worked on.
-    pub conflict: Option<Reason>,
+    /// A conflict that was found and has not been analysed.
+    pub conflict: Option<ReasonClause>,
 
     // What is true, and what is decided next.
     pub trail: OrderedTrail<'a>,
     pub activities: Activities,
-    /// Where this is there, decisions go along a schedule first.
-    pub schedule: Option<Schedule>,
+    /// If it is there, decisions follow a schedule first.
+    pub schedule: Option<ScheduleHeuristic>,
 
     // The conflict at hand.
     /// The learned clause.
     pub learned: Vec<u32>,
     /// Its hints.
     pub hints: Vec<u32>,
-    /// The numbers of the clauses that were resolved, the conflict's first.
+    /// Ids of the resolved clauses, the conflict's first.
     pub resolved: Vec<u32>,
-    /// What was left out of the learned clause.
+    /// Literals that minimisation left out.
     pub removed: Vec<u32>,
-    /// Variables whose causes are hints: those not looked at yet, and the places of the others.
+    /// Variables whose reasons are hints: those not visited yet, and the places of the others.
     pub pending: Vec<u32>,
     pub needed: Vec<u32>,
     pub stack: Vec<u32>,
@@ -60,11 +62,11 @@ pub struct Search<'a> {
 }
 
 impl<'a> Search<'a> {
-    /// A search over so many variables through what is prepared, in the cube of these literals. Nothing is decided yet.
+    /// Begins a search of the prepared formula in the cube of these literals. Nothing is decided yet.
     pub fn new(
         alloc: Global,
         variables: u32,
-        prepared: &Preparation<'a>,
+        prepared: &PreparedFormula<'a>,
         cube: &[Lit],
     ) -> Result<Search<'a>, AllocError> {
         let mut search = Search::of_long(alloc, variables, prepared)?;
@@ -72,29 +74,29 @@ impl<'a> Search<'a> {
         search.assume_all(prepared, cube);
         if search.conflict.is_none() {
             search.conflict = search.propagate_by(&prepared.small)?;
-            search.leave_out_satisfied(prepared.intake.small.as_slice())?;
+            search.leave_out_satisfied(prepared.loader.small.as_slice())?;
         }
         Ok(search)
     }
 
-    /// The same before the clauses of one, two and three literals are looked at.
+    /// Begins likewise, before the clauses of one, two and three literals are attached.
     fn of_long(
         alloc: Global,
         variables: u32,
-        prepared: &Preparation<'a>,
+        prepared: &PreparedFormula<'a>,
     ) -> Result<Search<'a>, AllocError> {
         let literals = variables.wrapping_mul(2).wrapping_add(2);
         let places = variables.wrapping_add(1) as usize;
         Ok(Search {
             alloc,
             variables,
-            guide: prepared.guide,
+            encoding: prepared.encoding,
             small: SmallClauses::new(alloc, 0, &[])?,
-            store: prepared.intake.long.copied(alloc)?,
+            store: prepared.loader.long.try_clone(alloc)?,
             watches: Watches::new(alloc, literals)?,
             clauses: Vec::new(alloc),
             conflict: None,
-            trail: OrderedTrail::new(alloc, variables, prepared.guide)?,
+            trail: OrderedTrail::new(alloc, variables, prepared.encoding)?,
             activities: Activities::new(alloc, variables, prepared.wanted.as_slice())?,
             schedule: None,
             learned: Vec::new(alloc),
@@ -115,8 +117,8 @@ impl<'a> Search<'a> {
         })
     }
 
-    /// Leaves those of these clauses out that are true before anything is decided. In a trace's formula program order alone makes many of
-    /// them true, and they would be looked at again and again.
+    /// Drops those of these clauses that are true at level 0. In a trace's formula program order alone satisfies many, and they would be
+    /// visited again and again.
     fn leave_out_satisfied(&mut self, clauses: &[SmallClause]) -> Result<(), AllocError> {
         let mut left = Vec::new(self.alloc);
         for clause in clauses {
@@ -134,7 +136,7 @@ impl<'a> Search<'a> {
 }
 
 impl<'a> Search<'a> {
-    /// The clauses of the store watch their first literals.
+    /// Attaches the longer clauses to the watch lists of their first two literals.
     fn attach_long(&mut self) -> Result<(), AllocError> {
         let mut clause: u32 = 1;
         for _ in 0..self.store.end() {
@@ -142,31 +144,31 @@ impl<'a> Search<'a> {
                 break;
             }
             self.watches.attach(&self.store, clause)?;
-            clause = self.store.behind(clause);
+            clause = self.store.next_clause(clause);
         }
         Ok(())
     }
 
-    /// Makes the literal true before anything is decided.
+    /// Assigns the literal at level 0.
     fn assume(&mut self, unit: Unit) {
         let value = self.trail.value(unit.literal);
         if value == OPEN {
             self.trail.assign(
                 unit.literal,
-                Cause::Clause {
+                Reason::Clause {
                     id: unit.id,
                     first: NEVER,
                     second: NEVER,
                 },
             );
         } else if value == FALSE {
-            self.conflict = Some(Reason::of_literals(unit.id, unit.literal, NEVER, NEVER));
+            self.conflict = Some(ReasonClause::of_literals(unit.id, unit.literal, NEVER, NEVER));
         }
     }
 
-    /// Makes the literals of the formula's clauses of one literal true, and then those of the cube. A clause without literals is a conflict.
-    fn assume_all(&mut self, prepared: &Preparation<'a>, cube: &[Lit]) {
-        for unit in &prepared.intake.units {
+    /// Assigns the unit clauses of the formula, and then the literals of the cube. An empty clause is a conflict.
+    fn assume_all(&mut self, prepared: &PreparedFormula<'a>, cube: &[Lit]) {
+        for unit in &prepared.loader.units {
             self.assume(*unit);
         }
         for place in 0..cube.len() {
@@ -175,21 +177,21 @@ impl<'a> Search<'a> {
                 id: prepared.id_in_cube(place),
             });
         }
-        let empty = prepared.intake.empty;
+        let empty = prepared.loader.empty;
         if empty != 0 {
-            self.conflict = Some(Reason::of_literals(empty, NEVER, NEVER, NEVER));
+            self.conflict = Some(ReasonClause::of_literals(empty, NEVER, NEVER, NEVER));
         }
     }
 
-    /// From now on decisions go along a schedule, or no longer, if they did. What is learned of a state would have to be learned again,
-    /// so along a schedule nothing is dropped before there are as many clauses as states.
+    /// Switches between decisions along a schedule and decisions by activity. Along a schedule a learned clause excludes one state, which
+    /// would have to be excluded again, so nothing is dropped before there are as many clauses as states.
     pub fn change_course(&mut self) -> Result<(), AllocError> {
         let mut first = FIRST_REDUCTION;
         let mut unit = UNIT;
         let mut schedule = None;
         if self.schedule.is_none() {
-            schedule = Some(Schedule::new(self.alloc, &self.trail)?);
-            first = MOST_STATES;
+            schedule = Some(ScheduleHeuristic::new(self.alloc, &self.trail)?);
+            first = MAX_STATES;
             unit = SHORT_UNIT;
         }
         self.schedule = schedule;
@@ -199,15 +201,15 @@ impl<'a> Search<'a> {
         Ok(())
     }
 
-    /// The next literal to be decided, if there is a variable left.
-    fn pick(&mut self) -> Option<u32> {
+    /// Picks the next decision: along the schedule if there is one, else the most active open variable with its saved phase.
+    fn decide(&mut self) -> Option<u32> {
         if let Some(schedule) = &mut self.schedule
-            && let Some(literal) = schedule.pick(&self.trail)
+            && let Some(literal) = schedule.decide(&self.trail)
         {
             return Some(literal);
         }
         for _ in 0..=self.variables {
-            let variable = self.activities.take()?;
+            let variable = self.activities.pop()?;
             let literal = self.trail.trail.tried_first(variable);
             if self.trail.value(literal) == OPEN {
                 return Some(literal);
@@ -216,8 +218,8 @@ impl<'a> Search<'a> {
         None
     }
 
-    /// Decides and propagates until there is a conflict, or nothing is left to decide.
-    pub fn descend(&mut self) -> Result<Option<Reason>, AllocError> {
+    /// Decides and propagates until there is a conflict or nothing is left to decide.
+    pub fn propagate_and_decide(&mut self) -> Result<Option<ReasonClause>, AllocError> {
         if let Some(conflict) = self.conflict.take() {
             return Ok(Some(conflict));
         }
@@ -225,34 +227,33 @@ impl<'a> Search<'a> {
             if let Some(conflict) = self.propagate()? {
                 return Ok(Some(conflict));
             }
-            let Some(literal) = self.pick() else {
+            let Some(literal) = self.decide() else {
                 return Ok(None);
             };
             self.trail.trail.begin_level();
-            self.trail.assign(literal, Cause::Decision);
+            self.trail.assign(literal, Reason::Decision);
         }
         Ok(None)
     }
 
-    /// Goes back to where nothing is decided, and makes true what follows. Whether there is no conflict: one that is there before anything
-    /// is decided stays at hand.
+    /// Backtracks to level 0 and propagates. Answers whether there is no conflict; one at level 0 is kept.
     pub fn resume_at_root(&mut self) -> Result<bool, AllocError> {
         if self.trail.trail.level() == 0 {
             return Ok(self.conflict.is_none());
         }
-        self.trail.take_back(0, &mut self.activities);
+        self.trail.backtrack(0, &mut self.activities);
         self.conflict = self.propagate()?;
         Ok(self.conflict.is_none())
     }
 
-    /// Puts the literal of the latest level among the others of the learned clause second, to be watched. Its level is the one to go
-    /// back to: there the learned clause has one literal left.
+    /// Returns the level to jump back to: the latest among the other literals of the learned clause, at which the clause is unit. The literal
+    /// of that level goes second, to be watched.
     fn level_to_resume(&mut self) -> u32 {
         let mut latest: u32 = 1;
         let mut level: u32 = 0;
         for place in 1..size(self.learned.as_slice()) {
             let literal = at(self.learned.as_slice(), place, NEVER);
-            let its_level = self.trail.trail.standing(literal >> 1).level;
+            let its_level = self.trail.trail.state(literal >> 1).level;
             if its_level > level {
                 level = its_level;
                 latest = place;
@@ -265,36 +266,36 @@ impl<'a> Search<'a> {
         level
     }
 
-    /// Goes back to where the learned clause has one literal left, and makes that true.
-    pub fn follow(&mut self, id: u32) -> Result<(), AllocError> {
-        let rank = self.rank_of_learned();
+    /// Backjumps to the level at which the learned clause is unit, and asserts its first literal.
+    pub fn backjump_and_assert(&mut self, id: u32) -> Result<(), AllocError> {
+        let lbd = self.lbd_of_learned();
         let level = self.level_to_resume();
-        self.trail.take_back(level, &mut self.activities);
+        self.trail.backtrack(level, &mut self.activities);
         let first = at(self.learned.as_slice(), 0, NEVER);
         if self.learned.len() == 1 {
-            let cause = Cause::Clause {
+            let reason = Reason::Clause {
                 id,
                 first: NEVER,
                 second: NEVER,
             };
-            self.trail.assign(first, cause);
+            self.trail.assign(first, reason);
             return Ok(());
         }
         let clause = self.store.end();
         self.store
-            .add(self.learned.as_slice(), id, rank, self.conflicts)?;
+            .add(self.learned.as_slice(), id, lbd, self.conflicts)?;
         self.watches.attach(&self.store, clause)?;
         self.clauses.push(clause)?;
-        self.trail.assign(first, Cause::Stored { place: clause });
+        self.trail.assign(first, Reason::Stored { place: clause });
         Ok(())
     }
 
-    /// A conflict has been worked on: variables age, and it may be time to restart and to drop clauses.
-    pub fn keep_house(&mut self) -> Result<(), AllocError> {
+    /// After a conflict: decays activities, and restarts or reduces the clause database when due.
+    pub fn after_conflict(&mut self) -> Result<(), AllocError> {
         self.conflicts = self.conflicts.wrapping_add(1);
-        self.activities.age();
+        self.activities.decay();
         if self.restarts.count() {
-            self.trail.take_back(0, &mut self.activities);
+            self.trail.backtrack(0, &mut self.activities);
             if let Some(schedule) = &mut self.schedule {
                 schedule.vary();
             }

@@ -1,17 +1,17 @@
-//! The solver's calls: for one formula, and for one cube of a formula that was prepared.
+//! The solver's calls: for one formula, and for one cube of a prepared formula.
 
 ghost use Rattle.std.specs.Prelude.{◌≤◌, IfOk};
-ghost use Rattle.derivation_log.specs.Answers.{IsWithin};
+ghost use Rattle.proof_log.specs.Answers.{IsWithin};
 
-use crate::preparation::Preparation;
-use crate::schedule::{begins_with_a_schedule, suits_a_schedule};
+use crate::prepared_formula::PreparedFormula;
+use crate::schedule_heuristic::{begins_with_a_schedule, suits_a_schedule};
 use crate::search::Search;
-use clause_store::Guide;
-use derivation_log::{Answer, Attempt, TURN, search_alone, take_turns};
+use clause_database::EncodingHints;
 use dimacs::{ClauseList, Lit};
+use proof_log::{Answer, Attempt, TURN, search_alone, take_turns};
 use std::alloc::{AllocError, Global};
 
-/// The largest variable of the formula and of the cube.
+/// Returns the largest variable of the formula and of the cube.
 fn variables_of<L: ClauseList>(formula: &L, cube: &[Lit]) -> u32 {
     let mut variables = formula.variables();
     for literal in cube {
@@ -20,11 +20,11 @@ fn variables_of<L: ClauseList>(formula: &L, cube: &[Lit]) -> u32 {
     variables
 }
 
-/// A search of what is prepared, in the cube of these literals, that has done nothing yet. Its decisions go along a schedule where that
-/// is the better one of two courses to begin with.
+/// Begins a search of the prepared formula in the cube of these literals. Its decisions follow a schedule if that is likely to be the
+/// faster of the two.
 fn begin<'a>(
     alloc: Global,
-    prepared: &Preparation<'a>,
+    prepared: &PreparedFormula<'a>,
     cube: &[Lit],
 ) -> Result<Search<'a>, AllocError> {
     let mut search = Search::new(alloc, prepared.variables_in(cube), prepared, cube)?;
@@ -38,7 +38,7 @@ fn begin<'a>(
 /// as `solve`, for one of many cubes.
 pub fn solve_cube(
     alloc: Global,
-    prepared: &Preparation<'_>,
+    prepared: &PreparedFormula<'_>,
     cube: &[Lit],
     budget: u64,
 ) -> Result<Answer, AllocError>
@@ -71,24 +71,23 @@ pub fn solve_cube(
 
 /// Looks for a model of the formula that makes all literals of the cube true, or for a derivation that there is none.
 ///
-/// At most `budget` conflicts are worked on, where a conflict is a clause all of whose literals have become false, and each of
-/// them makes one addition of the derivation. The next one makes the answer `Open`. What follows by unit propagation is found before
-/// anything is decided. If counting then shows that there are readers which cannot all have a source, the derivation says that in at
-/// most `budget` steps, and nothing is searched; if the derivation is longer, the answer is `Open`, unless the budget has no more than one turn.
-/// After each turn of the search that is tried again, with what has been learned, in at most as many steps as there are conflicts left.
+/// At most `budget` conflicts are analysed, where a conflict is a clause all of whose literals have become false, and each of them makes
+/// one addition of the derivation. The next one makes the answer `Open`. Unit propagation runs before the first decision. If counting then
+/// finds a Hall violator, the derivation refutes it in at most `budget` steps, and nothing is searched; if the derivation is longer, the
+/// answer is `Open`, unless the budget has at most one turn. After each turn of the search the count is repeated, with what has been
+/// learned, in at most as many steps as there are conflicts left.
 ///
-/// The guide tells what the caller knows of the formula. Neither it nor the answer is believed by anybody: a model is evaluated,
-/// a derivation checked.
+/// The hints are what the caller knows of the formula. Neither they nor the answer are trusted: a model is evaluated, a derivation checked.
 pub fn solve<L: ClauseList>(
     alloc: Global,
     formula: &L,
     cube: &[Lit],
-    guide: Guide<'_>,
+    encoding: EncodingHints<'_>,
     budget: u64,
 ) -> Result<Answer, AllocError>
     ensures { IfOk result (λ answer. IsWithin budget answer) }
 {
     let variables = variables_of(formula, cube);
-    let prepared = Preparation::over(alloc, variables, formula, guide)?;
+    let prepared = PreparedFormula::over(alloc, variables, formula, encoding)?;
     solve_cube(alloc, &prepared, cube, budget)
 }

@@ -1,40 +1,45 @@
-//! What is told of reads to those who count sources.
+//! Builds the input of the source matching from the reads-from variables of the search.
 
 use assignment_trail::{FALSE, OrderedTrail};
-use clause_store::{Choice, LastWriter, Readings};
-use counting::{Choice as Source, Glance, KnownOrder, Reader, Reads, SourceSets, Update};
-use order_closure::tables::{at, size};
+use clause_database::{LastWriter, ReadsFromTable, ReadsFromVariable};
+use counting_proofs::{
+    GreedyMatching, KnownOrder, MatchingInstance, Reader, ReadsFromEdge as Source, SourceSets,
+    Update,
+};
+use order_sets::tables::{at, size};
 use std::alloc::{AllocError, Global};
 
-/// Whether the choice of this variable cannot be made.
+/// Whether the reads-from variable is false.
 fn is_excluded(trail: &OrderedTrail<'_>, variable: u32) -> bool {
     trail.value(variable.wrapping_mul(2)) == FALSE
 }
 
-/// The place of each element among the writers of its location.
-fn places_of(alloc: Global, readings: &Readings) -> Result<Vec<u32>, AllocError> {
-    let mut places = Vec::with_capacity(alloc, readings.elements() as usize)?;
-    for element in 0..readings.elements() {
-        places.push(readings.place_of_writer(element))?;
+/// Returns the place of each event among the writers of its location.
+fn places_of(alloc: Global, reads_from: &ReadsFromTable) -> Result<Vec<u32>, AllocError> {
+    let mut places = Vec::with_capacity(alloc, reads_from.elements() as usize)?;
+    for element in 0..reads_from.elements() {
+        places.push(reads_from.place_of_writer(element))?;
     }
     Ok(places)
 }
 
-/// The number of the value before all writers of the reader's location. It is above those of all elements.
-fn first_value(readings: &Readings, reader: u32) -> u32 {
-    readings.elements().wrapping_add(readings.location(reader))
+/// Returns the number of the initial value of the reader's location, which is above those of all events.
+fn first_value(reads_from: &ReadsFromTable, reader: u32) -> u32 {
+    reads_from
+        .elements()
+        .wrapping_add(reads_from.location(reader))
 }
 
-/// The choice as a source of its reader.
+/// Returns the choice as an edge from its reader to a source.
 fn source_of(
     trail: &OrderedTrail<'_>,
-    readings: &Readings,
+    reads_from: &ReadsFromTable,
     places: &[u32],
-    choice: Choice,
+    choice: ReadsFromVariable,
 ) -> Source {
     let (source, place) = match choice.writer {
         Some(writer) => (writer, Some(at(places, writer, 0))),
-        None => (first_value(readings, choice.reader), None),
+        None => (first_value(reads_from, choice.reader), None),
     };
     Source {
         source,
@@ -45,7 +50,7 @@ fn source_of(
     }
 }
 
-/// The last writer as a source of the final value.
+/// Returns the last writer as a source of the final value.
 fn source_of_last(trail: &OrderedTrail<'_>, places: &[u32], last: LastWriter) -> Source {
     Source {
         source: last.writer,
@@ -56,19 +61,19 @@ fn source_of_last(trail: &OrderedTrail<'_>, places: &[u32], last: LastWriter) ->
     }
 }
 
-/// Tells of the elements that read and write.
+/// Adds the read-modify-writes.
 fn tell_updates(
     trail: &OrderedTrail<'_>,
-    readings: &Readings,
+    reads_from: &ReadsFromTable,
     places: &[u32],
-    reads: &mut Reads,
+    reads: &mut MatchingInstance,
 ) -> Result<(), AllocError> {
-    let mut reader = readings.elements();
-    for choice in readings.choices() {
+    let mut reader = reads_from.elements();
+    for choice in reads_from.choices() {
         let Some(choice) = choice else {
             continue;
         };
-        if !readings.writes(choice.reader) {
+        if !reads_from.writes(choice.reader) {
             continue;
         }
         if choice.reader != reader {
@@ -82,20 +87,20 @@ fn tell_updates(
                 clause: choice.first.wrapping_sub(1),
             })?;
         }
-        reads.add_choice(source_of(trail, readings, places, *choice))?;
+        reads.add_choice(source_of(trail, reads_from, places, *choice))?;
     }
     Ok(())
 }
 
-/// Tells of the final values.
+/// Adds the final values.
 fn tell_finals(
     trail: &OrderedTrail<'_>,
-    readings: &Readings,
+    reads_from: &ReadsFromTable,
     places: &[u32],
-    reads: &mut Reads,
+    reads: &mut MatchingInstance,
 ) -> Result<(), AllocError> {
     let mut clause: u32 = 0;
-    for last in readings.last_writers() {
+    for last in reads_from.last_writers() {
         if last.clause != clause {
             clause = last.clause;
             reads.add_reader(Reader {
@@ -108,44 +113,44 @@ fn tell_finals(
     Ok(())
 }
 
-/// The readers that need sources of their own, and which of their choices are not false.
-pub fn told_reads(
+/// Returns the readers that need a source of their own, with the edges that are not excluded.
+pub fn matching_instance(
     alloc: Global,
     trail: &OrderedTrail<'_>,
-    readings: &Readings,
-) -> Result<Reads, AllocError> {
-    let mut reads = Reads::new(alloc);
-    let places = places_of(alloc, readings)?;
-    tell_updates(trail, readings, places.as_slice(), &mut reads)?;
-    tell_finals(trail, readings, places.as_slice(), &mut reads)?;
+    reads_from: &ReadsFromTable,
+) -> Result<MatchingInstance, AllocError> {
+    let mut reads = MatchingInstance::new(alloc);
+    let places = places_of(alloc, reads_from)?;
+    tell_updates(trail, reads_from, places.as_slice(), &mut reads)?;
+    tell_finals(trail, reads_from, places.as_slice(), &mut reads)?;
     Ok(reads)
 }
 
-/// Adds an element that reads and writes, with the sources that it may still have. Whether there is room for all of them.
+/// Adds a read-modify-write with its possible sources. Answers whether there is room for all of them.
 fn add_update(
     trail: &OrderedTrail<'_>,
-    readings: &Readings,
+    reads_from: &ReadsFromTable,
     element: u32,
     sets: &mut SourceSets,
 ) -> Result<bool, AllocError> {
     sets.add_update(element, &trail.candidates.writers)?;
-    let variable = readings.variable_without_writer(element);
+    let variable = reads_from.variable_without_writer(element);
     if variable == 0 || is_excluded(trail, variable) {
         return Ok(true);
     }
-    let source = first_value(readings, element);
+    let source = first_value(reads_from, element);
     sets.add_source(source);
     Ok(source < sets.sources())
 }
 
-/// Adds the final values, with the last writers that are still possible.
+/// Adds the final values with their possible last writers.
 fn add_finals(
     trail: &OrderedTrail<'_>,
-    readings: &Readings,
+    reads_from: &ReadsFromTable,
     sets: &mut SourceSets,
 ) -> Result<(), AllocError> {
     let mut clause: u32 = 0;
-    for last in readings.last_writers() {
+    for last in reads_from.last_writers() {
         if last.clause != clause {
             clause = last.clause;
             sets.add_reader(None)?;
@@ -157,63 +162,63 @@ fn add_finals(
     Ok(())
 }
 
-/// The same as sets, if there is room for all sources where there are so many numbers for them.
+/// Returns the matching instance as sets of bits, if there is room for all sources in this many numbers.
 fn sources_below(
     alloc: Global,
     trail: &OrderedTrail<'_>,
-    readings: &Readings,
+    reads_from: &ReadsFromTable,
     sources: u32,
 ) -> Result<Option<SourceSets>, AllocError> {
-    let elements = readings.elements();
-    let readers = elements.wrapping_add(size(readings.last_writers()));
+    let elements = reads_from.elements();
+    let readers = elements.wrapping_add(size(reads_from.last_writers()));
     let mut sets = SourceSets::new(alloc, readers, sources)?;
     for element in 0..elements {
-        if readings.reads(element)
-            && readings.writes(element)
-            && !add_update(trail, readings, element, &mut sets)?
+        if reads_from.reads(element)
+            && reads_from.writes(element)
+            && !add_update(trail, reads_from, element, &mut sets)?
         {
             return Ok(None);
         }
     }
     if sets.readers() > 0 {
-        add_finals(trail, readings, &mut sets)?;
+        add_finals(trail, reads_from, &mut sets)?;
     }
     Ok(Some(sets))
 }
 
-/// The same as sets, which are for the most part at hand: the readers as `told_reads` tells of them, and their possible sources. No reader
-/// where no element reads and writes, since the final values of several locations have no source in common.
+/// Returns the same as sets, most of which the trail already has: the readers of `matching_instance`, and their possible sources. There is
+/// no reader if no element reads and writes, since the final values of several locations have no source in common.
 ///
-/// The value before all writers has a number above those of all elements, and mostly not far above, so sets of fewer words are tried first.
+/// The initial value has a number above those of all elements, and mostly not far above, so sets of fewer words are tried first.
 pub fn possible_sources(
     alloc: Global,
     trail: &OrderedTrail<'_>,
-    readings: &Readings,
+    reads_from: &ReadsFromTable,
 ) -> Result<SourceSets, AllocError> {
-    let elements = readings.elements();
+    let elements = reads_from.elements();
     let few = elements.wrapping_add(1);
-    if let Some(sets) = sources_below(alloc, trail, readings, few)? {
+    if let Some(sets) = sources_below(alloc, trail, reads_from, few)? {
         return Ok(sets);
     }
     let all = elements.wrapping_mul(2);
-    match sources_below(alloc, trail, readings, all)? {
+    match sources_below(alloc, trail, reads_from, all)? {
         Some(sets) => Ok(sets),
         None => SourceSets::new(alloc, 0, 0),
     }
 }
 
-/// Whether a glance shows that no source lacks. Where no element reads and writes none does, since the final values of several locations
-/// have no source in common.
+/// Whether a greedy matching saturates all readers. It does if there is no read-modify-write, since the final values of different
+/// locations have no source in common.
 pub fn has_enough_sources(
     alloc: Global,
     trail: &OrderedTrail<'_>,
-    readings: &Readings,
+    reads_from: &ReadsFromTable,
     known: KnownOrder<'_>,
 ) -> Result<bool, AllocError> {
-    let mut glance = Glance::new(alloc, known, &trail.candidates.writers)?;
-    for element in 0..readings.elements() {
-        if readings.reads(element) && readings.writes(element) {
-            let variable = readings.variable_without_writer(element);
+    let mut glance = GreedyMatching::new(alloc, known, &trail.candidates.writers)?;
+    for element in 0..reads_from.elements() {
+        if reads_from.reads(element) && reads_from.writes(element) {
+            let variable = reads_from.variable_without_writer(element);
             glance.add_update(element, variable != 0 && !is_excluded(trail, variable));
         }
     }
@@ -221,7 +226,7 @@ pub fn has_enough_sources(
         return Ok(true);
     }
     let mut clause: u32 = 0;
-    for last in readings.last_writers() {
+    for last in reads_from.last_writers() {
         if last.clause != clause {
             clause = last.clause;
             glance.add_location(last.writer)?;

@@ -1,54 +1,62 @@
-//! Clauses of one literal, which is true before anything is decided.
+//! Unit clauses at level 0, added to the proof on demand.
 
 use crate::analyze::{NEEDED, UNSEEN};
 use crate::search::Search;
-use derivation_log::Log;
-use order_closure::tables::{at, put};
+use order_sets::tables::{at, put};
+use proof_log::ProofLog;
 use std::alloc::{AllocError, Global};
 
-/// Clauses of one literal, which others cite.
+/// Unit clauses that other steps cite.
 #[derive(Drop)]
-pub struct Units {
-    /// Those that neither the formula nor the cube has.
-    pub log: Log,
-    /// For each variable the number of its clause, or 0.
+pub struct UnitClauses {
+    /// Those that are neither in the formula nor in the cube.
+    pub log: ProofLog,
+    /// Id of the unit clause of each variable, or 0.
     ids: Vec<u32>,
 }
 
-impl Units {
-    /// No clause over so many variables. The first one that is added has this number.
-    pub fn new(alloc: Global, variables: u32, first: u32) -> Result<Units, AllocError> {
-        Ok(Units {
-            log: Log::new(alloc, first),
+impl UnitClauses {
+    /// Starts without clauses, over this number of variables. The first one that is added has this number.
+    pub fn new(alloc: Global, variables: u32, first: u32) -> Result<UnitClauses, AllocError> {
+        Ok(UnitClauses {
+            log: ProofLog::new(alloc, first),
             ids: vec![in alloc; 0; variables.wrapping_add(1) as usize]?,
         })
     }
 
-    /// The number of the variable's clause, or 0.
+    /// Returns the number of the variable's clause, or 0.
     fn id(&self, variable: u32) -> u32 {
         at(self.ids.as_slice(), variable, 0)
     }
 }
 
 impl<'a> Search<'a> {
-    /// The variables in the clause that made this one true are needed too, unless it has a clause of its own.
-    fn need_causes_of_unit(&mut self, units: &Units, variable: u32) -> Result<(), AllocError> {
+    /// Marks the antecedents of this variable as needed, unless it has a unit clause of its own.
+    fn need_causes_of_unit(
+        &mut self,
+        units: &UnitClauses,
+        variable: u32,
+    ) -> Result<(), AllocError> {
         if units.id(variable) != 0 {
             return Ok(());
         }
         let reason = self.trail.reason(&self.store, self.true_literal(variable));
         for number in 0..reason.count {
-            let cause = reason.literal(self.store.words(), number) >> 1;
-            if self.mark(cause) == UNSEEN {
-                self.set_mark(cause, NEEDED)?;
-                self.pending.push(cause)?;
+            let antecedent = reason.literal(self.store.words(), number) >> 1;
+            if self.mark(antecedent) == UNSEEN {
+                self.set_mark(antecedent, NEEDED)?;
+                self.pending.push(antecedent)?;
             }
         }
         Ok(())
     }
 
-    /// Gathers the hints of the variable's clause: the causes of all that is needed, in the order of the trail.
-    fn gather_hints_of_unit(&mut self, units: &Units, variable: u32) -> Result<(), AllocError> {
+    /// Gathers the hints of the variable's unit clause: the reasons of all that is needed, in trail order.
+    fn gather_hints_of_unit(
+        &mut self,
+        units: &UnitClauses,
+        variable: u32,
+    ) -> Result<(), AllocError> {
         self.needed.clear();
         self.pending.clear();
         self.hints.clear();
@@ -58,7 +66,7 @@ impl<'a> Search<'a> {
             let Some(next) = self.pending.pop() else {
                 break;
             };
-            let place = self.trail.trail.standing(next).place;
+            let place = self.trail.trail.state(next).place;
             self.needed.push(place)?;
             self.need_causes_of_unit(units, next)?;
         }
@@ -75,8 +83,8 @@ impl<'a> Search<'a> {
         Ok(())
     }
 
-    /// The number of a clause with this literal alone, which is true before anything is decided. It is added, unless it is there.
-    pub fn unit(&mut self, units: &mut Units, literal: u32) -> Result<u32, AllocError> {
+    /// Returns the id of a unit clause with this literal, which is true at level 0, and adds one if there is none yet.
+    pub fn unit(&mut self, units: &mut UnitClauses, literal: u32) -> Result<u32, AllocError> {
         let variable = literal >> 1;
         let mut id = units.id(variable);
         if id != 0 {

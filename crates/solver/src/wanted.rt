@@ -1,18 +1,18 @@
-//! Which variables can be decided.
+//! Decision variables.
 
-use clause_store::{Guide, Intake, Readings, SmallClause, Store};
-use derivation_log::codes::NEVER;
-use order_closure::next_element;
-use order_closure::tables::{at, put, size};
+use clause_database::{EncodingHints, FormulaLoader, ReadsFromTable, SmallClause, Store};
+use order_sets::next_element;
+use order_sets::tables::{at, put, size};
+use proof_log::codes::NEVER;
 use std::alloc::{AllocError, Global};
 
-/// The variable can be decided: it gets a mark.
+/// Marks the variable as a decision variable.
 #[inline(always)]
 fn want(marks: &mut [u8], variable: u32) {
     put(marks, variable, 1);
 }
 
-/// The variables of these clauses can be decided.
+/// Marks the variables of these clauses.
 fn want_small(marks: &mut [u8], clauses: &[SmallClause]) {
     for clause in clauses {
         want(marks, clause.first >> 1);
@@ -23,7 +23,7 @@ fn want_small(marks: &mut [u8], clauses: &[SmallClause]) {
     }
 }
 
-/// The variables of the clauses of the store can be decided.
+/// Marks the variables of the longer clauses.
 fn want_long(marks: &mut [u8], long: &Store) {
     let mut clause: u32 = 1;
     for _ in 0..long.end() {
@@ -33,33 +33,38 @@ fn want_long(marks: &mut [u8], long: &Store) {
         for number in 0..long.count(clause) {
             want(marks, long.literal(clause, number) >> 1);
         }
-        clause = long.behind(clause);
+        clause = long.next_clause(clause);
     }
 }
 
-/// The variables of the pairs of this element and a writer of its location can be decided.
-fn want_pairs(marks: &mut [u8], guide: Guide<'_>, readings: &Readings, element: u32) {
-    for number in 0..readings.writers().words() {
-        let mut writers = readings.writers().word(element, number);
+/// Marks the order variables between this event and the writers of its location.
+fn want_pairs(
+    marks: &mut [u8],
+    encoding: EncodingHints<'_>,
+    reads_from: &ReadsFromTable,
+    element: u32,
+) {
+    for number in 0..reads_from.writers().words() {
+        let mut writers = reads_from.writers().word(element, number);
         for _ in 0..64 {
             let Some(writer) = next_element(&mut writers, number) else {
                 break;
             };
-            want(marks, guide.variable_of_pair(element, writer));
+            want(marks, encoding.variable_of_pair(element, writer));
         }
     }
 }
 
-/// The variables of choices can be decided, and those of the pairs of which their clauses speak.
+/// Marks the reads-from variables, and the order variables in their clauses.
 fn want_reads(
     alloc: Global,
     marks: &mut [u8],
-    guide: Guide<'_>,
-    readings: &Readings,
+    encoding: EncodingHints<'_>,
+    reads_from: &ReadsFromTable,
 ) -> Result<(), AllocError> {
-    let elements = readings.elements();
+    let elements = reads_from.elements();
     let mut in_choices = vec![in alloc; 0; elements as usize]?;
-    for choice in readings.choices() {
+    for choice in reads_from.choices() {
         if let Some(choice) = choice {
             want(marks, choice.variable);
             want(in_choices.as_mut_slice(), choice.reader);
@@ -70,25 +75,25 @@ fn want_reads(
     }
     for element in 0..elements {
         if at(in_choices.as_slice(), element, 0) != 0 {
-            want_pairs(marks, guide, readings, element);
+            want_pairs(marks, encoding, reads_from, element);
         }
     }
     Ok(())
 }
 
-/// The variables that can be decided, of so many, by their numbers. Variables that stand in none of the clauses that were read need no
-/// decision: what is known of an order, with no clause of these false, always extends to an order of all.
+/// Returns the decision variables, by rising numbers. An order variable that stands in no loaded clause needs no decision: a partial order
+/// always extends to a total one.
 pub fn wanted_variables(
     alloc: Global,
     variables: u32,
-    intake: &Intake,
-    guide: Guide<'_>,
+    loader: &FormulaLoader,
+    encoding: EncodingHints<'_>,
 ) -> Result<Vec<u32>, AllocError> {
     let mut marks = vec![in alloc; 0; variables.wrapping_add(1) as usize]?;
-    want_small(marks.as_mut_slice(), intake.small.as_slice());
-    want_long(marks.as_mut_slice(), &intake.long);
-    if let Some(readings) = guide.readings() {
-        want_reads(alloc, marks.as_mut_slice(), guide, readings)?;
+    want_small(marks.as_mut_slice(), loader.small.as_slice());
+    want_long(marks.as_mut_slice(), &loader.long);
+    if let Some(reads_from) = encoding.reads_from() {
+        want_reads(alloc, marks.as_mut_slice(), encoding, reads_from)?;
     }
     let mut wanted = Vec::new(alloc);
     for variable in 0..size(marks.as_slice()) {

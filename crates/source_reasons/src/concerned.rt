@@ -2,7 +2,7 @@
 
 use crate::sources::Sources;
 use numbered_log::NOBODY;
-use order_closure::tables::{at, put, size};
+use order_sets::tables::{at, put, size};
 use std::alloc::{AllocError, Global};
 
 /// For each operation the readers that have it as a possible source, and for each location those that have its initial value. An

@@ -9,6 +9,6 @@ mod sources;
 mod waiting;
 
 pub use concerned::Concerned;
-pub use reasons::{Edge, NO_EDGE, Reason, Reasons};
-pub use sources::{Fate, Source, Sources, UNBOUND, UNTOLD};
+pub use reasons::{Edge, EdgeReason, NO_EDGE, Reasons};
+pub use sources::{Fate, PossibleSource, Sources, UNBOUND, UNTOLD};
 pub use waiting::Waiting;

@@ -1,12 +1,12 @@
 //! The pairs of the order, each with its reason.
 
 use numbered_log::NOBODY;
-use order_closure::tables::{at, piece, put, size};
+use order_sets::tables::{at, piece, put, size};
 use std::alloc::{AllocError, Global};
 
 /// Why one operation stands before another.
 #[derive(Clone, Copy)]
-pub enum Reason {
+pub enum EdgeReason {
     /// The trace says so.
     Given,
     /// The first stands before all possible sources of this reader, or is the only one, and the reader is the second.
@@ -28,7 +28,7 @@ pub enum Reason {
 pub struct Edge {
     pub first: u32,
     pub second: u32,
-    pub reason: Reason,
+    pub reason: EdgeReason,
     /// When it came.
     pub time: u32,
     /// The pair before it that has the same first operation, or `NOBODY`.
@@ -39,13 +39,13 @@ pub struct Edge {
 pub const NO_EDGE: Edge = Edge {
     first: NOBODY,
     second: NOBODY,
-    reason: Reason::Given,
+    reason: EdgeReason::Given,
     time: 0,
     next: NOBODY,
 };
 
 /// The most pairs that are kept, and the most operations and decisions of lemmas, which is memory for some 50 MB while it grows.
-const MOST_ENTRIES: u32 = 1 << 20;
+const MAX_ENTRIES: u32 = 1 << 20;
 
 /// Where the operations and the decisions of a lemma end.
 #[derive(Clone, Copy)]
@@ -94,9 +94,9 @@ impl Reasons {
     /// Whether there is room for no more.
     #[inline(always)]
     pub fn is_full(&self) -> bool {
-        self.count() >= MOST_ENTRIES
-            || size(self.operations.as_slice()) >= MOST_ENTRIES
-            || size(self.decisions.as_slice()) >= MOST_ENTRIES
+        self.count() >= MAX_ENTRIES
+            || size(self.operations.as_slice()) >= MAX_ENTRIES
+            || size(self.decisions.as_slice()) >= MAX_ENTRIES
     }
 
     /// The pair of this number.

@@ -1,6 +1,6 @@
 //! The possible sources of reading operations and of final values.
 
-use order_closure::tables::{at, put, size};
+use order_sets::tables::{at, put, size};
 use std::alloc::{AllocError, Global};
 
 /// Whether a possible source is still one, and why not.
@@ -18,7 +18,7 @@ pub enum Fate {
 
 /// A possible source of a reader.
 #[derive(Clone, Copy)]
-pub struct Source {
+pub struct PossibleSource {
     /// The writer, or `NOBODY` for the initial value.
     pub operation: u32,
     pub fate: Fate,
@@ -26,7 +26,7 @@ pub struct Source {
     pub time: u32,
 }
 
-impl Source {
+impl PossibleSource {
     /// Whether it is possible.
     #[inline(always)]
     pub fn is_possible(&self) -> bool {
@@ -51,7 +51,7 @@ struct Dropped {
 /// number after those of all operations.
 #[derive(Drop)]
 pub struct Sources {
-    sources: Vec<Source>,
+    sources: Vec<PossibleSource>,
     /// For each reader where its sources begin, and where all end.
     begins: Vec<u32>,
     /// For each reader how many of its sources are possible.
@@ -61,14 +61,14 @@ pub struct Sources {
 }
 
 /// What stands at a place where there is no source.
-const NOTHING: Source = Source {
+const NOTHING: PossibleSource = PossibleSource {
     operation: 0,
     fate: Fate::ComesLater,
     time: 0,
 };
 
 /// The most sources that are kept in all, which is memory for some 50 MB. Readers for which there is no room are untold.
-const MOST_SOURCES: usize = 1 << 21;
+const MAX_SOURCES: usize = 1 << 21;
 
 impl Sources {
     /// No reader.
@@ -90,10 +90,10 @@ impl Sources {
 
     /// Adds a source to the reader at hand. Whether there is room for it.
     pub fn add(&mut self, operation: u32) -> Result<bool, AllocError> {
-        if self.sources.len() >= MOST_SOURCES {
+        if self.sources.len() >= MAX_SOURCES {
             return Ok(false);
         }
-        self.sources.push(Source {
+        self.sources.push(PossibleSource {
             operation,
             fate: Fate::Possible,
             time: 0,
@@ -155,7 +155,7 @@ impl Sources {
 
     /// The source at this place.
     #[inline(always)]
-    pub fn source(&self, place: u32) -> Source {
+    pub fn source(&self, place: u32) -> PossibleSource {
         at(self.sources.as_slice(), place, NOTHING)
     }
 
@@ -217,7 +217,7 @@ impl Sources {
         time: u32,
     ) -> Result<(), AllocError> {
         let source = self.source(place);
-        let changed = Source {
+        let changed = PossibleSource {
             operation: source.operation,
             fate,
             time,
@@ -246,7 +246,7 @@ impl Sources {
                 break;
             };
             let source = self.source(dropped.source);
-            let changed = Source {
+            let changed = PossibleSource {
                 operation: source.operation,
                 fate: Fate::Possible,
                 time: 0,

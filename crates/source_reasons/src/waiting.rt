@@ -1,6 +1,6 @@
 //! Readers about whose rows something has changed.
 
-use order_closure::tables::{at, put, size};
+use order_sets::tables::{at, put, size};
 use std::alloc::{AllocError, Global};
 
 /// A queue of readers, in which each stands once at most.

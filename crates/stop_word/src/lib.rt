@@ -9,4 +9,4 @@ mod views;
 mod word;
 
 pub use seat::StopSeat;
-pub use word::{MOST_SEATS, StopWord};
+pub use word::{MAX_SEATS, StopWord};

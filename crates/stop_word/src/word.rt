@@ -12,7 +12,7 @@ use std::alloc::{AllocError, Global};
 use std::marker::Model;
 
 /// The most seats at a stop word.
-pub const MOST_SEATS: u32 = 8;
+pub const MAX_SEATS: u32 = 8;
 
 /// A number that only falls: nothing, or the least that was marked. Whoever has a seat may mark and look, from any thread, and waits
 /// for nobody. Contracts see which word it is.
@@ -48,7 +48,7 @@ impl StopWord {
     /// A word that nobody has marked, and so many seats at it, from 1 to 8. These are all its seats.
     pub fn open(alloc: Global, seats: u32) -> Result<(StopWord, Vec<StopSeat>), AllocError>
         requires some { 1 ≤ seats }
-        requires few { seats ≤ MOST_SEATS }
+        requires few { seats ≤ MAX_SEATS }
         ensures seats { IfOk result (λ r. length r.1.items ≡ seats) }
         ensures all { IfOk result (λ r. AreAllSeats r.0 r.1.items) }
         ensures new { IfOk result (λ r. All KnowsNothing (known_by r.1.items)) }

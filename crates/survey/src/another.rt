@@ -2,9 +2,9 @@
 
 use crate::part::{Chosen, part_of};
 use crate::shrinking::Core;
-use derived_order::{DerivedOrder, Outcome};
+use derived_order::{DerivedOrder, Saturation};
 use numbered_log::Budget;
-use order_closure::tables::at;
+use order_sets::tables::at;
 use order_walk::Explanation;
 use std::alloc::{AllocError, Global};
 
@@ -12,7 +12,7 @@ use std::alloc::{AllocError, Global};
 pub const SMALL: u32 = 10;
 
 /// So often another contradiction is looked for at most.
-const MOST_TRIES: u32 = 60;
+const MAX_TRIES: u32 = 60;
 
 /// A core that is found in a part of the trace. What the part loses, no part of it finds again, so the core is one of the whole.
 fn core_within<'a>(
@@ -26,7 +26,7 @@ fn core_within<'a>(
     let mut order = DerivedOrder::new(alloc, &part.log, *budget)?;
     let outcome = order.saturate()?;
     *budget = order.budget();
-    if outcome != Outcome::Contradicted {
+    if outcome != Saturation::Contradicted {
         return Ok(None);
     }
     let mut explanation = Explanation::new(alloc, &order)?;
@@ -59,7 +59,7 @@ pub fn smaller_core<'a>(
         within.set(operation, true);
     }
     let mut place: u32 = 0;
-    for _ in 0..MOST_TRIES {
+    for _ in 0..MAX_TRIES {
         if place >= best.count() || best.count() <= SMALL || budget.is_spent() {
             break;
         }

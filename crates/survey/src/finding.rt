@@ -4,11 +4,11 @@ use crate::another::smaller_core;
 use crate::reading::{log_of, names_of};
 use crate::shrinking::Core;
 use derived_order::DerivedOrder;
-use numbered_log::{Budget, Log};
-use order_walk::{Ending, Walk};
+use numbered_log::{Budget, NumberedLog};
+use order_walk::{Walk, WalkEnd};
 use std::alloc::{AllocError, Global};
 use surveyor::{Extent, Finding, Overview, Surveyor};
-use traces::trace::Trace;
+use trace_semantics::trace::Trace;
 
 /// What was found, as numbers.
 #[derive(Drop)]
@@ -48,7 +48,7 @@ impl Surveyor for BySaturation {
 fn finding_of(
     alloc: Global,
     trace: &Trace,
-    log: &Log,
+    log: &NumberedLog,
     numbers: NumberedFinding,
     budget: &mut Budget,
 ) -> Result<Finding, AllocError> {
@@ -67,7 +67,7 @@ fn finding_of(
 }
 
 /// A schedule, or the operations from which a contradiction follows. A quarter of the budget is kept for what comes after.
-fn walk_over(alloc: Global, log: &Log, budget: &mut Budget) -> Result<Walked, AllocError> {
+fn walk_over(alloc: Global, log: &NumberedLog, budget: &mut Budget) -> Result<Walked, AllocError> {
     let kept = budget.share(budget.left() / 4);
     let order = DerivedOrder::new(alloc, log, *budget)?;
     let mut walk = Walk::new(alloc, order)?;
@@ -75,9 +75,9 @@ fn walk_over(alloc: Global, log: &Log, budget: &mut Budget) -> Result<Walked, Al
     *budget = walk.order().budget();
     budget.give_back(kept);
     let numbers = match ending {
-        Ending::Scheduled => NumberedFinding::Schedule(Vec::from_slice(alloc, walk.placed())?),
-        Ending::Contradicted => NumberedFinding::Core(walk.explanation.operations(alloc)?),
-        Ending::GivenUp => NumberedFinding::Nothing,
+        WalkEnd::Scheduled => NumberedFinding::Schedule(Vec::from_slice(alloc, walk.placed())?),
+        WalkEnd::Contradicted => NumberedFinding::Core(walk.explanation.operations(alloc)?),
+        WalkEnd::GivenUp => NumberedFinding::Nothing,
     };
     walk.take_back_all();
     Ok(Walked {
@@ -92,7 +92,7 @@ fn walk_over(alloc: Global, log: &Log, budget: &mut Budget) -> Result<Walked, Al
 /// Makes the core smaller, as far as saturation, or a walk, still refutes it.
 fn smallest_core(
     alloc: Global,
-    log: &Log,
+    log: &NumberedLog,
     operations: Vec<u32>,
     budget: &mut Budget,
 ) -> Result<Vec<u32>, AllocError> {

@@ -3,8 +3,8 @@
 //! Where this is not the part that is made of the trace, the answer is of no use, and nothing worse.
 
 use derived_order::DerivedOrder;
-use numbered_log::{Budget, Log, NOBODY, Operation, Origin, Pair};
-use order_closure::tables::{at, put, size};
+use numbered_log::{Budget, NOBODY, NumberedLog, NumberedOrigin, NumberedPair, Operation};
+use order_sets::tables::{at, put, size};
 use std::alloc::{AllocError, Global};
 
 /// Some of the operations of a log.
@@ -58,8 +58,8 @@ impl Chosen {
 
 /// A part of a log.
 #[derive(Drop)]
-pub struct Part {
-    pub log: Log,
+pub struct LogPart {
+    pub log: NumberedLog,
     /// For each operation of the part its number in the whole.
     pub numbers: Vec<u32>,
 }
@@ -83,7 +83,7 @@ pub fn part_of(
     operations: &[u32],
     chosen: &Chosen,
     budget: &mut Budget,
-) -> Result<Part, AllocError> {
+) -> Result<LogPart, AllocError> {
     let log = order.log();
     budget.spend(steps_of(order, operations));
     let mut renaming = Renaming {
@@ -93,8 +93,8 @@ pub fn part_of(
         is_written: Vec::new(alloc),
     };
     renaming.number_locations(log, operations)?;
-    let mut part = Part {
-        log: Log::new(alloc, size(renaming.old_locations.as_slice()))?,
+    let mut part = LogPart {
+        log: NumberedLog::new(alloc, size(renaming.old_locations.as_slice()))?,
         numbers: Vec::new(alloc),
     };
     part.set_values(order, &renaming, chosen);
@@ -127,7 +127,11 @@ fn steps_of(order: &DerivedOrder<'_>, operations: &[u32]) -> u64 {
 
 impl Renaming {
     /// Gives a number to each location on which one of the operations works, and notes which are written.
-    fn number_locations(&mut self, log: &Log, operations: &[u32]) -> Result<(), AllocError> {
+    fn number_locations(
+        &mut self,
+        log: &NumberedLog,
+        operations: &[u32],
+    ) -> Result<(), AllocError> {
         for number in operations {
             let location = log.operation(*number).location;
             if at(self.locations.as_slice(), location, 0) == NOBODY {
@@ -167,13 +171,14 @@ pub fn has_all_sources(order: &DerivedOrder<'_>, reader: u32, chosen: &Chosen) -
 /// Whether the reading operation still reads.
 fn keeps_read(order: &DerivedOrder<'_>, number: u32, chosen: &Chosen) -> bool {
     match order.log().operation(number).origin {
-        Origin::Any => has_all_sources(order, number, chosen),
-        Origin::Initial => true,
-        Origin::Operation(origin) => chosen.has(origin) && order.log().operation(origin).writes,
+        NumberedOrigin::Any => has_all_sources(order, number, chosen),
+        NumberedOrigin::Initial => true,
+        NumberedOrigin::Operation(origin) => chosen.has(origin)
+            && order.log().operation(origin).writes,
     }
 }
 
-impl Part {
+impl LogPart {
     /// Keeps all initial values of the locations, and the final values whose possible last writers are all chosen, where some writer of
     /// the location is.
     fn set_values(&mut self, order: &DerivedOrder<'_>, renaming: &Renaming, chosen: &Chosen) {
@@ -225,10 +230,10 @@ impl Part {
     fn rename_origins(&mut self, renaming: &Renaming) {
         for number in 0..self.log.count() {
             let operation = self.log.operation(number);
-            if let Origin::Operation(origin) = operation.origin {
-                let mut changed = Origin::Any;
+            if let NumberedOrigin::Operation(origin) = operation.origin {
+                let mut changed = NumberedOrigin::Any;
                 if operation.reads {
-                    changed = Origin::Operation(renaming.operation(origin));
+                    changed = NumberedOrigin::Operation(renaming.operation(origin));
                 }
                 self.log.set_origin(number, changed);
             }
@@ -278,7 +283,7 @@ impl Part {
             if place != 0 && log.operation(old).process != process {
                 let first = at(nearest, log.number(process, place), NOBODY);
                 if first != NOBODY && (last == NOBODY || first > last) {
-                    self.log.add_pair(Pair { first, second })?;
+                    self.log.add_pair(NumberedPair { first, second })?;
                     last = first;
                 }
             }

@@ -1,12 +1,12 @@
 //! A trace as a log of numbers, and names by number.
 
-use numbered_log::{Log, NOBODY, Operation, Origin, Pair};
-use order_closure::tables::{at, size};
+use numbered_log::{NOBODY, NumberedLog, NumberedOrigin, NumberedPair, Operation};
+use order_sets::tables::{at, size};
 use std::alloc::{AllocError, Global};
-use traces::name::Name;
-use traces::name_table::NameTable;
-use traces::operation::{Op, OpName, Origin as Told};
-use traces::trace::{Process, Trace};
+use trace_semantics::name::Name;
+use trace_semantics::name_table::NameTable;
+use trace_semantics::operation::{Op, OpName, Origin as Told};
+use trace_semantics::trace::{Process, Trace};
 
 /// The number in a table, which has fewer names than that.
 fn number_in(table: &NameTable<'_>, name: &Name) -> u32 {
@@ -84,11 +84,11 @@ impl<'a> Starts<'a> {
         start.wrapping_add(name.place as u32).wrapping_sub(1)
     }
 
-    fn origin(&self, origin: &Told) -> Origin {
+    fn origin(&self, origin: &Told) -> NumberedOrigin {
         match origin {
-            Told::Any => Origin::Any,
-            Told::Initial => Origin::Initial,
-            Told::Operation(name) => Origin::Operation(self.number(name)),
+            Told::Any => NumberedOrigin::Any,
+            Told::Initial => NumberedOrigin::Initial,
+            Told::Operation(name) => NumberedOrigin::Operation(self.number(name)),
         }
     }
 
@@ -96,11 +96,11 @@ impl<'a> Starts<'a> {
     fn operation(&self, location: u32, op: &Op) -> Operation {
         let origin = match op {
             Op::Read { origin, .. } => self.origin(origin),
-            Op::Write { .. } => Origin::Any,
+            Op::Write { .. } => NumberedOrigin::Any,
             Op::Update { origin, .. } => self.origin(origin),
         };
         let needed = op.value_read();
-        let left = op.value_left();
+        let left = op.written_value();
         Operation {
             process: 0,
             place: 0,
@@ -123,10 +123,10 @@ fn value_or_nothing(value: Option<u64>) -> u64 {
 }
 
 /// The trace as numbers.
-pub fn log_of(alloc: Global, trace: &Trace) -> Result<Log, AllocError> {
+pub fn log_of(alloc: Global, trace: &Trace) -> Result<NumberedLog, AllocError> {
     let locations = locations_of(alloc, trace)?;
     let starts = Starts::of(alloc, trace)?;
-    let mut log = Log::new(alloc, locations.count)?;
+    let mut log = NumberedLog::new(alloc, locations.count)?;
     for value in trace.initial() {
         log.set_initial(number_in(&locations.table, &value.0), Some(value.1));
     }
@@ -143,7 +143,7 @@ pub fn log_of(alloc: Global, trace: &Trace) -> Result<Log, AllocError> {
     for pair in trace.before() {
         let first = starts.number(&pair.0);
         let second = starts.number(&pair.1);
-        log.add_pair(Pair { first, second })?;
+        log.add_pair(NumberedPair { first, second })?;
     }
     Ok(log)
 }
@@ -160,7 +160,7 @@ fn name_at(alloc: Global, process: &Process, place: u32) -> Result<OpName, Alloc
 pub fn names_of(
     alloc: Global,
     trace: &Trace,
-    log: &Log,
+    log: &NumberedLog,
     operations: &[u32],
 ) -> Result<Vec<OpName>, AllocError> {
     let mut names = Vec::with_capacity(alloc, operations.len())?;

@@ -1,10 +1,10 @@
 //! Smaller cores.
 
-use crate::part::{Chosen, Part, has_all_sources, part_of};
-use derived_order::{DerivedOrder, Outcome};
-use numbered_log::{Budget, Origin};
-use order_closure::tables::{at, piece, size};
-use order_walk::{Ending, Walk};
+use crate::part::{Chosen, LogPart, has_all_sources, part_of};
+use derived_order::{DerivedOrder, Saturation};
+use numbered_log::{Budget, NumberedOrigin};
+use order_sets::tables::{at, piece, size};
+use order_walk::{Walk, WalkEnd};
 use std::alloc::{AllocError, Global};
 
 /// A set of operations whose part has no legal schedule, as far as saturation tells.
@@ -67,17 +67,17 @@ impl<'a> Core<'a> {
         let mut order = DerivedOrder::new(self.alloc, &part.log, *budget)?;
         let outcome = order.saturate()?;
         *budget = order.budget();
-        Ok(outcome == Outcome::Contradicted)
+        Ok(outcome == Saturation::Contradicted)
     }
 
     /// Whether a walk over the part ends in a contradiction.
-    fn is_refuted_by_walk(&self, part: &Part, budget: &mut Budget) -> Result<bool, AllocError> {
+    fn is_refuted_by_walk(&self, part: &LogPart, budget: &mut Budget) -> Result<bool, AllocError> {
         let share = budget.share(WALK);
         let order = DerivedOrder::new(self.alloc, &part.log, share)?;
         let mut walk = Walk::new(self.alloc, order)?;
         let ending = walk.run()?;
         budget.give_back(walk.order().budget());
-        Ok(ending == Ending::Contradicted)
+        Ok(ending == WalkEnd::Contradicted)
     }
 
     /// From now on parts are walked over, since saturation alone does not refute the core.
@@ -124,7 +124,7 @@ impl<'a> Core<'a> {
                         self.chosen.set(number, true);
                     }
                 }
-                if let Origin::Operation(origin) = reader.origin {
+                if let NumberedOrigin::Operation(origin) = reader.origin {
                     self.chosen.set(origin, true);
                 }
             }
@@ -137,12 +137,12 @@ impl<'a> Core<'a> {
     fn close_reader(&mut self, reader: u32, budget: &mut Budget) {
         let operation = self.forced.log().operation(reader);
         match operation.origin {
-            Origin::Initial => {}
-            Origin::Operation(origin) => {
+            NumberedOrigin::Initial => {}
+            NumberedOrigin::Operation(origin) => {
                 self.chosen.set(origin, true);
                 self.hide(reader, origin, budget);
             }
-            Origin::Any => {
+            NumberedOrigin::Any => {
                 let span = self.forced.sources().span(reader);
                 budget.spend(span.saturating_add(self.count() as u64));
                 if has_all_sources(self.forced, reader, &self.chosen) {

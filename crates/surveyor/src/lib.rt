@@ -4,8 +4,8 @@
 #![tactic(auto)]
 
 use std::alloc::{AllocError, Global};
-use traces::operation::OpName;
-use traces::trace::Trace;
+use trace_semantics::operation::OpName;
+use trace_semantics::trace::Trace;
 
 /// How far a survey came.
 #[derive(Clone, Copy)]

@@ -12,6 +12,6 @@ without_empty_end [] = []
 without_empty_end ([] ∷ []) = []
 without_empty_end (piece ∷ pieces) = piece ∷ without_empty_end pieces
 
--- Each line feed ends a line. The last line may lack it, and one at the very end starts no further line.
+-- Each line feed ends a line. It may be missing after the last line, and one at the very end starts no further line.
 abbrev pub lines_of : List ℕ → List (List ℕ)
 lines_of text = without_empty_end (slice_split is_line_feed text)

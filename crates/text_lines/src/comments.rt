@@ -17,7 +17,7 @@ pub fn begins_comment(word: &[u8]) -> bool
     !word.is_empty() && word[0] == b'#'
 }
 
-/// Whether the first word of a line begins a comment of DIMACS or LRAT.
+/// Whether the first word of a line begins a comment of DIMACS or LRAT (CADE 2017).
 pub fn begins_dimacs_comment(word: &[u8]) -> bool
     ensures { result ≡ (slice_index word.now 0 == 99) }
 {

@@ -3,8 +3,8 @@
 use std::alloc::{AllocError, AllocFailed};
 use std::fmt;
 
-/// What may be wrong, as one of a table of causes. Number 1 is no cause's, since it is that of a lack of memory.
-pub trait Cause: Copy {
+/// What may be wrong, as one of a table of causes. Number 1 is no cause's, since it says that memory ran out.
+pub trait FaultCause: Copy {
     ghost use Rattle.std.specs.Prelude.{◌≡◌, ℕ, List};
 
     ghost number_of: { Self → ℕ };
@@ -22,24 +22,24 @@ pub trait Cause: Copy {
 
 /// Why something is refused.
 #[derive(Clone, Copy, Debug, PartialEq, Eq)]
-pub enum Fault<C> {
-    /// There was no memory.
+pub enum PlacedFault<C> {
+    /// Memory ran out.
     OutOfMemory,
     /// This is wrong, at this place: a line, a step, a clause, a leaf or a count. The table of causes says which of these.
     At(C, usize),
 }
 
-impl<C: Cause> Fault<C> {
+impl<C: FaultCause> PlacedFault<C> {
     ghost use Rattle.std.specs.Prelude.{◌≡◌};
     ghost use Rattle.text_lines.specs.Fault.{fault_number, fault_name, fault_place};
 
-    /// Its number: 1 where there was no memory, else its cause's.
+    /// Its number: 1 if memory ran out, else its cause's.
     pub fn number(&self) -> u8
         ensures { result ≡ fault_number C.number_of self.now }
     {
         match self {
-            Fault::OutOfMemory => 1,
-            Fault::At(cause, _) => cause.number(),
+            PlacedFault::OutOfMemory => 1,
+            PlacedFault::At(cause, _) => cause.number(),
         }
     }
 
@@ -48,23 +48,23 @@ impl<C: Cause> Fault<C> {
         ensures { result.now ≡ fault_name C.name_of self.now }
     {
         match self {
-            Fault::OutOfMemory => "OutOfMemory",
-            Fault::At(cause, _) => cause.name(),
+            PlacedFault::OutOfMemory => "OutOfMemory",
+            PlacedFault::At(cause, _) => cause.name(),
         }
     }
 
-    /// The place of its cause, where it has one.
+    /// The place of its cause, if it has one.
     pub fn place(&self) -> Option<usize>
         ensures { result ≡ fault_place self.now }
     {
         match self {
-            Fault::OutOfMemory => None,
-            Fault::At(_, place) => Some(*place),
+            PlacedFault::OutOfMemory => None,
+            PlacedFault::At(_, place) => Some(*place),
         }
     }
 }
 
-impl<C: Cause> fmt::Display for Fault<C> {
+impl<C: FaultCause> fmt::Display for PlacedFault<C> {
     ghost use Rattle.std.specs.Prelude.{Some};
     ghost use Rattle.text_lines.specs.Fault.{printed};
 
@@ -80,24 +80,24 @@ impl<C: Cause> fmt::Display for Fault<C> {
     }
 }
 
-impl<C> From<AllocError> for Fault<C> {
+impl<C> From<AllocError> for PlacedFault<C> {
     ghost use Rattle.std.specs.Prelude.{◌≡◌};
-    ghost use Rattle.text_lines.specs.declared.fault.Fault.TheVariants.{OutOfMemory};
+    ghost use Rattle.text_lines.specs.declared.fault.PlacedFault.TheVariants.{OutOfMemory};
 
     ghost from_gives = { λ _ fault. fault ≡ OutOfMemory };
 
-    fn from(_error: AllocError) -> Fault<C> {
-        Fault::OutOfMemory
+    fn from(_error: AllocError) -> PlacedFault<C> {
+        PlacedFault::OutOfMemory
     }
 }
 
-impl<C, T: Drop> From<AllocFailed<T>> for Fault<C> {
+impl<C, T: Drop> From<AllocFailed<T>> for PlacedFault<C> {
     ghost use Rattle.std.specs.Prelude.{◌≡◌};
-    ghost use Rattle.text_lines.specs.declared.fault.Fault.TheVariants.{OutOfMemory};
+    ghost use Rattle.text_lines.specs.declared.fault.PlacedFault.TheVariants.{OutOfMemory};
 
     ghost from_gives = { λ _ fault. fault ≡ OutOfMemory };
 
-    fn from(_error: AllocFailed<T>) -> Fault<C> {
-        Fault::OutOfMemory
+    fn from(_error: AllocFailed<T>) -> PlacedFault<C> {
+        PlacedFault::OutOfMemory
     }
 }

@@ -3,7 +3,7 @@
 ghost use Rattle.std.specs.Prelude.{◌≡◌, ℕ, List, Option, ◌⊎◌};
 ghost use Rattle.text_lines.specs.FirstFault.{IsFaultless, IsFirstFault};
 
-/// A list has one first fault at most.
+/// A list has at most one first fault.
 pub fn one_first_fault<A, F>()
     ensures { (fault : List A → A → Option F) (items : List A) (p q : ℕ) (f g : F) →
         IsFirstFault fault items p f → IsFirstFault fault items q g → (p ≡ q) × (f ≡ g) }

@@ -20,7 +20,7 @@ fn has_digits_alone(word: &[u8]) -> bool
     !word.is_empty() && all_digits(word)
 }
 
-/// The number that the digits of `value` write with one more digit after them, where it is below 2^64.
+/// The number that the digits of `value` write with one more digit after them, if it is below 2^64.
 fn with_digit(value: u64, digit: u8) -> Option<u64>
     requires { is_ascii_digit digit ≡ true }
     ensures { result ≡ (if nat_lt (value * 10 + digit_value digit) (2 ^ 64) then Some (value * 10 + digit_value digit) else None) }
@@ -29,7 +29,7 @@ fn with_digit(value: u64, digit: u8) -> Option<u64>
     shifted.checked_add(u64::from(digit - b'0'))
 }
 
-/// The value of a word of digits, where it is below 2^64. Within a large function the loop would keep the value on the
+/// The value of a word of digits, if it is below 2^64. Within a large function the loop would keep the value on the
 /// stack, which makes each digit wait for the one before it.
 #[inline(never)]
 fn value_of_digits(digits: &[u8]) -> Option<u64>
@@ -43,7 +43,7 @@ fn value_of_digits(digits: &[u8]) -> Option<u64>
     Some(value)
 }
 
-/// The value of a plain number, `0` or a digit from 1 to 9 followed by digits, where it is at most `most`.
+/// The value of a plain number, `0` or a digit from 1 to 9 followed by digits, if it is at most `most`.
 pub fn read_plain(word: &[u8], most: u64) -> Option<u64>
     ensures { result ≡ plain_number_up_to most word.now }
 {
@@ -63,12 +63,12 @@ pub fn read_digits(word: &[u8], most: u64) -> Option<u64>
     value_of_digits(word).filter(|value| *value <= most)
 }
 
-/// A number as solvers write it: its sign and its absolute value, where that is below 2^64.
+/// A number as solvers write it: its sign and its absolute value, if that is below 2^64.
 #[derive(Clone, Copy, Debug, PartialEq, Eq)]
 pub struct SolverNumber {
     /// Whether a minus stands before it.
     pub is_negative: bool,
-    /// Its absolute value, or nothing where that is 2^64 or more.
+    /// Its absolute value, or nothing if that is 2^64 or more.
     pub magnitude: Option<u64>,
 }
 

@@ -1,23 +1,23 @@
-//! Why a call of `vsc` refuses, where no place is to be named: a cause, or that memory ran out.
+//! Why a call of `vsc` refuses, if no place is named: a cause, or that memory ran out.
 
-use crate::fault::{Cause, Fault};
+use crate::fault::{FaultCause, PlacedFault};
 use std::alloc::{AllocError, AllocFailed};
 use std::fmt;
 
-/// Why something is refused that stands nowhere in a text.
+/// A refusal without a position.
 #[derive(Clone, Copy, Debug, PartialEq, Eq)]
 pub enum PlainFault<C> {
-    /// There was no memory.
+    /// Memory ran out.
     OutOfMemory,
     /// This is wrong.
     For(C),
 }
 
-impl<C: Cause> PlainFault<C> {
+impl<C: FaultCause> PlainFault<C> {
     ghost use Rattle.std.specs.Prelude.{◌≡◌};
     ghost use Rattle.text_lines.specs.PlainFault.{fault_number, fault_name, fault_at};
 
-    /// Its number: 1 where there was no memory, else its cause's.
+    /// Its number: 1 if memory ran out, else its cause's.
     pub fn number(&self) -> u8
         ensures { result ≡ fault_number C.number_of self.now }
     {
@@ -37,18 +37,18 @@ impl<C: Cause> PlainFault<C> {
         }
     }
 
-    /// The same, where its cause is found to be at this place.
-    pub fn at(self, place: usize) -> Fault<C>
+    /// The same fault at this place, if it has a cause.
+    pub fn at(self, place: usize) -> PlacedFault<C>
         ensures { result ≡ fault_at self place }
     {
         match self {
-            PlainFault::OutOfMemory => Fault::OutOfMemory,
-            PlainFault::For(cause) => Fault::At(cause, place),
+            PlainFault::OutOfMemory => PlacedFault::OutOfMemory,
+            PlainFault::For(cause) => PlacedFault::At(cause, place),
         }
     }
 }
 
-impl<C: Cause> fmt::Display for PlainFault<C> {
+impl<C: FaultCause> fmt::Display for PlainFault<C> {
     ghost use Rattle.std.specs.Prelude.{Some};
     ghost use Rattle.text_lines.specs.PlainFault.{printed};
 

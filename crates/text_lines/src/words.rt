@@ -46,7 +46,7 @@ fn cut_at_blank(line: &[u8]) -> (&[u8], &[u8])
     }
 }
 
-/// The first word of the line and what follows it; nothing where the line has no word.
+/// The first word of the line and what follows it; nothing if the line has no word.
 pub fn cut_word(line: &[u8]) -> Option<(&[u8], &[u8])>
     ensures words { MatchOption result (words_of line.now ≡ []) (λ cut. words_of line.now ≡ cut.0.now ∷ words_of cut.1.now) }
     ensures shorter { MatchOption result (words_of line.now ≡ []) (λ cut. length cut.1.now < length line.now) }
@@ -57,7 +57,7 @@ pub fn cut_word(line: &[u8]) -> Option<(&[u8], &[u8])>
     }
 }
 
-/// The first words of the line, `most` of them at most.
+/// The first words of the line, at most `most` of them.
 pub fn first_words(alloc: Global, line: &[u8], most: usize) -> Result<Vec<&[u8]>, AllocError>
     ensures { IfOk result (λ words. map (λ word. word.now) words.items ≡ take most (words_of line.now)) }
 {

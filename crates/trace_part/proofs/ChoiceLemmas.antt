@@ -5,11 +5,11 @@ use Rattle.std.specs.List.{list_any}
 use Rattle.std.proofs.lemmas.List.{take_more}
 use Rattle.text_lines.specs.FirstFault.{IsFirstFault}
 use Rattle.text_lines.proofs.FaultLemmas.{faultless_push}
-use Rattle.traces.specs.declared.operation.OpName.{OpName}
-use Rattle.traces.specs.Judgement.{has_come}
-use Rattle.traces.specs.Operation.{same_op}
-use Rattle.traces.specs.Trace.{TraceValue}
-use Rattle.traces.proofs.NameLemmas.{name_turned}
+use Rattle.trace_semantics.specs.declared.operation.OpName.{OpName}
+use Rattle.trace_semantics.specs.Judgement.{has_come}
+use Rattle.trace_semantics.specs.Operation.{same_op}
+use Rattle.trace_semantics.specs.Trace.{TraceValue}
+use Rattle.trace_semantics.proofs.NameLemmas.{name_turned}
 use Rattle.trace_part.specs.declared.part_fault.PartCause.{PartCause}
 use Rattle.trace_part.specs.Choice.{fault_of_choice, IsChoice}
 

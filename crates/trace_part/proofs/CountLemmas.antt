@@ -7,12 +7,12 @@ use Rattle.std.specs.Str.{bytes_eq}
 use Rattle.std.proofs.lemmas.Bool.{le-leb, false_from_ne_true, leb-true, cases_lt, lt-ltb}
 use Rattle.std.proofs.lemmas.Option.{same_Some, slice_get-map, slice_get_past}
 use Rattle.std.proofs.lemmas.List.Elements.{filter-append}
-use Rattle.traces.specs.declared.operation.Op.{Op}
-use Rattle.traces.specs.declared.operation.OpName.{OpName}
-use Rattle.traces.specs.declared.trace.Process.{Process}
-use Rattle.traces.specs.Trace.{TraceValue, at_place, process_named, operation_at, first_names}
-use Rattle.traces.proofs.ElementLemmas.{head_in, tail_in}
-use Rattle.traces.proofs.NameLemmas.{from_first}
+use Rattle.trace_semantics.specs.declared.operation.Op.{Op}
+use Rattle.trace_semantics.specs.declared.operation.OpName.{OpName}
+use Rattle.trace_semantics.specs.declared.trace.Process.{Process}
+use Rattle.trace_semantics.specs.Trace.{TraceValue, at_place, process_named, operation_at, first_names}
+use Rattle.trace_semantics.proofs.ElementLemmas.{head_in, tail_in}
+use Rattle.trace_semantics.proofs.NameLemmas.{from_first}
 use Rattle.restriction.specs.Left.{is_left, names_of}
 use Rattle.trace_part.specs.Rows.{LeftValue, left_value, Leaves}
 use Rattle.restriction.proofs.LeftLemmas.{found_process}

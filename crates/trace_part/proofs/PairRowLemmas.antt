@@ -9,13 +9,13 @@ use Rattle.std.proofs.lemmas.List.{take_all}
 use Rattle.std.proofs.lemmas.List.{length-map, map-append, map_more, take_more, get_or-map, get_or_default}
 use Rattle.std.proofs.lemmas.List.Kept.{AllPairs-filter, AllPairs-cons}
 use Rattle.std.proofs.lemmas.List.Elements.{Contains-get_or, filter-append}
-use Rattle.traces.specs.declared.operation.Op.{Op}
-use Rattle.traces.specs.declared.operation.OpName.{OpName}
-use Rattle.traces.specs.declared.trace.Process.{Process}
-use Rattle.traces.specs.PairOrder.{order_of}
-use Rattle.traces.specs.Trace.{TraceValue, IsTrace, operation_at, operation_names, first_names}
-use Rattle.traces.proofs.ElementLemmas.{head_in, tail_in, from_filter, from_map, from_flat_map}
-use Rattle.traces.proofs.NameLemmas.{from_first, known_named}
+use Rattle.trace_semantics.specs.declared.operation.Op.{Op}
+use Rattle.trace_semantics.specs.declared.operation.OpName.{OpName}
+use Rattle.trace_semantics.specs.declared.trace.Process.{Process}
+use Rattle.trace_semantics.specs.PairOrder.{order_of}
+use Rattle.trace_semantics.specs.Trace.{TraceValue, IsTrace, operation_at, operation_names, first_names}
+use Rattle.trace_semantics.proofs.ElementLemmas.{head_in, tail_in, from_filter, from_map, from_flat_map}
+use Rattle.trace_semantics.proofs.NameLemmas.{from_first, known_named}
 use Rattle.trace_part.specs.declared.left_names.LeftName.{LeftName}
 use Rattle.trace_part.specs.Told.{groups_of, told_pairs}
 use Rattle.restriction.specs.Left.{is_left, new_name, new_pair, names_of}

@@ -5,11 +5,11 @@ use Rattle.std.specs.List.{filter, slice_get}
 use Rattle.std.specs.Option.{option_and_then, option_map}
 use Rattle.std.specs.Str.{bytes_eq}
 use Rattle.std.proofs.lemmas.Option.{slice_get-map}
-use Rattle.traces.specs.declared.operation.Op.{Op}
-use Rattle.traces.specs.declared.operation.OpName.{OpName}
-use Rattle.traces.specs.declared.trace.Process.{Process}
-use Rattle.traces.specs.Judgement.{has_come}
-use Rattle.traces.specs.Trace.{TraceValue, IsTrace, at_place, operation_at}
+use Rattle.trace_semantics.specs.declared.operation.Op.{Op}
+use Rattle.trace_semantics.specs.declared.operation.OpName.{OpName}
+use Rattle.trace_semantics.specs.declared.trace.Process.{Process}
+use Rattle.trace_semantics.specs.Judgement.{has_come}
+use Rattle.trace_semantics.specs.Trace.{TraceValue, IsTrace, at_place, operation_at}
 use Rattle.restriction.specs.Left.{is_left, new_name, names_of}
 use Rattle.restriction.proofs.LeftLemmas.{has_old, old_known}
 use Rattle.part_law.specs.Part.{stays, part}

@@ -11,19 +11,19 @@ use Rattle.std.proofs.lemmas.Grind.{flat_map-append}
 use Rattle.std.proofs.lemmas.List.Elements.{Contains-get_or, filter-append, filter_map-append}
 use Rattle.std.proofs.lemmas.Option.{same_Some, slice_get_within, slice_get-get_or, slice_get_read}
 use Rattle.std.proofs.lemmas.List.Sums.{get_or-le-sum_by}
-use Rattle.traces.specs.declared.operation.Op.{Op}
-use Rattle.traces.specs.declared.operation.OpName.{OpName}
-use Rattle.traces.specs.declared.trace.Process.{Process}
-use Rattle.traces.specs.Judgement.{is_held}
-use Rattle.traces.specs.Operation.{same_op}
-use Rattle.traces.specs.PairOrder.{order_of}
-use Rattle.traces.specs.Trace.{TraceValue, IsTrace, at_place, process_named, operation_at, operation_names, first_names}
-use Rattle.traces.specs.ValueAfter.{value_left_at}
-use Rattle.traces.proofs.ElementLemmas.{head_in, tail_in, from_filter}
-use Rattle.traces.proofs.NameLemmas.{same_bytes, bytes_same, from_first, listed_known}
-use Rattle.traces.proofs.ProcessOrderLemmas.{same_process}
-use Rattle.forced_order.specs.declared.numbered.Numbered.{Numbered}
-use Rattle.trace_part.specs.declared.writers.Writer.{Writer}
+use Rattle.trace_semantics.specs.declared.operation.Op.{Op}
+use Rattle.trace_semantics.specs.declared.operation.OpName.{OpName}
+use Rattle.trace_semantics.specs.declared.trace.Process.{Process}
+use Rattle.trace_semantics.specs.Judgement.{is_held}
+use Rattle.trace_semantics.specs.Operation.{same_op}
+use Rattle.trace_semantics.specs.PairOrder.{order_of}
+use Rattle.trace_semantics.specs.Trace.{TraceValue, IsTrace, at_place, process_named, operation_at, operation_names, first_names}
+use Rattle.trace_semantics.specs.ValueAfter.{value_left_at}
+use Rattle.trace_semantics.proofs.ElementLemmas.{head_in, tail_in, from_filter}
+use Rattle.trace_semantics.proofs.NameLemmas.{same_bytes, bytes_same, from_first, listed_known}
+use Rattle.trace_semantics.proofs.ProcessOrderLemmas.{same_process}
+use Rattle.forced_order.specs.declared.numbered.OperationNumber.{OperationNumber}
+use Rattle.trace_part.specs.declared.writers.ChosenWriter.{ChosenWriter}
 use Rattle.restriction.specs.Left.{is_left, names_of}
 use Rattle.part_law.specs.Part.{writes_at, writers_of, may_be_source, sources, may_be_last, last_writers, stays_of, stays, stays_final}
 use Rattle.forced_order.specs.Rows.{OrderValue, stands_by, numbered, ordered_by}
@@ -36,14 +36,14 @@ one_row : {X Y : Type 0} (f : X → Option Y) (x : X) (o : Option Y) → o ≡ f
 one_row f x o e = sym (ap (λ v. cons_option v []) e)
 
 -- one more operation
-pub one_more_row : (p : Process) (number : ℕ) (chosen : OpName → Bool) (location : List ℕ) (k : ℕ) (o : Option Writer) → o ≡ row_in p number chosen location (record { process = p.name; place = k + 1 }) →
+pub one_more_row : (p : Process) (number : ℕ) (chosen : OpName → Bool) (location : List ℕ) (k : ℕ) (o : Option ChosenWriter) → o ≡ row_in p number chosen location (record { process = p.name; place = k + 1 }) →
     filter_map (row_in p number chosen location) (first_names p.name (k + 1)) ≡ filter_map (row_in p number chosen location) (first_names p.name k) ++ cons_option o []
 one_more_row p number chosen location k o e =
     ap (filter_map (row_in p number chosen location)) (one_more_name p.name k)
     ∙ filter_map-append (row_in p number chosen location) (first_names p.name k) (record { process = p.name; place = k + 1 } ∷ [])
     ∙ ap (λ l. filter_map (row_in p number chosen location) (first_names p.name k) ++ l) (one_row (row_in p number chosen location) (record { process = p.name; place = k + 1 }) o e)
 
-pub pushed : (p : Process) (number : ℕ) (chosen : OpName → Bool) (location : List ℕ) (k : ℕ) (start old : List Writer) (o : Option Writer) → old ≡ start ++ filter_map (row_in p number chosen location) (first_names p.name k) →
+pub pushed : (p : Process) (number : ℕ) (chosen : OpName → Bool) (location : List ℕ) (k : ℕ) (start old : List ChosenWriter) (o : Option ChosenWriter) → old ≡ start ++ filter_map (row_in p number chosen location) (first_names p.name k) →
     o ≡ row_in p number chosen location (record { process = p.name; place = k + 1 }) → old ++ cons_option o [] ≡ start ++ filter_map (row_in p number chosen location) (first_names p.name (k + 1))
 pushed p number chosen location k start old o e f =
     ap (λ l. l ++ cons_option o []) e ∙ append_assoc start (filter_map (row_in p number chosen location) (first_names p.name k)) (cons_option o [])
@@ -61,7 +61,7 @@ order_is (p ∷ ps) apart (suc k) d l =
 
 -- the rows of a process are those of its names
 module _ (t : TraceValue) (chosen : OpName → Bool) (location : List ℕ) (p : Process) (number : ℕ) (order : order_of t.processes p.name ≡ number) (found : process_named t p.name ≡ Some p) where
-  row_for : OpName → ℕ → Writer
+  row_for : OpName → ℕ → ChosenWriter
   row_for n d = record { name = record { process = number; place = n.place }; value = Some d; chosen = chosen n }
 
   value_there : (n : OpName) → n.process ≡ p.name → value_left_at t location n ≡ option_and_then (left_there location) (at_place p.operations n.place)
@@ -90,7 +90,7 @@ flat_step f xs k d l =
     ap (flat_map f) (take_more xs k d l) ∙ flat_map-append f (take k xs) (get_or xs k d ∷ []) ∙ ap (λ ys. flat_map f (take k xs) ++ ys) (append-nil (f (get_or xs k d)))
 
 -- one more process
-pub more_rows : (t : TraceValue) → IsTrace t → (chosen : OpName → Bool) (location : List ℕ) (ps : List Process) → ps ≡ t.processes → (k : ℕ) (p : Process) (old new : List Writer) → k < length ps → p ≡ get_or ps k p →
+pub more_rows : (t : TraceValue) → IsTrace t → (chosen : OpName → Bool) (location : List ℕ) (ps : List Process) → ps ≡ t.processes → (k : ℕ) (p : Process) (old new : List ChosenWriter) → k < length ps → p ≡ get_or ps k p →
     old ≡ map (row_of t chosen location) (filter (writes_at t location) (flat_map names_of (take k ps))) → new ≡ old ++ rows_in p k chosen location →
     new ≡ map (row_of t chosen location) (filter (writes_at t location) (flat_map names_of (take (k + 1) ps)))
 more_rows t ok chosen location ps same k p old new l at e f =
@@ -111,11 +111,11 @@ same_number t m n h k =
 
 -- what the rows say
 module _ (t : TraceValue) (order : OrderValue) (chosen : OpName → Bool) (location : List ℕ) where
-  any_row : (f : Writer → Bool) (names : List OpName) → list_any f (map (row_of t chosen location) names) ≡ list_any (λ n. f (row_of t chosen location n)) names
+  any_row : (f : ChosenWriter → Bool) (names : List OpName) → list_any f (map (row_of t chosen location) names) ≡ list_any (λ n. f (row_of t chosen location n)) names
   any_row f [] = refl
   any_row f (n ∷ names) = ap (λ b. f (row_of t chosen location n) || b) (any_row f names)
 
-  all_or : (q : OpName → Bool) (names : List OpName) (f : Writer → Bool) → ((n : OpName) → Contains names n → f (row_of t chosen location n) ≡ (chosen n || not (q n))) → list_all f (map (row_of t chosen location) names) ≡ list_all chosen (filter q names)
+  all_or : (q : OpName → Bool) (names : List OpName) (f : ChosenWriter → Bool) → ((n : OpName) → Contains names n → f (row_of t chosen location n) ≡ (chosen n || not (q n))) → list_all f (map (row_of t chosen location) names) ≡ list_all chosen (filter q names)
   all_or q [] f h = refl
   all_or q (n ∷ names) f h = (λ i. h n (head_in n names) i && all_or q names f (λ m c. h m (tail_in n names m c)) i) ∙ by (q n)
     where
@@ -135,23 +135,23 @@ module _ (t : TraceValue) (order : OrderValue) (chosen : OpName → Bool) (locat
   same_numbers : (m n : OpName) → IsSome (operation_at t m) → IsSome (operation_at t n) → is_same (numbered t.processes m) (numbered t.processes n) ≡ same_op m n
   same_numbers m n h k = ap (λ b. b && (m.place == n.place)) (same_number t m n h k)
 
-  pub sources_are : IsTrace t → (n : OpName) (reader : Numbered) (d : ℕ) → IsSome (operation_at t n) → numbered t.processes n ≡ reader →
-      list_all (λ (w : Writer). w.chosen || not (row_is_source order (rows_of t chosen location) reader d w)) (rows_of t chosen location) ≡ list_all chosen (sources t (ordered_by t order) n location d)
+  pub sources_are : IsTrace t → (n : OpName) (reader : OperationNumber) (d : ℕ) → IsSome (operation_at t n) → numbered t.processes n ≡ reader →
+      list_all (λ (w : ChosenWriter). w.chosen || not (row_is_source order (rows_of t chosen location) reader d w)) (rows_of t chosen location) ≡ list_all chosen (sources t (ordered_by t order) n location d)
   sources_are ok n reader d known e =
-      all_or (may_be_source t (ordered_by t order) n location d) (writers_of t location) (λ (w : Writer). w.chosen || not (row_is_source order (rows_of t chosen location) reader d w)) (λ w c.
-      ap (λ b. chosen w || not (is_held (value_left_at t location w) d && b)) (λ i. not (same_as w c i) && (not (stands_by order (sym e i) (numbered t.processes w)) && not (any_row (λ (x : Writer). stands_by order (numbered t.processes w) x.name && stands_by order x.name (sym e i)) (writers_of t location) i))))
+      all_or (may_be_source t (ordered_by t order) n location d) (writers_of t location) (λ (w : ChosenWriter). w.chosen || not (row_is_source order (rows_of t chosen location) reader d w)) (λ w c.
+      ap (λ b. chosen w || not (is_held (value_left_at t location w) d && b)) (λ i. not (same_as w c i) && (not (stands_by order (sym e i) (numbered t.processes w)) && not (any_row (λ (x : ChosenWriter). stands_by order (numbered t.processes w) x.name && stands_by order x.name (sym e i)) (writers_of t location) i))))
     where
       same_as : (w : OpName) → Contains (writers_of t location) w → is_same (numbered t.processes w) reader ≡ same_op w n
       same_as w c = ap (is_same (numbered t.processes w)) (sym e) ∙ same_numbers w n (listed_known t ok w (from_filter (writes_at t location) (operation_names t) w c).0) known
 
-  pub last_are : (d : ℕ) → list_all (λ (w : Writer). w.chosen || not (row_is_last order (rows_of t chosen location) d w)) (rows_of t chosen location) ≡ list_all chosen (last_writers t (ordered_by t order) location d)
+  pub last_are : (d : ℕ) → list_all (λ (w : ChosenWriter). w.chosen || not (row_is_last order (rows_of t chosen location) d w)) (rows_of t chosen location) ≡ list_all chosen (last_writers t (ordered_by t order) location d)
   last_are d =
-      all_or (may_be_last t (ordered_by t order) location d) (writers_of t location) (λ (w : Writer). w.chosen || not (row_is_last order (rows_of t chosen location) d w)) (λ w c.
-      ap (λ b. chosen w || not (is_held (value_left_at t location w) d && not b)) (any_row (λ (x : Writer). stands_by order (numbered t.processes w) x.name) (writers_of t location)))
+      all_or (may_be_last t (ordered_by t order) location d) (writers_of t location) (λ (w : ChosenWriter). w.chosen || not (row_is_last order (rows_of t chosen location) d w)) (λ w c.
+      ap (λ b. chosen w || not (is_held (value_left_at t location w) d && not b)) (any_row (λ (x : ChosenWriter). stands_by order (numbered t.processes w) x.name) (writers_of t location)))
 
-  pub final_is : (d : ℕ) → (list_all (λ (w : Writer). w.chosen || not (row_is_last order (rows_of t chosen location) d w)) (rows_of t chosen location) && (list_any (λ (w : Writer). w.chosen) (rows_of t chosen location) || (length (rows_of t chosen location) == 0)))
+  pub final_is : (d : ℕ) → (list_all (λ (w : ChosenWriter). w.chosen || not (row_is_last order (rows_of t chosen location) d w)) (rows_of t chosen location) && (list_any (λ (w : ChosenWriter). w.chosen) (rows_of t chosen location) || (length (rows_of t chosen location) == 0)))
       ≡ stays_final t (ordered_by t order) chosen (location, d)
-  final_is d = λ i. last_are d i && (any_row (λ (w : Writer). w.chosen) (writers_of t location) i || (length-map (writers_of t location) (row_of t chosen location) i == 0))
+  final_is d = λ i. last_are d i && (any_row (λ (w : ChosenWriter). w.chosen) (writers_of t location) i || (length-map (writers_of t location) (row_of t chosen location) i == 0))
 
 -- an operation by its number and place
 pub stays_here : (t : TraceValue) → IsTrace t → (order : OrderValue) (chosen : OpName → Bool) (number : ℕ) (p : Process) (k : ℕ) (op : Op) (left : Option Op) → slice_get t.processes number ≡ Some p → slice_get p.operations k ≡ Some op →

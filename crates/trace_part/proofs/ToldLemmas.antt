@@ -6,7 +6,7 @@ use Rattle.std.proofs.lemmas.Bool.{and_parts, and_from, leb-true, le-leb, eqb-tr
 use Rattle.std.proofs.lemmas.List.Elements.{Contains-append_cases, Contains-append_left, Contains-append_right, filter-append}
 use Rattle.std.proofs.lemmas.Grind.{flat_map-append}
 use Rattle.text_lines.proofs.BoolLemmas.{same_truth}
-use Rattle.traces.proofs.ElementLemmas.{none_in, cases_in, head_in, tail_in, some_passes, passes_some}
+use Rattle.trace_semantics.proofs.ElementLemmas.{none_in, cases_in, head_in, tail_in, some_passes, passes_some}
 use Rattle.forced_order.specs.Rows.{OrderValue, last_before, stands_by}
 use Rattle.restriction.proofs.OrderedPairLemmas.{above_first, behind_first}
 use Rattle.trace_part.specs.declared.left_names.LeftName.{LeftName}

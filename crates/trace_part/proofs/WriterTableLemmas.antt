@@ -6,19 +6,19 @@ use Rattle.std.specs.Option.{option_and_then}
 use Rattle.std.specs.Str.{bytes_eq}
 use Rattle.std.proofs.lemmas.Bool.{cases_Bool, false_from_ne_true}
 use Rattle.std.proofs.lemmas.List.{take_more}
-use Rattle.traces.specs.declared.operation.Op.{Op}
-use Rattle.traces.specs.declared.operation.OpName.{OpName}
-use Rattle.traces.specs.declared.trace.Process.{Process}
-use Rattle.traces.specs.NameNumbers.{number_of}
-use Rattle.traces.specs.Operation.{location_of, value_left}
-use Rattle.traces.specs.Trace.{TraceValue, IsTrace, operation_at, operation_names}
-use Rattle.traces.proofs.ElementLemmas.{passes_some}
-use Rattle.traces.proofs.NameLemmas.{same_bytes}
+use Rattle.trace_semantics.specs.declared.operation.Op.{Op}
+use Rattle.trace_semantics.specs.declared.operation.OpName.{OpName}
+use Rattle.trace_semantics.specs.declared.trace.Process.{Process}
+use Rattle.trace_semantics.specs.NameNumbers.{number_of}
+use Rattle.trace_semantics.specs.Operation.{location_of, written_value}
+use Rattle.trace_semantics.specs.Trace.{TraceValue, IsTrace, operation_at, operation_names}
+use Rattle.trace_semantics.proofs.ElementLemmas.{passes_some}
+use Rattle.trace_semantics.proofs.NameLemmas.{same_bytes}
 use Rattle.restriction.specs.Restriction.{left_by}
 use Rattle.restriction.proofs.TraceLeftLemmas.{op_listed}
 use Rattle.part_law.specs.Part.{writes_at}
 use Rattle.trace_part.specs.declared.writer_table.WriterTable.{WriterTable}
-use Rattle.trace_part.specs.declared.writers.Writer.{Writer}
+use Rattle.trace_part.specs.declared.writers.ChosenWriter.{ChosenWriter}
 use Rattle.trace_part.specs.Rows.{row_of, rows_of}
 use Rattle.trace_part.specs.WriterTables.{list_or_none, has_location, works_on, has_on, IsSoundTable, IsTable}
 use Rattle.trace_part.proofs.ChoiceLemmas.{any_more}
@@ -34,7 +34,7 @@ any_of_more p xs k x old l at =
     turned false b c = refl
 
 -- one more location
-module _ (t : TraceValue) (chosen : OpName → Bool) (location : List ℕ) (old new : WriterTable) (rows : List Writer) (rows_are : rows ≡ rows_of t chosen location) (listed : new.lists.items ≡ old.lists.items ++ rows ∷ []) (number : ℕ) (count : number ≡ length old.lists.items)
+module _ (t : TraceValue) (chosen : OpName → Bool) (location : List ℕ) (old new : WriterTable) (rows : List ChosenWriter) (rows_are : rows ≡ rows_of t chosen location) (listed : new.lists.items ≡ old.lists.items ++ rows ∷ []) (number : ℕ) (count : number ≡ length old.lists.items)
     (updated : (q : List ℕ) → number_of new.numbers q ≡ cond (bytes_eq location q) (Some number) (number_of old.numbers q)) where
   get_first : {X : Type 0} (xs : List X) (x : X) (k : ℕ) (y : X) → slice_get xs k ≡ Some y → slice_get (xs ++ x ∷ []) k ≡ Some y
   get_first [] x k y e = absurd (cc)
@@ -78,7 +78,7 @@ module _ (t : TraceValue) (ok : IsTrace t) (chosen : OpName → Bool) (table : W
   works q n None e h = absurd (cc)
   works q n (Some op) e h =
       let at = op_listed t n op e in
-      all q ∙ passes_some (has_on q) t.processes at.process at.listed (passes_some (works_on q) at.process.operations op at.there (same (bytes_eq (location_of op) q) (value_left op) h))
+      all q ∙ passes_some (has_on q) t.processes at.process at.listed (passes_some (works_on q) at.process.operations op at.there (same (bytes_eq (location_of op) q) (written_value op) h))
     where
       same : (b : Bool) (v : Option ℕ) → is_some (cond b v None) ≡ true → b ≡ true
       same true v k = refl

@@ -1,9 +1,9 @@
 -- What is wrong with the names of a choice of operations.
 use Rattle.std.specs.Prelude.{List, Option, Some, None, is_some, not, if◌then◌else◌}
 use Rattle.text_lines.specs.FirstFault.{IsFaultless}
-use Rattle.traces.specs.declared.operation.OpName.{OpName}
-use Rattle.traces.specs.Judgement.{has_come}
-use Rattle.traces.specs.Trace.{TraceValue, operation_at}
+use Rattle.trace_semantics.specs.declared.operation.OpName.{OpName}
+use Rattle.trace_semantics.specs.Judgement.{has_come}
+use Rattle.trace_semantics.specs.Trace.{TraceValue, operation_at}
 use Rattle.trace_part.specs.declared.part_fault.PartCause.{PartCause}
 use Rattle.trace_part.specs.declared.part_fault.PartCause.TheVariants.{UnknownOp, RepeatedOp}
 

@@ -3,49 +3,49 @@ use Rattle.std.specs.Prelude.{◌≡◌, ◌&&◌, ◌||◌, not, nat_le, nat_lt
 use Rattle.std.specs.List.{list_any, filter, filter_map, flat_map}
 use Rattle.std.specs.Option.{option_and_then, option_map}
 use Rattle.std.specs.Str.{bytes_eq}
-use Rattle.traces.specs.declared.operation.Op.{Op}
-use Rattle.traces.specs.declared.operation.OpName.{OpName}
-use Rattle.traces.specs.declared.trace.Process.{Process}
-use Rattle.traces.specs.Judgement.{is_held}
-use Rattle.traces.specs.Operation.{location_of, value_left}
-use Rattle.traces.specs.Trace.{TraceValue, at_place, operation_at}
-use Rattle.traces.specs.ValueAfter.{value_left_at}
-use Rattle.forced_order.specs.declared.numbered.Numbered.{Numbered}
+use Rattle.trace_semantics.specs.declared.operation.Op.{Op}
+use Rattle.trace_semantics.specs.declared.operation.OpName.{OpName}
+use Rattle.trace_semantics.specs.declared.trace.Process.{Process}
+use Rattle.trace_semantics.specs.Judgement.{is_held}
+use Rattle.trace_semantics.specs.Operation.{location_of, written_value}
+use Rattle.trace_semantics.specs.Trace.{TraceValue, at_place, operation_at}
+use Rattle.trace_semantics.specs.ValueAfter.{value_left_at}
+use Rattle.forced_order.specs.declared.numbered.OperationNumber.{OperationNumber}
 use Rattle.trace_part.specs.declared.left_names.LeftName.{LeftName}
-use Rattle.trace_part.specs.declared.writers.Writer.{Writer}
+use Rattle.trace_part.specs.declared.writers.ChosenWriter.{ChosenWriter}
 use Rattle.restriction.specs.Left.{is_left, new_name, names_of}
 use Rattle.forced_order.specs.Rows.{OrderValue, stands_by, numbered}
 use Rattle.part_law.specs.Part.{writers_of}
 
 -- a writer of the location, by numbers
-abbrev pub row_of : TraceValue → (OpName → Bool) → List ℕ → OpName → Writer
+abbrev pub row_of : TraceValue → (OpName → Bool) → List ℕ → OpName → ChosenWriter
 row_of t chosen location n = record { name = numbered t.processes n; value = value_left_at t location n; chosen = chosen n }
 
 -- what the operation leaves at the location, if it writes there
 abbrev pub left_there : List ℕ → Op → Option ℕ
-left_there location op = if bytes_eq (location_of op) location then value_left op else None
+left_there location op = if bytes_eq (location_of op) location then written_value op else None
 
 -- the operation at a place of a process as a row, if it writes the location
-abbrev pub row_in : Process → ℕ → (OpName → Bool) → List ℕ → OpName → Option Writer
+abbrev pub row_in : Process → ℕ → (OpName → Bool) → List ℕ → OpName → Option ChosenWriter
 row_in p number chosen location n = option_map (λ d. record { name = record { process = number; place = n.place }; value = Some d; chosen = chosen n }) (option_and_then (left_there location) (at_place p.operations n.place))
 
-abbrev pub rows_in : Process → ℕ → (OpName → Bool) → List ℕ → List Writer
+abbrev pub rows_in : Process → ℕ → (OpName → Bool) → List ℕ → List ChosenWriter
 rows_in p number chosen location = filter_map (row_in p number chosen location) (names_of p)
 
 -- the rows of all writers of the location
-abbrev pub rows_of : TraceValue → (OpName → Bool) → List ℕ → List Writer
+abbrev pub rows_of : TraceValue → (OpName → Bool) → List ℕ → List ChosenWriter
 rows_of t chosen location = map (row_of t chosen location) (writers_of t location)
 
 -- the same operation
-abbrev pub is_same : Numbered → Numbered → Bool
+abbrev pub is_same : OperationNumber → OperationNumber → Bool
 is_same m n = (m.process == n.process) && (m.place == n.place)
 
 -- what the rows say of a possible source
-abbrev pub row_is_source : OrderValue → List Writer → Numbered → ℕ → Writer → Bool
-row_is_source order writers reader d w = is_held w.value d && (not (is_same w.name reader) && (not (stands_by order reader w.name) && not (list_any (λ (x : Writer). stands_by order w.name x.name && stands_by order x.name reader) writers)))
+abbrev pub row_is_source : OrderValue → List ChosenWriter → OperationNumber → ℕ → ChosenWriter → Bool
+row_is_source order writers reader d w = is_held w.value d && (not (is_same w.name reader) && (not (stands_by order reader w.name) && not (list_any (λ (x : ChosenWriter). stands_by order w.name x.name && stands_by order x.name reader) writers)))
 
-abbrev pub row_is_last : OrderValue → List Writer → ℕ → Writer → Bool
-row_is_last order writers d w = is_held w.value d && not (list_any (λ (x : Writer). stands_by order w.name x.name) writers)
+abbrev pub row_is_last : OrderValue → List ChosenWriter → ℕ → ChosenWriter → Bool
+row_is_last order writers d w = is_held w.value d && not (list_any (λ (x : ChosenWriter). stands_by order w.name x.name) writers)
 
 -- what remains of a process: the old places, and what stays there
 pub record LeftValue : Type 0 where

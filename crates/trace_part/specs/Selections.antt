@@ -1,7 +1,7 @@
 -- Some operations of a trace, with what is known of the trace.
 use Rattle.std.specs.Prelude.{ℕ, List, Option, Bool}
-use Rattle.traces.specs.declared.operation.Op.{Op}
-use Rattle.traces.specs.declared.operation.OpName.{OpName}
+use Rattle.trace_semantics.specs.declared.operation.Op.{Op}
+use Rattle.trace_semantics.specs.declared.operation.OpName.{OpName}
 use Rattle.forced_order.specs.Rows.{ordered_by}
 use Rattle.part_law.specs.Part.{stays}
 use Rattle.trace_part.specs.declared.selection.Selection.{Selection}

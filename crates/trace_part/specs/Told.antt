@@ -1,10 +1,10 @@
 -- The before pairs that a part tells, by numbers, where the names that remain are grouped by process.
 use Rattle.std.specs.Prelude.{◌&&◌, not, false, ◌==◌, List, [], ◌∷◌, ◌++◌, map, Option, Some, None, Bool, if◌then◌else◌}
 use Rattle.std.specs.List.{filter, find, flat_map}
-use Rattle.traces.specs.declared.operation.Op.{Op}
-use Rattle.traces.specs.declared.operation.OpName.{OpName}
-use Rattle.traces.specs.declared.trace.Process.{Process}
-use Rattle.traces.specs.Trace.{TraceValue}
+use Rattle.trace_semantics.specs.declared.operation.Op.{Op}
+use Rattle.trace_semantics.specs.declared.operation.OpName.{OpName}
+use Rattle.trace_semantics.specs.declared.trace.Process.{Process}
+use Rattle.trace_semantics.specs.Trace.{TraceValue}
 use Rattle.forced_order.specs.Rows.{OrderValue, stands_by}
 use Rattle.restriction.specs.Left.{is_left, names_of}
 use Rattle.trace_part.specs.declared.left_names.LeftName.{LeftName}

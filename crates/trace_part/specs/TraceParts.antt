@@ -3,11 +3,11 @@ use Rattle.std.specs.Prelude.{◌≡◌, ℕ, List, map, Option, position, Bool}
 use Rattle.std.specs.List.{filter, slice_get}
 use Rattle.std.specs.Option.{option_and_then, option_map}
 use Rattle.std.specs.Str.{bytes_eq}
-use Rattle.traces.specs.declared.operation.OpName.{OpName}
-use Rattle.traces.specs.declared.operation.Op.{Op}
-use Rattle.traces.specs.declared.trace.Process.{Process}
-use Rattle.traces.specs.Judgement.{has_come}
-use Rattle.traces.specs.Trace.{TraceValue, at_place}
+use Rattle.trace_semantics.specs.declared.operation.OpName.{OpName}
+use Rattle.trace_semantics.specs.declared.operation.Op.{Op}
+use Rattle.trace_semantics.specs.declared.trace.Process.{Process}
+use Rattle.trace_semantics.specs.Judgement.{has_come}
+use Rattle.trace_semantics.specs.Trace.{TraceValue, at_place}
 use Rattle.forced_order.specs.Order.{IsWithinForced}
 use Rattle.restriction.specs.Left.{is_left, names_of}
 use Rattle.part_law.specs.Part.{stays, part}

@@ -3,22 +3,22 @@ use Rattle.std.specs.Prelude.{◌≡◌, ℕ, List, [], Option, Some, None, Bool
 use Rattle.std.specs.List.{list_any, slice_get}
 use Rattle.std.specs.Option.{option_and_then}
 use Rattle.std.specs.Str.{bytes_eq}
-use Rattle.traces.specs.declared.operation.Op.{Op}
-use Rattle.traces.specs.declared.operation.OpName.{OpName}
-use Rattle.traces.specs.declared.trace.Process.{Process}
-use Rattle.traces.specs.NameNumbers.{number_of}
-use Rattle.traces.specs.Operation.{location_of}
-use Rattle.traces.specs.Trace.{TraceValue}
+use Rattle.trace_semantics.specs.declared.operation.Op.{Op}
+use Rattle.trace_semantics.specs.declared.operation.OpName.{OpName}
+use Rattle.trace_semantics.specs.declared.trace.Process.{Process}
+use Rattle.trace_semantics.specs.NameNumbers.{number_of}
+use Rattle.trace_semantics.specs.Operation.{location_of}
+use Rattle.trace_semantics.specs.Trace.{TraceValue}
 use Rattle.trace_part.specs.declared.writer_table.WriterTable.{WriterTable}
-use Rattle.trace_part.specs.declared.writers.Writer.{Writer}
+use Rattle.trace_part.specs.declared.writers.ChosenWriter.{ChosenWriter}
 use Rattle.trace_part.specs.Rows.{rows_of}
 
-abbrev pub list_or_none : Option (List Writer) → List Writer
+abbrev pub list_or_none : Option (List ChosenWriter) → List ChosenWriter
 list_or_none None = []
 list_or_none (Some rows) = rows
 
 -- what is listed under the number of the location
-abbrev pub writers_at : WriterTable → List ℕ → List Writer
+abbrev pub writers_at : WriterTable → List ℕ → List ChosenWriter
 writers_at table location = list_or_none (option_and_then (slice_get table.lists.items) (number_of table.numbers location))
 
 -- the location has a number

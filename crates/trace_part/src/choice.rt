@@ -3,19 +3,19 @@
 ghost use Rattle.std.specs.Prelude.{◌≡◌, is_some, List, IfOk, IfErr};
 ghost use Rattle.text_lines.specs.Fault.{IsRefusal};
 ghost use Rattle.text_lines.specs.FirstFault.{IsFirstFault};
-ghost use Rattle.traces.specs.declared.operation.OpName.{OpName as Named};
-ghost use Rattle.traces.specs.Judgement.{has_come};
-ghost use Rattle.traces.specs.Trace.{at_place, operation_at};
+ghost use Rattle.trace_semantics.specs.declared.operation.OpName.{OpName as Named};
+ghost use Rattle.trace_semantics.specs.Judgement.{has_come};
+ghost use Rattle.trace_semantics.specs.Trace.{at_place, operation_at};
 ghost use Rattle.trace_part.specs.Choice.{fault_of_choice, IsChoice};
 ghost use Rattle.trace_part.specs.Chosen.{has};
 
-use crate::op_set::OpSet;
+use crate::chosen_ops::ChosenOps;
 use crate::part_fault::{PartCause, PartFault};
 use crate::staying::process_of;
 use std::alloc::Global;
-use text_lines::fault::Fault;
-use traces::operation::OpName;
-use traces::trace::{Process, Trace};
+use text_lines::fault::PlacedFault;
+use trace_semantics::operation::OpName;
+use trace_semantics::trace::{Process, Trace};
 
 /// Whether the process has an operation at this place.
 fn has_place(process: &Process, place: usize) -> bool
@@ -35,7 +35,7 @@ fn is_known(trace: &Trace, name: &OpName) -> bool
 }
 
 /// What is wrong with a name after the names that the set has.
-fn fault_of_name(trace: &Trace, set: &OpSet, name: &OpName) -> Option<PartCause>
+fn fault_of_name(trace: &Trace, set: &ChosenOps, name: &OpName) -> Option<PartCause>
     ensures { (before : List Named) → ((n : Named) → has set.now n ≡ has_come before n) → result ≡ fault_of_choice trace.now before name.now }
 {
     if !is_known(trace, name) {
@@ -52,15 +52,15 @@ pub fn chosen_ops<'a>(
     alloc: Global,
     trace: &Trace,
     names: &'a [OpName],
-) -> Result<OpSet<'a>, PartFault>
+) -> Result<ChosenOps<'a>, PartFault>
     ensures chosen { IfOk result (λ set. (n : Named) → has set n ≡ has_come names.now n) }
     ensures choice { IfOk result (λ set. IsChoice trace.now names.now) }
     ensures refused { IfErr result (IsRefusal (λ cause place. IsFirstFault (fault_of_choice trace.now) names.now place cause)) }
 {
-    let mut set = OpSet::new(alloc);
+    let mut set = ChosenOps::new(alloc);
     for k in 0..names.len() {
         if let Some(cause) = fault_of_name(trace, &set, &names[k]) {
-            return Err(Fault::At(cause, k + 1));
+            return Err(PlacedFault::At(cause, k + 1));
         }
         set.insert(&names[k])?;
     }

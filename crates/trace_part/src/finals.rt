@@ -6,16 +6,16 @@ ghost use Rattle.forced_order.specs.Rows.{stands_by};
 ghost use Rattle.part_law.specs.Part as part;
 ghost use Rattle.trace_part.specs.Rows.{row_is_last};
 ghost use Rattle.trace_part.specs.Selections.{IsSelection, ordered_in, chosen_in};
-ghost use Rattle.trace_part.specs.declared.writers.Writer.{Writer as Row};
+ghost use Rattle.trace_part.specs.declared.writers.ChosenWriter.{ChosenWriter as Row};
 
 use crate::selection::Selection;
 use crate::sources::leaves;
-use crate::writers::Writer;
-use forced_order::numbered::Numbered;
-use forced_order::order::Order;
+use crate::writers::ChosenWriter;
+use forced_order::forced_order::ForcedOrder;
+use forced_order::numbered::OperationNumber;
 use std::alloc::{AllocError, Global};
-use traces::name::Name;
-use traces::trace::Trace;
+use trace_semantics::name::Name;
+use trace_semantics::trace::Trace;
 
 fn copy_of(alloc: Global, entry: &(Name, u64)) -> Result<(Name, u64), AllocError>
     ensures { IfOk result (λ new. new ≡ entry.now) }
@@ -24,21 +24,26 @@ fn copy_of(alloc: Global, entry: &(Name, u64)) -> Result<(Name, u64), AllocError
 }
 
 /// Whether a writer stands after this one.
-fn is_followed(order: &Order, writers: &[Writer], first: Numbered) -> bool
+fn is_followed(order: &ForcedOrder, writers: &[ChosenWriter], first: OperationNumber) -> bool
     ensures { result ≡ list_any (λ (x : Row). stands_by order.now first x.name) writers.now }
 {
     writers.iter().any(|x| order.stands(first, x.name))
 }
 
 /// Whether the final value of the location may be what this writer has left.
-fn may_be_last(order: &Order, writers: &[Writer], writer: &Writer, value: u64) -> bool
+fn may_be_last(
+    order: &ForcedOrder,
+    writers: &[ChosenWriter],
+    writer: &ChosenWriter,
+    value: u64,
+) -> bool
     ensures { result ≡ row_is_last order.now writers.now value writer.now }
 {
     leaves(writer, value) && !is_followed(order, writers, writer.name)
 }
 
 /// Whether all writers are chosen that may have left this final value.
-fn are_last_chosen(order: &Order, writers: &[Writer], value: u64) -> bool
+fn are_last_chosen(order: &ForcedOrder, writers: &[ChosenWriter], value: u64) -> bool
     ensures { result ≡ list_all (λ (w : Row). w.chosen || not (row_is_last order.now writers.now value w)) writers.now }
 {
     writers
@@ -46,14 +51,14 @@ fn are_last_chosen(order: &Order, writers: &[Writer], value: u64) -> bool
         .all(|w| w.chosen || !may_be_last(order, writers, w, value))
 }
 
-fn is_some_chosen(writers: &[Writer]) -> bool
+fn is_some_chosen(writers: &[ChosenWriter]) -> bool
     ensures { result ≡ list_any (λ (w : Row). w.chosen) writers.now }
 {
     writers.iter().any(|w| w.chosen)
 }
 
 /// Whether a final value stays, by the writers of its location.
-fn stays_by(order: &Order, writers: &[Writer], value: u64) -> bool
+fn stays_by(order: &ForcedOrder, writers: &[ChosenWriter], value: u64) -> bool
     ensures { result ≡ (list_all (λ (w : Row). w.chosen || not (row_is_last order.now writers.now value w)) writers.now && (list_any (λ (w : Row). w.chosen) writers.now || (length writers.now == 0))) }
 {
     are_last_chosen(order, writers, value) && (is_some_chosen(writers) || writers.len() == 0)

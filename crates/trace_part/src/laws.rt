@@ -1,10 +1,10 @@
 //! Laws of the parts that are made.
 
 ghost use Rattle.std.specs.Prelude.{◌≡◌, true, List, Some, IsSome};
-ghost use Rattle.traces.specs.declared.operation.OpName.{OpName};
-ghost use Rattle.traces.specs.Judgement.{has_come};
-ghost use Rattle.traces.specs.Legal.{IsLegal};
-ghost use Rattle.traces.specs.Trace.{TraceValue, IsTrace, operation_at};
+ghost use Rattle.trace_semantics.specs.declared.operation.OpName.{OpName};
+ghost use Rattle.trace_semantics.specs.Judgement.{has_come};
+ghost use Rattle.trace_semantics.specs.Legal.{IsLegal};
+ghost use Rattle.trace_semantics.specs.Trace.{TraceValue, IsTrace, operation_at};
 ghost use Rattle.restriction.specs.Left.{is_left, new_name};
 ghost use Rattle.part_law.specs.Part.{stays};
 ghost use Rattle.trace_part.specs.TraceParts.{PartValue, IsPart, whole_name};

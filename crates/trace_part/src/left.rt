@@ -2,7 +2,7 @@
 
 ghost use Rattle.std.specs.Prelude.{◌≡◌, ◌≤◌, length, map, take, Some, IfOk};
 ghost use Rattle.std.specs.List.{filter, filter_map, slice_get};
-ghost use Rattle.traces.specs.declared.operation.OpName.{OpName as Named};
+ghost use Rattle.trace_semantics.specs.declared.operation.OpName.{OpName as Named};
 ghost use Rattle.restriction.specs.Left.{is_left, names_of};
 ghost use Rattle.trace_part.specs.Rows.{IsLeftOf, AreLeft};
 ghost use Rattle.trace_part.specs.Selections.{IsSelection, stays_in};
@@ -11,8 +11,8 @@ use crate::selection::Selection;
 use crate::staying::stays_at;
 use std::alloc::{AllocError, Global};
 use std::marker::Model;
-use traces::operation::Op;
-use traces::trace::Process;
+use trace_semantics::operation::Op;
+use trace_semantics::trace::Process;
 
 /// What remains of a process: the old places, and the operations.
 #[derive(Drop)]

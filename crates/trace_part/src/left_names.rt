@@ -1,22 +1,22 @@
 //! The names that remain, by numbers.
 
 ghost use Rattle.std.specs.Prelude.{◌≡◌, length, map, Option, IfOk};
-ghost use Rattle.traces.specs.declared.operation.Op.{Op as Old};
-ghost use Rattle.traces.specs.declared.operation.OpName.{OpName as Named};
+ghost use Rattle.trace_semantics.specs.declared.operation.Op.{Op as Old};
+ghost use Rattle.trace_semantics.specs.declared.operation.OpName.{OpName as Named};
 ghost use Rattle.trace_part.specs.Rows.{Leaves, row_at_place};
 ghost use Rattle.trace_part.specs.Told.{groups_of};
 
 use crate::left::Left;
 use crate::renamed::count_up_to;
-use forced_order::numbered::Numbered;
+use forced_order::numbered::OperationNumber;
 use std::alloc::{AllocError, Global};
 use std::marker::Model;
-use traces::trace::Trace;
+use trace_semantics::trace::Trace;
 
 /// A name that remains, by numbers, and its place in the part.
 #[derive(Clone, Copy, Drop)]
 pub struct LeftName {
-    pub name: Numbered,
+    pub name: OperationNumber,
     pub new: u16,
 }
 
@@ -54,7 +54,7 @@ fn names_in(alloc: Global, left: &Left, number: u16) -> Result<LeftNames, AllocE
     let mut names = Vec::new(alloc);
     for k in 0..places.len() {
         names.push(LeftName {
-            name: Numbered {
+            name: OperationNumber {
                 process: number,
                 place: places[k],
             },

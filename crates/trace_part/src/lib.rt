@@ -5,11 +5,11 @@
 #![tactic(auto)]
 
 pub mod choice;
+pub mod chosen_ops;
 pub mod finals;
 pub mod laws;
 pub mod left;
 pub mod left_names;
-pub mod op_set;
 pub mod pairs;
 pub mod part;
 pub mod part_fault;

@@ -3,9 +3,9 @@
 ghost use Rattle.std.specs.Prelude.{◌≡◌, ◌<◌, ◌+◌, ◌++◌, length, map, take, Option, Some, IfOk, OnOk};
 ghost use Rattle.std.specs.List.{filter, find, slice_get};
 ghost use Rattle.std.specs.Option.{option_copied};
-ghost use Rattle.traces.specs.declared.operation.Op.{Op as Old};
-ghost use Rattle.traces.specs.declared.operation.OpName.{OpName as Named};
-ghost use Rattle.traces.specs.declared.trace.Process.{Process as Listed};
+ghost use Rattle.trace_semantics.specs.declared.operation.Op.{Op as Old};
+ghost use Rattle.trace_semantics.specs.declared.operation.OpName.{OpName as Named};
+ghost use Rattle.trace_semantics.specs.declared.trace.Process.{Process as Listed};
 ghost use Rattle.restriction.specs.Left.{new_pair};
 ghost use Rattle.forced_order.specs.Rows.{ordered_by, stands_by};
 ghost use Rattle.part_law.specs.Part.{is_told, left_pairs};
@@ -15,27 +15,27 @@ ghost use Rattle.trace_part.specs.declared.left_names.LeftName.{LeftName as Row}
 
 use crate::left::Left;
 use crate::left_names::{LeftName, LeftNames, left_groups};
-use forced_order::order::Order;
+use forced_order::forced_order::ForcedOrder;
 use std::alloc::{AllocError, Global};
-use traces::name::Name;
-use traces::operation::OpName;
-use traces::trace::Trace;
+use trace_semantics::name::Name;
+use trace_semantics::operation::OpName;
+use trace_semantics::trace::Trace;
 
-fn find_after<'a>(order: &Order, m: LeftName, group: &'a [LeftName]) -> Option<&'a LeftName>
+fn find_after<'a>(order: &ForcedOrder, m: LeftName, group: &'a [LeftName]) -> Option<&'a LeftName>
     ensures { option_copied result ≡ find (λ (n : Row). stands_by order.now m.name n.name) group.now }
 {
     group.iter().find(|n| order.stands(m.name, n.name))
 }
 
 /// The first of the names that the order puts after m.
-fn first_after(order: &Order, m: LeftName, group: &[LeftName]) -> Option<LeftName>
+fn first_after(order: &ForcedOrder, m: LeftName, group: &[LeftName]) -> Option<LeftName>
     ensures { result ≡ find (λ (n : Row). stands_by order.now m.name n.name) group.now }
 {
     find_after(order, m, group).copied()
 }
 
 /// Whether the order puts this name, if there is one, before n.
-fn is_before(order: &Order, next: Option<LeftName>, n: LeftName) -> bool
+fn is_before(order: &ForcedOrder, next: Option<LeftName>, n: LeftName) -> bool
     ensures { result ≡ told.is_before order.now next n }
 {
     match next {
@@ -45,7 +45,7 @@ fn is_before(order: &Order, next: Option<LeftName>, n: LeftName) -> bool
 }
 
 /// Whether the pair of m and n is told, where n is the first of its process that the order puts after m.
-fn is_told(order: &Order, m: LeftName, next: Option<LeftName>, n: LeftName) -> bool
+fn is_told(order: &ForcedOrder, m: LeftName, next: Option<LeftName>, n: LeftName) -> bool
     ensures { result ≡ told.is_told_first order.now m next n }
 {
     m.name.process != n.name.process && !is_before(order, next, n)
@@ -54,7 +54,7 @@ fn is_told(order: &Order, m: LeftName, next: Option<LeftName>, n: LeftName) -> b
 /// Appends the told pair of m and one of the names of a process, if there is one. The name after m in its process is `next`.
 fn push_told_in(
     pairs: &mut Vec<(LeftName, LeftName)>,
-    order: &Order,
+    order: &ForcedOrder,
     m: LeftName,
     next: Option<LeftName>,
     group: &[LeftName],
@@ -75,7 +75,7 @@ fn push_told_in(
 /// Appends the told pairs of which m is the first.
 fn push_told_of(
     pairs: &mut Vec<(LeftName, LeftName)>,
-    order: &Order,
+    order: &ForcedOrder,
     m: LeftName,
     next: Option<LeftName>,
     groups: &[LeftNames],
@@ -99,7 +99,7 @@ fn next_name(group: &[LeftName], k: usize) -> Option<LeftName>
 /// Appends the told pairs of which a name of this process is the first.
 fn push_told_from(
     pairs: &mut Vec<(LeftName, LeftName)>,
-    order: &Order,
+    order: &ForcedOrder,
     group: &[LeftName],
     groups: &[LeftNames],
 ) -> Result<(), AllocError>
@@ -114,7 +114,7 @@ fn push_told_from(
 /// The told pairs of these names, which are grouped by process.
 fn told_pairs(
     alloc: Global,
-    order: &Order,
+    order: &ForcedOrder,
     groups: &[LeftNames],
 ) -> Result<Vec<(LeftName, LeftName)>, AllocError>
     ensures { IfOk result (λ pairs. pairs.items ≡ told.told_pairs order.now groups.now) }
@@ -159,7 +159,7 @@ fn new_names(
 pub fn pairs_left(
     alloc: Global,
     trace: &Trace,
-    order: &Order,
+    order: &ForcedOrder,
     all: &[Left],
 ) -> Result<Vec<(OpName, OpName)>, AllocError>
     requires { length all.now ≡ length trace.now.processes }

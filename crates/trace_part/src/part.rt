@@ -18,20 +18,20 @@ use crate::part_fault::PartFault;
 use crate::renamed::new_processes;
 use crate::selection::Selection;
 use crate::writer_table::writer_table;
-use forced_order::order::Order;
+use forced_order::forced_order::ForcedOrder;
 use std::alloc::{AllocError, Global};
 use std::marker::Model;
-use traces::operation::OpName;
-use traces::trace::Trace;
+use trace_semantics::operation::OpName;
+use trace_semantics::trace::Trace;
 
 /// A part of a trace, and where its operations stand in the whole.
 #[derive(Drop)]
-pub struct Part {
+pub struct TracePart {
     trace: Trace,
     left: Vec<Left>,
 }
 
-impl Model for Part {
+impl Model for TracePart {
     ghost use Rattle.std.specs.Prelude.{map};
     ghost use Rattle.trace_part.specs.Rows.{LeftValue};
     ghost use Rattle.trace_part.specs.TraceParts.{PartValue};
@@ -41,7 +41,7 @@ impl Model for Part {
     ghost view = { λ p. record { trace = p.trace; places = map (λ (left : LeftValue). left.places) p.left.items } };
 }
 
-impl Part {
+impl TracePart {
     ghost use Rattle.std.specs.Prelude.{◌≡◌, [], slice_index_or};
 
     /// The part.
@@ -63,7 +63,7 @@ impl Part {
 }
 
 /// The part that the selected operations make up.
-fn selected_part<'a>(alloc: Global, selection: &Selection<'a>) -> Result<Part, AllocError>
+fn selected_part<'a>(alloc: Global, selection: &Selection<'a>) -> Result<TracePart, AllocError>
     requires selection { IsSelection selection.now }
     ensures trace { IfOk result (λ made. made.trace ≡ value.part selection.now.trace.now (ordered_in selection.now) (chosen_in selection.now)) }
     ensures places { IfOk result (λ made. made.places ≡ map (left_places (stays_in selection.now)) selection.now.trace.now.processes) }
@@ -76,7 +76,7 @@ fn selected_part<'a>(alloc: Global, selection: &Selection<'a>) -> Result<Part, A
     let finals = finals_left(alloc, selection)?;
     let before = pairs_left(alloc, trace, &selection.order, left.as_slice())?;
     let trace = Trace::new(processes, initial, finals, before);
-    Ok(Part { trace, left })
+    Ok(TracePart { trace, left })
 }
 
 /// The part of the trace that these operations make up, by an order that says no more than the forced one. Each name must be that of
@@ -84,9 +84,9 @@ fn selected_part<'a>(alloc: Global, selection: &Selection<'a>) -> Result<Part, A
 pub fn part_by(
     alloc: Global,
     trace: &Trace,
-    order: Order,
+    order: ForcedOrder,
     names: &[OpName],
-) -> Result<Part, PartFault>
+) -> Result<TracePart, PartFault>
     requires sound { IsSoundOrder trace.now order }
     requires forward { IsClosedForward trace.now (ordered_by trace.now order) }
     ensures part { IfOk result (IsPart trace.now names.now) }
@@ -106,10 +106,10 @@ pub fn part_by(
 
 /// The part of the trace that these operations make up, by its forced order. Each name must be that of an operation of the trace, and
 /// none may stand twice; how the names are ordered says nothing.
-pub fn part_of(alloc: Global, trace: &Trace, names: &[OpName]) -> Result<Part, PartFault>
+pub fn part_of(alloc: Global, trace: &Trace, names: &[OpName]) -> Result<TracePart, PartFault>
     ensures part { IfOk result (IsPart trace.now names.now) }
     ensures refused { IfErr result (IsRefusal (λ cause place. IsFirstFault (fault_of_choice trace.now) names.now place cause)) }
 {
-    let order = Order::of_trace(alloc, trace)?;
+    let order = ForcedOrder::of_trace(alloc, trace)?;
     part_by(alloc, trace, order, names)
 }

@@ -1,6 +1,6 @@
 //! Why no part is made.
 
-use text_lines::fault::{Cause, Fault};
+use text_lines::fault::{FaultCause, PlacedFault};
 
 /// What is wrong with the names of a choice.
 #[derive(Clone, Copy, Debug, PartialEq, Eq)]
@@ -12,9 +12,9 @@ pub enum PartCause {
 }
 
 /// Why no part is made: a cause and the place of the name among the names, or that memory ran out.
-pub type PartFault = Fault<PartCause>;
+pub type PartFault = PlacedFault<PartCause>;
 
-impl Cause for PartCause {
+impl FaultCause for PartCause {
     ghost use Rattle.trace_part.specs.PartCauses.{cause_number, cause_name};
 
     ghost number_of = { cause_number };

@@ -4,17 +4,17 @@ ghost use Rattle.std.specs.Prelude.{◌≡◌, ◌≤◌, length, map, Option, I
 ghost use Rattle.std.specs.List.{filter, slice_get};
 ghost use Rattle.std.specs.Option.{option_copied, option_and_then};
 ghost use Rattle.std.specs.Str.{bytes_eq};
-ghost use Rattle.traces.specs.declared.operation.Op.{Op as Old};
-ghost use Rattle.traces.specs.declared.operation.OpName.{OpName as Named};
-ghost use Rattle.traces.specs.declared.trace.Process.{Process as Listed};
+ghost use Rattle.trace_semantics.specs.declared.operation.Op.{Op as Old};
+ghost use Rattle.trace_semantics.specs.declared.operation.OpName.{OpName as Named};
+ghost use Rattle.trace_semantics.specs.declared.trace.Process.{Process as Listed};
 ghost use Rattle.restriction.specs.Left as naming;
 ghost use Rattle.trace_part.specs.Rows.{Leaves, left_value};
 
 use crate::left::Left;
 use std::alloc::{AllocError, Global};
-use traces::name::Name;
-use traces::operation::{Op, OpName, Origin};
-use traces::trace::{Operations, Process, Trace};
+use trace_semantics::name::Name;
+use trace_semantics::operation::{Op, OpName, Origin};
+use trace_semantics::trace::{Operations, Process, Trace};
 
 fn place_of_process(processes: &[Process], name: &[u8]) -> Option<usize>
     ensures { result ≡ position (λ (p : Listed). bytes_eq p.name name.now) processes.now }

@@ -3,20 +3,20 @@
 ghost use Rattle.std.specs.Prelude.{◌≡◌, ◌<◌, ◌+◌, ◌++◌, ◌||◌, not, length, IfOk, OnOk};
 ghost use Rattle.std.specs.List.{list_any, list_all, slice_get};
 ghost use Rattle.std.specs.Option.{option_copied};
-ghost use Rattle.traces.specs.Judgement.{is_held};
+ghost use Rattle.trace_semantics.specs.Judgement.{is_held};
 ghost use Rattle.forced_order.specs.Rows.{stands_by};
 ghost use Rattle.trace_part.specs.Latest as latest;
 ghost use Rattle.trace_part.specs.Latest.{AreLatest, IsForwardAmong};
 ghost use Rattle.trace_part.specs.Rows as rows;
-ghost use Rattle.trace_part.specs.declared.writers.Writer.{Writer as Row};
+ghost use Rattle.trace_part.specs.declared.writers.ChosenWriter.{ChosenWriter as Row};
 
-use crate::writers::Writer;
-use forced_order::numbered::Numbered;
-use forced_order::order::Order;
+use crate::writers::ChosenWriter;
+use forced_order::forced_order::ForcedOrder;
+use forced_order::numbered::OperationNumber;
 use std::alloc::{AllocError, Global};
 
 /// Whether the writer leaves this value.
-pub fn leaves(writer: &Writer, value: u64) -> bool
+pub fn leaves(writer: &ChosenWriter, value: u64) -> bool
     ensures { result ≡ is_held writer.now.value value }
 {
     match writer.value {
@@ -26,14 +26,14 @@ pub fn leaves(writer: &Writer, value: u64) -> bool
 }
 
 /// Whether both are the same operation.
-fn is_same(first: Numbered, second: Numbered) -> bool
+fn is_same(first: OperationNumber, second: OperationNumber) -> bool
     ensures { result ≡ rows.is_same first second }
 {
     first.process == second.process && first.place == second.place
 }
 
 /// The writer after this one in the list.
-fn next_writer(writers: &[Writer], k: usize) -> Option<&Writer>
+fn next_writer(writers: &[ChosenWriter], k: usize) -> Option<&ChosenWriter>
     requires within { k < length writers.now }
     ensures { option_copied result ≡ slice_get writers.now (k + 1) }
 {
@@ -41,7 +41,12 @@ fn next_writer(writers: &[Writer], k: usize) -> Option<&Writer>
 }
 
 /// Whether the next writer takes the writer's place: it is of the same process, no earlier, and stands before the reader too.
-fn follows(order: &Order, writer: &Writer, next: Option<&Writer>, reader: Numbered) -> bool
+fn follows(
+    order: &ForcedOrder,
+    writer: &ChosenWriter,
+    next: Option<&ChosenWriter>,
+    reader: OperationNumber,
+) -> bool
     ensures { result ≡ latest.follows_by order.now reader writer.now (option_copied next.entry) }
 {
     match next {
@@ -55,7 +60,12 @@ fn follows(order: &Order, writer: &Writer, next: Option<&Writer>, reader: Number
 }
 
 /// Whether the writer stands before the reader, and the next one does not take its place.
-fn is_latest(order: &Order, writer: &Writer, next: Option<&Writer>, reader: Numbered) -> bool
+fn is_latest(
+    order: &ForcedOrder,
+    writer: &ChosenWriter,
+    next: Option<&ChosenWriter>,
+    reader: OperationNumber,
+) -> bool
     ensures { result ≡ latest.is_latest order.now reader writer.now (option_copied next.entry) }
 {
     order.stands(writer.name, reader) && !follows(order, writer, next, reader)
@@ -63,11 +73,11 @@ fn is_latest(order: &Order, writer: &Writer, next: Option<&Writer>, reader: Numb
 
 /// Appends the writer's name if it stands before the reader and the next one does not take its place.
 fn push_latest(
-    names: &mut Vec<Numbered>,
-    order: &Order,
-    writer: &Writer,
-    next: Option<&Writer>,
-    reader: Numbered,
+    names: &mut Vec<OperationNumber>,
+    order: &ForcedOrder,
+    writer: &ChosenWriter,
+    next: Option<&ChosenWriter>,
+    reader: OperationNumber,
 ) -> Result<(), AllocError>
     ensures { OnOk result (names.new.items ≡ names.old.items ++ latest.latest_of order.now reader writer.now (option_copied next.entry)) }
 {
@@ -80,10 +90,10 @@ fn push_latest(
 /// The last writers of the processes that stand before the reader.
 fn latest_before(
     alloc: Global,
-    order: &Order,
-    writers: &[Writer],
-    reader: Numbered,
-) -> Result<Vec<Numbered>, AllocError>
+    order: &ForcedOrder,
+    writers: &[ChosenWriter],
+    reader: OperationNumber,
+) -> Result<Vec<OperationNumber>, AllocError>
     ensures { IfOk result (λ names. AreLatest order.now writers.now reader names.items) }
 {
     let mut names = Vec::new(alloc);
@@ -100,7 +110,7 @@ fn latest_before(
 }
 
 /// Whether the writer stands before one of these.
-fn is_overwritten(order: &Order, names: &[Numbered], first: Numbered) -> bool
+fn is_overwritten(order: &ForcedOrder, names: &[OperationNumber], first: OperationNumber) -> bool
     ensures { result ≡ list_any (stands_by order.now first) names.now }
 {
     names.iter().any(|x| order.stands(first, *x))
@@ -108,10 +118,10 @@ fn is_overwritten(order: &Order, names: &[Numbered], first: Numbered) -> bool
 
 /// Whether the reader may read this value from the writer.
 fn may_be_source(
-    order: &Order,
-    names: &[Numbered],
-    writer: &Writer,
-    reader: Numbered,
+    order: &ForcedOrder,
+    names: &[OperationNumber],
+    writer: &ChosenWriter,
+    reader: OperationNumber,
     value: u64,
 ) -> bool
     ensures { result ≡ latest.is_source_by order.now names.now reader value writer.now }
@@ -124,10 +134,10 @@ fn may_be_source(
 
 /// Whether all writers are chosen from which the reader may read this value.
 fn are_sources_chosen(
-    order: &Order,
-    writers: &[Writer],
-    names: &[Numbered],
-    reader: Numbered,
+    order: &ForcedOrder,
+    writers: &[ChosenWriter],
+    names: &[OperationNumber],
+    reader: OperationNumber,
     value: u64,
 ) -> bool
     ensures { result ≡ list_all (λ (w : Row). w.chosen || not (latest.is_source_by order.now names.now reader value w)) writers.now }
@@ -138,9 +148,9 @@ fn are_sources_chosen(
 /// Whether all writers of a location are chosen from which the reader may read this value there.
 pub fn sources_chosen(
     alloc: Global,
-    order: &Order,
-    writers: &[Writer],
-    reader: Numbered,
+    order: &ForcedOrder,
+    writers: &[ChosenWriter],
+    reader: OperationNumber,
     value: u64,
 ) -> Result<bool, AllocError>
     requires forward { IsForwardAmong order.now writers.now }

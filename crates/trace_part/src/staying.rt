@@ -2,24 +2,24 @@
 
 ghost use Rattle.std.specs.Prelude.{◌≡◌, ◌<◌, ◌≤◌, ◌+◌, ◌&&◌, length, is_some, IsSome, IfOk, if◌then◌else◌};
 ghost use Rattle.std.specs.List.{list_all, slice_get};
-ghost use Rattle.traces.specs.declared.operation.Op.TheVariants.{Read, Write, Update};
+ghost use Rattle.trace_semantics.specs.declared.operation.Op.TheVariants.{Read, Write, Update};
 ghost use Rattle.std.specs.Option.{option_copied, option_and_then};
-ghost use Rattle.traces.specs.declared.operation.OpName.{OpName as Named};
-ghost use Rattle.traces.specs.Operation.{value_left};
-ghost use Rattle.traces.specs.Trace.{at_place, process_named, operation_at};
+ghost use Rattle.trace_semantics.specs.declared.operation.OpName.{OpName as Named};
+ghost use Rattle.trace_semantics.specs.Operation.{written_value};
+ghost use Rattle.trace_semantics.specs.Trace.{at_place, process_named, operation_at};
 ghost use Rattle.trace_part.specs.Chosen.{has};
 ghost use Rattle.part_law.specs.Part as part;
 ghost use Rattle.forced_order.specs.Rows.{numbered};
 ghost use Rattle.trace_part.specs.Selections.{IsSelection, ordered_in, chosen_in, stays_in};
 
-use crate::op_set::OpSet;
+use crate::chosen_ops::ChosenOps;
 use crate::selection::Selection;
 use crate::sources::sources_chosen;
-use forced_order::numbered::Numbered;
+use forced_order::numbered::OperationNumber;
 use std::alloc::{AllocError, Global};
-use traces::name::Name;
-use traces::operation::{Op, OpName, Origin};
-use traces::trace::{Process, Trace};
+use trace_semantics::name::Name;
+use trace_semantics::operation::{Op, OpName, Origin};
+use trace_semantics::trace::{Process, Trace};
 
 /// The process of this name.
 pub(crate) fn process_of<'a>(trace: &'a Trace, name: &[u8]) -> Option<&'a Process>
@@ -30,15 +30,15 @@ pub(crate) fn process_of<'a>(trace: &'a Trace, name: &[u8]) -> Option<&'a Proces
 
 /// Whether the operation at this place writes.
 fn writes_here(process: &Process, place: usize) -> bool
-    ensures { result ≡ is_some (option_and_then value_left (at_place process.now.operations place)) }
+    ensures { result ≡ is_some (option_and_then written_value (at_place process.now.operations place)) }
 {
     let ops = process.operations.as_slice();
-    1 <= place && place <= ops.len() && ops[place - 1].value_left().is_some()
+    1 <= place && place <= ops.len() && ops[place - 1].written_value().is_some()
 }
 
 /// Whether the operation of this name writes.
 fn is_writer(trace: &Trace, name: &OpName) -> bool
-    ensures { result ≡ is_some (option_and_then value_left (operation_at trace.now name.now)) }
+    ensures { result ≡ is_some (option_and_then written_value (operation_at trace.now name.now)) }
 {
     match process_of(trace, name.process.as_bytes()) {
         Some(process) => writes_here(process, name.place as usize),
@@ -46,15 +46,15 @@ fn is_writer(trace: &Trace, name: &OpName) -> bool
     }
 }
 
-fn is_chosen(set: &OpSet, name: &OpName) -> bool
+fn is_chosen(set: &ChosenOps, name: &OpName) -> bool
     ensures { result ≡ has set.now name.now }
 {
     set.contains(name.process.as_bytes(), name.place as usize)
 }
 
 /// Whether the operation of this name is chosen and writes.
-fn is_chosen_writer(trace: &Trace, set: &OpSet, name: &OpName) -> bool
-    ensures { result ≡ (has set.now name.now && is_some (option_and_then value_left (operation_at trace.now name.now))) }
+fn is_chosen_writer(trace: &Trace, set: &ChosenOps, name: &OpName) -> bool
+    ensures { result ≡ (has set.now name.now && is_some (option_and_then written_value (operation_at trace.now name.now))) }
 {
     is_chosen(set, name) && is_writer(trace, name)
 }
@@ -63,7 +63,7 @@ fn is_chosen_writer(trace: &Trace, set: &OpSet, name: &OpName) -> bool
 fn are_sources_selected<'a>(
     alloc: Global,
     selection: &Selection<'a>,
-    reader: Numbered,
+    reader: OperationNumber,
     location: &'a [u8],
     value: u64,
 ) -> Result<bool, AllocError>
@@ -79,7 +79,7 @@ fn are_sources_selected<'a>(
 fn keeps_read<'a>(
     alloc: Global,
     selection: &Selection<'a>,
-    reader: Numbered,
+    reader: OperationNumber,
     location: &'a [u8],
     value: u64,
     origin: &'a Origin,
@@ -188,7 +188,7 @@ fn update_stays(
 fn stays_of<'a>(
     alloc: Global,
     selection: &Selection<'a>,
-    reader: Numbered,
+    reader: OperationNumber,
     op: &'a Op,
 ) -> Result<Option<Op>, AllocError>
     requires selection { IsSelection selection.now }
@@ -236,7 +236,7 @@ pub fn stays_at<'a>(
     if !selection.set.contains(process.name.as_bytes(), k + 1) {
         return Ok(None);
     }
-    let reader = Numbered {
+    let reader = OperationNumber {
         process: number,
         place: (k + 1) as u16,
     };

@@ -5,25 +5,25 @@ ghost use Rattle.std.specs.List.{list_any};
 ghost use Rattle.trace_part.specs.Chosen.{has};
 ghost use Rattle.trace_part.specs.WriterTables.{IsSoundTable, IsTable, has_location, works_on};
 
-use crate::op_set::OpSet;
-use crate::writers::{Writer, writers_of};
+use crate::chosen_ops::ChosenOps;
+use crate::writers::{ChosenWriter, writers_of};
 use std::alloc::{AllocError, Global};
 use std::marker::Model;
-use traces::name_table::NameTable;
-use traces::operation::Op;
-use traces::trace::{Process, Trace};
+use trace_semantics::name_table::NameTable;
+use trace_semantics::operation::Op;
+use trace_semantics::trace::{Process, Trace};
 
 /// The writers of one location.
 #[derive(Drop)]
 pub struct Writers {
-    rows: Vec<Writer>,
+    rows: Vec<ChosenWriter>,
 }
 
 impl Model for Writers {
     ghost use Rattle.std.specs.Prelude.{List};
-    ghost use Rattle.trace_part.specs.declared.writers.Writer.{Writer};
+    ghost use Rattle.trace_part.specs.declared.writers.ChosenWriter.{ChosenWriter};
 
-    ghost Value = { List Writer };
+    ghost Value = { List ChosenWriter };
 
     ghost view = { λ writers. writers.rows.items };
 }
@@ -31,7 +31,7 @@ impl Model for Writers {
 impl Writers {
     ghost use Rattle.std.specs.Prelude.{◌≡◌};
 
-    fn as_slice(&self) -> &[Writer]
+    fn as_slice(&self) -> &[ChosenWriter]
         ensures { result.now ≡ self.now }
     {
         self.rows.as_slice()
@@ -48,12 +48,12 @@ pub struct WriterTable<'a> {
 impl<'a> WriterTable<'a> {
     ghost use Rattle.std.specs.Prelude.{◌≡◌, ◌||◌, false, ℕ, List, Bool, OnOk};
     ghost use Rattle.std.specs.Str.{bytes_eq};
-    ghost use Rattle.traces.specs.declared.operation.OpName.{OpName};
-    ghost use Rattle.traces.specs.Trace.{TraceValue};
+    ghost use Rattle.trace_semantics.specs.declared.operation.OpName.{OpName};
+    ghost use Rattle.trace_semantics.specs.Trace.{TraceValue};
     ghost use Rattle.trace_part.specs.Chosen.{has};
     ghost use Rattle.std.specs.List.{slice_get};
     ghost use Rattle.std.specs.Option.{option_copied, option_and_then};
-    ghost use Rattle.traces.specs.NameNumbers.{number_of};
+    ghost use Rattle.trace_semantics.specs.NameNumbers.{number_of};
     ghost use Rattle.trace_part.specs.WriterTables.{IsSoundTable, has_location, writers_at};
 
     /// A table of no locations.
@@ -72,7 +72,7 @@ impl<'a> WriterTable<'a> {
         &mut self,
         alloc: Global,
         trace: &'a Trace,
-        set: &OpSet<'a>,
+        set: &ChosenOps<'a>,
         location: &'a [u8],
     ) -> Result<(), AllocError>
         requires sound { IsSoundTable trace.now (has set.now) self.old }
@@ -91,7 +91,7 @@ impl<'a> WriterTable<'a> {
         &mut self,
         alloc: Global,
         trace: &'a Trace,
-        set: &OpSet<'a>,
+        set: &ChosenOps<'a>,
         location: &'a [u8],
     ) -> Result<(), AllocError>
         requires sound { IsSoundTable trace.now (has set.now) self.old }
@@ -123,7 +123,7 @@ impl<'a> WriterTable<'a> {
     }
 
     /// The writers of the location.
-    pub fn writers_at(&self, location: &'a [u8]) -> &[Writer]
+    pub fn writers_at(&self, location: &'a [u8]) -> &[ChosenWriter]
         ensures { result.now ≡ writers_at self.now location.now }
     {
         match self.listed(location) {
@@ -138,7 +138,7 @@ fn note_ops<'a>(
     alloc: Global,
     table: &mut WriterTable<'a>,
     trace: &'a Trace,
-    set: &OpSet<'a>,
+    set: &ChosenOps<'a>,
     ops: &'a [Op],
 ) -> Result<(), AllocError>
     requires sound { IsSoundTable trace.now (has set.now) table.old }
@@ -155,7 +155,7 @@ fn note_ops<'a>(
 pub fn writer_table<'a>(
     alloc: Global,
     trace: &'a Trace,
-    set: &OpSet<'a>,
+    set: &ChosenOps<'a>,
 ) -> Result<WriterTable<'a>, AllocError>
     ensures { IfOk result (IsTable trace.now (has set.now)) }
 {

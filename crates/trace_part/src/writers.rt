@@ -4,16 +4,16 @@ ghost use Rattle.std.specs.Prelude.{◌≡◌, ◌<◌, ◌≤◌, ◌+◌, ◌+
 ghost use Rattle.trace_part.specs.Chosen.{has};
 ghost use Rattle.trace_part.specs.Rows.{left_there, row_in, rows_in, rows_of};
 
-use crate::op_set::OpSet;
-use forced_order::numbered::Numbered;
+use crate::chosen_ops::ChosenOps;
+use forced_order::numbered::OperationNumber;
 use std::alloc::{AllocError, Global};
-use traces::operation::Op;
-use traces::trace::{Process, Trace};
+use trace_semantics::operation::Op;
+use trace_semantics::trace::{Process, Trace};
 
 /// A writer of some location: what it leaves there, and whether it is chosen.
 #[derive(Drop)]
-pub struct Writer {
-    pub name: Numbered,
+pub struct ChosenWriter {
+    pub name: OperationNumber,
     pub value: Option<u64>,
     pub chosen: bool,
 }
@@ -23,7 +23,7 @@ fn left_at(op: &Op, location: &[u8]) -> Option<u64>
     ensures { result ≡ left_there location.now op.now }
 {
     if op.location().as_bytes() == location {
-        op.value_left()
+        op.written_value()
     } else {
         None
     }
@@ -31,19 +31,19 @@ fn left_at(op: &Op, location: &[u8]) -> Option<u64>
 
 /// The operation at a place as a row, if it writes the location.
 fn row_at<'a>(
-    set: &OpSet<'a>,
+    set: &ChosenOps<'a>,
     process: &'a Process,
     number: u16,
     k: usize,
     location: &[u8],
-) -> Option<Writer>
+) -> Option<ChosenWriter>
     requires within { k < length process.now.operations }
     requires few { length process.now.operations ≤ 4096 }
     ensures { result ≡ row_in process.now number (has set.now) location.now (record { process = process.now.name; place = k + 1 }) }
 {
     match left_at(&process.operations.as_slice()[k], location) {
-        Some(left) => Some(Writer {
-            name: Numbered {
+        Some(left) => Some(ChosenWriter {
+            name: OperationNumber {
                 process: number,
                 place: (k + 1) as u16,
             },
@@ -56,8 +56,8 @@ fn row_at<'a>(
 
 /// Appends the rows of a process.
 fn push_rows<'a>(
-    rows: &mut Vec<Writer>,
-    set: &OpSet<'a>,
+    rows: &mut Vec<ChosenWriter>,
+    set: &ChosenOps<'a>,
     process: &'a Process,
     number: u16,
     location: &[u8],
@@ -77,9 +77,9 @@ fn push_rows<'a>(
 pub fn writers_of<'a>(
     alloc: Global,
     trace: &'a Trace,
-    set: &OpSet<'a>,
+    set: &ChosenOps<'a>,
     location: &[u8],
-) -> Result<Vec<Writer>, AllocError>
+) -> Result<Vec<ChosenWriter>, AllocError>
     ensures { IfOk result (λ rows. rows.items ≡ rows_of trace.now (has set.now) location.now) }
 {
     trace.is_trace();

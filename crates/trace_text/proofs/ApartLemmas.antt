@@ -7,13 +7,13 @@ use Rattle.std.proofs.lemmas.List.{get_or_append_left, get_or-append-add}
 use Rattle.std.proofs.lemmas.List.Elements.{filter-append}
 use Rattle.std.proofs.lemmas.Slice.Eq.{bytes_eq-Decides}
 use Rattle.text_lines.proofs.ListLemmas.{none_passes}
-use Rattle.traces.specs.declared.trace.Process.{Process}
+use Rattle.trace_semantics.specs.declared.trace.Process.{Process}
 use Rattle.trace_text.specs.Entry.{init_statement, final_statement}
 use Rattle.trace_text.specs.Gathered.{is_init, is_final}
 use Rattle.trace_text.specs.Statement.{Statement, Init, Final, Proc, Read, Write, Update, Before}
-use Rattle.traces.specs.Trace.{IsOneEach}
+use Rattle.trace_semantics.specs.Trace.{IsOneEach}
 use Rattle.trace_text.specs.TraceFault.{is_proc, repeats}
-use Rattle.traces.proofs.ElementLemmas.{head_in, tail_in, none_in, cases_in, some_passes, from_map, to_filter}
+use Rattle.trace_semantics.proofs.ElementLemmas.{head_in, tail_in, none_in, cases_in, some_passes, from_map, to_filter}
 
 -- what is made of a list, cut at a place
 pub record CutsMap {A X : Type 0} (f : X → A) (xs : List X) (front : List A) (here : A) : Type 0 where

@@ -9,24 +9,24 @@ use Rattle.std.proofs.lemmas.List.Sorted.{IsPermutation-map, IsPermutation-sym, 
 use Rattle.std.proofs.lemmas.List.Sums.{AllPass-from_list_all, list_all-from_AllPass}
 use Rattle.text_lines.specs.FirstFault.{IsFaultless}
 use Rattle.text_lines.specs.Lines.{lines_of}
-use Rattle.traces.specs.declared.operation.OpName.{OpName}
-use Rattle.traces.specs.declared.trace.Process.{Process}
+use Rattle.trace_semantics.specs.declared.operation.OpName.{OpName}
+use Rattle.trace_semantics.specs.declared.trace.Process.{Process}
 use Rattle.trace_text.specs.Entry.{init_statement, final_statement, before_statement}
 use Rattle.trace_text.specs.Gathered.{IsArranged, is_of_process, is_init, is_final, process_statements}
-use Rattle.traces.specs.Locations.{distinct}
-use Rattle.traces.specs.PairOrder.{ArrangesPairs}
+use Rattle.trace_semantics.specs.Locations.{distinct}
+use Rattle.trace_semantics.specs.PairOrder.{ArrangesPairs}
 use Rattle.trace_text.specs.Read.{saying, AreSaid}
 use Rattle.trace_text.specs.References.{fault_of_line}
 use Rattle.trace_text.specs.Statement.{Statement, words_for}
-use Rattle.traces.specs.Trace.{TraceValue, IsTrace, IsWritten, IsOneEach, is_written_value, is_written_process, is_written_pair, locations_of}
+use Rattle.trace_semantics.specs.Trace.{TraceValue, IsTrace, IsWritten, IsOneEach, is_written_value, is_written_process, is_written_pair, locations_of}
 use Rattle.trace_text.specs.TraceFault.{statement_fault, is_proc, is_operation, is_before, is_value_line, location_named}
 use Rattle.trace_text.specs.TraceText.{SpellsTrace, init_line, final_line, before_line, begins, is_process_line, needs_version_2}
 use Rattle.trace_text.proofs.CountLemmas.{count_procs, count_operations}
 use Rattle.trace_text.proofs.KnownLemmas.{pairs_known, pairs_apart, origins_known}
 use Rattle.trace_text.proofs.LocationLemmas.{named_by_some}
 use Rattle.trace_text.proofs.OrderedLemmas.{one_each_moved, rising}
-use Rattle.traces.proofs.ElementLemmas.{from_map, to_map, all_pass, pass_all}
-use Rattle.traces.proofs.DistinctLemmas.{few_named}
+use Rattle.trace_semantics.proofs.ElementLemmas.{from_map, to_map, all_pass, pass_all}
+use Rattle.trace_semantics.proofs.DistinctLemmas.{few_named}
 use Rattle.trace_text.proofs.PairOrderLemmas.{IsKnownPair, pair_kept}
 use Rattle.trace_text.proofs.SpellLemmas.{filter_lines, any_line, of_process, of_init, of_final, of_before, of_proc, of_value, processes_words, mapped_words, values_in_front, split_lines, no_origins, no_pairs}
 

@@ -7,21 +7,21 @@ use Rattle.std.proofs.lemmas.List.Elements.{Contains-append_left, Contains-appen
 use Rattle.text_lines.specs.FirstFault.{IsFaultless}
 use Rattle.trace_text.specs.declared.entry.Entry.{Entry}
 use Rattle.trace_text.specs.declared.entry.Entry.TheVariants.{Initial as InitialEntry, Final as FinalEntry, Process as ProcessEntry, Operation as OperationEntry, Before as BeforeEntry}
-use Rattle.traces.specs.declared.trace.Process.{Process}
+use Rattle.trace_semantics.specs.declared.trace.Process.{Process}
 use Rattle.trace_text.specs.declared.trace_fault.TraceCause.{TraceCause}
 use Rattle.trace_text.specs.declared.trace_fault.TraceCause.TheVariants.{BadName, BadNumber, OpOutsideProc, LateHeaderLine, TooManyProcs, TooManyOps, TooManyLocations, TooManyBefore}
 use Rattle.trace_text.specs.Entry.{statement_for, has_numbers}
 use Rattle.trace_text.specs.Gathered.{is_init, is_final, is_of_process, process_statements}
-use Rattle.traces.specs.Locations.{distinct, holds_name}
-use Rattle.traces.specs.Names.{is_name}
-use Rattle.traces.specs.Operation.{location_of}
+use Rattle.trace_semantics.specs.Locations.{distinct, holds_name}
+use Rattle.trace_semantics.specs.Names.{is_name}
+use Rattle.trace_semantics.specs.Operation.{location_of}
 use Rattle.trace_text.specs.Statement.{Statement, Proc}
-use Rattle.traces.specs.Trace.{TraceValue, IsTrace, locations_of}
+use Rattle.trace_semantics.specs.Trace.{TraceValue, IsTrace, locations_of}
 use Rattle.trace_text.specs.TraceFault.{is_proc, is_operation, is_before, is_value_line, names_of, location_named, repeats, twice_cause, limit_fault, is_location_too_many, or_else, shape_fault, statement_fault}
 use Rattle.trace_text.proofs.ApartLemmas.{unrepeated, room, filter_cut, from_filter_map}
 use Rattle.trace_text.proofs.CountLemmas.{procs_within, no_proc, count_procs, count_operations}
-use Rattle.traces.proofs.ElementLemmas.{head_in, none_in, cases_in, in_middle, passes_some, from_filter, to_map, to_flat_map}
-use Rattle.traces.proofs.DistinctLemmas.{few_named}
+use Rattle.trace_semantics.proofs.ElementLemmas.{head_in, none_in, cases_in, in_middle, passes_some, from_filter, to_map, to_flat_map}
+use Rattle.trace_semantics.proofs.DistinctLemmas.{few_named}
 use Rattle.trace_text.proofs.LocationLemmas.{op_named}
 use Rattle.trace_text.proofs.SeenLemmas.{distinct_push}
 use Rattle.trace_text.proofs.StatedLemmas.{IsHad, AreStated}

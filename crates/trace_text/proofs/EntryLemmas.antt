@@ -6,19 +6,19 @@ use Rattle.std.proofs.lemmas.List.Folds.{list_all-append}
 use Rattle.std.proofs.lemmas.Bool.{and_from, and_parts}
 use Rattle.trace_text.specs.declared.entry.Entry.{Entry}
 use Rattle.trace_text.specs.declared.entry.Entry.TheVariants.{Initial as InitialEntry, Final as FinalEntry, Process as ProcessEntry, Operation as OperationEntry, Before as BeforeEntry}
-use Rattle.trace_text.specs.declared.gathered.Gathered.{Gathered}
-use Rattle.traces.specs.declared.operation.Op.{Op}
-use Rattle.traces.specs.declared.operation.Op.TheVariants.{Read as ReadOp, Write as WriteOp, Update as UpdateOp}
-use Rattle.traces.specs.declared.operation.OpName.{OpName}
-use Rattle.traces.specs.declared.operation.Origin.{Origin}
-use Rattle.traces.specs.declared.operation.Origin.TheVariants.{Any, Initial, Operation}
-use Rattle.traces.specs.declared.trace.Process.{Process}
+use Rattle.trace_text.specs.declared.trace_builder.TraceBuilder.{TraceBuilder}
+use Rattle.trace_semantics.specs.declared.operation.Op.{Op}
+use Rattle.trace_semantics.specs.declared.operation.Op.TheVariants.{Read as ReadOp, Write as WriteOp, Update as UpdateOp}
+use Rattle.trace_semantics.specs.declared.operation.OpName.{OpName}
+use Rattle.trace_semantics.specs.declared.operation.Origin.{Origin}
+use Rattle.trace_semantics.specs.declared.operation.Origin.TheVariants.{Any, Initial, Operation}
+use Rattle.trace_semantics.specs.declared.trace.Process.{Process}
 use Rattle.trace_text.specs.Entry.{op_statement, source_of, statement_for, fits_value, fits_place, origin_fits, op_fits, entry_fits}
 use Rattle.trace_text.specs.Gathered.{with_operation, processes_of, processes_with, initial_with, final_with, before_with, Adds}
-use Rattle.traces.specs.Names.{is_name}
+use Rattle.trace_semantics.specs.Names.{is_name}
 use Rattle.trace_text.specs.Progress.{IsWrittenSoFar}
 use Rattle.trace_text.specs.Seen.{names_of_source}
-use Rattle.traces.specs.Trace.{is_written_value, is_written_origin, is_written_op, is_written_process, is_written_pair}
+use Rattle.trace_semantics.specs.Trace.{is_written_value, is_written_origin, is_written_op, is_written_process, is_written_pair}
 use Rattle.trace_text.specs.TraceFault.{names_of}
 
 -- one more that passes
@@ -87,7 +87,7 @@ before_written (BeforeEntry m n) xs h k w =
     (and_from (is_name m.process) (fits_place m.place) names.0 fits.0) (and_from (is_name n.process) (fits_place n.place) (and_parts (is_name n.process) true names.1).0 fits.1))
 
 -- one more entry
-pub written_more : (e : Entry) (old new : Gathered) → list_all is_name (names_of (statement_for e)) ≡ true → entry_fits e ≡ true → IsWrittenSoFar old → Adds old new e → IsWrittenSoFar new
+pub written_more : (e : Entry) (old new : TraceBuilder) → list_all is_name (names_of (statement_for e)) ≡ true → entry_fits e ≡ true → IsWrittenSoFar old → Adds old new e → IsWrittenSoFar new
 written_more e old new h k w a = record {
   processes = ap (list_all is_written_process) a.processes ∙ processes_written e (processes_of old) h k w.processes;
   initial = ap (list_all is_written_value) a.initial ∙ initial_written e old.initial.items h k w.initial;

@@ -2,17 +2,17 @@
 use Rattle.std.proofs.Common.{◌≡◌, ℕ, List, Bool, arith}
 use Rattle.text_lines.specs.FirstFault.{IsFaultless}
 use Rattle.text_lines.specs.Lines.{lines_of}
-use Rattle.trace_text.specs.declared.gathered.Gathered.{Gathered}
+use Rattle.trace_text.specs.declared.trace_builder.TraceBuilder.{TraceBuilder}
 use Rattle.trace_text.specs.declared.trace_reader.TraceReader.{TraceReader}
 use Rattle.trace_text.specs.Gathered.{trace_of, IsArranged, processes_of}
 use Rattle.trace_text.specs.Read.{IsAllRead}
 use Rattle.trace_text.specs.References.{fault_of_line}
-use Rattle.traces.specs.Trace.{TraceValue, IsTrace}
+use Rattle.trace_semantics.specs.Trace.{TraceValue, IsTrace}
 use Rattle.trace_text.specs.TraceText.{SpellsTrace}
 use Rattle.trace_text.proofs.ArrangedLemmas.{AreGathered, trace_arranged, spells_arranged}
 
 -- the same parts make the same trace
-pub same_trace : (old new : Gathered) → processes_of new ≡ processes_of old → new.initial ≡ old.initial → new.final_values ≡ old.final_values → new.before ≡ old.before → trace_of new ≡ trace_of old
+pub same_trace : (old new : TraceBuilder) → processes_of new ≡ processes_of old → new.initial ≡ old.initial → new.final_values ≡ old.final_values → new.before ≡ old.before → trace_of new ≡ trace_of old
 same_trace old new p a f b = λ i. record { processes = p i; initial = (a i).items; final_values = (f i).items; before = (b i).items }
 
 -- what the reader has gathered

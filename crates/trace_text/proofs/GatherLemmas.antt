@@ -7,18 +7,18 @@ use Rattle.std.proofs.lemmas.List.Elements.{filter-append, filter_map-append}
 use Rattle.text_lines.specs.FirstFault.{IsFaultless}
 use Rattle.text_lines.proofs.BoolLemmas.{never_without}
 use Rattle.trace_text.specs.declared.entry.Entry.{Entry}
-use Rattle.traces.specs.declared.trace.Process.{Process}
+use Rattle.trace_semantics.specs.declared.trace.Process.{Process}
 use Rattle.trace_text.specs.declared.trace_fault.TraceCause.{TraceCause}
 use Rattle.trace_text.specs.declared.trace_fault.TraceCause.TheVariants.{BadName, BadNumber, OpOutsideProc, LateHeaderLine, TooManyProcs, TooManyOps, TooManyLocations, TooManyBefore}
 use Rattle.trace_text.specs.Entry.{statement_for, has_numbers, entry_fits}
 use Rattle.trace_text.specs.Gathered.{is_of_process, process_statements, processes_with, initial_with, final_with, before_with}
-use Rattle.traces.specs.Locations.{distinct, holds_name}
-use Rattle.traces.specs.Names.{is_name}
+use Rattle.trace_semantics.specs.Locations.{distinct, holds_name}
+use Rattle.trace_semantics.specs.Names.{is_name}
 use Rattle.trace_text.specs.Statement.{Statement}
-use Rattle.traces.specs.Trace.{TraceValue}
+use Rattle.trace_semantics.specs.Trace.{TraceValue}
 use Rattle.trace_text.specs.TraceFault.{is_proc, is_operation, is_before, is_value_line, names_of, location_named, repeats, twice_cause, limit_fault, is_location_too_many, or_else, shape_fault, statement_fault}
 use Rattle.trace_text.proofs.ArrangedLemmas.{AreGathered}
-use Rattle.traces.proofs.ElementLemmas.{none_in, some_passes, to_filter}
+use Rattle.trace_semantics.proofs.ElementLemmas.{none_in, some_passes, to_filter}
 use Rattle.trace_text.proofs.EntryLemmas.{processes_written, initial_written, final_written, before_written}
 use Rattle.trace_text.proofs.EntryOfLemmas.{entry_of}
 use Rattle.trace_text.proofs.GatheredLemmas.{processes_push, initial_push, final_push, before_push, processes_apart, initial_apart, final_apart}

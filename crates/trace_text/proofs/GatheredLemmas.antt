@@ -10,19 +10,19 @@ use Rattle.std.proofs.lemmas.List.Quantifiers.{all_pairs_push}
 use Rattle.std.proofs.lemmas.Slice.Eq.{bytes_eq-Decides}
 use Rattle.trace_text.specs.declared.entry.Entry.{Entry}
 use Rattle.trace_text.specs.declared.entry.Entry.TheVariants.{Initial as InitialEntry, Final as FinalEntry, Process as ProcessEntry, Operation as OperationEntry, Before as BeforeEntry}
-use Rattle.trace_text.specs.declared.gathered.Gathered.{Gathered}
-use Rattle.trace_text.specs.declared.gathered.OpenProcess.{OpenProcess}
-use Rattle.traces.specs.declared.operation.Op.{Op}
-use Rattle.traces.specs.declared.operation.Op.TheVariants.{Read as ReadOp, Write as WriteOp, Update as UpdateOp}
-use Rattle.traces.specs.declared.operation.OpName.{OpName}
-use Rattle.traces.specs.declared.trace.Process.{Process}
+use Rattle.trace_text.specs.declared.trace_builder.TraceBuilder.{TraceBuilder}
+use Rattle.trace_text.specs.declared.trace_builder.OpenProcess.{OpenProcess}
+use Rattle.trace_semantics.specs.declared.operation.Op.{Op}
+use Rattle.trace_semantics.specs.declared.operation.Op.TheVariants.{Read as ReadOp, Write as WriteOp, Update as UpdateOp}
+use Rattle.trace_semantics.specs.declared.operation.OpName.{OpName}
+use Rattle.trace_semantics.specs.declared.trace.Process.{Process}
 use Rattle.trace_text.specs.Entry.{op_statement, init_statement, final_statement, before_statement, statement_for}
 use Rattle.trace_text.specs.Gathered.{with_operation, open_process, processes_of, processes_with, initial_with, final_with, before_with, is_process_entry, is_init, is_final, is_of_process, process_statements, Adds, IsGathered}
 use Rattle.trace_text.specs.Progress.{IsDistinct}
 use Rattle.trace_text.specs.Statement.{Statement, Init, Final, Proc}
-use Rattle.traces.specs.Trace.{IsOneEach}
+use Rattle.trace_semantics.specs.Trace.{IsOneEach}
 use Rattle.trace_text.specs.TraceFault.{is_proc, is_operation, is_before, repeats}
-use Rattle.traces.proofs.ElementLemmas.{head_in, from_filter, to_map, to_flat_map, passes_some}
+use Rattle.trace_semantics.proofs.ElementLemmas.{head_in, from_filter, to_map, to_flat_map, passes_some}
 use Rattle.trace_text.proofs.SeenLemmas.{any_push}
 
 -- the last process gets the operation
@@ -102,7 +102,7 @@ before_push ss (OperationEntry op) xs h = dropped_push is_before ss (map before_
 before_push ss (BeforeEntry m n) xs h = mapped_push is_before before_statement ss xs (m, n) refl h
 
 -- one more entry
-pub gathered_more : (ss : List Statement) (e : Entry) (old new : Gathered) → (is_operation (statement_for e) ≡ true → IsSome old.last) → IsGathered ss old → Adds old new e → IsGathered (ss ++ statement_for e ∷ []) new
+pub gathered_more : (ss : List Statement) (e : Entry) (old new : TraceBuilder) → (is_operation (statement_for e) ≡ true → IsSome old.last) → IsGathered ss old → Adds old new e → IsGathered (ss ++ statement_for e ∷ []) new
 gathered_more ss e old new l h a = record {
   processes = processes_push ss e (processes_of old) (λ o. open_some old.closed.items old.last (l o)) h.processes ∙ ap (flat_map process_statements) (sym a.processes);
   initial = initial_push ss e old.initial.items h.initial ∙ ap (map init_statement) (sym a.initial);
@@ -117,7 +117,7 @@ entry_kind (ProcessEntry name) = refl
 entry_kind (OperationEntry op) = sym (op_kind op).no_proc
 entry_kind (BeforeEntry m n) = refl
 
-pub begun_more : (ss : List Statement) (e : Entry) (old new : Gathered) → list_any is_proc ss ≡ is_some old.last → Adds old new e → list_any is_proc (ss ++ statement_for e ∷ []) ≡ is_some new.last
+pub begun_more : (ss : List Statement) (e : Entry) (old new : TraceBuilder) → list_any is_proc ss ≡ is_some old.last → Adds old new e → list_any is_proc (ss ++ statement_for e ∷ []) ≡ is_some new.last
 begun_more ss e old new h a = sym (any_push is_proc ss (statement_for e) (is_some new.last) (is_some old.last) (a.begun ∙ ap (λ b. b || is_some old.last) (entry_kind e)) (sym h))
 
 -- a statement that none before repeats
@@ -171,7 +171,7 @@ final_apart ss (ProcessEntry name) xs n h apart = apart
 final_apart ss (OperationEntry op) xs n h apart = apart
 final_apart ss (BeforeEntry m o) xs n h apart = apart
 
-pub distinct_more : (ss : List Statement) (e : Entry) (old new : Gathered) → list_any (repeats (statement_for e)) ss ≡ false → IsGathered ss old → IsDistinct old → Adds old new e → IsDistinct new
+pub distinct_more : (ss : List Statement) (e : Entry) (old new : TraceBuilder) → list_any (repeats (statement_for e)) ss ≡ false → IsGathered ss old → IsDistinct old → Adds old new e → IsDistinct new
 distinct_more ss e old new n h d a = record {
   processes = subst (λ l. AllPairs (λ (p q : Process). p.name ≢ q.name) l) (sym a.processes) (processes_apart ss e (processes_of old) n h.processes d.processes);
   initial = subst (λ (l : List (List ℕ × ℕ)). IsOneEach l) (sym a.initial) (initial_apart ss e old.initial.items n h.initial d.initial);

@@ -10,9 +10,9 @@ use Rattle.std.proofs.lemmas.List.Splits.{slice_split-cons_no, slice_split-cons_
 use Rattle.text_lines.specs.Words.{words_of, is_blank, is_empty}
 use Rattle.text_lines.proofs.CutLemmas.{FirstPart, first_part, kept}
 use Rattle.text_lines.proofs.PlainLemmas.{own}
-use Rattle.traces.specs.Names.{is_name, may_begin_name, may_be_in_name}
+use Rattle.trace_semantics.specs.Names.{is_name, may_begin_name, may_be_in_name}
 use Rattle.trace_text.specs.TraceFault.{is_high}
-use Rattle.traces.proofs.NameByteLemmas.{none_in_name, name_bytes}
+use Rattle.trace_semantics.proofs.NameByteLemmas.{none_in_name, name_bytes}
 
 -- a word has a byte above 127, and so has a line of words
 abbrev pub high_word : List ℕ → Bool

@@ -12,31 +12,31 @@ use Rattle.text_lines.specs.FirstFault.{IsFaultless}
 use Rattle.text_lines.specs.Lines.{lines_of}
 use Rattle.text_lines.specs.Words.{words_of}
 use Rattle.text_lines.proofs.PlainLemmas.{decimal_is_plain}
-use Rattle.traces.specs.declared.operation.Op.{Op}
-use Rattle.traces.specs.declared.operation.Op.TheVariants.{Read as ReadOp, Write as WriteOp, Update as UpdateOp}
-use Rattle.traces.specs.declared.operation.OpName.{OpName}
-use Rattle.traces.specs.declared.operation.Origin.{Origin}
-use Rattle.traces.specs.declared.operation.Origin.TheVariants.{Any, Initial, Operation}
-use Rattle.traces.specs.declared.trace.Process.{Process}
+use Rattle.trace_semantics.specs.declared.operation.Op.{Op}
+use Rattle.trace_semantics.specs.declared.operation.Op.TheVariants.{Read as ReadOp, Write as WriteOp, Update as UpdateOp}
+use Rattle.trace_semantics.specs.declared.operation.OpName.{OpName}
+use Rattle.trace_semantics.specs.declared.operation.Origin.{Origin}
+use Rattle.trace_semantics.specs.declared.operation.Origin.TheVariants.{Any, Initial, Operation}
+use Rattle.trace_semantics.specs.declared.trace.Process.{Process}
 use Rattle.trace_text.specs.declared.trace_fault.TraceCause.{TraceCause}
 use Rattle.trace_text.specs.declared.trace_fault.TraceCause.TheVariants.{NoSuchOp, BeforeItself}
-use Rattle.text_lines.specs.declared.fault.Fault.{Fault}
-use Rattle.text_lines.specs.declared.fault.Fault.TheVariants.{OutOfMemory, At}
+use Rattle.text_lines.specs.declared.fault.PlacedFault.{PlacedFault}
+use Rattle.text_lines.specs.declared.fault.PlacedFault.TheVariants.{OutOfMemory, At}
 use Rattle.trace_text.specs.Entry.{before_statement, op_statement, source_of}
 use Rattle.trace_text.specs.Gathered.{is_of_process, process_statements}
 use Rattle.text_lines.specs.Kept.{is_skipped, kept}
-use Rattle.traces.specs.Names.{is_name}
-use Rattle.traces.specs.Operation.{origin_of}
+use Rattle.trace_semantics.specs.Names.{is_name}
+use Rattle.trace_semantics.specs.Operation.{origin_of}
 use Rattle.trace_text.specs.Read.{AreSaid}
 use Rattle.trace_text.specs.References.{is_of, some_is_of, is_among, fault_of_references, fault_of_line, IsRefusedByReferences}
 use Rattle.trace_text.specs.Statement.{Statement, Proc, statement_of, words_for}
-use Rattle.traces.specs.Trace.{TraceValue, operation_at, at_place, IsKnownOrigin, is_written_name, is_written_origin, is_written_op, is_written_process, is_written_pair}
-use Rattle.traces.specs.Place.{place_of}
+use Rattle.trace_semantics.specs.Trace.{TraceValue, operation_at, at_place, IsKnownOrigin, is_written_name, is_written_origin, is_written_op, is_written_process, is_written_pair}
+use Rattle.trace_semantics.specs.Place.{place_of}
 use Rattle.trace_text.specs.TraceFault.{has_operation_at, references_of, references_of_source, is_before, is_before_itself, reference_fault, line_reference_fault, trace_line_fault, statements_of, HasTraceFault}
 use Rattle.trace_text.specs.TraceText.{header_line}
-use Rattle.traces.proofs.ElementLemmas.{placed, tail_in, from_filter, from_map, to_map, to_flat_map, some_passes, same_from_key, finds, all_pass}
+use Rattle.trace_semantics.proofs.ElementLemmas.{placed, tail_in, from_filter, from_map, to_map, to_flat_map, some_passes, same_from_key, finds, all_pass}
 use Rattle.trace_text.proofs.LineLemmas.{version_is}
-use Rattle.traces.proofs.NameLemmas.{Named, same_bytes, bytes_same, within_place}
+use Rattle.trace_semantics.proofs.NameLemmas.{Named, same_bytes, bytes_same, within_place}
 use Rattle.trace_text.proofs.ReferenceLemmas.{has_operation-listed}
 use Rattle.trace_text.proofs.SaidLemmas.{statements_said}
 use Rattle.trace_text.proofs.SpellLemmas.{said_each}
@@ -156,7 +156,7 @@ same_fault two lines ss ps line a h =
     ∙ ap (λ f. if is_skipped (words_of line) then None else f) (same_references ss ps (statement_of two (words_of line)) h)
 
 -- a refusal by references is one of the text
-pub refused_by_references : (two : Bool) (text : List ℕ) (ss : List Statement) (ps : List Process) (fault : Fault TraceCause) → AreSaid two (lines_of text) ss → filter is_of_process ss ≡ flat_map process_statements ps → IsFaultless trace_line_fault (lines_of text) →
+pub refused_by_references : (two : Bool) (text : List ℕ) (ss : List Statement) (ps : List Process) (fault : PlacedFault TraceCause) → AreSaid two (lines_of text) ss → filter is_of_process ss ≡ flat_map process_statements ps → IsFaultless trace_line_fault (lines_of text) →
     IsRefusedByReferences two ps text fault → IsRefusal (HasTraceFault text) fault
 refused_by_references two text ss ps OutOfMemory a h f r = tt
 refused_by_references two text ss ps (At cause line) a h f r = inr (inr (record {

@@ -27,7 +27,7 @@ use Rattle.trace_text.specs.TraceFault.{trace_line_fault, words_fault, said_faul
 use Rattle.trace_text.specs.TraceText.{header_line}
 use Rattle.trace_text.proofs.SaidLemmas.{said_first, words_said, statements_said}
 
--- the first words tell as much as all
+-- the first words suffice to see whether a line is skipped
 pub skipped_first : (words : List (List ℕ)) → is_skipped (take 8 words) ≡ is_skipped words
 skipped_first [] = refl
 skipped_first (w ∷ ws) = refl
@@ -175,7 +175,7 @@ is_pair a b c d false y e f h = absurd (cc)
 pub pointwise_pair : (words texts : List (List ℕ)) → pointwise bytes_eq words texts ≡ true → words ≡ texts
 pointwise_pair words texts h = (slice_eq-Decides bytes_eq-Decides words texts true (sym h)).0 refl
 
--- three words tell as well as all whether they are a header
+-- three words suffice to see whether a line is a header
 pub header_first : (words : List (List ℕ)) → is_header (take 3 words) ≡ is_header words
 header_first [] = refl
 header_first (a ∷ []) = refl

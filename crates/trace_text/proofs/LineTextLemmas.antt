@@ -11,10 +11,10 @@ use Rattle.text_lines.specs.Words.{words_of, is_blank, is_empty}
 use Rattle.text_lines.proofs.LineLemmas.{line_ended, one_word, word_ended}
 use Rattle.text_lines.proofs.PlainLemmas.{own, not_empty}
 use Rattle.text_lines.specs.Kept.{kept, is_skipped}
-use Rattle.traces.specs.Names.{is_name, may_begin_name, may_be_in_name}
+use Rattle.trace_semantics.specs.Names.{is_name, may_begin_name, may_be_in_name}
 use Rattle.trace_text.specs.TraceWritten.{line_text}
-use Rattle.traces.proofs.ElementLemmas.{all_pass, pass_all}
-use Rattle.traces.proofs.NameByteLemmas.{name_bytes, apart, none_in_name}
+use Rattle.trace_semantics.proofs.ElementLemmas.{all_pass, pass_all}
+use Rattle.trace_semantics.proofs.NameByteLemmas.{name_bytes, apart, none_in_name}
 use Rattle.text_lines.proofs.KeptLemmas.{kept_more}
 
 -- bytes that are a word

@@ -5,16 +5,16 @@ use Rattle.std.specs.List.{Contains, filter, filter_map, cons_option, flat_map}
 use Rattle.std.specs.List.Sorted.{IsPermutation}
 use Rattle.std.proofs.lemmas.List.Elements.{Contains-append_cases}
 use Rattle.std.proofs.lemmas.List.Sorted.{Contains-permutation, IsPermutation-sym}
-use Rattle.traces.specs.declared.operation.Op.{Op}
-use Rattle.traces.specs.declared.operation.Op.TheVariants.{Read as ReadOp, Write as WriteOp, Update as UpdateOp}
-use Rattle.traces.specs.declared.trace.Process.{Process}
+use Rattle.trace_semantics.specs.declared.operation.Op.{Op}
+use Rattle.trace_semantics.specs.declared.operation.Op.TheVariants.{Read as ReadOp, Write as WriteOp, Update as UpdateOp}
+use Rattle.trace_semantics.specs.declared.trace.Process.{Process}
 use Rattle.trace_text.specs.Entry.{op_statement, init_statement, final_statement}
 use Rattle.trace_text.specs.Gathered.{is_init, is_final, is_of_process, process_statements}
-use Rattle.traces.specs.Operation.{location_of}
+use Rattle.trace_semantics.specs.Operation.{location_of}
 use Rattle.trace_text.specs.Statement.{Statement, Proc}
-use Rattle.traces.specs.Trace.{TraceValue, locations_of}
+use Rattle.trace_semantics.specs.Trace.{TraceValue, locations_of}
 use Rattle.trace_text.specs.TraceFault.{location_named}
-use Rattle.traces.proofs.ElementLemmas.{none_in, cases_in, head_in, tail_in, from_filter, from_map, to_map, from_flat_map, to_flat_map}
+use Rattle.trace_semantics.proofs.ElementLemmas.{none_in, cases_in, head_in, tail_in, from_filter, from_map, to_map, from_flat_map, to_flat_map}
 
 to_filter_map : {A B : Type 0} (f : A → Option B) (xs : List A) (x : A) (y : B) → Contains xs x → f x ≡ Some y → Contains (filter_map f xs) y
 to_filter_map f [] x y c e = absurd (none_in x c)

@@ -1,4 +1,4 @@
--- The lines of a trace tell it.
+-- The lines of a trace determine it.
 use Rattle.std.proofs.Common.{◌≡◌, ℕ, List, [], ◌∷◌, ◌++◌, map, get_or, true, refl, ap, sym, ◌∙◌, subst, arith}
 use Rattle.std.specs.Prelude.{◌↔◌, codes}
 use Rattle.std.specs.Fmt.{decimal}
@@ -9,25 +9,25 @@ use Rattle.std.proofs.lemmas.Bool.{and_parts}
 use Rattle.std.proofs.lemmas.Fmt.{decimal_injective, decimal_is_IsNumeral}
 use Rattle.std.proofs.lemmas.List.Sorted.{IsPermutation-map, IsPermutation-sym, IsPermutation-trans}
 use Rattle.text_lines.specs.Lines.{lines_of}
-use Rattle.traces.specs.declared.operation.Op.{Op}
-use Rattle.traces.specs.declared.operation.Op.TheVariants.{Read, Write, Update}
-use Rattle.traces.specs.declared.operation.OpName.{OpName}
-use Rattle.traces.specs.declared.operation.Origin.{Origin}
-use Rattle.traces.specs.declared.operation.Origin.TheVariants.{Any, Initial, Operation}
-use Rattle.traces.specs.declared.trace.Process.{Process}
+use Rattle.trace_semantics.specs.declared.operation.Op.{Op}
+use Rattle.trace_semantics.specs.declared.operation.Op.TheVariants.{Read, Write, Update}
+use Rattle.trace_semantics.specs.declared.operation.OpName.{OpName}
+use Rattle.trace_semantics.specs.declared.operation.Origin.{Origin}
+use Rattle.trace_semantics.specs.declared.operation.Origin.TheVariants.{Any, Initial, Operation}
+use Rattle.trace_semantics.specs.declared.trace.Process.{Process}
 use Rattle.text_lines.specs.Kept.{kept}
-use Rattle.traces.specs.Names.{is_name}
-use Rattle.traces.specs.PairOrder.{ArePairsRising}
-use Rattle.traces.specs.Trace.{TraceValue, IsTrace, IsWritten, is_written_value, is_written_name, is_written_origin, is_written_op, is_written_process, is_written_pair}
+use Rattle.trace_semantics.specs.Names.{is_name}
+use Rattle.trace_semantics.specs.PairOrder.{ArePairsRising}
+use Rattle.trace_semantics.specs.Trace.{TraceValue, IsTrace, IsWritten, is_written_value, is_written_name, is_written_origin, is_written_op, is_written_process, is_written_pair}
 use Rattle.trace_text.specs.TraceText.{SpellsTrace, begins, is_process_line, header_line, init_line, final_line, proc_line, origin_words, op_line, process_lines, before_line}
 use Rattle.trace_text.specs.TraceWritten.{canonical_body, canonical_lines, canonical_trace}
-use Rattle.traces.proofs.ElementLemmas.{all_pass, from_map, to_map}
+use Rattle.trace_semantics.proofs.ElementLemmas.{all_pass, from_map, to_map}
 use Rattle.trace_text.proofs.LineTextLemmas.{written_kept}
 use Rattle.trace_text.proofs.RisingLemmas.{values_same, pairs_same}
 use Rattle.trace_text.proofs.TraceWrittenLemmas.{lines_kept_of, process_part, init_part, final_part, before_part}
 use Rattle.trace_text.proofs.WritableLemmas.{name_parts, value_parts, read_parts, update_parts}
 
--- words tell operations' names
+-- words determine operations' names
 same_op_name : (m n : OpName) → is_written_name m ≡ true → is_written_name n ≡ true → m.process ≡ n.process → decimal m.place ≡ decimal n.place → m ≡ n
 same_op_name m n h k process digits =
     let first = (name_parts m h).most in
@@ -35,7 +35,7 @@ same_op_name m n h k process digits =
     let place = decimal_injective m.place n.place (omega (arith, first)) (omega (arith, second)) digits in
     (λ i. record { process = process i; place = place i })
 
--- words tell where a value comes from
+-- words determine the origin of a value
 same_origin : (a b : Origin) → is_written_origin a ≡ true → is_written_origin b ≡ true → origin_words a ≡ origin_words b → a ≡ b
 same_origin Any Any h k e = refl
 same_origin Any Initial h k e = absurd (cc)
@@ -101,7 +101,7 @@ not_op : (ps : List Process) (op : Op) (rest : List (List (List ℕ))) → flat_
 not_op [] op rest e = cc
 not_op (p ∷ ps) op rest e = let line : proc_line p.name ≡ op_line op = cc in not_proc p.name op line
 
--- lines tell the operations up to the next process
+-- lines determine the operations up to the next process
 same_ops : (a b : List Op) (ps qs : List Process) → list_all is_written_op a ≡ true → list_all is_written_op b ≡ true →
     map op_line a ++ flat_map process_lines ps ≡ map op_line b ++ flat_map process_lines qs → (a ≡ b) × (flat_map process_lines ps ≡ flat_map process_lines qs)
 same_ops [] [] ps qs h k e = (refl, e)

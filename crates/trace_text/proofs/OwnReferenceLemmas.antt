@@ -9,21 +9,21 @@ use Rattle.std.proofs.lemmas.Fmt.{decimal_injective}
 use Rattle.std.proofs.lemmas.List.Elements.{All-contains}
 use Rattle.trace_text.specs.declared.entry.Entry.{Entry}
 use Rattle.trace_text.specs.declared.entry.Entry.TheVariants.{Initial as InitialEntry, Final as FinalEntry, Process as ProcessEntry, Operation as OperationEntry, Before as BeforeEntry}
-use Rattle.traces.specs.declared.operation.Op.{Op}
-use Rattle.traces.specs.declared.operation.Op.TheVariants.{Read as ReadOp, Write as WriteOp, Update as UpdateOp}
-use Rattle.traces.specs.declared.operation.OpName.{OpName}
-use Rattle.traces.specs.declared.operation.Origin.{Origin}
-use Rattle.traces.specs.declared.operation.Origin.TheVariants.{Any, Initial, Operation}
-use Rattle.traces.specs.declared.trace.Process.{Process}
+use Rattle.trace_semantics.specs.declared.operation.Op.{Op}
+use Rattle.trace_semantics.specs.declared.operation.Op.TheVariants.{Read as ReadOp, Write as WriteOp, Update as UpdateOp}
+use Rattle.trace_semantics.specs.declared.operation.OpName.{OpName}
+use Rattle.trace_semantics.specs.declared.operation.Origin.{Origin}
+use Rattle.trace_semantics.specs.declared.operation.Origin.TheVariants.{Any, Initial, Operation}
+use Rattle.trace_semantics.specs.declared.trace.Process.{Process}
 use Rattle.trace_text.specs.declared.trace_fault.TraceCause.TheVariants.{NoSuchOp, BeforeItself}
 use Rattle.trace_text.specs.Entry.{op_statement, source_of, statement_for}
-use Rattle.traces.specs.Operation.{origin_of}
+use Rattle.trace_semantics.specs.Operation.{origin_of}
 use Rattle.trace_text.specs.References.{is_of, some_is_of, is_among, fault_of_references}
 use Rattle.trace_text.specs.Statement.{Statement}
-use Rattle.traces.specs.Trace.{TraceValue, IsTrace, operation_at, IsKnownOrigin, is_written_name, is_written_origin, is_written_op}
+use Rattle.trace_semantics.specs.Trace.{TraceValue, IsTrace, operation_at, IsKnownOrigin, is_written_name, is_written_origin, is_written_op}
 use Rattle.trace_text.specs.TraceFault.{references_of, references_of_source, is_before_itself}
-use Rattle.traces.proofs.ElementLemmas.{passes_some}
-use Rattle.traces.proofs.NameLemmas.{known_named, same_bytes, bytes_same}
+use Rattle.trace_semantics.proofs.ElementLemmas.{passes_some}
+use Rattle.trace_semantics.proofs.NameLemmas.{known_named, same_bytes, bytes_same}
 use Rattle.trace_text.proofs.StatedLemmas.{IsHad}
 use Rattle.trace_text.proofs.ToldLemmas.{Has, has_writable}
 use Rattle.trace_text.proofs.WritableLemmas.{name_parts, place_decimal, read_origin, update_origin}

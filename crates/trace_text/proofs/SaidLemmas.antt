@@ -4,7 +4,7 @@ use Rattle.std.specs.Prelude.{Option, Some, None, if◌then◌else◌}
 use Rattle.std.specs.List.{cons_option}
 use Rattle.std.specs.Str.{bytes_eq}
 use Rattle.std.proofs.lemmas.Bool.{and_parts}
-use Rattle.traces.proofs.NameLemmas.{same_bytes}
+use Rattle.trace_semantics.proofs.NameLemmas.{same_bytes}
 use Rattle.trace_text.specs.Read.{saying}
 use Rattle.trace_text.specs.Statement.{Unsaid, FromInit, FromOp, Statement, Init, Final, Proc, Read, Write, Update, Before, statement_of, words_for}
 use Rattle.trace_text.specs.TraceFault.{statements_of}

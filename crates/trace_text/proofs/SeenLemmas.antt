@@ -14,11 +14,11 @@ use Rattle.trace_text.specs.declared.trace_fault.TraceCause.TheVariants.{BadName
 use Rattle.text_lines.specs.declared.plain_fault.PlainFault.{PlainFault}
 use Rattle.text_lines.specs.declared.plain_fault.PlainFault.TheVariants.{OutOfMemory, For}
 use Rattle.trace_text.specs.Entry.{has_numbers, number_fault}
-use Rattle.traces.specs.Names.{is_name}
+use Rattle.trace_semantics.specs.Names.{is_name}
 use Rattle.text_lines.specs.PlainFault.{IsRefusedFor}
-use Rattle.traces.specs.Locations.{distinct, holds_name}
-use Rattle.traces.proofs.NameLemmas.{bytes_turned}
-use Rattle.traces.proofs.DistinctLemmas.{length_chosen}
+use Rattle.trace_semantics.specs.Locations.{distinct, holds_name}
+use Rattle.trace_semantics.proofs.NameLemmas.{bytes_turned}
+use Rattle.trace_semantics.proofs.DistinctLemmas.{length_chosen}
 use Rattle.trace_text.specs.Seen.{has, early_fault, fault_behind, fault_of_operation, NotesLocation, Notes, IsSeen}
 use Rattle.trace_text.specs.Statement.{Statement, Init, Final, Proc, Read, Write, Update, Before}
 use Rattle.trace_text.specs.TraceFault.{is_proc, is_operation, is_before, is_value_line, names_of, location_named, repeats, twice_cause, limit_fault, is_location_too_many, or_else, statement_fault}

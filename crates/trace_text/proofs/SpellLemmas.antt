@@ -6,11 +6,11 @@ use Rattle.std.proofs.lemmas.List.{map-append}
 use Rattle.std.proofs.lemmas.List.Elements.{Contains-append_left}
 use Rattle.std.proofs.lemmas.Bool.{false_from_ne_true}
 use Rattle.text_lines.specs.FirstFault.{IsFaultless}
-use Rattle.traces.specs.declared.operation.Op.{Op}
-use Rattle.traces.specs.declared.operation.Op.TheVariants.{Read as ReadOp, Write as WriteOp, Update as UpdateOp}
-use Rattle.traces.specs.declared.operation.OpName.{OpName}
-use Rattle.traces.specs.declared.operation.Origin.TheVariants.{Any, Initial, Operation}
-use Rattle.traces.specs.declared.trace.Process.{Process}
+use Rattle.trace_semantics.specs.declared.operation.Op.{Op}
+use Rattle.trace_semantics.specs.declared.operation.Op.TheVariants.{Read as ReadOp, Write as WriteOp, Update as UpdateOp}
+use Rattle.trace_semantics.specs.declared.operation.OpName.{OpName}
+use Rattle.trace_semantics.specs.declared.operation.Origin.TheVariants.{Any, Initial, Operation}
+use Rattle.trace_semantics.specs.declared.trace.Process.{Process}
 use Rattle.trace_text.specs.declared.trace_fault.TraceCause.{TraceCause}
 use Rattle.trace_text.specs.declared.trace_fault.TraceCause.TheVariants.{LateHeaderLine}
 use Rattle.trace_text.specs.Entry.{op_statement, before_statement}
@@ -19,7 +19,7 @@ use Rattle.trace_text.specs.Read.{saying}
 use Rattle.trace_text.specs.Statement.{Statement, Init, Final, Proc, Read, Write, Update, Before, statement_of, words_for}
 use Rattle.trace_text.specs.TraceFault.{is_proc, is_before, is_value_line, statement_fault, or_else}
 use Rattle.trace_text.specs.TraceText.{proc_line, op_line, process_lines, begins, is_process_line, has_origin}
-use Rattle.traces.proofs.ElementLemmas.{placed, head_in, tail_in, cases_in, none_in, from_filter, to_map, to_flat_map, some_passes, passes_some}
+use Rattle.trace_semantics.proofs.ElementLemmas.{placed, head_in, tail_in, cases_in, none_in, from_filter, to_map, to_flat_map, some_passes, passes_some}
 
 -- lines that pass, by the statements that do
 kept_line : (p : List (List ℕ) → Bool) (q : Statement → Bool) (s : Statement) (ss : List Statement) (b : Bool) → p (words_for s) ≡ b → q s ≡ b → filter p (map words_for ss) ≡ map words_for (filter q ss) →

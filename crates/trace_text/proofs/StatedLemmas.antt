@@ -10,11 +10,11 @@ use Rattle.trace_text.specs.Entry.{op_statement, init_statement, final_statement
 use Rattle.trace_text.specs.Gathered.{is_init, is_final, is_of_process, process_statements}
 use Rattle.trace_text.specs.Read.{saying}
 use Rattle.trace_text.specs.Statement.{Statement, Proc, statement_of, words_for}
-use Rattle.traces.specs.Trace.{TraceValue, IsTrace, IsOneEach, is_written_value}
+use Rattle.trace_semantics.specs.Trace.{TraceValue, IsTrace, IsOneEach, is_written_value}
 use Rattle.trace_text.specs.TraceFault.{is_proc, is_before, is_value_line, statements_of}
 use Rattle.trace_text.specs.TraceText.{SpellsTrace, init_line, final_line, begins, is_process_line, needs_version_2}
 use Rattle.trace_text.proofs.ArrangedLemmas.{init_lines, final_lines}
-use Rattle.traces.proofs.ElementLemmas.{head_in, tail_in, none_in, cases_in, pass_all, from_map, from_filter, from_flat_map}
+use Rattle.trace_semantics.proofs.ElementLemmas.{head_in, tail_in, none_in, cases_in, pass_all, from_map, from_filter, from_flat_map}
 use Rattle.trace_text.proofs.GatheredLemmas.{op_kind}
 use Rattle.trace_text.proofs.OneTraceLemmas.{permuted_entries}
 use Rattle.trace_text.proofs.OrderedLemmas.{one_each_moved}

@@ -9,7 +9,7 @@ use Rattle.trace_text.specs.declared.trace_fault.TraceCause.{TraceCause}
 use Rattle.trace_text.specs.declared.trace_reader.TraceReader.{TraceReader}
 use Rattle.trace_text.specs.Entry.{statement_for, has_numbers, number_fault, entry_fits}
 use Rattle.trace_text.specs.Gathered.{Adds, IsGathered}
-use Rattle.traces.specs.Names.{is_name}
+use Rattle.trace_semantics.specs.Names.{is_name}
 use Rattle.trace_text.specs.Progress.{IsProgress}
 use Rattle.text_lines.specs.PlainFault.{IsRefusedFor}
 use Rattle.trace_text.specs.Seen.{early_fault, fault_behind, Notes}

@@ -1,4 +1,4 @@
--- What the lines of a text that spells a trace tell: each is of an entry of the trace.
+-- What the lines of a text that spells a trace say: each is of an entry of the trace.
 use Rattle.std.proofs.Common.{◌≡◌, ℕ, List, [], ◌∷◌, length, map, Bool, true, false, not, ◌||◌, codes, refl, inl, inr, ap, sym, ◌∙◌, subst, arith}
 use Rattle.std.specs.Prelude.{Some, ◌==◌}
 use Rattle.std.specs.List.{Contains, filter, flat_map, list_any, list_all}
@@ -7,17 +7,17 @@ use Rattle.std.proofs.lemmas.Bool.{and_parts, or_parts, or_cases, cases_Bool, no
 use Rattle.std.proofs.lemmas.List.Sorted.{Contains-permutation, IsPermutation-sym}
 use Rattle.trace_text.specs.declared.entry.Entry.{Entry}
 use Rattle.trace_text.specs.declared.entry.Entry.TheVariants.{Initial as InitialEntry, Final as FinalEntry, Process as ProcessEntry, Operation as OperationEntry, Before as BeforeEntry}
-use Rattle.traces.specs.declared.operation.Op.{Op}
-use Rattle.traces.specs.declared.operation.Op.TheVariants.{Read as ReadOp, Write as WriteOp, Update as UpdateOp}
-use Rattle.traces.specs.declared.operation.OpName.{OpName}
-use Rattle.traces.specs.declared.operation.Origin.TheVariants.{Any, Initial, Operation}
-use Rattle.traces.specs.declared.trace.Process.{Process}
+use Rattle.trace_semantics.specs.declared.operation.Op.{Op}
+use Rattle.trace_semantics.specs.declared.operation.Op.TheVariants.{Read as ReadOp, Write as WriteOp, Update as UpdateOp}
+use Rattle.trace_semantics.specs.declared.operation.OpName.{OpName}
+use Rattle.trace_semantics.specs.declared.operation.Origin.TheVariants.{Any, Initial, Operation}
+use Rattle.trace_semantics.specs.declared.trace.Process.{Process}
 use Rattle.trace_text.specs.Entry.{op_statement, statement_for}
-use Rattle.traces.specs.Names.{is_name}
+use Rattle.trace_semantics.specs.Names.{is_name}
 use Rattle.trace_text.specs.Statement.{statement_of, words_for}
-use Rattle.traces.specs.Trace.{TraceValue, IsWritten, is_written_value, is_written_op, is_written_process, is_written_pair}
+use Rattle.trace_semantics.specs.Trace.{TraceValue, IsWritten, is_written_value, is_written_op, is_written_process, is_written_pair}
 use Rattle.trace_text.specs.TraceText.{SpellsTrace, init_line, final_line, proc_line, op_line, process_lines, before_line, begins, is_process_line, has_origin, needs_version_2}
-use Rattle.traces.proofs.ElementLemmas.{head_in, tail_in, none_in, cases_in, all_pass, passes_some, from_map, to_filter, from_flat_map}
+use Rattle.trace_semantics.proofs.ElementLemmas.{head_in, tail_in, none_in, cases_in, all_pass, passes_some, from_map, to_filter, from_flat_map}
 use Rattle.trace_text.proofs.SpellLemmas.{op_words}
 use Rattle.trace_text.proofs.WritableLemmas.{is_writable}
 

@@ -14,12 +14,12 @@ use Rattle.text_lines.specs.Kept.{kept, is_skipped}
 use Rattle.trace_text.specs.Read.{saying, AreSaid}
 use Rattle.trace_text.specs.References.{fault_of_references}
 use Rattle.trace_text.specs.Statement.{Statement, statement_of, words_for}
-use Rattle.traces.specs.Trace.{TraceValue, IsTrace}
+use Rattle.trace_semantics.specs.Trace.{TraceValue, IsTrace}
 use Rattle.trace_text.specs.TraceFault.{is_header, is_version_2, statements_of, said_fault, statement_fault, words_fault, trace_line_fault, line_reference_fault, HasTraceFault}
 use Rattle.trace_text.specs.TraceText.{SpellsTrace, header_line}
 use Rattle.trace_text.proofs.ApartLemmas.{cut_map}
 use Rattle.trace_text.proofs.ClearLemmas.{statements_clear}
-use Rattle.traces.proofs.ElementLemmas.{cases_in, in_middle, from_map}
+use Rattle.trace_semantics.proofs.ElementLemmas.{cases_in, in_middle, from_map}
 use Rattle.trace_text.proofs.HighLemmas.{high_words, high_line}
 use Rattle.trace_text.proofs.KnownLemmas.{same_fault}
 use Rattle.trace_text.proofs.LineLemmas.{line_fault, version_is, header_passes}

@@ -15,7 +15,7 @@ use Rattle.trace_text.specs.declared.trace_fault.TraceCause.TheVariants.{NotAsci
 use Rattle.text_lines.specs.Kept.{kept, is_skipped}
 use Rattle.trace_text.specs.Read.{saying, AreSaid}
 use Rattle.trace_text.specs.Statement.{Statement, statement_of, words_for}
-use Rattle.traces.specs.Trace.{TraceValue, IsTrace}
+use Rattle.trace_semantics.specs.Trace.{TraceValue, IsTrace}
 use Rattle.trace_text.specs.TraceFault.{is_header, is_high, said_fault, statement_fault, words_fault, trace_line_fault, line_reference_fault, HasTraceFault}
 use Rattle.trace_text.specs.TraceText.{SpellsTrace, header_line}
 use Rattle.trace_text.proofs.ArrangedLemmas.{trace_arranged, spells_arranged}

@@ -8,17 +8,17 @@ use Rattle.std.proofs.lemmas.Bool.{and_parts, and_from, or_from, cond-true, ltb-
 use Rattle.text_lines.proofs.PlainLemmas.{decimal_is_plain}
 use Rattle.trace_text.specs.declared.entry.Entry.{Entry}
 use Rattle.trace_text.specs.declared.entry.Entry.TheVariants.{Initial as InitialEntry, Final as FinalEntry, Process as ProcessEntry, Operation as OperationEntry, Before as BeforeEntry}
-use Rattle.traces.specs.declared.operation.Op.{Op}
-use Rattle.traces.specs.declared.operation.Op.TheVariants.{Read as ReadOp, Write as WriteOp, Update as UpdateOp}
-use Rattle.traces.specs.declared.operation.OpName.{OpName}
-use Rattle.traces.specs.declared.operation.Origin.{Origin}
-use Rattle.traces.specs.declared.operation.Origin.TheVariants.{Any, Initial, Operation}
+use Rattle.trace_semantics.specs.declared.operation.Op.{Op}
+use Rattle.trace_semantics.specs.declared.operation.Op.TheVariants.{Read as ReadOp, Write as WriteOp, Update as UpdateOp}
+use Rattle.trace_semantics.specs.declared.operation.OpName.{OpName}
+use Rattle.trace_semantics.specs.declared.operation.Origin.{Origin}
+use Rattle.trace_semantics.specs.declared.operation.Origin.TheVariants.{Any, Initial, Operation}
 use Rattle.trace_text.specs.Entry.{op_statement, source_of, statement_for, has_numbers}
-use Rattle.traces.specs.Names.{is_name}
+use Rattle.trace_semantics.specs.Names.{is_name}
 use Rattle.trace_text.specs.Seen.{names_of_source}
 use Rattle.trace_text.specs.Statement.{source_words, words_for}
-use Rattle.traces.specs.Trace.{is_written_value, is_written_name, is_written_origin, is_written_op, is_written_pair}
-use Rattle.traces.specs.Place.{place_of}
+use Rattle.trace_semantics.specs.Trace.{is_written_value, is_written_name, is_written_origin, is_written_op, is_written_pair}
+use Rattle.trace_semantics.specs.Place.{place_of}
 use Rattle.trace_text.specs.TraceFault.{is_value, is_place, names_of, references_of_source}
 use Rattle.trace_text.proofs.HighLemmas.{high_word, high_words, low_name, low_decimal}
 use Rattle.trace_text.proofs.KnownLemmas.{place_read}

@@ -6,15 +6,15 @@ use Rattle.std.specs.List.Sorted.{IsPermutation, IsSortedBy}
 use Rattle.std.specs.Ordering.{is_lt, nat_cmp}
 use Rattle.trace_text.specs.declared.entry.Entry.{Entry}
 use Rattle.trace_text.specs.declared.entry.Entry.TheVariants.{Initial, Final as FinalEntry, Process as ProcessEntry, Operation, Before as BeforeEntry}
-use Rattle.trace_text.specs.declared.gathered.OpenProcess.{OpenProcess}
-use Rattle.trace_text.specs.declared.gathered.Gathered.{Gathered}
-use Rattle.traces.specs.declared.operation.Op.{Op}
-use Rattle.traces.specs.declared.operation.OpName.{OpName}
-use Rattle.traces.specs.declared.trace.Process.{Process}
+use Rattle.trace_text.specs.declared.trace_builder.OpenProcess.{OpenProcess}
+use Rattle.trace_text.specs.declared.trace_builder.TraceBuilder.{TraceBuilder}
+use Rattle.trace_semantics.specs.declared.operation.Op.{Op}
+use Rattle.trace_semantics.specs.declared.operation.OpName.{OpName}
+use Rattle.trace_semantics.specs.declared.trace.Process.{Process}
 use Rattle.trace_text.specs.Entry.{op_statement, init_statement, final_statement, before_statement}
-use Rattle.traces.specs.PairOrder.{ArrangesPairs}
+use Rattle.trace_semantics.specs.PairOrder.{ArrangesPairs}
 use Rattle.trace_text.specs.Statement.{Statement, Init, Final, Proc}
-use Rattle.traces.specs.Trace.{TraceValue}
+use Rattle.trace_semantics.specs.Trace.{TraceValue}
 use Rattle.trace_text.specs.TraceFault.{is_proc, is_operation, is_before}
 
 -- the process whose lines are being read
@@ -23,11 +23,11 @@ open_process None = []
 open_process (Some p) = record { name = p.name; operations = p.ops.items } ∷ []
 
 -- the processes so far, with the operations so far
-abbrev pub processes_of : Gathered → List Process
+abbrev pub processes_of : TraceBuilder → List Process
 processes_of g = g.closed.items ++ open_process g.last
 
 -- what is gathered, as a trace
-abbrev pub trace_of : Gathered → TraceValue
+abbrev pub trace_of : TraceBuilder → TraceValue
 trace_of g = record { processes = processes_of g; initial = g.initial.items; final_values = g.final_values.items; before = g.before.items }
 
 -- the processes with one more operation of the last
@@ -61,7 +61,7 @@ is_process_entry (ProcessEntry name) = true
 is_process_entry entry = false
 
 -- an entry is added
-pub record Adds (old new : Gathered) (entry : Entry) : Type 0 where
+pub record Adds (old new : TraceBuilder) (entry : Entry) : Type 0 where
   pub processes : processes_of new ≡ processes_with (processes_of old) entry
   pub initial : new.initial.items ≡ initial_with old.initial.items entry
   pub final_values : new.final_values.items ≡ final_with old.final_values.items entry
@@ -85,7 +85,7 @@ abbrev pub process_statements : Process → List Statement
 process_statements p = Proc p.name ∷ map op_statement p.operations
 
 -- what is gathered is what the statements say
-pub record IsGathered (ss : List Statement) (g : Gathered) : Type 0 where
+pub record IsGathered (ss : List Statement) (g : TraceBuilder) : Type 0 where
   pub processes : filter is_of_process ss ≡ flat_map process_statements (processes_of g)
   pub initial : filter is_init ss ≡ map init_statement g.initial.items
   pub final_values : filter is_final ss ≡ map final_statement g.final_values.items

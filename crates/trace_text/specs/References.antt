@@ -5,14 +5,14 @@ use Rattle.std.specs.Str.{bytes_eq}
 use Rattle.text_lines.specs.FirstFault.{IsFirstFault}
 use Rattle.text_lines.specs.Lines.{lines_of}
 use Rattle.text_lines.specs.Words.{words_of}
-use Rattle.traces.specs.declared.trace.Process.{Process}
+use Rattle.trace_semantics.specs.declared.trace.Process.{Process}
 use Rattle.trace_text.specs.declared.trace_fault.TraceCause.{TraceCause}
 use Rattle.trace_text.specs.declared.trace_fault.TraceCause.TheVariants.{NoSuchOp, BeforeItself}
 use Rattle.text_lines.specs.Fault.{IsRefusal}
-use Rattle.text_lines.specs.declared.fault.Fault.{Fault}
+use Rattle.text_lines.specs.declared.fault.PlacedFault.{PlacedFault}
 use Rattle.text_lines.specs.Kept.{is_skipped}
 use Rattle.trace_text.specs.Statement.{Statement, statement_of}
-use Rattle.traces.specs.Place.{place_of}
+use Rattle.trace_semantics.specs.Place.{place_of}
 use Rattle.trace_text.specs.TraceFault.{references_of, is_before_itself}
 
 -- this process has this name, and an operation at this place
@@ -41,5 +41,5 @@ abbrev pub fault_of_line : Bool → List Process → List ℕ → Option TraceCa
 fault_of_line two processes line = if is_skipped (words_of line) then None else fault_of_references processes (statement_of two (words_of line))
 
 -- the first line that names an operation wrongly
-abbrev pub IsRefusedByReferences : Bool → List Process → List ℕ → Fault TraceCause → Type 0
+abbrev pub IsRefusedByReferences : Bool → List Process → List ℕ → PlacedFault TraceCause → Type 0
 IsRefusedByReferences two processes text fault = IsRefusal (λ cause line. IsFirstFault (λ _ here. fault_of_line two processes here) (lines_of text) line cause) fault

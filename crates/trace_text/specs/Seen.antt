@@ -1,14 +1,14 @@
--- What the earlier statements tell of the next one.
+-- What must be known of the earlier statements to judge the next one.
 use Rattle.std.specs.Prelude.{◌≡◌, ◌≤◌, ◌+◌, ℕ, Bool, false, not, ◌&&◌, ◌||◌, is_some, List, [], length, map, Option, Some, None, nat_le, if◌then◌else◌}
 use Rattle.std.specs.List.{filter, filter_map, list_any, list_all}
 use Rattle.std.specs.Str.{bytes_eq}
-use Rattle.traces.specs.declared.name_table.NameTable.{NameTable}
+use Rattle.trace_semantics.specs.declared.name_table.NameTable.{NameTable}
 use Rattle.trace_text.specs.declared.seen.Seen.{Seen}
 use Rattle.trace_text.specs.declared.trace_fault.TraceCause.{TraceCause}
 use Rattle.trace_text.specs.declared.trace_fault.TraceCause.TheVariants.{BadName, InitTwice, FinalTwice, ProcTwice, OpOutsideProc, LateHeaderLine, TooManyProcs, TooManyOps, TooManyLocations, TooManyBefore}
-use Rattle.traces.specs.Locations.{distinct, holds_name}
-use Rattle.traces.specs.NameNumbers.{number_of}
-use Rattle.traces.specs.Names.{is_name}
+use Rattle.trace_semantics.specs.Locations.{distinct, holds_name}
+use Rattle.trace_semantics.specs.NameNumbers.{number_of}
+use Rattle.trace_semantics.specs.Names.{is_name}
 use Rattle.trace_text.specs.Statement.{ReadsFrom, Statement, Init, Final, Proc, Read, Write, Update, Before}
 use Rattle.trace_text.specs.TraceFault.{is_proc, is_operation, is_before, is_value_line, names_of, references_of_source, location_named, repeats}
 

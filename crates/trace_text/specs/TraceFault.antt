@@ -7,12 +7,12 @@ use Rattle.text_lines.specs.FirstFault.{IsFaultless, IsFirstFault}
 use Rattle.text_lines.specs.Lines.{lines_of}
 use Rattle.text_lines.specs.Numbers.{plain_number_up_to}
 use Rattle.text_lines.specs.Words.{words_of}
-use Rattle.traces.specs.Place.{place_of}
+use Rattle.trace_semantics.specs.Place.{place_of}
 use Rattle.trace_text.specs.declared.trace_fault.TraceCause.{TraceCause}
 use Rattle.trace_text.specs.declared.trace_fault.TraceCause.TheVariants.{NotAscii, Header, UnknownLine, BadName, BadNumber, InitTwice, FinalTwice, ProcTwice, OpOutsideProc, LateHeaderLine, TooManyProcs, TooManyOps, TooManyLocations, NoSuchOp, BeforeItself, TooManyBefore}
 use Rattle.text_lines.specs.Kept.{kept, is_skipped}
-use Rattle.traces.specs.Locations.{distinct, holds_name}
-use Rattle.traces.specs.Names.{is_name}
+use Rattle.trace_semantics.specs.Locations.{distinct, holds_name}
+use Rattle.trace_semantics.specs.Names.{is_name}
 use Rattle.trace_text.specs.Statement.{ReadsFrom, Unsaid, FromInit, FromOp, Statement, Init, Final, Proc, Read, Write, Update, Before, statement_of}
 use Rattle.trace_text.specs.TraceText.{header_line}
 
@@ -222,7 +222,7 @@ pub record HasReferenceFault (text : List ℕ) (cause : TraceCause) (line : ℕ)
   pub found : IsFirstFault (λ _ here. line_reference_fault (kept (lines_of text)) here) (lines_of text) line cause
 
 -- The text has its first fault at this line, counted from 1. A missing header is a fault of the line after the last.
--- The operations that lines name are looked at only where no line has another fault.
+-- The operations that lines name are checked only if no line has another fault.
 abbrev pub HasTraceFault : List ℕ → TraceCause → ℕ → Type 0
 HasTraceFault text cause line = IsFirstFault trace_line_fault (lines_of text) line cause
     ⊎ ((LacksHeader text × (cause ≡ Header) × (line ≡ length (lines_of text) + 1)) ⊎ HasReferenceFault text cause line)

@@ -1,7 +1,7 @@
 -- The canonical text of a trace.
 use Rattle.std.specs.Prelude.{ℕ, List, [], ◌∷◌, ◌++◌, map}
 use Rattle.std.specs.List.{flat_map, join_with_byte}
-use Rattle.traces.specs.Trace.{TraceValue}
+use Rattle.trace_semantics.specs.Trace.{TraceValue}
 use Rattle.trace_text.specs.TraceText.{header_line, init_line, final_line, process_lines, before_line, needs_version_2}
 
 -- a line: its words, a space between each two, and a line feed

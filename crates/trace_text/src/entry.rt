@@ -5,7 +5,7 @@ ghost use Rattle.trace_text.specs.Entry.{source_of, statement_for, op_statement,
 ghost use Rattle.text_lines.specs.PlainFault.{IsRefusedFor};
 ghost use Rattle.trace_text.specs.Said.{said, said_source};
 ghost use Rattle.trace_text.specs.Statement.{Read, Write, Update, Before};
-ghost use Rattle.traces.specs.Place.{place_of};
+ghost use Rattle.trace_semantics.specs.Place.{place_of};
 ghost use Rattle.trace_text.specs.TraceFault.{is_value, is_place};
 
 use crate::statement::{ReadsFrom, Statement};
@@ -13,8 +13,8 @@ use crate::trace_fault::{LineRefusal, TraceCause};
 use std::alloc::Global;
 use text_lines::numbers::read_plain;
 use text_lines::plain_fault::PlainFault;
-use traces::name::Name;
-use traces::operation::{Op, OpName, Origin};
+use trace_semantics::name::Name;
+use trace_semantics::operation::{Op, OpName, Origin};
 
 /// What a line adds to the trace.
 #[derive(Drop)]
@@ -84,7 +84,7 @@ fn read_op_name(alloc: Global, process: &[u8], place: &[u8]) -> Result<OpName, L
     })
 }
 
-/// Where a value comes from.
+/// The origin of a value.
 fn read_origin(alloc: Global, source: ReadsFrom<'_>) -> Result<Origin, LineRefusal>
     ensures refused { IfErr result (IsRefusedFor (number_fault (has_place (said_source source.entry)))) }
     ensures fine { IfOk result (λ _. has_place (said_source source.entry) ≡ true) }
@@ -174,7 +174,7 @@ fn read_pair(
     Ok(Entry::Before(first, second))
 }
 
-/// What a line adds that says this, where its numbers are numbers.
+/// What a line adds that says this, if its numbers are numbers.
 pub fn read_entry(alloc: Global, statement: Statement<'_>) -> Result<Entry, LineRefusal>
     ensures refused { IfErr result (IsRefusedFor (number_fault (has_numbers (said statement.entry)))) }
     ensures fine { IfOk result (λ _. has_numbers (said statement.entry) ≡ true) }

@@ -17,13 +17,13 @@ use crate::line::has_high_byte;
 use crate::trace_fault::{LineRefusal, TraceCause, TraceFault};
 use std::alloc::Global;
 use text_lines::comments::is_skipped_line;
-use text_lines::fault::Fault;
+use text_lines::fault::PlacedFault;
 use text_lines::lines::cut_line;
 use text_lines::plain_fault::PlainFault;
 use text_lines::words::first_words;
 
-/// One word more than a header has.
-const MOST_WORDS: usize = 3;
+/// Words of a line that are read: one more than a header has.
+const MAX_WORDS: usize = 3;
 
 /// The header of a text, and what follows it.
 #[derive(Drop)]
@@ -56,12 +56,12 @@ fn version_of(words: &[&[u8]]) -> Option<bool>
     }
 }
 
-/// Whether the header on this line is of version 2; nothing where the line is skipped.
+/// Whether the header on this line is of version 2; nothing if the line is skipped.
 fn read_header_line(alloc: Global, line: &[u8]) -> Result<Option<bool>, LineRefusal>
     ensures refused { IfErr result (IsRefusedFor (header_fault line.now)) }
     ensures read { IfOk result (λ version. MatchOption version (is_skipped (words_of line.now) ≡ true) (IsHeaderLine line.now)) }
 {
-    let words = first_words(alloc, line, MOST_WORDS)?;
+    let words = first_words(alloc, line, MAX_WORDS)?;
     if is_skipped_line(words.as_slice()) {
         return Ok(None);
     }
@@ -96,5 +96,5 @@ pub fn read_header(alloc: Global, text: &[u8]) -> Result<Header<'_>, TraceFault>
         rest = after;
         next += 1;
     }
-    Err(Fault::At(TraceCause::Header, next))
+    Err(PlacedFault::At(TraceCause::Header, next))
 }

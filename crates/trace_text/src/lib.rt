@@ -2,7 +2,6 @@
 #![tactic(auto)]
 
 mod entry;
-mod gathered;
 mod header;
 mod line;
 mod pair_order;
@@ -10,6 +9,7 @@ mod place;
 mod references;
 mod seen;
 mod statement;
+mod trace_builder;
 pub mod trace_fault;
 pub mod trace_laws;
 pub mod trace_reader;

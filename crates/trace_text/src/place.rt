@@ -2,14 +2,14 @@
 
 ghost use Rattle.std.specs.Prelude.{◌≡◌};
 ghost use Rattle.std.specs.List.{list_all};
-ghost use Rattle.traces.specs.Names.{is_name};
+ghost use Rattle.trace_semantics.specs.Names.{is_name};
 ghost use Rattle.trace_text.specs.Said.{said, said_source};
 ghost use Rattle.trace_text.specs.Seen.{early_fault, names_of_source};
 ghost use Rattle.trace_text.specs.TraceFault.{is_operation, is_value_line, names_of};
 
 use crate::statement::{ReadsFrom, Statement};
 use crate::trace_fault::TraceCause;
-use traces::name::is_name_word;
+use trace_semantics::name::is_name_word;
 
 fn is_of_value(statement: Statement<'_>) -> bool
     ensures { result ≡ is_value_line (said statement.entry) }

@@ -8,7 +8,7 @@ ghost use Rattle.text_lines.specs.Lines.{lines_of};
 ghost use Rattle.text_lines.specs.PlainFault.{IsRefusedFor};
 ghost use Rattle.trace_text.specs.References.{is_of, is_among, fault_of_references, fault_of_line, IsRefusedByReferences};
 ghost use Rattle.trace_text.specs.Said.{said, said_source};
-ghost use Rattle.traces.specs.Place.{place_of};
+ghost use Rattle.trace_semantics.specs.Place.{place_of};
 ghost use Rattle.trace_text.specs.TraceFault.{references_of, references_of_source, is_before_itself};
 
 use crate::entry::read_place;
@@ -19,10 +19,10 @@ use text_lines::comments::is_skipped_line;
 use text_lines::lines::cut_line;
 use text_lines::plain_fault::PlainFault;
 use text_lines::words::first_words;
-use traces::trace::Process;
+use trace_semantics::trace::Process;
 
-/// No line of any form has as many words.
-const MOST_WORDS: usize = 8;
+/// Words of a line that are read: more than a line of any form has.
+const MAX_WORDS: usize = 8;
 
 /// Whether the process has this name, and an operation at this place.
 fn has_place(process: &Process, name: &[u8], place: u16) -> bool
@@ -99,7 +99,7 @@ fn fault_of_names(processes: &[Process], statement: Statement<'_>) -> Result<(),
     Ok(())
 }
 
-/// Looks at the operations that a line names.
+/// Checks the operations that a line names.
 fn check_line(
     alloc: Global,
     two: bool,
@@ -109,7 +109,7 @@ fn check_line(
     ensures refused { IfErr result (IsRefusedFor (fault_of_line two processes.now line.now)) }
     ensures fine { OnOk result (fault_of_line two processes.now line.now ≡ None) }
 {
-    let words = first_words(alloc, line, MOST_WORDS)?;
+    let words = first_words(alloc, line, MAX_WORDS)?;
     if is_skipped_line(words.as_slice()) {
         return Ok(());
     }
@@ -119,7 +119,7 @@ fn check_line(
     }
 }
 
-/// Looks at each line of a text.
+/// Checks the operations that each line of a text names.
 fn check_lines(
     alloc: Global,
     two: bool,
@@ -141,8 +141,8 @@ fn check_lines(
     Ok(())
 }
 
-/// Looks at the operations that the lines of a text name, which are to be operations of these processes. A text of
-/// version 1 names none.
+/// Checks that the operations that the lines of a text name are operations of these processes. A text of version 1
+/// names none.
 pub fn check_references(
     alloc: Global,
     two: bool,

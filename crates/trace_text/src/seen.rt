@@ -1,7 +1,7 @@
-//! What the earlier lines of a trace text tell of the next one.
+//! What must be known of the earlier lines of a trace text to judge the next one.
 
 ghost use Rattle.std.specs.Prelude.{◌≡◌, ◌≤◌, [], List, ℕ, Some, None, false, OnOk, IfErr};
-ghost use Rattle.traces.specs.NameNumbers.{number_of};
+ghost use Rattle.trace_semantics.specs.NameNumbers.{number_of};
 ghost use Rattle.text_lines.specs.PlainFault.{IsRefusedFor};
 ghost use Rattle.trace_text.specs.Said.{said};
 ghost use Rattle.trace_text.specs.Statement.{Init, Final, Proc, Write, Before};
@@ -11,17 +11,17 @@ use crate::statement::Statement;
 use crate::trace_fault::{LineRefusal, TraceCause};
 use std::alloc::Global;
 use text_lines::plain_fault::PlainFault;
-use traces::name_table::NameTable;
+use trace_semantics::name_table::NameTable;
 
-const MOST_PROCESSES: usize = 64;
+const MAX_PROCESSES: usize = 64;
 
-const MOST_OPERATIONS: usize = 4096;
+const MAX_OPERATIONS: usize = 4096;
 
-const MOST_LOCATIONS: usize = 4096;
+const MAX_LOCATIONS: usize = 4096;
 
-const MOST_BEFORE_LINES: usize = 4096;
+const MAX_BEFORE_LINES: usize = 4096;
 
-/// What the earlier lines tell of the next one: the names that they name, and how many there are of each kind.
+/// What must be known of the earlier lines to judge the next one: the names that they name, and the number of each kind.
 #[derive(Drop)]
 pub struct Seen<'a> {
     initial: NameTable<'a>,
@@ -41,7 +41,7 @@ fn has_name<'a>(table: &NameTable<'a>, name: &'a [u8]) -> bool
 }
 
 impl<'a> Seen<'a> {
-    /// What no line says.
+    /// The state before the first line.
     pub fn new(alloc: Global) -> Seen<'a>
         ensures { IsSeen [] result }
     {
@@ -73,7 +73,7 @@ impl<'a> Seen<'a> {
         if has_name(&self.locations, location) {
             return Ok(());
         }
-        if self.location_count >= MOST_LOCATIONS {
+        if self.location_count >= MAX_LOCATIONS {
             return Err(PlainFault::For(TraceCause::TooManyLocations));
         }
         self.locations.insert(location, 0)?;
@@ -116,7 +116,7 @@ impl<'a> Seen<'a> {
         if has_name(&self.processes, name) {
             return Err(PlainFault::For(TraceCause::ProcTwice));
         }
-        if self.process_count >= MOST_PROCESSES {
+        if self.process_count >= MAX_PROCESSES {
             return Err(PlainFault::For(TraceCause::TooManyProcs));
         }
         self.processes.insert(name, 0)?;
@@ -130,7 +130,7 @@ impl<'a> Seen<'a> {
         ensures refused { IfErr result (IsRefusedFor (fault_behind self.old (Write location.now []))) }
         ensures noted { OnOk result (Notes self.old self.new (Write location.now [])) }
     {
-        if self.operation_count >= MOST_OPERATIONS {
+        if self.operation_count >= MAX_OPERATIONS {
             return Err(PlainFault::For(TraceCause::TooManyOps));
         }
         self.operation_count += 1;
@@ -143,7 +143,7 @@ impl<'a> Seen<'a> {
         ensures refused { IfErr result (IsRefusedFor (fault_behind self.old (Before [] [] [] []))) }
         ensures noted { OnOk result (Notes self.old self.new (Before [] [] [] [])) }
     {
-        if self.before_count >= MOST_BEFORE_LINES {
+        if self.before_count >= MAX_BEFORE_LINES {
             return Err(PlainFault::For(TraceCause::TooManyBefore));
         }
         self.before_count += 1;

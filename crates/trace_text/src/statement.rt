@@ -7,7 +7,7 @@ ghost use Rattle.trace_text.specs.Statement.{statement_of};
 
 use text_lines::words::is_word;
 
-/// Where a value is said to come from.
+/// The origin that a line gives to a value.
 #[derive(Clone, Copy)]
 pub enum ReadsFrom<'a> {
     /// Nothing is said.

@@ -1,6 +1,6 @@
 //! What may be wrong with the text of a trace.
 
-use text_lines::fault::{Cause, Fault};
+use text_lines::fault::{FaultCause, PlacedFault};
 use text_lines::plain_fault::PlainFault;
 
 /// What is wrong with a line of a trace text, or with the whole.
@@ -41,12 +41,12 @@ pub enum TraceCause {
 }
 
 /// Why a text is not read as a trace: its first fault and its line, counted from 1, or that memory ran out.
-pub type TraceFault = Fault<TraceCause>;
+pub type TraceFault = PlacedFault<TraceCause>;
 
-/// Why a line is not taken, where the line is known to the caller alone.
+/// Why a line is not taken, if the line is known to the caller alone.
 pub(crate) type LineRefusal = PlainFault<TraceCause>;
 
-impl Cause for TraceCause {
+impl FaultCause for TraceCause {
     ghost use Rattle.trace_text.specs.TraceCauses.{cause_number, cause_name};
 
     ghost number_of = { cause_number };

@@ -2,7 +2,7 @@
 
 ghost use Rattle.std.specs.Prelude.{◌≡◌, ◌⊎◌, ℕ, List};
 ghost use Rattle.trace_text.specs.declared.trace_fault.TraceCause.{TraceCause};
-ghost use Rattle.traces.specs.Trace.{TraceValue, IsTrace, IsWritten};
+ghost use Rattle.trace_semantics.specs.Trace.{TraceValue, IsTrace, IsWritten};
 ghost use Rattle.trace_text.specs.TraceFault.{HasTraceFault};
 ghost use Rattle.trace_text.specs.TraceText.{SpellsTrace};
 ghost use Rattle.trace_text.specs.TraceWritten.{canonical_trace};
@@ -17,12 +17,12 @@ pub fn one_canonical_trace()
     ensures { (s t : TraceValue) → IsWritten s → IsWritten t → canonical_trace s ≡ canonical_trace t → s ≡ t }
 {}
 
-/// A text spells one trace at most.
+/// A text spells at most one trace.
 pub fn one_trace()
     ensures { (text : List ℕ) (s t : TraceValue) → IsTrace s → IsTrace t → SpellsTrace text s → SpellsTrace text t → s ≡ t }
 {}
 
-/// A text has one first fault at most.
+/// A text has at most one first fault.
 pub fn one_trace_fault()
     ensures { (text : List ℕ) (cause other : TraceCause) (line other_line : ℕ) →
         HasTraceFault text cause line → HasTraceFault text other other_line → (line ≡ other_line) × (cause ≡ other) }

@@ -9,32 +9,32 @@ ghost use Rattle.trace_text.specs.Said.{said};
 ghost use Rattle.trace_text.specs.Statement.{Statement as Said, statement_of};
 ghost use Rattle.trace_text.specs.TraceFault.{statement_fault, said_fault, trace_line_fault, HasTraceFault};
 ghost use Rattle.trace_text.specs.TraceText.{SpellsTrace};
-ghost use Rattle.traces.specs.Trace.{IsTrace};
+ghost use Rattle.trace_semantics.specs.Trace.{IsTrace};
 
 use crate::entry::read_entry;
-use crate::gathered::Gathered;
 use crate::header::{Header, read_header};
 use crate::line::has_high_byte;
 use crate::place::fault_of_place;
 use crate::references::check_references;
 use crate::seen::Seen;
 use crate::statement::{Statement, read_statement};
+use crate::trace_builder::TraceBuilder;
 use crate::trace_fault::{LineRefusal, TraceCause, TraceFault};
 use std::alloc::Global;
 use text_lines::comments::is_skipped_line;
 use text_lines::lines::cut_line;
 use text_lines::plain_fault::PlainFault;
 use text_lines::words::first_words;
-use traces::trace::Trace;
+use trace_semantics::trace::Trace;
 
-/// No line of any form has as many words.
-const MOST_WORDS: usize = 8;
+/// Words of a line that are read: more than a line of any form has.
+const MAX_WORDS: usize = 8;
 
 /// What has been read so far of the lines after the header.
 #[derive(Drop)]
 pub struct TraceReader<'a> {
     seen: Seen<'a>,
-    gathered: Gathered,
+    gathered: TraceBuilder,
 }
 
 impl<'a> TraceReader<'a> {
@@ -43,7 +43,7 @@ impl<'a> TraceReader<'a> {
     {
         TraceReader {
             seen: Seen::new(alloc),
-            gathered: Gathered::new(alloc),
+            gathered: TraceBuilder::new(alloc),
         }
     }
 
@@ -87,7 +87,7 @@ impl<'a> TraceReader<'a> {
             IsRefusedFor (trace_line_fault before line.now) refusal) }
         ensures taken { OnOk result ((before : List (List ℕ)) (ss : List Said) → AreSaid two before ss → IsProgress ss self.old → TakesLine two before line.now self.new) }
     {
-        let words = first_words(alloc, line, MOST_WORDS)?;
+        let words = first_words(alloc, line, MAX_WORDS)?;
         if is_skipped_line(words.as_slice()) {
             return Ok(());
         }

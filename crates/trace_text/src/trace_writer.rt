@@ -3,16 +3,16 @@
 ghost use Rattle.std.specs.Prelude.{◌≡◌, ◌∷◌, ◌++◌, map, IfOk, OnOk};
 ghost use Rattle.std.specs.Fmt.{decimal};
 ghost use Rattle.std.specs.List.{list_any, flat_map};
-ghost use Rattle.traces.specs.declared.trace.Process.{Process};
+ghost use Rattle.trace_semantics.specs.declared.trace.Process.{Process};
 ghost use Rattle.trace_text.specs.TraceText as spelled;
 ghost use Rattle.trace_text.specs.TraceLines.{spaced, entry_line, joined};
 ghost use Rattle.trace_text.specs.TraceWritten.{line_text, canonical_trace};
 
 use itoa::Buffer;
 use std::alloc::{AllocError, Global};
-use traces::name::Name;
-use traces::operation::{Op, OpName, Origin};
-use traces::trace::{Process, Trace};
+use trace_semantics::name::Name;
+use trace_semantics::operation::{Op, OpName, Origin};
+use trace_semantics::trace::{Process, Trace};
 
 /// Whether it is said where the value of the operation comes from.
 fn says_origin(op: &Op) -> bool

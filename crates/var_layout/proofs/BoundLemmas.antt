@@ -1,4 +1,4 @@
--- How many variables there are at most.
+-- An upper bound of the number of variables.
 use Rattle.std.proofs.Common.{◌≡◌, ℕ, suc, ◌+◌, ◌*◌, ◌^◌, ◌<◌, ◌≤◌, List, [], ◌∷◌, length, map, take, Bool, true, false, refl, ap, sym, ◌∙◌, arith, get_or, eqb, ◌++◌}
 use Rattle.std.specs.Prelude.{slice_get, Option, Some, None, is_some, not, max, ◌≢◌, ◌==◌, ◌&&◌, if◌then◌else◌}
 use Rattle.std.specs.List.{All, enumerate_from, filter, flat_map, range_with_len, sum_by}
@@ -11,16 +11,16 @@ use Rattle.std.proofs.lemmas.Bool.{eqb-true, eqb-false, and_parts, or_from}
 use Rattle.std.proofs.lemmas.Option.{slice_get-get_or}
 use Rattle.std.specs.Str.{bytes_eq}
 use Rattle.text_lines.proofs.ListLemmas.{few_pass}
-use Rattle.traces.proofs.NameLemmas.{same_bytes}
-use Rattle.traces.proofs.DistinctLemmas.{few_named}
-use Rattle.traces.specs.declared.operation.Op.{Op}
-use Rattle.traces.specs.Operation.{location_of}
-use Rattle.traces.specs.declared.trace.Process.{Process}
-use Rattle.traces.specs.Judgement.{is_held}
-use Rattle.traces.specs.Locations.{distinct, holds_name}
-use Rattle.traces.specs.Trace.{TraceValue, IsTrace, IsOneEach, value_of, locations_of, location_count, operation_count}
+use Rattle.trace_semantics.proofs.NameLemmas.{same_bytes}
+use Rattle.trace_semantics.proofs.DistinctLemmas.{few_named}
+use Rattle.trace_semantics.specs.declared.operation.Op.{Op}
+use Rattle.trace_semantics.specs.Operation.{location_of}
+use Rattle.trace_semantics.specs.declared.trace.Process.{Process}
+use Rattle.trace_semantics.specs.Judgement.{is_held}
+use Rattle.trace_semantics.specs.Locations.{distinct, holds_name}
+use Rattle.trace_semantics.specs.Trace.{TraceValue, IsTrace, IsOneEach, value_of, locations_of, location_count, operation_count}
 use Rattle.var_layout.specs.declared.candidate.Candidate.{Candidate}
-use Rattle.var_layout.specs.declared.candidate.Choice.{Choice}
+use Rattle.var_layout.specs.declared.candidate.ReadsFromChoice.{ReadsFromChoice}
 use Rattle.var_layout.specs.declared.candidate.Candidate.TheVariants.{Writer}
 use Rattle.var_layout.specs.declared.candidate.FinalChoice.{FinalChoice}
 use Rattle.var_layout.specs.Candidates.{candidates, sources, is_candidate}
@@ -85,7 +85,7 @@ choices_fit t r first e few within = omega (arith, few_first t r few (omega arit
 
 length_choices : (t : TraceValue) (r : ℕ) → length (choices t r) ≡ length (candidates t r)
 length_choices t r =
-    let choice : ℕ × Candidate → Choice = λ numbered. record { candidate = numbered.1; variable = numbered.0 } in
+    let choice : ℕ × Candidate → ReadsFromChoice = λ numbered. record { candidate = numbered.1; variable = numbered.0 } in
     length_mapped choice (enumerate_from (first_choice t r) (candidates t r)) ∙ length-enumerate_from (first_choice t r) (candidates t r)
 
 -- how many variables a table of an operation has

@@ -8,12 +8,12 @@ use Rattle.std.specs.Str.{bytes_eq}
 use Rattle.std.proofs.lemmas.Bool.{eq-eqb}
 use Rattle.std.proofs.lemmas.Bool.Decides.{nat_tests}
 use Rattle.std.proofs.lemmas.Map.Views.{any-filter_same}
-use Rattle.traces.specs.declared.operation.Op.{Op}
-use Rattle.traces.specs.declared.operation.OpName.{OpName}
-use Rattle.traces.specs.Operation.{location_of, value_left}
-use Rattle.traces.specs.Trace.{TraceValue, operation_at, operation_count}
-use Rattle.traces.specs.ValueAfter.{value_left_at}
-use Rattle.traces.proofs.NameLemmas.{bytes_turned}
+use Rattle.trace_semantics.specs.declared.operation.Op.{Op}
+use Rattle.trace_semantics.specs.declared.operation.OpName.{OpName}
+use Rattle.trace_semantics.specs.Operation.{location_of, written_value}
+use Rattle.trace_semantics.specs.Trace.{TraceValue, operation_at, operation_count}
+use Rattle.trace_semantics.specs.ValueAfter.{value_left_at}
+use Rattle.trace_semantics.proofs.NameLemmas.{bytes_turned}
 use Rattle.var_layout.specs.Numbers.{in_one_process, name_at, left_at, op_at, others, other_writers, writers}
 use Rattle.var_layout.specs.Split.{are_in_conflict, is_split}
 
@@ -31,12 +31,12 @@ in_range a (suc l) j low high = here (a == j) refl (λ apart. in_range (a + 1) l
 
 -- what an operation leaves at a location
 abbrev left_by : List ℕ → Op → Option ℕ
-left_by location op = if bytes_eq (location_of op) location then value_left op else None
+left_by location op = if bytes_eq (location_of op) location then written_value op else None
 
 left_is : (t : TraceValue) (location : List ℕ) (j : ℕ) → left_at t location j ≡ option_and_then (left_by location) (op_at t j)
 left_is t location j = at (name_at t j)
   where
-    under : (o : Option Op) → option_and_then (λ op. if bytes_eq (location_of op) location then value_left op else None) o ≡ option_and_then (left_by location) o
+    under : (o : Option Op) → option_and_then (λ op. if bytes_eq (location_of op) location then written_value op else None) o ≡ option_and_then (left_by location) o
     under None = refl
     under (Some op) = refl
 
@@ -69,7 +69,7 @@ conflict_of None None = refl
 conflict_of None (Some second) = refl
 conflict_of (Some first) None = refl
 conflict_of (Some first) (Some second) =
-    chosen (bytes_eq (location_of first) (location_of second)) (bytes_eq (location_of second) (location_of first)) (bytes_turned (location_of first) (location_of second)) (value_left first) (value_left second)
+    chosen (bytes_eq (location_of first) (location_of second)) (bytes_eq (location_of second) (location_of first)) (bytes_turned (location_of first) (location_of second)) (written_value first) (written_value second)
   where
     chosen : (a b : Bool) → a ≡ b → (x y : Option ℕ) → (a && (is_some x || is_some y)) ≡ (is_some (if b then y else None) || is_some (if a then x else None))
     chosen true true e None None = refl

@@ -8,13 +8,13 @@ use Rattle.std.proofs.lemmas.Bool.{cases_lt, eq-eqb, ne_eqb}
 use Rattle.std.proofs.lemmas.List.FromFn.{get_or-range_with_len, length-range_with_len, length-map-range_with_len}
 use Rattle.std.proofs.lemmas.List.Sums.{fails_before_first, passes_at_first}
 use Rattle.std.proofs.lemmas.Option.{slice_get-get_or, slice_get-map, slice_get_past, slice_get_within}
-use Rattle.traces.specs.declared.operation.Op.{Op}
-use Rattle.traces.specs.declared.operation.OpName.{OpName}
-use Rattle.traces.specs.Operation.{location_of, value_read}
-use Rattle.traces.specs.Trace.{TraceValue, operation_at, operation_names, operation_count}
-use Rattle.traces.proofs.NameLemmas.{same_bytes, bytes_same}
+use Rattle.trace_semantics.specs.declared.operation.Op.{Op}
+use Rattle.trace_semantics.specs.declared.operation.OpName.{OpName}
+use Rattle.trace_semantics.specs.Operation.{location_of, value_read}
+use Rattle.trace_semantics.specs.Trace.{TraceValue, operation_at, operation_names, operation_count}
+use Rattle.trace_semantics.proofs.NameLemmas.{same_bytes, bytes_same}
 use Rattle.var_layout.specs.declared.candidate.Candidate.{Candidate}
-use Rattle.var_layout.specs.declared.candidate.Choice.{Choice}
+use Rattle.var_layout.specs.declared.candidate.ReadsFromChoice.{ReadsFromChoice}
 use Rattle.var_layout.specs.Candidates.{candidates, sources, is_candidate}
 use Rattle.var_layout.specs.ChoiceVariables.{first_choice, choices, void_choice}
 use Rattle.var_layout.specs.FinalVariables.{final_choices, finals, void_of, void_final}
@@ -66,7 +66,7 @@ facts_past t i o l e = record {
   reads = ap (λ p. option_map_or (λ (table : OpTableValue). table.reads) p false) e ∙ ap is_some (sym (read_past t i l));
   writers = ap (λ p. option_map_or (λ (table : OpTableValue). table.writers) p []) e ∙ ap (λ p. option_map_or (λ (op : Op). others i (writers t (location_of op))) p []) (sym (op_past t i l));
   choices = ap (λ p. option_map_or (λ (table : OpTableValue). table.choices) p []) e ∙
-      ap (λ p. map (λ (numbered : ℕ × Candidate). let c : Choice = record { candidate = numbered.1; variable = numbered.0 } in c) (enumerate_from (first_choice t i) (option_map_or (λ (op : Op). filter (is_candidate t op) (sources t i)) p []))) (sym (op_past t i l));
+      ap (λ p. map (λ (numbered : ℕ × Candidate). let c : ReadsFromChoice = record { candidate = numbered.1; variable = numbered.0 } in c) (enumerate_from (first_choice t i) (option_map_or (λ (op : Op). filter (is_candidate t op) (sources t i)) p []))) (sym (op_past t i l));
   void = ap (option_and_then (λ (table : OpTableValue). table.void)) e ∙
       ap (λ p. if is_some p && (length (candidates t i) == 0) then Some (first_choice t i) else None) (sym (read_past t i l));
 }

@@ -7,12 +7,12 @@ use Rattle.std.proofs.lemmas.List.Elements.{All-contains}
 use Rattle.std.proofs.lemmas.List.Folds.{find_at}
 use Rattle.std.proofs.lemmas.List.Sums.{position_or_len_is}
 use Rattle.std.proofs.lemmas.Option.{slice_get-get_or, slice_get_within}
-use Rattle.traces.specs.declared.operation.OpName.{OpName}
-use Rattle.traces.specs.Judgement.{is_the_op}
-use Rattle.traces.specs.Operation.{same_op}
-use Rattle.traces.specs.Trace.{TraceValue, IsTrace, operation_at, operation_names, operation_count}
-use Rattle.traces.proofs.NameLemmas.{same_name, name_same, known_listed, name_turned}
-use Rattle.traces.proofs.ElementLemmas.{finds}
+use Rattle.trace_semantics.specs.declared.operation.OpName.{OpName}
+use Rattle.trace_semantics.specs.Judgement.{is_the_op}
+use Rattle.trace_semantics.specs.Operation.{same_op}
+use Rattle.trace_semantics.specs.Trace.{TraceValue, IsTrace, operation_at, operation_names, operation_count}
+use Rattle.trace_semantics.proofs.NameLemmas.{same_name, name_same, known_listed, name_turned}
+use Rattle.trace_semantics.proofs.ElementLemmas.{finds}
 use Rattle.var_layout.specs.Numbered.{NumberedOp, numbered}
 use Rattle.var_layout.specs.Numbers.{name_at, number_of}
 use Rattle.var_layout.proofs.NumberingLemmas.{counted, names_of}

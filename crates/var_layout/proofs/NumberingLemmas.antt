@@ -8,10 +8,10 @@ use Rattle.std.proofs.lemmas.List.{length-map, map-append, get_or-map, take_more
 use Rattle.std.proofs.lemmas.List.Concat.{length-flat_map}
 use Rattle.std.proofs.lemmas.List.FromFn.{length-enumerate_from, get_or-enumerate_from}
 use Rattle.std.proofs.lemmas.Option.{slice_get-map, slice_get_past, slice_get_read}
-use Rattle.traces.specs.declared.operation.Op.{Op}
-use Rattle.traces.specs.declared.trace.Process.{Process}
-use Rattle.traces.specs.Trace.{TraceValue, IsTrace, at_place, operation_at, first_names, operation_count}
-use Rattle.traces.proofs.ElementLemmas.{none_in, cases_in, from_map, from_flat_map}
+use Rattle.trace_semantics.specs.declared.operation.Op.{Op}
+use Rattle.trace_semantics.specs.declared.trace.Process.{Process}
+use Rattle.trace_semantics.specs.Trace.{TraceValue, IsTrace, at_place, operation_at, first_names, operation_count}
+use Rattle.trace_semantics.proofs.ElementLemmas.{none_in, cases_in, from_map, from_flat_map}
 use Rattle.reducer.proofs.KeptLemmas.{process_of}
 use Rattle.reducer.proofs.PlaceLemmas.{in_list}
 use Rattle.var_layout.specs.Numbered.{NumberedOp, numbered_op, numbered_in, numbered}

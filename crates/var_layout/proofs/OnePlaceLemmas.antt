@@ -3,11 +3,11 @@ use Rattle.std.proofs.Common.{◌≡◌, ◌⊎◌, ◌<◌, ◌+◌, ℕ, zero,
 use Rattle.std.specs.Prelude.{◌≢◌, Some, IsSome, is_some}
 use Rattle.std.specs.List.{AllPairs, flat_map, range_with_len, slice_get}
 use Rattle.std.proofs.lemmas.Option.{slice_get_within, slice_get-get_or}
-use Rattle.traces.specs.declared.operation.OpName.{OpName}
-use Rattle.traces.specs.declared.trace.Process.{Process}
-use Rattle.traces.specs.Trace.{TraceValue, IsTrace, operation_at, operation_names, first_names, operation_count}
-use Rattle.traces.proofs.ElementLemmas.{from_flat_map}
-use Rattle.traces.proofs.NameLemmas.{from_first, listed_known}
+use Rattle.trace_semantics.specs.declared.operation.OpName.{OpName}
+use Rattle.trace_semantics.specs.declared.trace.Process.{Process}
+use Rattle.trace_semantics.specs.Trace.{TraceValue, IsTrace, operation_at, operation_names, first_names, operation_count}
+use Rattle.trace_semantics.proofs.ElementLemmas.{from_flat_map}
+use Rattle.trace_semantics.proofs.NameLemmas.{from_first, listed_known}
 use Rattle.reducer.proofs.PlaceLemmas.{in_list}
 use Rattle.var_layout.specs.Numbers.{name_at, number_of}
 use Rattle.var_layout.proofs.NumberLemmas.{known_number, names_counted}

@@ -4,7 +4,7 @@ use Rattle.std.specs.List.{filter, flat_map, range_with_len}
 use Rattle.std.proofs.lemmas.Grind.{flat_map-append}
 use Rattle.std.proofs.lemmas.List.{map-append, take-append-le}
 use Rattle.std.proofs.lemmas.List.Elements.{filter-append}
-use Rattle.traces.specs.Trace.{TraceValue, operation_count}
+use Rattle.trace_semantics.specs.Trace.{TraceValue, operation_count}
 use Rattle.var_layout.specs.OrderVariables.{numbers_above, order_var}
 use Rattle.var_layout.specs.Split.{is_split, splits_among}
 use Rattle.var_layout.proofs.RangeLemmas.{range_next, range_parted}

@@ -7,18 +7,18 @@ use Rattle.std.proofs.lemmas.Bool.{cases_lt, and_parts, not-true}
 use Rattle.std.proofs.lemmas.List.Sums.{sum_by-take-le}
 use Rattle.std.proofs.lemmas.Option.{slice_get_within, get_or_from_slice_get}
 use Rattle.dimacs.specs.Literal.{is_literal_up_to}
-use Rattle.traces.specs.declared.operation.Op.{Op}
-use Rattle.traces.specs.Judgement.{is_held}
-use Rattle.traces.specs.Operation.{location_of, value_read, origin_of}
-use Rattle.traces.specs.Trace.{TraceValue, value_of, operation_count}
-use Rattle.traces.proofs.ElementLemmas.{none_in, cases_in, from_map, from_filter}
+use Rattle.trace_semantics.specs.declared.operation.Op.{Op}
+use Rattle.trace_semantics.specs.Judgement.{is_held}
+use Rattle.trace_semantics.specs.Operation.{location_of, value_read, origin_of}
+use Rattle.trace_semantics.specs.Trace.{TraceValue, value_of, operation_count}
+use Rattle.trace_semantics.proofs.ElementLemmas.{none_in, cases_in, from_map, from_filter}
 use Rattle.reducer.proofs.PlaceLemmas.{in_list}
 use Rattle.var_layout.specs.declared.candidate.Candidate.{Candidate}
 use Rattle.var_layout.specs.declared.candidate.Candidate.TheVariants.{InitialValue, Writer}
-use Rattle.var_layout.specs.declared.candidate.Choice.{Choice}
+use Rattle.var_layout.specs.declared.candidate.ReadsFromChoice.{ReadsFromChoice}
 use Rattle.var_layout.specs.declared.candidate.FinalChoice.{FinalChoice}
-use Rattle.var_layout.specs.declared.layout.Chooser.{Chooser}
-use Rattle.var_layout.specs.declared.layout.Chooser.TheVariants.{Read, Final}
+use Rattle.var_layout.specs.declared.layout.ReadsFromOwner.{ReadsFromOwner}
+use Rattle.var_layout.specs.declared.layout.ReadsFromOwner.TheVariants.{Read, Final}
 use Rattle.var_layout.specs.Candidates.{candidates, sources, is_candidate, is_read, is_allowed, value_from}
 use Rattle.var_layout.specs.ChoiceVariables.{choice_count, all_choices, first_choice, choices, void_choice}
 use Rattle.var_layout.specs.FinalVariables.{final_candidates, is_untouched, final_count, first_final, final_choices, finals, void_of, variable_count}
@@ -92,35 +92,35 @@ some_writer w ws h =
       | inr d ↦ (let at = from_map (λ x. Writer x) ws (Writer w) d in let same : at.0 ≡ w = (let e = at.2 in cc) in subst (λ x. Contains ws x) same at.1)
     ]
 
-record Chosen (t : TraceValue) (r : ℕ) (c : Choice) : Type 0 where
+record Chosen (t : TraceValue) (r : ℕ) (c : ReadsFromChoice) : Type 0 where
   pub place : ℕ
   pub below : place < length (candidates t r)
   pub variable : c.variable ≡ first_choice t r + place
   pub candidate : Contains (candidates t r) c.candidate
 
-chosen : (t : TraceValue) (r : ℕ) (c : Choice) → Contains (choices t r) c → Chosen t r c
+chosen : (t : TraceValue) (r : ℕ) (c : ReadsFromChoice) → Contains (choices t r) c → Chosen t r c
 chosen t r c h =
-    let choice : ℕ × Candidate → Choice = λ numbered. record { candidate = numbered.1; variable = numbered.0 } in
+    let choice : ℕ × Candidate → ReadsFromChoice = λ numbered. record { candidate = numbered.1; variable = numbered.0 } in
     let from = from_map choice (enumerate_from (first_choice t r) (candidates t r)) c h in
     let at = at_enumerated (first_choice t r) (candidates t r) from.0 from.1 in
     record {
       place = at.0;
       below = slice_get_within (candidates t r) at.0 from.0.1 at.2;
-      variable = ap (λ (x : Choice). x.variable) (sym from.2) ∙ at.1;
-      candidate = subst (λ (x : Choice). Contains (candidates t r) x.candidate) from.2 (in_list (candidates t r) (suc at.0) from.0.1 at.2);
+      variable = ap (λ (x : ReadsFromChoice). x.variable) (sym from.2) ∙ at.1;
+      candidate = subst (λ (x : ReadsFromChoice). Contains (candidates t r) x.candidate) from.2 (in_list (candidates t r) (suc at.0) from.0.1 at.2);
     }
 
 count_reaches : (b : Bool) (n k : ℕ) → b ≡ true → k < max 1 n → k < (if b then max 1 n else 0)
 count_reaches true n k e l = l
 count_reaches false n k e l = absurd (cc)
 
-pub choice_over : (t : TraceValue) (r : ℕ) (c : Choice) → Contains (choices t r) c → IsVariable t c.variable
+pub choice_over : (t : TraceValue) (r : ℕ) (c : ReadsFromChoice) → Contains (choices t r) c → IsVariable t c.variable
 choice_over t r c h =
     let at = chosen t r c h in
     let reads = (candidate_of t r (op_at t r) c.candidate at.candidate).0 in
     subst (IsVariable t) (sym at.variable) (choice_within t r at.place (reader_within t r reads) (count_reaches (is_some (read_at t r)) (length (candidates t r)) at.place reads (let below = at.below in omega (arith, below))))
 
-pub choice_writer : (t : TraceValue) (r : ℕ) (c : Choice) (w : ℕ) → Contains (choices t r) c → c.candidate ≡ Writer w → Contains (other_writers t r) w
+pub choice_writer : (t : TraceValue) (r : ℕ) (c : ReadsFromChoice) (w : ℕ) → Contains (choices t r) c → c.candidate ≡ Writer w → Contains (other_writers t r) w
 choice_writer t r c w h e =
     let at = chosen t r c h in
     some_writer w (other_writers t r) (subst (Contains (sources t r)) e (candidate_of t r (op_at t r) c.candidate at.candidate).1)
@@ -208,7 +208,7 @@ void_final_at t k v (Some entry) e h =
     let at = picked (not (is_untouched t entry) && (length (final_candidates t entry) == 0)) (first_final t k) v h in
     subst (IsVariable t) at.same (first_final_over t k entry e (not-true (is_untouched t entry) (and_parts (not (is_untouched t entry)) (length (final_candidates t entry) == 0) at.test).0))
 
-pub void_over : (t : TraceValue) (chooser : Chooser) (v : ℕ) → void_variable t chooser ≡ Some v → IsVariable t v
+pub void_over : (t : TraceValue) (chooser : ReadsFromOwner) (v : ℕ) → void_variable t chooser ≡ Some v → IsVariable t v
 void_over t (Read r) v e = void_choice_over t r v e
 void_over t (Final k) v e = void_final_at t k v (slice_get t.final_values k) refl e
 

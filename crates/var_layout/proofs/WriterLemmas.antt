@@ -4,10 +4,10 @@ use Rattle.std.specs.Prelude.{◌≢◌, Option, Some, None, is_some, not}
 use Rattle.std.specs.List.{Contains}
 use Rattle.std.specs.Option.{option_map_or}
 use Rattle.std.proofs.lemmas.Bool.{eq-eqb}
-use Rattle.traces.specs.declared.operation.Op.{Op}
-use Rattle.traces.specs.Operation.{location_of}
-use Rattle.traces.specs.Trace.{TraceValue, operation_count}
-use Rattle.traces.proofs.ElementLemmas.{none_in, from_filter, from_range}
+use Rattle.trace_semantics.specs.declared.operation.Op.{Op}
+use Rattle.trace_semantics.specs.Operation.{location_of}
+use Rattle.trace_semantics.specs.Trace.{TraceValue, operation_count}
+use Rattle.trace_semantics.proofs.ElementLemmas.{none_in, from_filter, from_range}
 use Rattle.var_layout.specs.Numbers.{numbers, left_at, writers, others, other_writers, op_at}
 
 pub writer_within : (t : TraceValue) (location : List ℕ) (w : ℕ) → Contains (writers t location) w → w < operation_count t

@@ -1,9 +1,9 @@
 -- Choice variables: they follow the order variables, and say which candidate a reading operation reads.
 use Rattle.std.specs.Prelude.{ℕ, ◌+◌, max, List, length, map, Option, Some, None, is_some, ◌==◌, ◌&&◌, if◌then◌else◌}
 use Rattle.std.specs.List.{enumerate_from, range_with_len, sum_by}
-use Rattle.traces.specs.Trace.{TraceValue, operation_count}
+use Rattle.trace_semantics.specs.Trace.{TraceValue, operation_count}
 use Rattle.var_layout.specs.declared.candidate.Candidate.{Candidate}
-use Rattle.var_layout.specs.declared.candidate.Choice.{Choice}
+use Rattle.var_layout.specs.declared.candidate.ReadsFromChoice.{ReadsFromChoice}
 use Rattle.var_layout.specs.Candidates.{candidates}
 use Rattle.var_layout.specs.Numbers.{numbers, read_at}
 use Rattle.var_layout.specs.OrderVariables.{order_count}
@@ -21,7 +21,7 @@ abbrev pub first_choice : TraceValue → ℕ → ℕ
 first_choice t r = order_count (operation_count t) + sum_by (choice_count t) (range_with_len 0 r) + 1
 
 -- the candidates of an operation with their variables, in order
-abbrev pub choices : TraceValue → ℕ → List Choice
+abbrev pub choices : TraceValue → ℕ → List ReadsFromChoice
 choices t r = map (λ (numbered : ℕ × Candidate). record { candidate = numbered.1; variable = numbered.0 }) (enumerate_from (first_choice t r) (candidates t r))
 
 -- the void variable of a reading operation without a candidate

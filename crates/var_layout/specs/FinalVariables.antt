@@ -2,8 +2,8 @@
 use Rattle.std.specs.Prelude.{ℕ, ◌+◌, max, List, [], length, map, take, Option, Some, None, Bool, not, ◌==◌, ◌&&◌, slice_get, if◌then◌else◌}
 use Rattle.std.specs.List.{filter, enumerate_from, sum_by}
 use Rattle.std.specs.Option.{option_and_then, option_map_or}
-use Rattle.traces.specs.Judgement.{is_held}
-use Rattle.traces.specs.Trace.{TraceValue, value_of, operation_count}
+use Rattle.trace_semantics.specs.Judgement.{is_held}
+use Rattle.trace_semantics.specs.Trace.{TraceValue, value_of, operation_count}
 use Rattle.var_layout.specs.declared.candidate.FinalChoice.{FinalChoice}
 use Rattle.var_layout.specs.ChoiceVariables.{all_choices}
 use Rattle.var_layout.specs.Numbers.{left_at, writers}

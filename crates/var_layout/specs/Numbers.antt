@@ -3,11 +3,11 @@ use Rattle.std.specs.Prelude.{ℕ, List, [], Option, Some, None, is_some, Bool, 
 use Rattle.std.specs.List.{filter, position_or_len, range_with_len}
 use Rattle.std.specs.Option.{option_and_then, option_map_or}
 use Rattle.std.specs.Str.{bytes_eq}
-use Rattle.traces.specs.declared.operation.Op.{Op}
-use Rattle.traces.specs.declared.operation.OpName.{OpName}
-use Rattle.traces.specs.Operation.{location_of, value_read, same_op}
-use Rattle.traces.specs.Trace.{TraceValue, operation_at, operation_names, operation_count}
-use Rattle.traces.specs.ValueAfter.{value_left_at}
+use Rattle.trace_semantics.specs.declared.operation.Op.{Op}
+use Rattle.trace_semantics.specs.declared.operation.OpName.{OpName}
+use Rattle.trace_semantics.specs.Operation.{location_of, value_read, same_op}
+use Rattle.trace_semantics.specs.Trace.{TraceValue, operation_at, operation_names, operation_count}
+use Rattle.trace_semantics.specs.ValueAfter.{value_left_at}
 
 -- the numbers of all operations
 abbrev pub numbers : TraceValue → List ℕ

@@ -1,7 +1,7 @@
 -- The variables of a trace's formula are the numbers from 1 to their count.
 use Rattle.std.specs.Prelude.{◌≤◌, ℕ, pos, neg_ℤ, IsTrue}
 use Rattle.dimacs.specs.Literal.{is_literal_up_to}
-use Rattle.traces.specs.Trace.{TraceValue}
+use Rattle.trace_semantics.specs.Trace.{TraceValue}
 use Rattle.var_layout.specs.FinalVariables.{variable_count}
 
 -- it is one of the trace's variables

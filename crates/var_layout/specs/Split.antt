@@ -2,9 +2,9 @@
 use Rattle.std.specs.Prelude.{ℕ, List, map, Option, Some, None, is_some, Bool, false, not, ◌&&◌, ◌||◌}
 use Rattle.std.specs.List.{filter}
 use Rattle.std.specs.Str.{bytes_eq}
-use Rattle.traces.specs.declared.operation.Op.{Op}
-use Rattle.traces.specs.Operation.{location_of, value_left}
-use Rattle.traces.specs.Trace.{TraceValue, operation_count}
+use Rattle.trace_semantics.specs.declared.operation.Op.{Op}
+use Rattle.trace_semantics.specs.Operation.{location_of, written_value}
+use Rattle.trace_semantics.specs.Trace.{TraceValue, operation_count}
 use Rattle.var_layout.specs.Numbers.{op_at, in_one_process}
 use Rattle.var_layout.specs.OrderVariables.{pairs, order_var}
 
@@ -12,7 +12,7 @@ use Rattle.var_layout.specs.OrderVariables.{pairs, order_var}
 abbrev pub are_in_conflict : Option Op → Option Op → Bool
 are_in_conflict None second = false
 are_in_conflict (Some first) None = false
-are_in_conflict (Some first) (Some second) = bytes_eq (location_of first) (location_of second) && (is_some (value_left first) || is_some (value_left second))
+are_in_conflict (Some first) (Some second) = bytes_eq (location_of first) (location_of second) && (is_some (written_value first) || is_some (written_value second))
 
 -- two operations in conflict, of different processes
 abbrev pub is_split : TraceValue → ℕ × ℕ → Bool

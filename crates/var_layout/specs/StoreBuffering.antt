@@ -1,11 +1,11 @@
 -- Store buffering, as an example.
 use Rattle.std.specs.Prelude.{ℕ, [], ◌∷◌, codes}
-use Rattle.traces.specs.declared.operation.Op.TheVariants.{Read, Write}
-use Rattle.traces.specs.declared.operation.Origin.TheVariants.{Any}
-use Rattle.traces.specs.declared.trace.Process.{Process}
-use Rattle.traces.specs.Trace.{TraceValue}
+use Rattle.trace_semantics.specs.declared.operation.Op.TheVariants.{Read, Write}
+use Rattle.trace_semantics.specs.declared.operation.Origin.TheVariants.{Any}
+use Rattle.trace_semantics.specs.declared.trace.Process.{Process}
+use Rattle.trace_semantics.specs.Trace.{TraceValue}
 use Rattle.var_layout.specs.declared.candidate.Candidate.TheVariants.{InitialValue}
-use Rattle.var_layout.specs.declared.candidate.Choice.{Choice}
+use Rattle.var_layout.specs.declared.candidate.ReadsFromChoice.{ReadsFromChoice}
 
 abbrev pub first_process : Process
 first_process = record { name = codes "P"; operations = Write (codes "x") 1 ∷ Read (codes "y") 0 Any ∷ [] }
@@ -23,5 +23,5 @@ store_buffering = record {
 }
 
 -- an operation that reads the initial value
-abbrev pub initial_choice : ℕ → Choice
+abbrev pub initial_choice : ℕ → ReadsFromChoice
 initial_choice v = record { candidate = InitialValue; variable = v }

@@ -2,9 +2,9 @@
 use Rattle.std.specs.Prelude.{◌≡◌, ◌≤◌, ℕ, List, [], length, map, Option, is_some, Bool, slice_get}
 use Rattle.std.specs.List.{position_or_len, range_with_len}
 use Rattle.std.specs.Option.{option_map, option_map_or}
-use Rattle.traces.specs.declared.operation.OpName.{OpName}
-use Rattle.traces.specs.Trace.{TraceValue, IsTrace, operation_count}
-use Rattle.var_layout.specs.declared.candidate.Choice.{Choice}
+use Rattle.trace_semantics.specs.declared.operation.OpName.{OpName}
+use Rattle.trace_semantics.specs.Trace.{TraceValue, IsTrace, operation_count}
+use Rattle.var_layout.specs.declared.candidate.ReadsFromChoice.{ReadsFromChoice}
 use Rattle.var_layout.specs.declared.candidate.FinalChoice.{FinalChoice}
 use Rattle.var_layout.specs.ChoiceVariables.{choices, void_choice}
 use Rattle.var_layout.specs.FinalVariables.{final_choices, finals, void_of, void_final, variable_count}
@@ -15,7 +15,7 @@ pub record OpTableValue : Type 0 where
   pub leader : ℕ
   pub reads : Bool
   pub writers : List ℕ
-  pub choices : List Choice
+  pub choices : List ReadsFromChoice
   pub void : Option ℕ
 
 -- the first operation of the process of an operation

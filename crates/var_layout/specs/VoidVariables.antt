@@ -1,11 +1,11 @@
 -- The void variable of a reading operation or of a final value.
 use Rattle.std.specs.Prelude.{ℕ, Option}
-use Rattle.traces.specs.Trace.{TraceValue}
-use Rattle.var_layout.specs.declared.layout.Chooser.{Chooser}
-use Rattle.var_layout.specs.declared.layout.Chooser.TheVariants.{Read, Final}
+use Rattle.trace_semantics.specs.Trace.{TraceValue}
+use Rattle.var_layout.specs.declared.layout.ReadsFromOwner.{ReadsFromOwner}
+use Rattle.var_layout.specs.declared.layout.ReadsFromOwner.TheVariants.{Read, Final}
 use Rattle.var_layout.specs.ChoiceVariables.{void_choice}
 use Rattle.var_layout.specs.FinalVariables.{void_final}
 
-abbrev pub void_variable : TraceValue → Chooser → Option ℕ
+abbrev pub void_variable : TraceValue → ReadsFromOwner → Option ℕ
 void_variable t (Read r) = void_choice t r
 void_variable t (Final k) = void_final t k

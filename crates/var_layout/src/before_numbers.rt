@@ -1,12 +1,12 @@
 //! The before pairs by number.
 
 ghost use Rattle.std.specs.Prelude.{◌≡◌, map, IfOk};
-ghost use Rattle.traces.specs.declared.operation.OpName.{OpName as Named};
+ghost use Rattle.trace_semantics.specs.declared.operation.OpName.{OpName as Named};
 ghost use Rattle.var_layout.specs.Numbers.{number_of};
 
 use crate::numbering::Numbering;
 use std::alloc::{AllocError, Global};
-use traces::operation::OpName;
+use trace_semantics::operation::OpName;
 
 /// The numbers of both operations of each pair.
 pub(crate) fn before_numbers(

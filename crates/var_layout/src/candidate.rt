@@ -1,6 +1,6 @@
 //! Candidates: from where a reading operation may have its value, and which writer may be the last one.
 
-/// From where a reading operation may have its value.
+/// A possible origin of the value of a reading operation.
 #[derive(Clone, Copy)]
 pub enum Candidate {
     /// It is the initial value of the location.
@@ -11,7 +11,7 @@ pub enum Candidate {
 
 /// A candidate of a reading operation, and the variable that says that the operation reads from there.
 #[derive(Clone, Copy)]
-pub struct Choice {
+pub struct ReadsFromChoice {
     pub candidate: Candidate,
     pub variable: u32,
 }

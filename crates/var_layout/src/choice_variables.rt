@@ -2,7 +2,7 @@
 
 ghost use Rattle.std.specs.Prelude.{◌≡◌, ◌+◌, ◌<◌, ◌≤◌, ◌^◌, ℕ, map, length, Some, None, is_some, max, IfOk, if◌then◌else◌};
 ghost use Rattle.std.specs.List.{enumerate_from};
-ghost use Rattle.traces.specs.Trace.{operation_count};
+ghost use Rattle.trace_semantics.specs.Trace.{operation_count};
 ghost use Rattle.var_layout.specs.Candidates as candidates;
 ghost use Rattle.var_layout.specs.ChoiceVariables.{choice_count, first_choice, choices};
 ghost use Rattle.var_layout.specs.declared.candidate.Candidate.{Candidate as Source};
@@ -10,16 +10,16 @@ ghost use Rattle.var_layout.specs.Numbers as numbers;
 ghost use Rattle.var_layout.specs.OrderVariables as order;
 ghost use Rattle.var_layout.specs.Tables as tables;
 
-use crate::candidate::{Candidate, Choice};
+use crate::candidate::{Candidate, ReadsFromChoice};
 use crate::numbering::Numbering;
 use crate::read_candidates::read_candidates;
 use std::alloc::{AllocError, Global};
 use std::marker::Model;
-use traces::trace::Trace;
+use trace_semantics::trace::Trace;
 
 /// What the layout keeps of an operation.
 #[derive(Drop)]
-pub(crate) struct OpTable {
+pub(crate) struct OpVariables {
     /// The first operation of its process.
     pub leader: usize,
     /// Whether it reads.
@@ -27,12 +27,12 @@ pub(crate) struct OpTable {
     /// The writers, other than itself, of its location.
     pub writers: Vec<usize>,
     /// Its candidates with their variables.
-    pub choices: Vec<Choice>,
+    pub choices: Vec<ReadsFromChoice>,
     /// Its void variable.
     pub void: Option<u32>,
 }
 
-impl Model for OpTable {
+impl Model for OpVariables {
     ghost use Rattle.var_layout.specs.Tables.{OpTableValue};
 
     ghost Value = { OpTableValue };
@@ -40,7 +40,7 @@ impl Model for OpTable {
     ghost view = { λ table. record { leader = table.leader; reads = table.reads; writers = table.writers.items; choices = table.choices.items; void = table.void } };
 }
 
-/// How many order variables there are for that many operations.
+/// The number of order variables for this number of operations.
 pub(crate) fn order_count(count: usize) -> u32
     requires { count ≤ 160 }
     ensures { result ≡ order.order_count count }
@@ -91,13 +91,17 @@ fn candidates(
 }
 
 /// The candidates with their variables, from this one on.
-fn numbered(alloc: Global, candidates: &[Candidate], first: u32) -> Result<Vec<Choice>, AllocError>
+fn numbered(
+    alloc: Global,
+    candidates: &[Candidate],
+    first: u32,
+) -> Result<Vec<ReadsFromChoice>, AllocError>
     requires { first + length candidates.now < 2 ^ 32 }
     ensures { IfOk result (λ made. made.items ≡ map (λ (numbered : ℕ × Source). record { candidate = numbered.1; variable = numbered.0 }) (enumerate_from first candidates.now)) }
 {
     let mut made = Vec::with_capacity(alloc, candidates.len())?;
     for k in 0..candidates.len() {
-        made.push(Choice {
+        made.push(ReadsFromChoice {
             candidate: candidates[k],
             variable: first + k as u32,
         })?;
@@ -132,7 +136,7 @@ pub(crate) fn op_table(
     trace: &Trace,
     i: usize,
     first: u32,
-) -> Result<OpTable, AllocError>
+) -> Result<OpVariables, AllocError>
     requires same { numbering.now ≡ trace.now }
     requires few { operation_count trace.now ≤ 160 }
     requires within { i < operation_count trace.now }
@@ -144,7 +148,7 @@ pub(crate) fn op_table(
     let choices = numbered(alloc, candidates.as_slice(), first)?;
     let reads = numbering.read_at(i).is_some();
     let void = void_variable(reads && candidates.is_empty(), first);
-    Ok(OpTable {
+    Ok(OpVariables {
         leader: leader_of(numbering, i),
         reads,
         writers,
@@ -153,8 +157,8 @@ pub(crate) fn op_table(
     })
 }
 
-/// How many variables the operation has.
-fn count_of(table: &OpTable) -> u32
+/// The number of variables of the operation.
+fn count_of(table: &OpVariables) -> u32
     requires { length table.now.choices ≤ 161 }
     ensures { result ≡ (if table.now.reads then max 1 (length table.now.choices) else 0) }
 {
@@ -170,7 +174,7 @@ pub(crate) fn op_tables(
     alloc: Global,
     numbering: &Numbering<'_>,
     trace: &Trace,
-) -> Result<(Vec<OpTable>, u32), AllocError>
+) -> Result<(Vec<OpVariables>, u32), AllocError>
     requires same { numbering.now ≡ trace.now }
     requires few { operation_count trace.now ≤ 160 }
     ensures tables { IfOk result (λ made. made.0.items ≡ map (tables.op_table trace.now) (numbers.numbers trace.now)) }

@@ -2,9 +2,9 @@
 
 ghost use Rattle.std.specs.Prelude.{◌≡◌, ◌==◌, ◌&&◌, ◌+◌, ◌<◌, ◌≤◌, ◌^◌, ℕ, List, map, length, Some, None, is_some, max, IfOk, if◌then◌else◌};
 ghost use Rattle.std.specs.List.{enumerate_from, filter, range_with_len};
-ghost use Rattle.traces.specs.Judgement as judgement;
-ghost use Rattle.traces.specs.NameNumbers.{number_of};
-ghost use Rattle.traces.specs.Trace.{IsTrace, value_of, operation_count};
+ghost use Rattle.trace_semantics.specs.Judgement as judgement;
+ghost use Rattle.trace_semantics.specs.NameNumbers.{number_of};
+ghost use Rattle.trace_semantics.specs.Trace.{IsTrace, value_of, operation_count};
 ghost use Rattle.var_layout.specs.ChoiceVariables.{first_choice};
 ghost use Rattle.var_layout.specs.FinalVariables as finals;
 ghost use Rattle.var_layout.specs.Numbers as numbers;
@@ -16,9 +16,9 @@ use crate::numbering::Numbering;
 use crate::read_candidates::is_held;
 use std::alloc::{AllocError, Global};
 use std::marker::Model;
-use traces::name::Name;
-use traces::name_table::NameTable;
-use traces::trace::Trace;
+use trace_semantics::name::Name;
+use trace_semantics::name_table::NameTable;
+use trace_semantics::trace::Trace;
 
 /// What the layout keeps of a final value.
 #[derive(Drop)]
@@ -115,7 +115,7 @@ fn final_table<'a>(
     })
 }
 
-/// How many variables the final value has.
+/// The number of variables of the final value.
 fn count_of(table: &FinalTable) -> u32
     requires { length table.now.choices ≤ 160 }
     ensures { result ≡ (if is_some table.now.void then 1 else length table.now.choices) }

@@ -3,8 +3,8 @@
 ghost use Rattle.std.specs.Prelude.{◌≡◌, ◌≢◌, ◌<◌, ℕ, List, [], ◌∷◌, Some, None, IsSome, IsTrue};
 ghost use Rattle.std.specs.List.{Contains};
 ghost use Rattle.dimacs.specs.Literal.{is_literal_up_to};
-ghost use Rattle.traces.specs.declared.operation.OpName.{OpName};
-ghost use Rattle.traces.specs.Trace.{TraceValue, IsTrace, operation_at, operation_count};
+ghost use Rattle.trace_semantics.specs.declared.operation.OpName.{OpName};
+ghost use Rattle.trace_semantics.specs.Trace.{TraceValue, IsTrace, operation_at, operation_count};
 ghost use Rattle.var_layout.specs.ChoiceVariables.{choices, void_choice};
 ghost use Rattle.var_layout.specs.FinalVariables.{finals, void_final, variable_count};
 ghost use Rattle.var_layout.specs.Numbers.{name_at, number_of, writers, other_writers};

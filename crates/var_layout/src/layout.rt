@@ -2,8 +2,8 @@
 
 ghost use Rattle.std.specs.Prelude.{◌≡◌, ◌≢◌, ◌<◌, ◌≤◌, ℕ, List, [], length, map, take, is_some, IsSome, IfOk, slice_get, false};
 ghost use Rattle.std.specs.Option.{option_and_then, option_copied, option_map, option_map_or};
-ghost use Rattle.traces.specs.declared.operation.OpName.{OpName};
-ghost use Rattle.traces.specs.Trace.{IsTrace, operation_count};
+ghost use Rattle.trace_semantics.specs.declared.operation.OpName.{OpName};
+ghost use Rattle.trace_semantics.specs.Trace.{IsTrace, operation_count};
 ghost use Rattle.var_layout.specs.ChoiceVariables as choice_variables;
 ghost use Rattle.var_layout.specs.FinalVariables as final_variables;
 ghost use Rattle.var_layout.specs.Numbers as numbers;
@@ -14,8 +14,8 @@ ghost use Rattle.var_layout.specs.Tables.{OpTableValue, FinalTableValue};
 ghost use Rattle.var_layout.specs.VoidVariables.{void_variable};
 
 use crate::before_numbers::before_numbers;
-use crate::candidate::{Choice, FinalChoice};
-use crate::choice_variables::{OpTable, op_tables};
+use crate::candidate::{FinalChoice, ReadsFromChoice};
+use crate::choice_variables::{OpVariables, op_tables};
 use crate::final_variables::{FinalTable, final_tables};
 use crate::numbering::Numbering;
 use crate::order_literal::order_lit;
@@ -25,12 +25,12 @@ use reducer::reduced::Reduced;
 use std::alloc::{AllocError, Global};
 use std::marker::Model;
 use std::snapshot::Snapshot;
-use traces::trace::Trace;
+use trace_semantics::trace::Trace;
 
-/// Who has variables of its own: a reading operation, by its number, or a final value, by its place in the trace's list,
+/// The owner of some variables: a reading operation, by its number, or a final value, by its place in the trace's list,
 /// from 0.
 #[derive(Clone, Copy)]
-pub enum Chooser {
+pub enum ReadsFromOwner {
     Read(usize),
     Final(usize),
 }
@@ -39,14 +39,14 @@ pub enum Chooser {
 #[derive(Drop)]
 pub struct Layout {
     trace: Snapshot<Trace>,
-    operations: Vec<OpTable>,
+    operations: Vec<OpVariables>,
     final_values: Vec<FinalTable>,
     before: Vec<(usize, usize)>,
     count: u32,
 }
 
 impl Model for Layout {
-    ghost use Rattle.traces.specs.Trace.{TraceValue};
+    ghost use Rattle.trace_semantics.specs.Trace.{TraceValue};
     ghost use Rattle.var_layout.specs.Tables.{IsLayout};
 
     ghost Value = { TraceValue };
@@ -77,7 +77,7 @@ impl Layout {
     }
 
     /// What is kept of the operation of this number, if there is one.
-    fn op_table(&self, i: usize) -> Option<&OpTable>
+    fn op_table(&self, i: usize) -> Option<&OpVariables>
         ensures leader { option_map (λ (table : OpTableValue). table.leader) (option_copied result) ≡ tables.leader_at self.now i }
         ensures reads { option_map_or (λ (table : OpTableValue). table.reads) (option_copied result) false ≡ is_some (numbers.read_at self.now i) }
         ensures writers { option_map_or (λ (table : OpTableValue). table.writers) (option_copied result) [] ≡ numbers.other_writers self.now i }
@@ -107,7 +107,7 @@ impl Layout {
         }
     }
 
-    /// Its trace is one, with 160 operations at most. This says what each layout keeps, and does nothing.
+    /// Its trace is one, with at most 160 operations. This says what each layout keeps, and does nothing.
     #[inline]
     pub fn is_layout(&self)
         ensures trace { IsTrace self.now }
@@ -116,7 +116,7 @@ impl Layout {
         let _ = &self.operations;
     }
 
-    /// How many operations the trace has.
+    /// The number of operations of the trace.
     #[inline]
     pub fn operations(&self) -> usize
         ensures { result ≡ operation_count self.now }
@@ -158,7 +158,7 @@ impl Layout {
     }
 
     /// The candidates of a reading operation with their variables, in order.
-    pub fn choices(&self, r: usize) -> &[Choice]
+    pub fn choices(&self, r: usize) -> &[ReadsFromChoice]
         requires { IsSome (numbers.read_at self.now r) }
         ensures { result.now ≡ choice_variables.choices self.now r }
     {
@@ -178,7 +178,7 @@ impl Layout {
         }
     }
 
-    /// How many final values the trace has.
+    /// The number of final values of the trace.
     pub fn final_values(&self) -> usize
         ensures { result ≡ length self.now.final_values }
     {
@@ -208,12 +208,12 @@ impl Layout {
     }
 
     /// The void variable of a reading operation without a candidate, or of a final value that no operation leaves.
-    pub fn void_var(&self, chooser: Chooser) -> Option<u32>
+    pub fn void_var(&self, chooser: ReadsFromOwner) -> Option<u32>
         ensures { result ≡ void_variable self.now chooser }
     {
         match chooser {
-            Chooser::Read(r) => self.op_table(r)?.void,
-            Chooser::Final(k) => self.final_table(k)?.void,
+            ReadsFromOwner::Read(r) => self.op_table(r)?.void,
+            ReadsFromOwner::Final(k) => self.final_table(k)?.void,
         }
     }
 
@@ -224,15 +224,15 @@ impl Layout {
         self.before.as_slice()
     }
 
-    /// How many variables the trace has.
+    /// The number of variables of the trace.
     pub fn count(&self) -> u32
         ensures { result ≡ final_variables.variable_count self.now }
     {
         self.count
     }
 
-    /// The first of the split variables, no more than so many: the order variables of operations in conflict, of different
-    /// processes. No more rows of pairs are looked at than these need.
+    /// The first of the split variables, at most `most`: the order variables of operations in conflict, of different
+    /// processes. Only the rows of pairs that these need are read.
     pub fn first_splits(&self, alloc: Global, most: usize) -> Result<Vec<u32>, AllocError>
         ensures { IfOk result (λ variables. variables.items ≡ take most (split.splits self.now)) }
     {

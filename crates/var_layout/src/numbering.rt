@@ -2,15 +2,15 @@
 
 ghost use Rattle.std.specs.Prelude.{◌≡◌, ◌≤◌, ◌++◌, length, OnOk, None, if◌then◌else◌};
 ghost use Rattle.std.specs.Str.{bytes_eq};
-ghost use Rattle.traces.specs.Operation.{location_of, same_op, value_left};
+ghost use Rattle.trace_semantics.specs.Operation.{location_of, same_op, written_value};
 ghost use Rattle.var_layout.specs.Numbered.{numbered_in};
 
 use std::alloc::{AllocError, Global};
 use std::marker::Model;
 use std::snapshot::Snapshot;
-use traces::name::Name;
-use traces::operation::{Op, OpName};
-use traces::trace::{Process, Trace};
+use trace_semantics::name::Name;
+use trace_semantics::operation::{Op, OpName};
+use trace_semantics::trace::{Process, Trace};
 
 /// An operation, and its name.
 #[derive(Drop)]
@@ -49,10 +49,10 @@ fn push_process<'a>(
 
 /// The value that the operation leaves at the location, if it writes there.
 fn value_left_there(op: &Op, location: &[u8]) -> Option<u64>
-    ensures { result ≡ (if bytes_eq (location_of op.now) location.now then value_left op.now else None) }
+    ensures { result ≡ (if bytes_eq (location_of op.now) location.now then written_value op.now else None) }
 {
     if op.location().as_bytes() == location {
-        op.value_left()
+        op.written_value()
     } else {
         None
     }
@@ -74,7 +74,7 @@ pub struct Numbering<'a> {
 
 impl<'a> Model for Numbering<'a> {
     ghost use Rattle.std.specs.Prelude.{◌≡◌};
-    ghost use Rattle.traces.specs.Trace.{TraceValue, IsTrace};
+    ghost use Rattle.trace_semantics.specs.Trace.{TraceValue, IsTrace};
     ghost use Rattle.var_layout.specs.Numbered.{numbered};
 
     ghost Value = { TraceValue };
@@ -87,8 +87,8 @@ impl<'a> Model for Numbering<'a> {
 impl<'a> Numbering<'a> {
     ghost use Rattle.std.specs.Prelude.{◌≡◌, IfOk, ℕ, List};
     ghost use Rattle.std.specs.Option.{option_copied, option_map};
-    ghost use Rattle.traces.specs.Judgement.{is_the_op};
-    ghost use Rattle.traces.specs.Trace.{IsTrace, operation_count};
+    ghost use Rattle.trace_semantics.specs.Judgement.{is_the_op};
+    ghost use Rattle.trace_semantics.specs.Trace.{IsTrace, operation_count};
     ghost use Rattle.var_layout.specs.Numbered.{NumberedOp};
     ghost use Rattle.var_layout.specs.Numbers as number;
 
@@ -123,7 +123,7 @@ impl<'a> Numbering<'a> {
         self.operations.get(i)
     }
 
-    /// How many operations the trace has.
+    /// The number of operations of the trace.
     pub fn count(&self) -> usize
         ensures { result ≡ operation_count self.now }
     {
@@ -180,7 +180,7 @@ impl<'a> Numbering<'a> {
         }
     }
 
-    /// The number of the operation of this name, or how many there are where none has it.
+    /// The number of the operation of this name, or the number of operations if none has it.
     pub fn number_of(&self, name: &OpName) -> usize
         ensures { result ≡ number.number_of self.now name.now }
     {

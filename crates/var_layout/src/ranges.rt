@@ -3,11 +3,11 @@
 ghost use Rattle.std.specs.Prelude.{◌≡◌, ◌≢◌, ◌<◌, ◌≤◌, ℕ, List, Some, false, IsTrue, slice_get};
 ghost use Rattle.std.specs.List.{Contains};
 ghost use Rattle.dimacs.specs.Literal.{is_literal_up_to, most_variable};
-ghost use Rattle.traces.specs.Trace.{TraceValue, IsTrace, operation_count};
+ghost use Rattle.trace_semantics.specs.Trace.{TraceValue, IsTrace, operation_count};
 ghost use Rattle.var_layout.specs.declared.candidate.Candidate.TheVariants.{Writer};
-ghost use Rattle.var_layout.specs.declared.candidate.Choice.{Choice};
+ghost use Rattle.var_layout.specs.declared.candidate.ReadsFromChoice.{ReadsFromChoice};
 ghost use Rattle.var_layout.specs.declared.candidate.FinalChoice.{FinalChoice};
-ghost use Rattle.var_layout.specs.declared.layout.Chooser.{Chooser};
+ghost use Rattle.var_layout.specs.declared.layout.ReadsFromOwner.{ReadsFromOwner};
 ghost use Rattle.var_layout.specs.ChoiceVariables.{first_choice, choices};
 ghost use Rattle.var_layout.specs.FinalVariables.{is_untouched, first_final, final_choices, finals, variable_count};
 ghost use Rattle.var_layout.specs.Numbers.{readers, writers, other_writers};
@@ -33,9 +33,9 @@ pub fn order_literals_are_over_the_variables()
 
 /// A choice has one of the trace's variables, and a writer that is a candidate is one of the operation's other writers.
 pub fn choices_are_over_the_variables()
-    ensures variable { (t : TraceValue) (r : ℕ) (c : Choice) → Contains (choices t r) c → IsVariable t c.variable }
-    ensures literals { (t : TraceValue) (r : ℕ) (c : Choice) → Contains (choices t r) c → HasLiterals t c.variable }
-    ensures writer { (t : TraceValue) (r : ℕ) (c : Choice) (w : ℕ) → Contains (choices t r) c → c.candidate ≡ Writer w → Contains (other_writers t r) w }
+    ensures variable { (t : TraceValue) (r : ℕ) (c : ReadsFromChoice) → Contains (choices t r) c → IsVariable t c.variable }
+    ensures literals { (t : TraceValue) (r : ℕ) (c : ReadsFromChoice) → Contains (choices t r) c → HasLiterals t c.variable }
+    ensures writer { (t : TraceValue) (r : ℕ) (c : ReadsFromChoice) (w : ℕ) → Contains (choices t r) c → c.candidate ≡ Writer w → Contains (other_writers t r) w }
 {}
 
 /// A final choice has one of the trace's variables, and its writer is one of the location's.
@@ -49,7 +49,7 @@ pub fn finals_are_over_the_variables()
 /// A void variable is one of the trace's variables, and so is the first one of each reading operation and of each final value
 /// that has any.
 pub fn void_variables_are_variables()
-    ensures void { (t : TraceValue) (chooser : Chooser) (v : ℕ) → void_variable t chooser ≡ Some v → IsVariable t v }
+    ensures void { (t : TraceValue) (chooser : ReadsFromOwner) (v : ℕ) → void_variable t chooser ≡ Some v → IsVariable t v }
     ensures first_choice { (t : TraceValue) (r : ℕ) → Contains (readers t) r → IsVariable t (first_choice t r) }
     ensures first_final { (t : TraceValue) (k : ℕ) (entry : List ℕ × ℕ) → slice_get t.final_values k ≡ Some entry → is_untouched t entry ≡ false → IsVariable t (first_final t k) }
 {}

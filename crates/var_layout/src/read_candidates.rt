@@ -1,19 +1,19 @@
-//! Where a reading operation may have its value from.
+//! The possible origins of what a reading operation reads.
 
 ghost use Rattle.std.specs.Prelude.{◌≡◌, ◌∷◌, map, IfOk};
 ghost use Rattle.std.specs.List.{filter};
-ghost use Rattle.traces.specs.Judgement as judgement;
-ghost use Rattle.traces.specs.Operation.{origin_of};
-ghost use Rattle.traces.specs.Trace.{value_of};
+ghost use Rattle.trace_semantics.specs.Judgement as judgement;
+ghost use Rattle.trace_semantics.specs.Operation.{origin_of};
+ghost use Rattle.trace_semantics.specs.Trace.{value_of};
 ghost use Rattle.var_layout.specs.Candidates as candidates;
 ghost use Rattle.var_layout.specs.declared.candidate.Candidate.TheVariants.{InitialValue, Writer};
 
 use crate::candidate::Candidate;
 use crate::numbering::Numbering;
 use std::alloc::{AllocError, Global};
-use traces::name::Name;
-use traces::operation::{Op, Origin};
-use traces::trace::Trace;
+use trace_semantics::name::Name;
+use trace_semantics::operation::{Op, Origin};
+use trace_semantics::trace::Trace;
 
 /// What a list of locations and values gives a location.
 fn value_at(values: &[(Name, u64)], location: &[u8]) -> Option<u64>
@@ -98,7 +98,7 @@ fn is_candidate(numbering: &Numbering<'_>, trace: &Trace, op: &Op, candidate: Ca
     is_read(value, op.value_read()) && is_allowed(numbering, op, candidate)
 }
 
-/// From where an operation may read at all: the initial value, and then each of these writers.
+/// All origins that an operation may have: the initial value, and then each of these writers.
 fn sources(alloc: Global, writers: &[usize]) -> Result<Vec<Candidate>, AllocError>
     ensures { IfOk result (λ found. found.items ≡ InitialValue ∷ map (λ w. Writer w) writers.now) }
 {

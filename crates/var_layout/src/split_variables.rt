@@ -2,7 +2,7 @@
 
 ghost use Rattle.std.specs.Prelude.{◌≡◌, ◌<◌, ◌++◌, ◌==◌, ◌&&◌, ◌||◌, [], map, take, not, OnOk};
 ghost use Rattle.std.specs.List.{list_any};
-ghost use Rattle.traces.specs.Trace.{operation_count};
+ghost use Rattle.trace_semantics.specs.Trace.{operation_count};
 ghost use Rattle.var_layout.specs.Numbers.{in_one_process, other_writers};
 ghost use Rattle.var_layout.specs.OrderVariables.{numbers_above};
 ghost use Rattle.var_layout.specs.Split as split;
@@ -40,7 +40,7 @@ fn push_splits(variables: &mut Vec<u32>, layout: &Layout, i: usize) -> Result<()
     Ok(())
 }
 
-/// Puts so many of the variables of pairs in conflict into a list that has none yet, or more.
+/// Puts at least `most` of the variables of pairs in conflict into a list that has none yet, or all.
 pub(crate) fn push_first_splits(
     variables: &mut Vec<u32>,
     layout: &Layout,

@@ -4,18 +4,18 @@ use Rattle.std.specs.Prelude.{Result, Ok, Err}
 use Rattle.certificate.specs.CertText.{SpellsCertificate}
 use Rattle.certificate.specs.Rechecked.{IsRechecked}
 use Rattle.clause_blocks.specs.Clauses.{clauses_of}
-use Rattle.cube_queue.specs.Options.{OptionsValue}
+use Rattle.cube_jobs.specs.Options.{OptionsValue}
 use Rattle.cube_tree.specs.CubeTree.{leaves}
 use Rattle.dimacs.specs.declared.sink_fault.SinkFault.{SinkFault}
 use Rattle.dimacs.specs.declared.sink_fault.SinkFault.TheVariants.{OutOfMemory as NoRoom, Device as SinkFails}
 use Rattle.dimacs.specs.Sink.{AppendsFront}
 use Rattle.dimacs.specs.SinkFault.{failures_told}
 use Rattle.reducer.specs.Reduction.{kept_trace}
-use Rattle.traces.specs.Trace.{TraceValue}
-use Rattle.trace_verdict.specs.declared.decision.Decision.{Decision}
-use Rattle.trace_verdict.specs.declared.decision.Decision.TheVariants.{Consistent, Inconsistent, Unknown as NotDecided}
-use Rattle.trace_verdict.specs.declared.refutation.Refutation.{Refutation}
-use Rattle.trace_verdict.specs.Decision.{IsDecided, certificate_in, certificate_text, report}
+use Rattle.trace_semantics.specs.Trace.{TraceValue}
+use Rattle.trace_decision.specs.declared.decision.Decision.{Decision}
+use Rattle.trace_decision.specs.declared.decision.Decision.TheVariants.{Consistent, Inconsistent, Unknown as NotDecided}
+use Rattle.trace_decision.specs.declared.refutation.Refutation.{Refutation}
+use Rattle.trace_decision.specs.Decision.{IsDecided, certificate_in, certificate_text, report}
 use Rattle.verdict_report.specs.declared.fault.Fault.{Fault}
 use Rattle.verdict_report.specs.declared.fault.Fault.TheVariants.{OutOfMemory, Device, InputTooLong, Trace, Schedule, Part, Model, Cnf, Lrat, Reduce, Decode, Check, Cert, Search}
 use Rattle.verdict_report.specs.declared.status.Status.{Status}
@@ -23,7 +23,7 @@ use Rattle.verdict_report.specs.declared.status.Status.TheVariants.{Yes, No, Unk
 use Rattle.verdict_report.specs.Engine.{HandOut, InPieces, IsRunOfEngine, IsRunOfWriting, Reads, TakesNothing, TakesWhole, of_one}
 use Rattle.verdict_report.specs.Fault.{fault_of_sink}
 use Rattle.verdict_report.specs.Runs.{SourceRun, SinkRun}
-use Rattle.verdict_report.specs.VerifyEngine.{Certifies, IsDecidedFrom, IsRunOfCertifiedVerify, IsSaidOfTrace, status_of_decision, texts_with_certificate}
+use Rattle.verdict_report.specs.VerifyEngine.{WritesAcceptedCertificate, IsDecidedFrom, IsRunOfCertifiedVerify, IsSaidOfTrace, status_of_decision, texts_with_certificate}
 
 -- a sink that takes nothing takes a prefix of any text
 nothing_is_front : (out : SinkRun) (text : List ℕ) → TakesNothing out → AppendsFront out.before out.now text
@@ -62,7 +62,7 @@ module _ (trace : SourceRun) (cert : SinkRun) (text : List ℕ) (handed : HandOu
     (options : OptionsValue)
     (spells : (options : OptionsValue) (value : TraceValue) (refutation : Refutation) → IsDecided options value (Inconsistent refutation) → SpellsCertificate (certificate_text (Inconsistent refutation)) (certificate_in refutation))
     (accepted : (options : OptionsValue) (value : TraceValue) (refutation : Refutation) → IsDecided options value (Inconsistent refutation) → IsRechecked (clauses_of (kept_trace value)) (certificate_in refutation) (leaves refutation.tree)) where
-  pub certifies : (decision : Decision) → IsDecidedFrom options text decision → cert.now ≡ cert.before ++ certificate_text decision → (status : Status) → status ≡ status_of_decision decision → status ≡ No → Certifies trace cert
+  pub certifies : (decision : Decision) → IsDecidedFrom options text decision → cert.now ≡ cert.before ++ certificate_text decision → (status : Status) → status ≡ status_of_decision decision → status ≡ No → WritesAcceptedCertificate trace cert
   certifies (Consistent names) decided whole status is so = absurd (let wrong : Yes ≡ No = sym is ∙ so in cc)
   certifies (Inconsistent refutation) decided whole status is so = record {
     text = text;
@@ -81,7 +81,7 @@ module _ (trace : SourceRun) (cert : SinkRun) (text : List ℕ) (handed : HandOu
 
   -- the answer is the one for what is decided
   pub certified : (decision : Decision) → IsDecidedFrom options text decision → cert.now ≡ cert.before ++ certificate_text decision → (out : SinkRun) (result : Result Status Fault) →
-      IsRunOfWriting (report decision) (status_of_decision decision) out result → result ≡ Ok No → Certifies trace cert
+      IsRunOfWriting (report decision) (status_of_decision decision) out result → result ≡ Ok No → WritesAcceptedCertificate trace cert
   certified decision decided whole out result w so =
       let at : IsRunOfWriting (report decision) (status_of_decision decision) out (Ok No) = subst (λ (r : Result Status Fault). IsRunOfWriting (report decision) (status_of_decision decision) out r) so w in
       certifies decision decided whole No at.0 refl

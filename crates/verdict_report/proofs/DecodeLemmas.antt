@@ -2,15 +2,15 @@
 use Rattle.std.proofs.Common.{◌≡◌, ◌≤◌, ℕ, Bool, List, subst, sym}
 use Rattle.std.specs.Prelude.{Result, Ok, Err}
 use Rattle.dimacs.specs.Assignment.{value_of}
-use Rattle.model_reader.specs.ModelText.{SpellsModel}
+use Rattle.model_text.specs.ModelText.{SpellsModel}
 use Rattle.dimacs.specs.Models.{IsModel, IsFirstFalse}
-use Rattle.traces.specs.declared.operation.OpName.{OpName}
-use Rattle.traces.specs.Legal.{IsLegal}
-use Rattle.traces.specs.Trace.{TraceValue, IsTrace, operation_count}
+use Rattle.trace_semantics.specs.declared.operation.OpName.{OpName}
+use Rattle.trace_semantics.specs.Legal.{IsLegal}
+use Rattle.trace_semantics.specs.Trace.{TraceValue, IsTrace, operation_count}
 use Rattle.trace_text.specs.TraceText.{SpellsTrace}
 use Rattle.reducer.specs.Expansion.{expansion}
-use Rattle.text_lines.specs.declared.fault.Fault.{Fault as PartFault}
-use Rattle.text_lines.specs.declared.fault.Fault.TheVariants.{OutOfMemory as NoPartMemory, At}
+use Rattle.text_lines.specs.declared.fault.PlacedFault.{PlacedFault as PartFault}
+use Rattle.text_lines.specs.declared.fault.PlacedFault.TheVariants.{OutOfMemory as NoPartMemory, At}
 use Rattle.text_lines.specs.Fault.{IsRefusal}
 use Rattle.reducer.specs.declared.reduce_fault.ReduceCause.{ReduceCause}
 use Rattle.reducer.specs.Reduced.{ReducedValue, IsReduced, HasReduceFault}

@@ -8,15 +8,15 @@ use Rattle.schedule_text.proofs.OpNameLemmas.{op_name_from}
 use Rattle.schedule_text.proofs.ScheduleWrittenLemmas.{written_spells}
 use Rattle.schedule_text.specs.ScheduleText.{SpellsSchedule, is_op_name}
 use Rattle.schedule_text.specs.ScheduleWritten.{canonical_schedule}
-use Rattle.traces.proofs.ElementLemmas.{all_pass, cases_in, head_in, pass_all, placed, tail_in}
-use Rattle.traces.proofs.NameLemmas.{known_listed, known_named}
-use Rattle.traces.proofs.OrderLemmas.{stands_ahead}
-use Rattle.traces.specs.declared.operation.OpName.{OpName}
-use Rattle.traces.specs.declared.trace.Process.{Process}
-use Rattle.traces.specs.Interleaving.{StandsBefore}
-use Rattle.traces.specs.Legal.{IsLegal}
-use Rattle.traces.specs.Names.{is_name}
-use Rattle.traces.specs.Trace.{TraceValue, IsTrace, is_written_op, is_written_process, operation_count, operation_names}
+use Rattle.trace_semantics.proofs.ElementLemmas.{all_pass, cases_in, head_in, pass_all, placed, tail_in}
+use Rattle.trace_semantics.proofs.NameLemmas.{known_listed, known_named}
+use Rattle.trace_semantics.proofs.OrderLemmas.{stands_ahead}
+use Rattle.trace_semantics.specs.declared.operation.OpName.{OpName}
+use Rattle.trace_semantics.specs.declared.trace.Process.{Process}
+use Rattle.trace_semantics.specs.Interleaving.{StandsBefore}
+use Rattle.trace_semantics.specs.Legal.{IsLegal}
+use Rattle.trace_semantics.specs.Names.{is_name}
+use Rattle.trace_semantics.specs.Trace.{TraceValue, IsTrace, is_written_op, is_written_process, operation_count, operation_names}
 use Rattle.var_layout.proofs.NumberLemmas.{names_counted}
 
 -- ---- how many names a schedule has

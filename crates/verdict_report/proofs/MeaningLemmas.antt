@@ -2,9 +2,9 @@
 use Rattle.std.proofs.Common.{ℕ, Bool, List, subst, sym}
 use Rattle.std.specs.Prelude.{◌↔◌}
 use Rattle.dimacs.specs.Models.{IsModel}
-use Rattle.traces.specs.declared.operation.OpName.{OpName}
-use Rattle.traces.specs.Legal.{IsLegal}
-use Rattle.traces.specs.Trace.{TraceValue, IsTrace}
+use Rattle.trace_semantics.specs.declared.operation.OpName.{OpName}
+use Rattle.trace_semantics.specs.Legal.{IsLegal}
+use Rattle.trace_semantics.specs.Trace.{TraceValue, IsTrace}
 use Rattle.reducer.specs.Expansion.{expansion}
 use Rattle.reducer.specs.Reduced.{ReducedValue, IsReduced}
 use Rattle.reducer.specs.Reduction.{kept_trace}

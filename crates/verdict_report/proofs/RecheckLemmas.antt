@@ -12,9 +12,9 @@ use Rattle.reducer.specs.Reduced.{ReducedValue, IsReduced, HasReduceFault}
 use Rattle.reducer.specs.declared.reduce_fault.ReduceCause.{ReduceCause}
 use Rattle.reducer.specs.declared.reduce_fault.ReduceCause.TheVariants.{StillTooLarge}
 use Rattle.text_lines.specs.Fault.{IsRefusal}
-use Rattle.text_lines.specs.declared.fault.Fault.{Fault as PartFault}
-use Rattle.text_lines.specs.declared.fault.Fault.TheVariants.{OutOfMemory as NoPartMemory, At}
-use Rattle.traces.specs.Trace.{TraceValue, IsTrace, operation_count}
+use Rattle.text_lines.specs.declared.fault.PlacedFault.{PlacedFault as PartFault}
+use Rattle.text_lines.specs.declared.fault.PlacedFault.TheVariants.{OutOfMemory as NoPartMemory, At}
+use Rattle.trace_semantics.specs.Trace.{TraceValue, IsTrace, operation_count}
 use Rattle.trace_text.specs.TraceText.{SpellsTrace}
 use Rattle.verdict_report.specs.declared.fault.Fault.{Fault}
 use Rattle.verdict_report.specs.declared.fault.Fault.TheVariants.{OutOfMemory, Device, InputTooLong, Trace, Schedule, Part, Model, Cnf, Lrat, Reduce, Decode, Check, Cert, Search}
@@ -22,7 +22,7 @@ use Rattle.verdict_report.specs.Admitted.{Admits}
 use Rattle.verdict_report.specs.Fault.{fault_of_part}
 use Rattle.verdict_report.specs.Runs.{SourceRun, HandsOut}
 use Rattle.verdict_report.specs.declared.status.Status.{Status}
-use Rattle.verdict_report.specs.RecheckEngine.{HasNoSchedule, Refutes, IsRecheckedFor, AreRechecked, IsSaidOfCertificate, HandsOutUnschedulable}
+use Rattle.verdict_report.specs.RecheckEngine.{HasNoSchedule, Refutes, IsRecheckedFor, AreRechecked, IsSaidOfCertificate, InputHasNoLegalSchedule}
 use Rattle.verdict_report.proofs.MeaningLemmas.{model_of_schedule}
 
 module _ (r : ReducedValue) (ok : IsReduced r) (certificate : Certificate) where
@@ -78,7 +78,7 @@ module _ (trace_text cert_text : List ℕ) (value : TraceValue) (is_trace : IsTr
 
 -- a certificate that is accepted shows that the trace has no schedule
 pub shown : (trace : SourceRun) (trace_text cert_text : List ℕ) (count : ℕ) → HandsOut trace trace_text → AreRechecked trace_text cert_text count → (result : Result Status Fault) →
-    OnOk result (HandsOutUnschedulable trace)
+    OnOk result (InputHasNoLegalSchedule trace)
 shown trace trace_text cert_text count handed accepted (Ok status) = record {
   text = trace_text;
   handed = handed;

@@ -1,16 +1,16 @@
 -- Why nothing is decided of a trace, and what follows from the status where something is.
 use Rattle.std.proofs.Common.{◌≡◌, ℕ, List, [], ◌∷◌, ◌++◌, subst}
 use Rattle.std.specs.Prelude.{Result, Ok, Err}
-use Rattle.cube_queue.specs.declared.search_fault.SearchCause.{SearchCause}
-use Rattle.cube_queue.specs.Options.{OptionsValue}
+use Rattle.cube_jobs.specs.declared.search_fault.SearchCause.{SearchCause}
+use Rattle.cube_jobs.specs.Options.{OptionsValue}
 use Rattle.reducer.specs.declared.reduce_fault.ReduceCause.TheVariants.{StillTooLarge}
 use Rattle.schedule_text.specs.ScheduleWritten.{canonical_schedule}
 use Rattle.text_lines.specs.declared.plain_fault.PlainFault.{PlainFault}
 use Rattle.text_lines.specs.declared.plain_fault.PlainFault.TheVariants.{OutOfMemory as NoMemoryToSearch, For}
-use Rattle.traces.specs.Trace.{TraceValue}
-use Rattle.trace_verdict.specs.declared.decision.Decision.{Decision}
-use Rattle.trace_verdict.specs.declared.decision.Decision.TheVariants.{Consistent, Inconsistent, Unknown as NotDecided}
-use Rattle.trace_verdict.specs.Decision.{report}
+use Rattle.trace_semantics.specs.Trace.{TraceValue}
+use Rattle.trace_decision.specs.declared.decision.Decision.{Decision}
+use Rattle.trace_decision.specs.declared.decision.Decision.TheVariants.{Consistent, Inconsistent, Unknown as NotDecided}
+use Rattle.trace_decision.specs.Decision.{report}
 use Rattle.verdict_report.specs.declared.fault.Fault.{Fault}
 use Rattle.verdict_report.specs.declared.fault.Fault.TheVariants.{OutOfMemory, Device, InputTooLong, Trace, Schedule, Part, Model, Cnf, Lrat, Reduce, Decode, Check, Cert, Search}
 use Rattle.verdict_report.specs.declared.status.Status.{Status}
@@ -18,9 +18,9 @@ use Rattle.verdict_report.specs.declared.status.Status.TheVariants.{Yes, No, Unk
 use Rattle.verdict_report.specs.Admitted.{Admits, IsReducedFrom}
 use Rattle.verdict_report.specs.Engine.{HandOut, IsRunOfWriting}
 use Rattle.verdict_report.specs.Fault.{fault_of_search}
-use Rattle.verdict_report.specs.RecheckEngine.{HandsOutUnschedulable}
+use Rattle.verdict_report.specs.RecheckEngine.{InputHasNoLegalSchedule}
 use Rattle.verdict_report.specs.Runs.{SourceRun, SinkRun}
-use Rattle.verdict_report.specs.VerifyEngine.{IsDecidedFrom, IsSaidOfTrace, TellsOpen, TellsSchedule, status_of_decision}
+use Rattle.verdict_report.specs.VerifyEngine.{IsDecidedFrom, IsSaidOfTrace, TellsOpen, ReportsLegalSchedule, status_of_decision}
 use Rattle.verdict_report.proofs.LegalTextLemmas.{spells}
 
 -- the text is not reduced
@@ -47,7 +47,7 @@ unsearched text value admitted (For cause) = (value, admitted)
 
 -- what follows from the status of what is decided
 module _ (options : OptionsValue) (trace : SourceRun) (text : List ℕ) (handed : HandOut (trace ∷ []) (text ∷ [])) (out : SinkRun) where
-  tells : (decision : Decision) → IsDecidedFrom options text decision → out.now ≡ out.before ++ report decision → Yes ≡ status_of_decision decision → TellsSchedule trace out
+  tells : (decision : Decision) → IsDecidedFrom options text decision → out.now ≡ out.before ++ report decision → Yes ≡ status_of_decision decision → ReportsLegalSchedule trace out
   tells (Consistent names) decided whole is = record {
     text = text;
     handed = handed.0.0;
@@ -63,7 +63,7 @@ module _ (options : OptionsValue) (trace : SourceRun) (text : List ℕ) (handed 
   tells (Inconsistent refutation) decided whole is = absurd (let wrong : Yes ≡ No = is in cc)
   tells (NotDecided cubes) decided whole is = absurd (let wrong : Yes ≡ Unknown = is in cc)
 
-  has_none : (decision : Decision) → IsDecidedFrom options text decision → No ≡ status_of_decision decision → HandsOutUnschedulable trace
+  has_none : (decision : Decision) → IsDecidedFrom options text decision → No ≡ status_of_decision decision → InputHasNoLegalSchedule trace
   has_none (Consistent names) decided is = absurd (let wrong : No ≡ Yes = is in cc)
   has_none (Inconsistent refutation) decided is = record {
     text = text;
@@ -91,13 +91,13 @@ module _ (options : OptionsValue) (trace : SourceRun) (text : List ℕ) (handed 
 
   module _ (decision : Decision) (decided : IsDecidedFrom options text decision) (result : Result Status Fault) (w : IsRunOfWriting (report decision) (status_of_decision decision) out result) where
     -- of the answer that the trace is consistent
-    pub consistent : result ≡ Ok Yes → TellsSchedule trace out
+    pub consistent : result ≡ Ok Yes → ReportsLegalSchedule trace out
     consistent so =
         let at : IsRunOfWriting (report decision) (status_of_decision decision) out (Ok Yes) = subst (λ (r : Result Status Fault). IsRunOfWriting (report decision) (status_of_decision decision) out r) so w in
         tells decision decided at.1.0 at.0
 
     -- of the answer that it is not
-    pub inconsistent : result ≡ Ok No → HandsOutUnschedulable trace
+    pub inconsistent : result ≡ Ok No → InputHasNoLegalSchedule trace
     inconsistent so =
         let at : IsRunOfWriting (report decision) (status_of_decision decision) out (Ok No) = subst (λ (r : Result Status Fault). IsRunOfWriting (report decision) (status_of_decision decision) out r) so w in
         has_none decision decided at.0

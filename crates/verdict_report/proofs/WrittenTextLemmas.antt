@@ -1,14 +1,14 @@
 -- The text that is written of an admitted trace, as readers of formulas and of proofs take it.
 use Rattle.std.proofs.Common.{◌≡◌, ◌≤◌, ℕ, ℤ, List, ap, sym, subst, arith}
-use Rattle.cnf_reader.specs.CnfReading.{SpellsCnf}
-use Rattle.cnf_reader.proofs.CnfLawLemmas.{one_spelled}
-use Rattle.cnf_reader.proofs.CnfWrittenLemmas.{written_spells}
+use Rattle.cnf_text.specs.CnfReading.{SpellsCnf}
+use Rattle.cnf_text.proofs.CnfLawLemmas.{one_spelled}
+use Rattle.cnf_text.proofs.CnfWrittenLemmas.{written_spells}
 use Rattle.dimacs.specs.Formula.{FormulaValue}
 use Rattle.dimacs.specs.Literal.{most_variable}
 use Rattle.dimacs.specs.Models.{IsModel}
-use Rattle.traces.specs.declared.operation.OpName.{OpName}
-use Rattle.traces.specs.Legal.{IsLegal}
-use Rattle.traces.specs.Trace.{TraceValue, IsTrace}
+use Rattle.trace_semantics.specs.declared.operation.OpName.{OpName}
+use Rattle.trace_semantics.specs.Legal.{IsLegal}
+use Rattle.trace_semantics.specs.Trace.{TraceValue, IsTrace}
 use Rattle.reducer.specs.Reduction.{kept_trace}
 use Rattle.reducer.proofs.TraceLemmas.{kept_is_trace}
 use Rattle.var_layout.specs.FinalVariables.{variable_count}

@@ -1,7 +1,7 @@
 -- The traces that are translated.
 use Rattle.std.specs.Prelude.{◌≡◌, ◌<◌, ◌≤◌, ⊤, ℕ, List, Result, Ok, Err}
 use Rattle.dimacs.specs.CnfText.{cnf_text}
-use Rattle.traces.specs.Trace.{TraceValue, IsTrace, operation_count}
+use Rattle.trace_semantics.specs.Trace.{TraceValue, IsTrace, operation_count}
 use Rattle.trace_text.specs.TraceFault.{HasTraceFault}
 use Rattle.trace_text.specs.TraceText.{SpellsTrace}
 use Rattle.reducer.specs.Reduced.{ReducedValue, IsReduced}

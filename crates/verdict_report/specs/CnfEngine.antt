@@ -3,9 +3,9 @@ use Rattle.std.specs.Prelude.{◌≡◌, ◌↔◌, ℕ, Bool, List, [], ◌∷�
 use Rattle.dimacs.specs.CnfText.{cnf_text}
 use Rattle.dimacs.specs.Formula.{FormulaValue, is_formula}
 use Rattle.dimacs.specs.Models.{IsModel}
-use Rattle.traces.specs.declared.operation.OpName.{OpName}
-use Rattle.traces.specs.Legal.{IsLegal}
-use Rattle.traces.specs.Trace.{TraceValue, IsTrace}
+use Rattle.trace_semantics.specs.declared.operation.OpName.{OpName}
+use Rattle.trace_semantics.specs.Legal.{IsLegal}
+use Rattle.trace_semantics.specs.Trace.{TraceValue, IsTrace}
 use Rattle.trace_text.specs.TraceText.{SpellsTrace}
 use Rattle.reducer.specs.Reduced.{ReducedValue}
 use Rattle.verdict_report.specs.declared.fault.Fault.{Fault}

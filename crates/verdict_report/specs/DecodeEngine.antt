@@ -1,13 +1,13 @@
 -- What the engine that decodes models answers and writes.
 use Rattle.std.specs.Prelude.{◌≡◌, ⊤, ℕ, Bool, List, [], ◌∷◌, Result, Ok, Err}
-use Rattle.model_reader.specs.declared.model_fault.ModelCause.{ModelCause}
+use Rattle.model_text.specs.declared.model_fault.ModelCause.{ModelCause}
 use Rattle.dimacs.specs.Assignment.{value_of}
-use Rattle.model_reader.specs.ModelFirstFault.{HasModelFault}
-use Rattle.model_reader.specs.ModelText.{SpellsModel}
+use Rattle.model_text.specs.ModelFirstFault.{HasModelFault}
+use Rattle.model_text.specs.ModelText.{SpellsModel}
 use Rattle.dimacs.specs.Models.{IsModel, IsFirstFalse}
-use Rattle.traces.specs.declared.operation.OpName.{OpName}
-use Rattle.traces.specs.Legal.{IsLegal}
-use Rattle.traces.specs.Trace.{TraceValue, IsTrace}
+use Rattle.trace_semantics.specs.declared.operation.OpName.{OpName}
+use Rattle.trace_semantics.specs.Legal.{IsLegal}
+use Rattle.trace_semantics.specs.Trace.{TraceValue, IsTrace}
 use Rattle.trace_text.specs.TraceFault.{HasTraceFault}
 use Rattle.trace_text.specs.TraceText.{SpellsTrace}
 use Rattle.schedule_text.specs.ScheduleWritten.{canonical_schedule}

@@ -2,25 +2,25 @@
 use Rattle.std.specs.Prelude.{◌≡◌, ◌+◌, ℕ, List, ◌++◌, Option, Some, None, Result, Ok, Err, codes}
 use Rattle.dimacs.specs.declared.sink_fault.SinkFault.{SinkFault}
 use Rattle.dimacs.specs.declared.sink_fault.SinkFault.TheVariants.{OutOfMemory as NoRoom, Device as SinkFailed}
-use Rattle.traces.specs.declared.judgement.Judgement.{Judgement}
-use Rattle.traces.specs.declared.judgement.Judgement.TheVariants.{Legal, Illegal}
+use Rattle.trace_semantics.specs.declared.judgement.Judgement.{Judgement}
+use Rattle.trace_semantics.specs.declared.judgement.Judgement.TheVariants.{Legal, Illegal}
 use Rattle.text_lines.specs.Printed.{printed_at}
-use Rattle.text_lines.specs.declared.fault.Fault.{Fault as PartFault}
-use Rattle.text_lines.specs.declared.fault.Fault.TheVariants.{OutOfMemory as NoPartMemory, At}
+use Rattle.text_lines.specs.declared.fault.PlacedFault.{PlacedFault as PartFault}
+use Rattle.text_lines.specs.declared.fault.PlacedFault.TheVariants.{OutOfMemory as NoPartMemory, At}
 use Rattle.text_lines.specs.declared.plain_fault.PlainFault.{PlainFault}
 use Rattle.text_lines.specs.declared.plain_fault.PlainFault.TheVariants.{OutOfMemory as NoMemoryToSearch, For}
-use Rattle.cnf_reader.specs.CnfCauses as cnf
+use Rattle.cnf_text.specs.CnfCauses as cnf
 use Rattle.certificate.specs.CertCause as cert
 use Rattle.lrat_check.specs.LratFault as lrat
 use Rattle.lrat_check.specs.Refusal as check
-use Rattle.model_reader.specs.ModelCauses as model
+use Rattle.model_text.specs.ModelCauses as model
 use Rattle.reducer.specs.ReduceCauses as reduce
 use Rattle.schedule_decode.specs.DecodeCauses as decode
 use Rattle.schedule_text.specs.ScheduleCauses as schedule
 use Rattle.trace_part.specs.PartCauses as part
 use Rattle.trace_text.specs.TraceCauses as trace
-use Rattle.cube_queue.specs.SearchCauses as search
-use Rattle.cube_queue.specs.declared.search_fault.SearchCause.{SearchCause}
+use Rattle.cube_jobs.specs.SearchCauses as search
+use Rattle.cube_jobs.specs.declared.search_fault.SearchCause.{SearchCause}
 use Rattle.verdict_report.specs.declared.fault.Fault.{Fault}
 use Rattle.verdict_report.specs.declared.fault.Fault.TheVariants.{OutOfMemory, Device, InputTooLong, Trace, Schedule, Part, Model, Cnf, Lrat, Reduce, Decode, Check, Cert, Search}
 use Rattle.verdict_report.specs.declared.reading.ReadFault.{ReadFault}

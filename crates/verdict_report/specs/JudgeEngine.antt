@@ -1,12 +1,12 @@
 -- What the engine that judges schedules answers and writes.
 use Rattle.std.specs.Prelude.{⊤, ℕ, List, [], ◌∷◌, ◌++◌, codes, Result, Ok, Err}
-use Rattle.traces.specs.declared.judgement.Judgement.{Judgement}
-use Rattle.traces.specs.declared.operation.OpName.{OpName}
+use Rattle.trace_semantics.specs.declared.judgement.Judgement.{Judgement}
+use Rattle.trace_semantics.specs.declared.operation.OpName.{OpName}
 use Rattle.schedule_text.specs.declared.schedule_fault.ScheduleCause.{ScheduleCause}
-use Rattle.traces.specs.Judgement.{IsJudgement}
-use Rattle.traces.specs.JudgementText as judgement_text
+use Rattle.trace_semantics.specs.Judgement.{IsJudgement}
+use Rattle.trace_semantics.specs.JudgementText as judgement_text
 use Rattle.schedule_text.specs.ScheduleText.{SpellsSchedule, HasScheduleFault}
-use Rattle.traces.specs.Trace.{TraceValue, IsTrace}
+use Rattle.trace_semantics.specs.Trace.{TraceValue, IsTrace}
 use Rattle.trace_text.specs.TraceFault.{HasTraceFault}
 use Rattle.trace_text.specs.TraceText.{SpellsTrace}
 use Rattle.verdict_report.specs.declared.fault.Fault.{Fault}

@@ -1,6 +1,6 @@
 -- What the engine that checks LRAT proofs answers and writes.
 use Rattle.std.specs.Prelude.{⊤, ℕ, Bool, List, [], ◌∷◌, codes, Result, Ok, Err}
-use Rattle.cnf_reader.specs.CnfReading.{SpellsCnf, HasCnfFault}
+use Rattle.cnf_text.specs.CnfReading.{SpellsCnf, HasCnfFault}
 use Rattle.dimacs.specs.Formula.{FormulaValue}
 use Rattle.dimacs.specs.Models.{IsModel}
 use Rattle.lrat_check.specs.declared.checker.Accepted.{Accepted}

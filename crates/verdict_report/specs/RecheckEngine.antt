@@ -9,9 +9,9 @@ use Rattle.clause_blocks.specs.Clauses.{clauses_of}
 use Rattle.reducer.specs.Reduced.{ReducedValue}
 use Rattle.reducer.specs.Reduction.{kept_trace}
 use Rattle.reducer.specs.declared.reduce_fault.ReduceCause.TheVariants.{StillTooLarge}
-use Rattle.traces.specs.declared.operation.OpName.{OpName}
-use Rattle.traces.specs.Legal.{IsLegal}
-use Rattle.traces.specs.Trace.{TraceValue, IsTrace}
+use Rattle.trace_semantics.specs.declared.operation.OpName.{OpName}
+use Rattle.trace_semantics.specs.Legal.{IsLegal}
+use Rattle.trace_semantics.specs.Trace.{TraceValue, IsTrace}
 use Rattle.trace_text.specs.TraceFault.{HasTraceFault}
 use Rattle.trace_text.specs.TraceText.{SpellsTrace}
 use Rattle.verdict_report.specs.declared.fault.Fault.{Fault}
@@ -91,7 +91,7 @@ IsRunOfRecheck trace cert out =
     IsRunOfEngine AtOnce (of_two IsSaidOfCertificate) (λ count. rechecked_line count ∷ []) rechecked_status (trace ∷ cert ∷ []) (out ∷ [])
 
 -- the source handed out the text of a trace that has no legal schedule
-pub record HandsOutUnschedulable (trace : SourceRun) : Type 0 where
+pub record InputHasNoLegalSchedule (trace : SourceRun) : Type 0 where
   pub text : List ℕ
   pub handed : HandsOut trace text
   pub value : TraceValue

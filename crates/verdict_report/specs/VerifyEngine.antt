@@ -4,18 +4,18 @@ use Rattle.certificate.specs.CertText.{SpellsCertificate}
 use Rattle.certificate.specs.Rechecked.{IsRechecked}
 use Rattle.certificate.specs.declared.certificate.Certificate.{Certificate}
 use Rattle.clause_blocks.specs.Clauses.{clauses_of}
-use Rattle.cube_queue.specs.Options.{OptionsValue}
+use Rattle.cube_jobs.specs.Options.{OptionsValue}
 use Rattle.reducer.specs.declared.reduce_fault.ReduceCause.TheVariants.{StillTooLarge}
 use Rattle.reducer.specs.Reduction.{kept_trace}
 use Rattle.schedule_text.specs.ScheduleText.{SpellsSchedule}
-use Rattle.traces.specs.declared.operation.OpName.{OpName}
-use Rattle.traces.specs.Legal.{IsLegal}
-use Rattle.traces.specs.Trace.{TraceValue, IsTrace}
+use Rattle.trace_semantics.specs.declared.operation.OpName.{OpName}
+use Rattle.trace_semantics.specs.Legal.{IsLegal}
+use Rattle.trace_semantics.specs.Trace.{TraceValue, IsTrace}
 use Rattle.trace_text.specs.TraceFault.{HasTraceFault}
 use Rattle.trace_text.specs.TraceText.{SpellsTrace}
-use Rattle.trace_verdict.specs.declared.decision.Decision.{Decision}
-use Rattle.trace_verdict.specs.declared.decision.Decision.TheVariants.{Consistent, Inconsistent, Unknown as NotDecided}
-use Rattle.trace_verdict.specs.Decision.{AreLeftOpen, HoldModels, IsDecided, certificate_text, report}
+use Rattle.trace_decision.specs.declared.decision.Decision.{Decision}
+use Rattle.trace_decision.specs.declared.decision.Decision.TheVariants.{Consistent, Inconsistent, Unknown as NotDecided}
+use Rattle.trace_decision.specs.Decision.{AreLeftOpen, HoldModels, IsDecided, certificate_text, report}
 use Rattle.verdict_report.specs.declared.fault.Fault.{Fault}
 use Rattle.verdict_report.specs.declared.fault.Fault.TheVariants.{OutOfMemory, Trace, Reduce, Search}
 use Rattle.verdict_report.specs.declared.status.Status.{Status}
@@ -64,7 +64,7 @@ IsRunOfCertifiedVerify trace cert out = IsRunOfEngine InPieces (of_one IsSaidOfT
 
 -- the source handed out the text of a trace, and the sink took CONSISTENT as a line and then a text that spells a legal schedule of
 -- this trace
-pub record TellsSchedule (trace : SourceRun) (out : SinkRun) : Type 0 where
+pub record ReportsLegalSchedule (trace : SourceRun) (out : SinkRun) : Type 0 where
   pub text : List ℕ
   pub handed : HandsOut trace text
   pub value : TraceValue
@@ -90,7 +90,7 @@ pub record TellsOpen (options : OptionsValue) (trace : SourceRun) (out : SinkRun
 
 -- the source handed out the text of a trace that has no legal schedule, and the sink took that of a certificate, which is accepted for
 -- the clauses of what is kept of the trace
-pub record Certifies (trace : SourceRun) (cert : SinkRun) : Type 0 where
+pub record WritesAcceptedCertificate (trace : SourceRun) (cert : SinkRun) : Type 0 where
   pub text : List ℕ
   pub handed : HandsOut trace text
   pub value : TraceValue

@@ -11,14 +11,14 @@ use crate::inputs::read_two;
 use crate::source::Source;
 use crate::status::Status;
 use dimacs::{Assignment, Sink, write_whole};
-use model_reader::read_model;
+use model_text::read_model;
 use reducer::expand::expand;
 use reducer::reduced::{Reduced, reduce};
 use schedule_decode::decode_model::decode_model;
 use schedule_text::schedule_writer::write_schedule;
 use std::alloc::Global;
+use trace_semantics::schedule::Schedule;
 use trace_text::trace_reader::read_trace;
-use traces::schedule::Schedule;
 
 /// Turns the model of the second source into a schedule of the trace of the first, and writes it, one name a line. The
 /// schedule is a legal one of the whole trace.

@@ -3,16 +3,16 @@
 ghost use Rattle.std.specs.Prelude.{◌≡◌, Some};
 
 use certificate::CertCause;
-use cnf_reader::CnfCause;
-use cube_queue::SearchCause;
+use cnf_text::CnfCause;
+use cube_jobs::SearchCause;
 use lrat_check::lrat_fault::LratCause;
 use lrat_check::refusal::StepFault;
-use model_reader::ModelCause;
+use model_text::ModelCause;
 use reducer::reduce_fault::ReduceCause;
 use schedule_decode::decode_fault::DecodeCause;
 use schedule_text::schedule_fault::ScheduleCause;
 use std::fmt;
-use text_lines::fault::Cause;
+use text_lines::fault::FaultCause;
 use thiserror::Error;
 use trace_part::part_fault::PartCause;
 use trace_text::trace_fault::TraceCause;
@@ -68,7 +68,7 @@ pub enum Fault {
 
 /// What is reported of a fault.
 #[derive(Drop)]
-pub(crate) struct Told {
+pub(crate) struct FaultLine {
     /// What refused.
     pub area: &'static str,
     /// The number, where it is printed.
@@ -79,7 +79,7 @@ pub(crate) struct Told {
     pub place: Option<usize>,
 }
 
-impl fmt::Display for Told {
+impl fmt::Display for FaultLine {
     ghost use Rattle.std.specs.Prelude.{Some};
     ghost use Rattle.verdict_report.specs.Fault.{printed_parts};
 
@@ -99,13 +99,13 @@ impl fmt::Display for Told {
 }
 
 /// What is reported of a cause at a place.
-fn located<C: Cause>(area: &'static str, cause: &C, place: usize) -> Told
+fn located<C: FaultCause>(area: &'static str, cause: &C, place: usize) -> FaultLine
     ensures area { result.area.now ≡ area.now }
     ensures number { result.number ≡ Some (C.number_of cause.now) }
     ensures name { result.name.now ≡ C.name_of cause.now }
     ensures place { result.place ≡ Some place }
 {
-    Told {
+    FaultLine {
         area,
         number: Some(cause.number()),
         name: cause.name(),
@@ -118,26 +118,26 @@ impl Fault {
     ghost use Rattle.verdict_report.specs.Fault.{told, area_of, number_of, name_of, place_of};
 
     /// What is reported of it.
-    pub(crate) fn told(&self) -> Told
+    pub(crate) fn told(&self) -> FaultLine
         ensures area { result.area.now ≡ (told self.now).area }
         ensures number { result.number ≡ (told self.now).number }
         ensures name { result.name.now ≡ (told self.now).name }
         ensures place { result.place ≡ (told self.now).place }
     {
         match self {
-            Fault::OutOfMemory => Told {
+            Fault::OutOfMemory => FaultLine {
                 area: "memory",
                 number: None,
                 name: "OutOfMemory",
                 place: None,
             },
-            Fault::Device => Told {
+            Fault::Device => FaultLine {
                 area: "device",
                 number: None,
                 name: "Device",
                 place: None,
             },
-            Fault::InputTooLong => Told {
+            Fault::InputTooLong => FaultLine {
                 area: "input",
                 number: Some(2),
                 name: "InputTooLong",
@@ -153,7 +153,7 @@ impl Fault {
             Fault::Decode(cause, clause) => located("decode", cause, *clause),
             Fault::Check(cause, step) => located("check", cause, *step),
             Fault::Cert(cause, place) => located("cert", cause, *place),
-            Fault::Search(cause) => Told {
+            Fault::Search(cause) => FaultLine {
                 area: "search",
                 number: Some(cause.number()),
                 name: cause.name(),

@@ -13,8 +13,8 @@ use dimacs::{Sink, write_whole};
 use schedule_judge::judge::judge;
 use schedule_text::schedule_reader::read_schedule;
 use std::alloc::Global;
+use trace_semantics::judgement::Judgement;
 use trace_text::trace_reader::read_trace;
-use traces::judgement::Judgement;
 
 /// Judges the schedule of the second source by the trace of the first, and writes `LEGAL`, or `ILLEGAL` with the
 /// number, the name and the place of the first fault, as one line.

@@ -7,13 +7,13 @@ ghost use Rattle.certificate.specs.declared.certificate.Certificate.{Certificate
 ghost use Rattle.trace_text.specs.declared.trace_fault.TraceCause.{TraceCause};
 ghost use Rattle.trace_text.specs.TraceFault.{HasTraceFault};
 ghost use Rattle.dimacs.specs.Models.{IsModel};
-ghost use Rattle.traces.specs.declared.operation.OpName.{OpName};
-ghost use Rattle.traces.specs.Legal.{IsLegal};
-ghost use Rattle.traces.specs.Trace.{TraceValue, IsTrace};
+ghost use Rattle.trace_semantics.specs.declared.operation.OpName.{OpName};
+ghost use Rattle.trace_semantics.specs.Legal.{IsLegal};
+ghost use Rattle.trace_semantics.specs.Trace.{TraceValue, IsTrace};
 ghost use Rattle.schedule_text.specs.ScheduleText.{SpellsSchedule};
 ghost use Rattle.schedule_text.specs.ScheduleWritten.{canonical_schedule};
 ghost use Rattle.reducer.specs.Reduction.{kept_trace};
-ghost use Rattle.cnf_reader.specs.CnfReading.{SpellsCnf};
+ghost use Rattle.cnf_text.specs.CnfReading.{SpellsCnf};
 ghost use Rattle.clause_blocks.specs.Clauses.{clauses_of, formula_of};
 ghost use Rattle.verdict_report.specs.Admitted.{Admits, IsTooLarge, cnf_of};
 ghost use Rattle.verdict_report.specs.CnfEngine.{Translates};

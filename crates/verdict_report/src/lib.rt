@@ -27,7 +27,7 @@ pub use lrat_engine::run_lrat;
 pub use reading::{INPUT_LIMIT, ReadFault, read_whole};
 pub use recheck_engine::{recheck_reduced, run_recheck, write_count};
 pub use refusal_line::{fault_line, write_fault};
-pub use refused_parts::Part;
+pub use refused_parts::FaultArea;
 pub use short_source::ShortSource;
 pub use source::Source;
 pub use status::{Status, exit_status};

@@ -8,7 +8,7 @@ use crate::fault::Fault;
 use crate::inputs::read_two;
 use crate::source::Source;
 use crate::status::Status;
-use cnf_reader::read_cnf;
+use cnf_text::read_cnf;
 use dimacs::{Sink, write_whole};
 use lrat_check::checker::{Accepted, check};
 use lrat_check::lrat_reader::read_lrat;

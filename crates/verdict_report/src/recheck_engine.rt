@@ -3,7 +3,7 @@
 ghost use Rattle.std.specs.Prelude.{OnOk};
 ghost use Rattle.reducer.specs.Reduced.{IsReduced};
 ghost use Rattle.verdict_report.specs.Engine.{IsRunOfWriting};
-ghost use Rattle.verdict_report.specs.RecheckEngine.{HandsOutUnschedulable, IsRecheckedFor, IsRunOfRecheck, IsSaidOfCertificate, rechecked_line, rechecked_status};
+ghost use Rattle.verdict_report.specs.RecheckEngine.{InputHasNoLegalSchedule, IsRecheckedFor, IsRunOfRecheck, IsSaidOfCertificate, rechecked_line, rechecked_status};
 ghost use Rattle.verdict_report.specs.Runs.{source_run, sink_run};
 
 use crate::fault::Fault;
@@ -36,7 +36,7 @@ pub fn run_recheck<T: Source, C: Source, W: Sink>(
         (source_run C.handed_out C.is_at_end C.failures cert.old cert.new)
         (sink_run W.written W.failures out.old out.new)
         result }
-    ensures sound { OnOk result (HandsOutUnschedulable (source_run T.handed_out T.is_at_end T.failures trace.old trace.new)) }
+    ensures sound { OnOk result (InputHasNoLegalSchedule (source_run T.handed_out T.is_at_end T.failures trace.old trace.new)) }
 {
     let (trace_text, cert_text) = read_two(alloc, trace, cert)?;
     let count = recheck_texts(alloc, trace_text.as_slice(), cert_text)?;

@@ -5,23 +5,23 @@ ghost use Rattle.std.specs.Prelude.{◌≡◌};
 use crate::fault::Fault;
 use crate::reading::ReadFault;
 use certificate::CertCause;
-use cnf_reader::CnfCause;
-use cube_queue::SearchFault;
+use cnf_text::CnfCause;
+use cube_jobs::SearchFault;
 use dimacs::{Failed, SinkFault};
 use lrat_check::lrat_fault::LratCause;
 use lrat_check::refusal::StepFault;
-use model_reader::ModelCause;
+use model_text::ModelCause;
 use reducer::reduce_fault::ReduceCause;
 use schedule_decode::decode_fault::DecodeCause;
 use schedule_text::schedule_fault::ScheduleCause;
 use std::alloc::AllocError;
-use text_lines::fault::{Cause, Fault as PartFault};
+use text_lines::fault::{FaultCause, PlacedFault as PartFault};
 use text_lines::plain_fault::PlainFault;
 use trace_part::part_fault::PartCause;
 use trace_text::trace_fault::TraceCause;
 
 /// The causes of a part, which have an area among the faults of engines.
-pub trait Part: Cause {
+pub trait FaultArea: FaultCause {
     ghost use Rattle.std.specs.Prelude.{◌≡◌, ℕ};
     ghost use Rattle.verdict_report.specs.declared.fault.Fault.{Fault};
 
@@ -32,7 +32,7 @@ pub trait Part: Cause {
         ensures { result ≡ refusal self place };
 }
 
-impl<C: Part> From<PartFault<C>> for Fault {
+impl<C: FaultArea> From<PartFault<C>> for Fault {
     ghost use Rattle.std.specs.Prelude.{◌≡◌};
     ghost use Rattle.verdict_report.specs.Fault.{fault_of_part};
 
@@ -46,7 +46,7 @@ impl<C: Part> From<PartFault<C>> for Fault {
     }
 }
 
-impl Part for TraceCause {
+impl FaultArea for TraceCause {
     ghost use Rattle.verdict_report.specs.declared.fault.Fault.TheVariants.{Trace};
 
     ghost refusal = { Trace };
@@ -56,7 +56,7 @@ impl Part for TraceCause {
     }
 }
 
-impl Part for ScheduleCause {
+impl FaultArea for ScheduleCause {
     ghost use Rattle.verdict_report.specs.declared.fault.Fault.TheVariants.{Schedule};
 
     ghost refusal = { Schedule };
@@ -66,7 +66,7 @@ impl Part for ScheduleCause {
     }
 }
 
-impl Part for PartCause {
+impl FaultArea for PartCause {
     ghost use Rattle.verdict_report.specs.declared.fault.Fault.TheVariants.{Part as Choice};
 
     ghost refusal = { Choice };
@@ -76,7 +76,7 @@ impl Part for PartCause {
     }
 }
 
-impl Part for ModelCause {
+impl FaultArea for ModelCause {
     ghost use Rattle.verdict_report.specs.declared.fault.Fault.TheVariants.{Model};
 
     ghost refusal = { Model };
@@ -86,7 +86,7 @@ impl Part for ModelCause {
     }
 }
 
-impl Part for CnfCause {
+impl FaultArea for CnfCause {
     ghost use Rattle.verdict_report.specs.declared.fault.Fault.TheVariants.{Cnf};
 
     ghost refusal = { Cnf };
@@ -96,7 +96,7 @@ impl Part for CnfCause {
     }
 }
 
-impl Part for ReduceCause {
+impl FaultArea for ReduceCause {
     ghost use Rattle.verdict_report.specs.declared.fault.Fault.TheVariants.{Reduce};
 
     ghost refusal = { Reduce };
@@ -106,7 +106,7 @@ impl Part for ReduceCause {
     }
 }
 
-impl Part for DecodeCause {
+impl FaultArea for DecodeCause {
     ghost use Rattle.verdict_report.specs.declared.fault.Fault.TheVariants.{Decode};
 
     ghost refusal = { Decode };
@@ -116,7 +116,7 @@ impl Part for DecodeCause {
     }
 }
 
-impl Part for LratCause {
+impl FaultArea for LratCause {
     ghost use Rattle.verdict_report.specs.declared.fault.Fault.TheVariants.{Lrat};
 
     ghost refusal = { Lrat };
@@ -126,7 +126,7 @@ impl Part for LratCause {
     }
 }
 
-impl Part for StepFault {
+impl FaultArea for StepFault {
     ghost use Rattle.verdict_report.specs.declared.fault.Fault.TheVariants.{Check};
 
     ghost refusal = { Check };
@@ -136,7 +136,7 @@ impl Part for StepFault {
     }
 }
 
-impl Part for CertCause {
+impl FaultArea for CertCause {
     ghost use Rattle.verdict_report.specs.declared.fault.Fault.TheVariants.{Cert};
 
     ghost refusal = { Cert };

@@ -4,7 +4,7 @@ ghost use Rattle.std.specs.Prelude.{◌≡◌};
 ghost use Rattle.verdict_report.specs.Fault.{exit_status_of, status_after};
 
 use crate::fault::Fault;
-use traces::judgement::Judgement;
+use trace_semantics::judgement::Judgement;
 
 /// The answer of an engine that does not refuse.
 #[derive(Clone, Copy, Debug, PartialEq, Eq)]

@@ -1,11 +1,11 @@
 //! The engine that decides whether a trace has a legal schedule, from bytes to bytes.
 
 ghost use Rattle.std.specs.Prelude.{◌≡◌, IfOk, Ok};
-ghost use Rattle.trace_verdict.specs.Decision.{report};
+ghost use Rattle.trace_decision.specs.Decision.{report};
 ghost use Rattle.verdict_report.specs.Engine.{IsRunOfWriting};
-ghost use Rattle.verdict_report.specs.RecheckEngine.{HandsOutUnschedulable};
+ghost use Rattle.verdict_report.specs.RecheckEngine.{InputHasNoLegalSchedule};
 ghost use Rattle.verdict_report.specs.Runs.{source_run, sink_run};
-ghost use Rattle.verdict_report.specs.VerifyEngine.{Certifies, IsRunOfVerify, IsDecidedFrom, IsRunOfCertifiedVerify, IsSaidOfTrace, TellsOpen, TellsSchedule, status_of_decision};
+ghost use Rattle.verdict_report.specs.VerifyEngine.{WritesAcceptedCertificate, IsRunOfVerify, IsDecidedFrom, IsRunOfCertifiedVerify, IsSaidOfTrace, TellsOpen, ReportsLegalSchedule, status_of_decision};
 ghost use Rattle.verdict_report.specs.declared.status.Status.TheVariants.{No, Unknown, Yes};
 
 use crate::admitted::reduce_text;
@@ -13,13 +13,13 @@ use crate::fault::Fault;
 use crate::inputs::read_one;
 use crate::source::Source;
 use crate::status::Status;
-use cube_queue::{Gate, Options};
+use cube_jobs::{Gate, Options};
 use dimacs::{Sink, write_whole};
 use std::alloc::Global;
 use std::sync::Wait;
 use std::thread::Threads;
-use trace_verdict::laws::certificate_is_accepted;
-use trace_verdict::{Decision, decide, report_of, write_certificate};
+use trace_decision::laws::certificate_is_accepted;
+use trace_decision::{Decision, decide, report_of, write_certificate};
 
 /// Decides whether the trace that the source hands out has a legal schedule, and writes the report: CONSISTENT and a legal
 /// schedule of the whole trace; INCONSISTENT, where each cube of some tree is refuted by a derivation that can be written and is
@@ -41,10 +41,10 @@ pub fn run_verify<R: Threads + Wait + Sync, T: Source, G: Gate + Sync, W: Sink>(
         (source_run T.handed_out T.is_at_end T.failures trace.old trace.new)
         (sink_run W.written W.failures out.old out.new)
         result }
-    ensures consistent { result ≡ Ok Yes → TellsSchedule
+    ensures consistent { result ≡ Ok Yes → ReportsLegalSchedule
         (source_run T.handed_out T.is_at_end T.failures trace.old trace.new)
         (sink_run W.written W.failures out.old out.new) }
-    ensures inconsistent { result ≡ Ok No → HandsOutUnschedulable (source_run T.handed_out T.is_at_end T.failures trace.old trace.new) }
+    ensures inconsistent { result ≡ Ok No → InputHasNoLegalSchedule (source_run T.handed_out T.is_at_end T.failures trace.old trace.new) }
     ensures unknown { result ≡ Ok Unknown → TellsOpen options.now
         (source_run T.handed_out T.is_at_end T.failures trace.old trace.new)
         (sink_run W.written W.failures out.old out.new) }
@@ -73,10 +73,10 @@ pub fn run_certified_verify<R: Threads + Wait + Sync, T: Source, G: Gate + Sync,
         (sink_run C.written C.failures cert.old cert.new)
         (sink_run W.written W.failures out.old out.new)
         result }
-    ensures consistent { result ≡ Ok Yes → TellsSchedule
+    ensures consistent { result ≡ Ok Yes → ReportsLegalSchedule
         (source_run T.handed_out T.is_at_end T.failures trace.old trace.new)
         (sink_run W.written W.failures out.old out.new) }
-    ensures certified { result ≡ Ok No → Certifies
+    ensures certified { result ≡ Ok No → WritesAcceptedCertificate
         (source_run T.handed_out T.is_at_end T.failures trace.old trace.new)
         (sink_run C.written C.failures cert.old cert.new) }
     ensures unknown { result ≡ Ok Unknown → TellsOpen options.now

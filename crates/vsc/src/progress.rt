@@ -1,5 +1,5 @@
 //! The progress of a search, reported on standard error.
-use cube_queue::Gate;
+use cube_jobs::Gate;
 use std::sync::atomic::{AtomicU64, Ordering};
 use std::time::Instant;
 

@@ -1,7 +1,7 @@
 //! The system as the host of a command.
 use crate::file_sink::FileSink;
 use crate::file_source::FileSource;
-use command_run::{Host, Search};
+use command_run::{Host, SearchRequest};
 use dimacs::{Failed, FailureCount};
 use std::fs::metadata;
 use std::os::unix::fs::MetadataExt;
@@ -49,5 +49,5 @@ impl<'a> Host<'a> for SystemHost<'a> {
         }
     }
 
-    fn begin_search(&mut self, _search: &Search) {}
+    fn begin_search(&mut self, _search: &SearchRequest) {}
 }

@@ -1,5 +1,5 @@
 use Rattle.std.proofs.Common.{◌∙◌, sym}
-use Rattle.var_layout.specs.declared.layout.Chooser.TheVariants.{Final}
+use Rattle.var_layout.specs.declared.layout.ReadsFromOwner.TheVariants.{Final}
 use Rattle.var_layout.proofs.VariableLemmas.{void_over}
 use Rattle.clause_blocks.proofs.VariableLemmas.{fits_formula}
 use Rattle.clause_blocks.proofs.final_clauses.push_clauses_of_final.Goals as goal

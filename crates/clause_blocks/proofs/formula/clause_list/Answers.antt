@@ -1,6 +1,6 @@
 use Rattle.std.proofs.Common.{rules, ◌≡◌, ◌++◌, ◌∙◌, ℤ, List, [], ap, length}
 use Rattle.std.specs.List.{flat_map, range_with_len}
-use Rattle.traces.specs.Trace.{operation_count}
+use Rattle.trace_semantics.specs.Trace.{operation_count}
 use Rattle.clause_blocks.specs.Clauses.{pieces}
 use Rattle.clause_blocks.specs.Pieces.{clauses_in}
 use Rattle.clause_blocks.proofs.ListLemmas.{piece_at, all_pieces}

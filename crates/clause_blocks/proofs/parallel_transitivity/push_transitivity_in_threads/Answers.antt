@@ -1,6 +1,6 @@
 use Rattle.std.proofs.Common.{◌≡◌, ◌<◌, ◌++◌, ◌∙◌, OnOk, ap, subst, arith}
 use Rattle.std.specs.List.{flat_map}
-use Rattle.traces.specs.Trace.{operation_count}
+use Rattle.trace_semantics.specs.Trace.{operation_count}
 use Rattle.clause_blocks.specs.Blocks.{transitivity_from}
 use Rattle.clause_blocks.specs.Cycles.{both}
 use Rattle.clause_blocks.proofs.CycleLemmas.{all_cycles}

@@ -1,6 +1,6 @@
 use Rattle.std.proofs.Common.{slice_index, arith}
 use Rattle.dimacs.specs.Assignment.{value_of}
-use Rattle.traces.specs.Trace.{operation_count}
+use Rattle.trace_semantics.specs.Trace.{operation_count}
 use Rattle.clause_blocks.proofs.ranks.puts_in_order.Goals as goal
 
 pub returns : goal.returns

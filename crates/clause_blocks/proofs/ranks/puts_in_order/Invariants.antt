@@ -1,6 +1,6 @@
 use Rattle.std.proofs.Common.{◌<◌, ℕ, slice_index}
 use Rattle.dimacs.specs.Assignment.{value_of}
-use Rattle.traces.specs.Trace.{operation_count}
+use Rattle.trace_semantics.specs.Trace.{operation_count}
 use Rattle.clause_blocks.specs.Ranks.{IsRankedFrom}
 use Rattle.clause_blocks.proofs.ranks.puts_in_order.Given as goal
 

@@ -1,5 +1,5 @@
 use Rattle.std.proofs.Common.{◌∙◌, sym}
-use Rattle.var_layout.specs.declared.layout.Chooser.TheVariants.{Read}
+use Rattle.var_layout.specs.declared.layout.ReadsFromOwner.TheVariants.{Read}
 use Rattle.var_layout.proofs.VariableLemmas.{void_over}
 use Rattle.clause_blocks.proofs.VariableLemmas.{fits_formula}
 use Rattle.clause_blocks.proofs.read_clauses.push_clauses_of_read.Goals as goal

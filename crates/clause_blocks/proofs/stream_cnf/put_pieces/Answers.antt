@@ -3,7 +3,7 @@ use Rattle.std.specs.List.{flat_map}
 use Rattle.dimacs.specs.CnfText.{clause_line}
 use Rattle.dimacs.specs.Sink.{AppendsFront, IsSent}
 use Rattle.dimacs.proofs.ChunkLemmas.{on_err}
-use Rattle.traces.specs.Trace.{operation_count}
+use Rattle.trace_semantics.specs.Trace.{operation_count}
 use Rattle.clause_blocks.specs.Clauses.{pieces}
 use Rattle.clause_blocks.specs.Pieces.{clauses_in}
 use Rattle.clause_blocks.proofs.ListLemmas.{piece_at, pieces_upto}

@@ -1,5 +1,5 @@
 use Rattle.std.proofs.Common.{◌∙◌, ◌++◌, ◌+◌, ◌∷◌, [], neg_ℤ}
-use Rattle.traces.specs.Trace.{operation_count}
+use Rattle.trace_semantics.specs.Trace.{operation_count}
 use Rattle.clause_blocks.specs.Blocks.{no_cycle}
 use Rattle.clause_blocks.proofs.StepLemmas.{flat_upto}
 use Rattle.clause_blocks.proofs.transitivity.push_of_pair.Goals as goal

@@ -1,6 +1,6 @@
 use Rattle.std.proofs.Common.{◌≡◌, ◌++◌, ◌+◌, ◌-◌}
 use Rattle.std.specs.List.{flat_map, range_with_len}
-use Rattle.traces.specs.Trace.{operation_count}
+use Rattle.trace_semantics.specs.Trace.{operation_count}
 use Rattle.clause_blocks.specs.Blocks.{no_cycle}
 use Rattle.clause_blocks.proofs.transitivity.push_of_pair.Given as goal
 

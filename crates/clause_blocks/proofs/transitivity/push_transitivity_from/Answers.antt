@@ -1,6 +1,6 @@
 use Rattle.std.proofs.Common.{ap, ◌∙◌, ◌++◌, ◌+◌}
 use Rattle.std.specs.List.{flat_map}
-use Rattle.traces.specs.Trace.{operation_count}
+use Rattle.trace_semantics.specs.Trace.{operation_count}
 use Rattle.var_layout.specs.OrderVariables.{numbers_above}
 use Rattle.clause_blocks.specs.Blocks.{no_cycle}
 use Rattle.clause_blocks.proofs.StepLemmas.{flat_upto}

@@ -3,7 +3,7 @@ use Rattle.std.specs.List.{flat_map}
 use Rattle.dimacs.specs.CnfText.{clause_line}
 use Rattle.dimacs.specs.Sink.{AppendsFront, IsSent}
 use Rattle.dimacs.proofs.ChunkLemmas.{on_err}
-use Rattle.traces.specs.Trace.{operation_count}
+use Rattle.trace_semantics.specs.Trace.{operation_count}
 use Rattle.clause_blocks.specs.Blocks.{no_cycle}
 use Rattle.clause_blocks.proofs.RangeSentLemmas.{cycle, range_begun, range_front, range_sent}
 use Rattle.clause_blocks.proofs.transitivity.put_of_pair.Goals as goal

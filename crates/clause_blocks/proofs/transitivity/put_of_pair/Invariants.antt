@@ -1,6 +1,6 @@
 use Rattle.std.proofs.Common.{◌≡◌, ◌+◌}
 use Rattle.dimacs.specs.Sink.{IsSent}
-use Rattle.traces.specs.Trace.{operation_count}
+use Rattle.trace_semantics.specs.Trace.{operation_count}
 use Rattle.clause_blocks.specs.Blocks.{no_cycle}
 use Rattle.clause_blocks.proofs.RangeSentLemmas.{lines_to}
 use Rattle.clause_blocks.proofs.transitivity.put_of_pair.Given as goal

@@ -1,8 +1,8 @@
 use Rattle.std.proofs.Common.{◌≤◌, length, not, arith}
 use Rattle.std.specs.Str.{bytes_eq}
 use Rattle.std.proofs.lemmas.List.Sums.{prefix_len-le-length}
-use Rattle.traces.specs.declared.trace.Process.{Process}
-use Rattle.traces.specs.PairOrder.{order_of}
+use Rattle.trace_semantics.specs.declared.trace.Process.{Process}
+use Rattle.trace_semantics.specs.PairOrder.{order_of}
 use Rattle.forced_order.proofs.pairs.number.Goals as goal
 
 pub overflow_cast-result : goal.overflow_cast-result

@@ -1,5 +1,5 @@
 use Rattle.std.specs.Str.{bytes_eq}
-use Rattle.traces.specs.declared.trace.Process.{Process}
+use Rattle.trace_semantics.specs.declared.trace.Process.{Process}
 use Rattle.forced_order.proofs.RowLemmas.{none_at}
 use Rattle.forced_order.proofs.pairs.order_of_name.Goals as goal
 

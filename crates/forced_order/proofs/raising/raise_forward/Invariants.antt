@@ -1,4 +1,4 @@
-use Rattle.traces.specs.Trace.{IsTrace}
+use Rattle.trace_semantics.specs.Trace.{IsTrace}
 use Rattle.forced_order.specs.Forced.{AreForced}
 use Rattle.forced_order.proofs.raising.raise_forward.Given as goal
 

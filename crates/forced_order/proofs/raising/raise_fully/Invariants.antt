@@ -1,5 +1,5 @@
 use Rattle.std.proofs.Common.{◌≡◌}
-use Rattle.traces.specs.Trace.{IsTrace}
+use Rattle.trace_semantics.specs.Trace.{IsTrace}
 use Rattle.forced_order.specs.Forced.{AreForced, numbered_pairs}
 use Rattle.forced_order.proofs.raising.raise_fully.Given as goal
 

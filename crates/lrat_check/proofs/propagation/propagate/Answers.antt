@@ -5,7 +5,7 @@ use Rattle.std.proofs.lemmas.Int.{to_z-of_z}
 use Rattle.lrat_check.specs.ClauseAt.{clause_at}
 use Rattle.lrat_check.specs.Hints.{first_hints}
 use Rattle.lrat_check.specs.Standing.{IsStanding}
-use Rattle.lrat_check.specs.declared.propagation.Standing.{Standing}
+use Rattle.lrat_check.specs.declared.propagation.ClauseStatus.{ClauseStatus}
 use Rattle.lrat_check.proofs.RefuteLemmas.{IsOnTheWay, on_unit, on_two, id_next}
 use Rattle.lrat_check.proofs.TrailLemmas.{extends_more}
 use Rattle.lrat_check.proofs.propagation.propagate.Goals as goal
@@ -22,7 +22,7 @@ returns-in-Unfalsified-clause-refuted g c =
     let known = c.in-Some.ensures in (
       on_two active c.args.trues.now (first_hints hints) c.loop-hint.trues (first_hints (drop i hints)) c.unsigned_abs.result (first_hints (drop (i + 1) hints)) known.0
           c.loop-hint.invariant.1 (id_next hints i c.unsigned_abs.result (omega arith) plain id) known.1
-          (subst (λ (standing : Standing). IsStanding c.loop-hint.trues known.0 standing) c.in-Unfalsified.is known.2),
+          (subst (λ (standing : ClauseStatus). IsStanding c.loop-hint.trues known.0 standing) c.in-Unfalsified.is known.2),
       refl,
     )
 
@@ -40,5 +40,5 @@ loop-hint-preserved g c =
       subst (λ (t : List ℤ). IsOnTheWay active c.args.trues.now (first_hints hints) t (first_hints (drop (i + 1) hints))) (sym c.in_ok-push-in-Unit.ensures)
           (on_unit active c.args.trues.now (first_hints hints) c.loop-hint.trues (first_hints (drop i hints)) c.unsigned_abs.result (first_hints (drop (i + 1) hints)) known.0 c.in-Unit.unit
           c.loop-hint.invariant.1 (id_next hints i c.unsigned_abs.result (omega arith) plain id) known.1
-          (subst (λ (standing : Standing). IsStanding c.loop-hint.trues known.0 standing) c.in-Unit.is known.2)),
+          (subst (λ (standing : ClauseStatus). IsStanding c.loop-hint.trues known.0 standing) c.in-Unit.is known.2)),
     )

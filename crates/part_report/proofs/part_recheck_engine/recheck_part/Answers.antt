@@ -2,7 +2,7 @@ use Rattle.std.proofs.Common.{◌∙◌, subst}
 use Rattle.std.proofs.lemmas.Result.{err_from_is_err_and}
 use Rattle.reducer.specs.Reduced.{HasReduceFault}
 use Rattle.text_lines.specs.Fault.{IsRefusal}
-use Rattle.traces.specs.Trace.{TraceValue}
+use Rattle.trace_semantics.specs.Trace.{TraceValue}
 use Rattle.part_report.proofs.PartRecheckLemmas.{said, unread, unlisted, unchosen, unreduced}
 use Rattle.part_report.proofs.part_recheck_engine.recheck_part.Goals as goal
 

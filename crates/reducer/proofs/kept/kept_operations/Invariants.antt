@@ -1,6 +1,6 @@
 use Rattle.std.proofs.Common.{◌≡◌, map, take}
 use Rattle.std.specs.List.{filter_map}
-use Rattle.traces.specs.Trace.{operation_at}
+use Rattle.trace_semantics.specs.Trace.{operation_at}
 use Rattle.reducer.specs.Reduction.{new_op, kept_names}
 use Rattle.reducer.proofs.kept.kept_operations.Given as goal
 

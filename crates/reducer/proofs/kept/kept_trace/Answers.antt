@@ -1,5 +1,5 @@
 use Rattle.std.proofs.Common.{sym, ◌∙◌, subst}
-use Rattle.traces.specs.Trace.{IsTrace}
+use Rattle.trace_semantics.specs.Trace.{IsTrace}
 use Rattle.reducer.proofs.TraceLemmas.{kept_is_trace}
 use Rattle.reducer.proofs.kept.kept_trace.Goals as goal
 

@@ -1,6 +1,6 @@
 use Rattle.std.proofs.Common.{subst}
 use Rattle.std.specs.List.{Contains}
-use Rattle.traces.specs.declared.operation.OpName.{OpName}
+use Rattle.trace_semantics.specs.declared.operation.OpName.{OpName}
 use Rattle.reducer.specs.Expansion.{expanded}
 use Rattle.reducer.proofs.KeptLemmas.{kept_first}
 use Rattle.reducer.proofs.RunLemmas.{expanded_member, belongs}

@@ -1,9 +1,9 @@
 use Rattle.std.proofs.Common.{◌≡◌, ◌||◌, take}
 use Rattle.std.specs.List.{list_any}
-use Rattle.traces.specs.declared.operation.Op.{Op}
-use Rattle.traces.specs.declared.operation.OpName.{OpName}
-use Rattle.traces.specs.declared.trace.Process.{Process}
-use Rattle.traces.specs.Operation.{origin_of}
+use Rattle.trace_semantics.specs.declared.operation.Op.{Op}
+use Rattle.trace_semantics.specs.declared.operation.OpName.{OpName}
+use Rattle.trace_semantics.specs.declared.trace.Process.{Process}
+use Rattle.trace_semantics.specs.Operation.{origin_of}
 use Rattle.reducer.specs.Named.{has}
 use Rattle.reducer.specs.Reduction.{is_from}
 use Rattle.reducer.proofs.named.note_all_origins.Given as goal

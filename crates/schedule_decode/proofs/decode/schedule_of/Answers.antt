@@ -2,7 +2,7 @@ use Rattle.std.proofs.Common.{subst, sym}
 use Rattle.clause_blocks.specs.Clauses.{clauses_of}
 use Rattle.dimacs.specs.Assignment.{value_of}
 use Rattle.dimacs.specs.Models.{IsModel}
-use Rattle.traces.specs.Trace.{TraceValue, IsTrace}
+use Rattle.trace_semantics.specs.Trace.{TraceValue, IsTrace}
 use Rattle.clause_blocks.proofs.ModelReadLemmas.{model_legal}
 use Rattle.schedule_decode.proofs.DecodeLemmas.{in_schedule}
 use Rattle.schedule_decode.proofs.decode.schedule_of.Goals as goal

@@ -1,5 +1,5 @@
 use Rattle.std.proofs.Common.{◌≡◌, ◌++◌, length, ap, ◌∙◌, arith}
-use Rattle.traces.specs.Trace.{first_names}
+use Rattle.trace_semantics.specs.Trace.{first_names}
 use Rattle.schedule_decode.proofs.NameLemmas.{pushed_name}
 use Rattle.schedule_decode.proofs.operation_names.push_names.Goals as goal
 

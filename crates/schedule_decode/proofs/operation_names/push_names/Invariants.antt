@@ -1,5 +1,5 @@
 use Rattle.std.proofs.Common.{◌≡◌, ◌++◌}
-use Rattle.traces.specs.Trace.{first_names}
+use Rattle.trace_semantics.specs.Trace.{first_names}
 use Rattle.schedule_decode.proofs.operation_names.push_names.Given as goal
 
 abbrev pub invariant-loop-k : goal.invariant-loop-k

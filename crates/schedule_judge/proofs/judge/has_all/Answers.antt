@@ -1,9 +1,9 @@
 use Rattle.std.proofs.Common.{sym, ◌∙◌, length}
 use Rattle.std.specs.List.{list_all}
 use Rattle.std.proofs.Math.Seq.{take-length}
-use Rattle.traces.specs.declared.trace.Process.{Process}
-use Rattle.traces.specs.Judgement.{has_come}
-use Rattle.traces.specs.Trace.{first_names}
+use Rattle.trace_semantics.specs.declared.trace.Process.{Process}
+use Rattle.trace_semantics.specs.Judgement.{has_come}
+use Rattle.trace_semantics.specs.Trace.{first_names}
 use Rattle.schedule_judge.proofs.ProgramOrderLemmas.{fails_at}
 use Rattle.schedule_judge.proofs.judge.has_all.Goals as goal
 

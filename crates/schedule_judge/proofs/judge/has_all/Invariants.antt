@@ -1,7 +1,7 @@
 use Rattle.std.proofs.Common.{◌≡◌, true, length, take}
 use Rattle.std.specs.List.{list_all, flat_map}
-use Rattle.traces.specs.Judgement.{has_come}
-use Rattle.traces.specs.Trace.{first_names}
+use Rattle.trace_semantics.specs.Judgement.{has_come}
+use Rattle.trace_semantics.specs.Trace.{first_names}
 use Rattle.schedule_judge.proofs.judge.has_all.Given as goal
 
 abbrev pub invariant-loop-process : goal.invariant-loop-process

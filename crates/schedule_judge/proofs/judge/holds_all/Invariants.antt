@@ -1,7 +1,7 @@
 use Rattle.std.proofs.Common.{◌≡◌, ℕ, List, true, take}
 use Rattle.std.specs.List.{list_all}
-use Rattle.traces.specs.Judgement.{is_held}
-use Rattle.traces.specs.NameNumbers.{number_of}
+use Rattle.trace_semantics.specs.Judgement.{is_held}
+use Rattle.trace_semantics.specs.NameNumbers.{number_of}
 use Rattle.schedule_judge.proofs.judge.holds_all.Given as goal
 
 abbrev pub invariant-loop-entry : goal.invariant-loop-entry

@@ -1,8 +1,8 @@
 use Rattle.std.proofs.Common.{◌≡◌, ◌+◌, ap, subst, sym, ◌∙◌, arith, take, length, Some, None}
 use Rattle.std.specs.Option.{option_copied}
-use Rattle.traces.specs.declared.judgement.Cause.TheVariants.{UnknownOp}
-use Rattle.traces.specs.Judgement.{fault_of_named}
-use Rattle.traces.specs.Trace.{TraceValue, operation_at}
+use Rattle.trace_semantics.specs.declared.judgement.IllegalCause.TheVariants.{UnknownOp}
+use Rattle.trace_semantics.specs.Judgement.{fault_of_named}
+use Rattle.trace_semantics.specs.Trace.{TraceValue, operation_at}
 use Rattle.schedule_judge.specs.Walk.{IsWalk}
 use Rattle.schedule_judge.proofs.WalkLemmas.{walk_none, walk_more, judged_here, judged_whole, judged_legal, found}
 use Rattle.schedule_judge.proofs.judge.judge.Goals as goal

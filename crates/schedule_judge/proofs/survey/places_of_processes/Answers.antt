@@ -1,4 +1,4 @@
-use Rattle.traces.specs.NameNumbers.{number_of}
+use Rattle.trace_semantics.specs.NameNumbers.{number_of}
 use Rattle.std.proofs.Common.{arith}
 use Rattle.schedule_judge.proofs.PlaceLemmas.{process_none, process_step}
 use Rattle.schedule_judge.proofs.survey.places_of_processes.Goals as goal

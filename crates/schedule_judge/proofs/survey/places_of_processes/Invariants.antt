@@ -2,7 +2,7 @@ use Rattle.std.proofs.Common.{◌≡◌, ℕ, List, drop, find}
 use Rattle.std.specs.List.{slice_get}
 use Rattle.std.specs.Option.{option_and_then}
 use Rattle.std.specs.Str.{bytes_eq}
-use Rattle.traces.specs.NameNumbers.{number_of}
+use Rattle.trace_semantics.specs.NameNumbers.{number_of}
 use Rattle.schedule_judge.proofs.survey.places_of_processes.Given as goal
 
 abbrev pub invariant-loop-k : goal.invariant-loop-k

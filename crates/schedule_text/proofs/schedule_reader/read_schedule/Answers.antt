@@ -1,6 +1,6 @@
 use Rattle.std.proofs.Common.{◌≡◌, ℕ, ◌+◌, length, List, sym, subst, arith}
 use Rattle.std.proofs.lemmas.Option.{MatchOption-at_some, MatchOption-at_none}
-use Rattle.traces.specs.declared.operation.OpName.{OpName}
+use Rattle.trace_semantics.specs.declared.operation.OpName.{OpName}
 use Rattle.schedule_text.specs.ScheduleLine.{IsNameLine}
 use Rattle.schedule_text.proofs.ScheduleLemmas.{IsReadSoFar, turn_skipped, turn_name}
 use Rattle.schedule_text.proofs.schedule_reader.read_schedule.Goals as goal

@@ -1,5 +1,5 @@
 use Rattle.std.proofs.Common.{◌≤◌, ◌+◌, ◌-◌, arith}
-use Rattle.derivation_log.proofs.AnswerLemmas.{within_more}
+use Rattle.proof_log.proofs.AnswerLemmas.{within_more}
 use Rattle.solver.proofs.solving.solve_cube.Goals as goal
 
 pub returns : goal.returns

@@ -1,6 +1,6 @@
 use Rattle.std.proofs.Common.{sym, subst}
-use Rattle.traces.specs.Judgement.{has_come}
-use Rattle.traces.specs.Legal.{IsLegal}
+use Rattle.trace_semantics.specs.Judgement.{has_come}
+use Rattle.trace_semantics.specs.Legal.{IsLegal}
 use Rattle.forced_order.proofs.ForcedLemmas.{forced_before}
 use Rattle.restriction.specs.Left.{restricted}
 use Rattle.part_law.specs.Part.{stays}

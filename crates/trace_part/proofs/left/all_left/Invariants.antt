@@ -1,5 +1,5 @@
 use Rattle.std.proofs.Common.{◌≡◌, map, take}
-use Rattle.traces.specs.declared.trace.Process.{Process}
+use Rattle.trace_semantics.specs.declared.trace.Process.{Process}
 use Rattle.restriction.specs.Left.{names_of}
 use Rattle.trace_part.specs.Selections.{stays_in}
 use Rattle.trace_part.specs.Rows.{left_value}

@@ -2,8 +2,8 @@ use Rattle.std.proofs.Common.{◌≡◌, ◌≤◌, List, Bool, length, arith, a
 use Rattle.std.specs.List.{filter}
 use Rattle.std.proofs.lemmas.List.{length-map}
 use Rattle.text_lines.proofs.ListLemmas.{few_pass}
-use Rattle.traces.specs.declared.operation.OpName.{OpName}
-use Rattle.traces.specs.Trace.{first_names}
+use Rattle.trace_semantics.specs.declared.operation.OpName.{OpName}
+use Rattle.trace_semantics.specs.Trace.{first_names}
 use Rattle.restriction.specs.Left.{is_left}
 use Rattle.restriction.proofs.PlaceLemmas.{length_names}
 use Rattle.std.specs.Prelude.{Some, None}

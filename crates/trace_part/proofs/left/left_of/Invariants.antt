@@ -1,7 +1,7 @@
 use Rattle.std.proofs.Common.{◌≡◌, map}
 use Rattle.std.specs.List.{filter, filter_map}
-use Rattle.traces.specs.declared.operation.OpName.{OpName}
-use Rattle.traces.specs.Trace.{first_names}
+use Rattle.trace_semantics.specs.declared.operation.OpName.{OpName}
+use Rattle.trace_semantics.specs.Trace.{first_names}
 use Rattle.restriction.specs.Left.{is_left}
 use Rattle.trace_part.specs.Selections.{stays_in}
 use Rattle.trace_part.proofs.left.left_of.Given as goal

@@ -1,8 +1,8 @@
 use Rattle.std.proofs.Common.{◌≡◌, map, take}
 use Rattle.std.specs.Prelude.{Option}
 use Rattle.std.specs.List.{filter}
-use Rattle.traces.specs.declared.operation.Op.{Op}
-use Rattle.traces.specs.declared.operation.OpName.{OpName}
+use Rattle.trace_semantics.specs.declared.operation.Op.{Op}
+use Rattle.trace_semantics.specs.declared.operation.OpName.{OpName}
 use Rattle.restriction.specs.Left.{new_pair}
 use Rattle.part_law.specs.Part.{is_told, left_pairs}
 use Rattle.forced_order.specs.Rows.{ordered_by}

@@ -1,7 +1,7 @@
 use Rattle.std.proofs.Common.{◌≡◌, Bool, map, ap, ◌∙◌}
-use Rattle.traces.specs.declared.operation.OpName.{OpName}
-use Rattle.traces.specs.Judgement.{has_come}
-use Rattle.traces.specs.Trace.{TraceValue}
+use Rattle.trace_semantics.specs.declared.operation.OpName.{OpName}
+use Rattle.trace_semantics.specs.Judgement.{has_come}
+use Rattle.trace_semantics.specs.Trace.{TraceValue}
 use Rattle.forced_order.specs.Rows.{ordered_by}
 use Rattle.part_law.specs.Part.{stays, part}
 use Rattle.trace_part.specs.Chosen.{has}

@@ -1,14 +1,14 @@
 use Rattle.std.proofs.Common.{◌≡◌, List, Bool, map, ap, sym, ◌∙◌, subst}
 use Rattle.std.specs.Prelude.{Option}
-use Rattle.traces.specs.declared.operation.Op.{Op}
-use Rattle.traces.specs.declared.operation.OpName.{OpName}
-use Rattle.traces.specs.Trace.{TraceValue, IsTrace}
+use Rattle.trace_semantics.specs.declared.operation.Op.{Op}
+use Rattle.trace_semantics.specs.declared.operation.OpName.{OpName}
+use Rattle.trace_semantics.specs.Trace.{TraceValue, IsTrace}
 use Rattle.trace_part.specs.Selections.{ordered_in, chosen_in, stays_in}
 use Rattle.part_law.specs.Part.{stays, part}
 use Rattle.trace_part.specs.Rows.{LeftValue, Leaves, left_value}
 use Rattle.part_law.proofs.PartLemmas.{part_alike}
 use Rattle.part_law.proofs.TraceLemmas.{part_is_trace}
-use Rattle.traces.specs.declared.trace.Process.{Process}
+use Rattle.trace_semantics.specs.declared.trace.Process.{Process}
 use Rattle.restriction.specs.Left.{names_of}
 use Rattle.trace_part.proofs.PairRowLemmas.{map_twice}
 use Rattle.trace_part.proofs.part.selected_part.Goals as goal

@@ -1,7 +1,7 @@
 use Rattle.std.proofs.Common.{◌≡◌, map, take}
 use Rattle.std.specs.Prelude.{Option}
-use Rattle.traces.specs.declared.operation.Op.{Op}
-use Rattle.traces.specs.declared.operation.OpName.{OpName}
+use Rattle.trace_semantics.specs.declared.operation.Op.{Op}
+use Rattle.trace_semantics.specs.declared.operation.OpName.{OpName}
 use Rattle.restriction.specs.Left.{new_op}
 use Rattle.trace_part.specs.Rows.{Leaves}
 use Rattle.trace_part.proofs.renamed.new_ops.Given as goal

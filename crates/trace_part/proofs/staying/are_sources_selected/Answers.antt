@@ -1,7 +1,7 @@
 use Rattle.std.proofs.Common.{List, not, ◌||◌, ap, sym, ◌∙◌, subst}
 use Rattle.std.specs.List.{list_all}
 use Rattle.std.proofs.lemmas.Result.{IfOk-weaker}
-use Rattle.trace_part.specs.declared.writers.Writer.{Writer}
+use Rattle.trace_part.specs.declared.writers.ChosenWriter.{ChosenWriter}
 use Rattle.trace_part.specs.Latest.{IsForwardAmong}
 use Rattle.trace_part.specs.Rows.{row_is_source}
 use Rattle.trace_part.specs.Selections.{chosen_in}
@@ -17,5 +17,5 @@ pub returns : goal.returns
 returns c =
     IfOk-weaker c.sources_chosen.result _ _ (λ all e n known same.
     e
-    ∙ ap (λ (l : List Writer). list_all (λ (w : Writer). w.chosen || not (row_is_source c.args.selection.now.order l c.args.reader c.args.value w)) l) (c.writers_at-writers.ensures ∙ c.requires.selection.table c.args.location.now)
+    ∙ ap (λ (l : List ChosenWriter). list_all (λ (w : ChosenWriter). w.chosen || not (row_is_source c.args.selection.now.order l c.args.reader c.args.value w)) l) (c.writers_at-writers.ensures ∙ c.requires.selection.table c.args.location.now)
     ∙ sources_are c.args.selection.now.trace.now c.args.selection.now.order (chosen_in c.args.selection.now) c.args.location.now c.is_trace.ensures n c.args.reader c.args.value known same) c.sources_chosen.ensures

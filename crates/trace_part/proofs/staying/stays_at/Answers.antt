@@ -2,7 +2,7 @@ use Rattle.std.proofs.Common.{ap, sym, ◌∙◌, ◌+◌, ℕ, List, length}
 use Rattle.std.specs.List.{slice_get}
 use Rattle.std.proofs.lemmas.Option.{slice_get_read}
 use Rattle.std.proofs.lemmas.Result.{IfOk-weaker}
-use Rattle.traces.specs.declared.operation.Op.{Op}
+use Rattle.trace_semantics.specs.declared.operation.Op.{Op}
 use Rattle.trace_part.specs.Selections.{chosen_in}
 use Rattle.trace_part.proofs.RowLemmas.{stays_here}
 use Rattle.trace_part.proofs.staying.stays_at.Goals as goal

@@ -1,7 +1,7 @@
 use Rattle.std.proofs.Common.{List, ℕ, cond, ap, sym, ◌∙◌}
 use Rattle.std.specs.Prelude.{Some, None}
 use Rattle.std.proofs.lemmas.Result.{IfOk-weaker}
-use Rattle.traces.specs.declared.operation.Op.TheVariants.{Read}
+use Rattle.trace_semantics.specs.declared.operation.Op.TheVariants.{Read}
 use Rattle.part_law.specs.Part.{keeps_read, stays_of}
 use Rattle.trace_part.specs.Selections.{ordered_in, chosen_in}
 use Rattle.trace_part.proofs.staying.stays_of.Goals as goal

@@ -1,5 +1,5 @@
 use Rattle.std.proofs.Common.{arith, ap, sym, ◌∙◌}
-use Rattle.traces.specs.declared.trace.Process.{Process}
+use Rattle.trace_semantics.specs.declared.trace.Process.{Process}
 use Rattle.trace_part.specs.Chosen.{has}
 use Rattle.trace_part.proofs.WriterTableLemmas.{process_noted, all_noted}
 use Rattle.trace_part.proofs.writer_table.writer_table.Goals as goal

@@ -2,10 +2,10 @@ use Rattle.std.proofs.Common.{◌≡◌, ◌∙◌, List, ℕ, sym, subst}
 use Rattle.std.proofs.lemmas.Result.{err_from_is_err_and}
 use Rattle.text_lines.specs.FirstFault.{IsFaultless}
 use Rattle.text_lines.specs.Lines.{lines_of}
-use Rattle.traces.specs.declared.trace.Process.{Process}
+use Rattle.trace_semantics.specs.declared.trace.Process.{Process}
 use Rattle.trace_text.specs.Gathered.{processes_of, trace_of, IsArranged}
 use Rattle.trace_text.specs.References.{fault_of_line, IsRefusedByReferences}
-use Rattle.traces.specs.Trace.{TraceValue}
+use Rattle.trace_semantics.specs.Trace.{TraceValue}
 use Rattle.trace_text.specs.TraceText.{SpellsTrace}
 use Rattle.trace_text.proofs.FinishLemmas.{is_trace, spells, same_trace}
 use Rattle.trace_text.proofs.KnownLemmas.{refused_by_references}

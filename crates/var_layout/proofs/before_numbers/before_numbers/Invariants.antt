@@ -1,5 +1,5 @@
 use Rattle.std.proofs.Common.{◌≡◌, map, take}
-use Rattle.traces.specs.declared.operation.OpName.{OpName}
+use Rattle.trace_semantics.specs.declared.operation.OpName.{OpName}
 use Rattle.var_layout.specs.Numbers.{number_of}
 use Rattle.var_layout.proofs.before_numbers.before_numbers.Given as goal
 

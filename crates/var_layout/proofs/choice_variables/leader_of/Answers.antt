@@ -1,5 +1,5 @@
 use Rattle.std.proofs.Common.{arith, sym, ◌∙◌}
-use Rattle.traces.specs.Trace.{operation_count}
+use Rattle.trace_semantics.specs.Trace.{operation_count}
 use Rattle.var_layout.specs.Numbers.{in_one_process}
 use Rattle.var_layout.proofs.ListLemmas.{first_number}
 use Rattle.var_layout.proofs.choice_variables.leader_of.Goals as goal

@@ -1,5 +1,5 @@
 use Rattle.std.proofs.Common.{◌≡◌, ◌≤◌, ◌+◌, ◌++◌, ◌∷◌, [], arith, ap, sym, ◌∙◌}
-use Rattle.traces.specs.Trace.{operation_count}
+use Rattle.trace_semantics.specs.Trace.{operation_count}
 use Rattle.var_layout.specs.ChoiceVariables.{first_choice}
 use Rattle.var_layout.specs.Tables.{op_table}
 use Rattle.var_layout.proofs.BoundLemmas.{few_first, few_in_table, next_is}

@@ -1,5 +1,5 @@
 use Rattle.std.proofs.Common.{◌≡◌, ◌≤◌, ◌++◌, ◌∙◌, ap, sym, length, take, arith, rules}
-use Rattle.traces.specs.Trace.{operation_count}
+use Rattle.trace_semantics.specs.Trace.{operation_count}
 use Rattle.var_layout.proofs.SplitLemmas.{enough_splits, one_more_row, splits_below, splits_from}
 use Rattle.var_layout.proofs.split_variables.push_first_splits.Goals as goal
 

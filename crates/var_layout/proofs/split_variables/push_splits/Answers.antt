@@ -1,5 +1,5 @@
 use Rattle.std.proofs.Common.{◌++◌, ◌∷◌, [], ap, sym, ◌∙◌, append-nil, append_assoc, true, false, arith, rules, ◌<◌}
-use Rattle.traces.specs.Trace.{operation_count}
+use Rattle.trace_semantics.specs.Trace.{operation_count}
 use Rattle.var_layout.specs.OrderVariables.{order_var}
 use Rattle.var_layout.proofs.ConflictLemmas.{split_by_writers}
 use Rattle.var_layout.proofs.SplitLemmas.{one_more_split, pairs_below}

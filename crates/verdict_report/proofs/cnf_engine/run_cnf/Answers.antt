@@ -3,7 +3,7 @@ use Rattle.std.proofs.lemmas.Result.{err_from_is_err_and}
 use Rattle.clause_blocks.specs.Clauses.{formula_of}
 use Rattle.dimacs.specs.CnfText.{cnf_text}
 use Rattle.dimacs.specs.Sink.{AppendsFront}
-use Rattle.traces.specs.Trace.{TraceValue}
+use Rattle.trace_semantics.specs.Trace.{TraceValue}
 use Rattle.reducer.specs.Reduced.{ReducedValue}
 use Rattle.verdict_report.specs.Admitted.{Admits, IsReducedFrom, cnf_of}
 use Rattle.verdict_report.specs.CnfEngine.{cnf_status}

@@ -3,7 +3,7 @@ use Rattle.std.proofs.lemmas.Result.{err_from_is_err_and}
 use Rattle.certificate.specs.Rechecked.{HasRecheckFault}
 use Rattle.clause_blocks.specs.Clauses.{clauses_of}
 use Rattle.text_lines.specs.Fault.{IsRefusal}
-use Rattle.traces.specs.Trace.{TraceValue}
+use Rattle.trace_semantics.specs.Trace.{TraceValue}
 use Rattle.verdict_report.proofs.RecheckLemmas.{refutes, refused}
 use Rattle.verdict_report.proofs.recheck_engine.recheck_reduced.Goals as goal
 

@@ -1,6 +1,6 @@
 use Rattle.std.proofs.Common.{refl, rules, [], ◌∷◌}
 use Rattle.std.proofs.lemmas.Result.{err_from_is_err_and}
-use Rattle.trace_verdict.specs.Decision.{report}
+use Rattle.trace_decision.specs.Decision.{report}
 use Rattle.verdict_report.specs.Engine.{AtOnce, of_one}
 use Rattle.verdict_report.specs.Runs.{SourceRun, SinkRun, source_run, sink_run}
 use Rattle.verdict_report.specs.VerifyEngine.{IsSaidOfTrace, status_of_decision, texts_of_decision}

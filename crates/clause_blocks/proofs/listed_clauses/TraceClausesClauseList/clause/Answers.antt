@@ -1,5 +1,5 @@
 use Rattle.std.proofs.Common.{◌≡◌, ◌<◌, ◌-◌, ◌∙◌, [], length, get_or, sym, subst}
-use Rattle.traces.specs.Trace.{operation_count}
+use Rattle.trace_semantics.specs.Trace.{operation_count}
 use Rattle.clause_blocks.specs.Pieces.{clauses_in}
 use Rattle.clause_blocks.proofs.ListLemmas.{piece_at}
 use Rattle.clause_blocks.proofs.PartLemmas.{clause_at, place_within}

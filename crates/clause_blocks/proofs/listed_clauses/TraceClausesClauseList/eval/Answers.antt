@@ -2,7 +2,7 @@ use Rattle.std.proofs.Common.{rules, ◌≡◌, ◌<◌, ◌≤◌, ◌+◌, ◌
 use Rattle.dimacs.specs.Assignment.{value_of}
 use Rattle.dimacs.specs.Models.{IsModel, IsFirstFalse}
 use Rattle.dimacs.proofs.ModelLemmas.{no_model}
-use Rattle.traces.specs.Trace.{operation_count}
+use Rattle.trace_semantics.specs.Trace.{operation_count}
 use Rattle.clause_blocks.specs.Clauses.{pieces, clauses_of}
 use Rattle.clause_blocks.specs.Pieces.{clauses_in}
 use Rattle.clause_blocks.proofs.ListLemmas.{piece_at, all_pieces}

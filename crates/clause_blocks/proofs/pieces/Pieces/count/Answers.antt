@@ -1,5 +1,5 @@
 use Rattle.std.proofs.Common.{◌+◌, ◌∙◌, ap, sym}
-use Rattle.traces.specs.Trace.{operation_count}
+use Rattle.trace_semantics.specs.Trace.{operation_count}
 use Rattle.clause_blocks.proofs.ListLemmas.{piece_count}
 use Rattle.clause_blocks.proofs.pieces.Pieces.count.Goals as goal
 

@@ -1,5 +1,5 @@
 use Rattle.std.proofs.Common.{rules, ◌≡◌, ◌≤◌, ◌+◌, ◌-◌, ◌∙◌, ap, sym, arith}
-use Rattle.traces.specs.Trace.{operation_count}
+use Rattle.trace_semantics.specs.Trace.{operation_count}
 use Rattle.clause_blocks.specs.Blocks.{read_clauses, final_clauses, before_clauses}
 use Rattle.clause_blocks.proofs.ListLemmas.{piece_count, triples_piece, last_piece}
 use Rattle.clause_blocks.proofs.pieces.Pieces.piece.Goals as goal

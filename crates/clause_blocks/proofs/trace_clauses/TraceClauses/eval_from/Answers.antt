@@ -1,7 +1,7 @@
 use Rattle.std.proofs.Common.{rules, ◌≡◌, ◌<◌, ◌∙◌, sym, ap, length, slice_index_or, [], false}
 use Rattle.dimacs.specs.Assignment.{value_of, makes_some}
 use Rattle.dimacs.proofs.ModelLemmas.{first_here}
-use Rattle.traces.specs.Trace.{operation_count}
+use Rattle.trace_semantics.specs.Trace.{operation_count}
 use Rattle.clause_blocks.specs.Blocks.{transitivity_from}
 use Rattle.clause_blocks.proofs.trace_clauses.TraceClauses.eval_from.Goals as goal
 

@@ -1,7 +1,7 @@
 use Rattle.std.proofs.Common.{take}
 use Rattle.dimacs.specs.Assignment.{value_of}
 use Rattle.dimacs.specs.Models.{IsModel}
-use Rattle.traces.specs.Trace.{operation_count}
+use Rattle.trace_semantics.specs.Trace.{operation_count}
 use Rattle.clause_blocks.specs.Blocks.{transitivity_from}
 use Rattle.clause_blocks.proofs.trace_clauses.TraceClauses.eval_from.Given as goal
 

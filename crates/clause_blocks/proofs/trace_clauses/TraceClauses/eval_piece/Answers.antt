@@ -1,7 +1,7 @@
 use Rattle.std.proofs.Common.{sym, subst}
 use Rattle.dimacs.specs.Assignment.{value_of}
 use Rattle.dimacs.specs.Models.{IsModel}
-use Rattle.traces.specs.Trace.{operation_count}
+use Rattle.trace_semantics.specs.Trace.{operation_count}
 use Rattle.clause_blocks.specs.Pieces.{clauses_in}
 use Rattle.clause_blocks.proofs.PartLemmas.{from_whole}
 use Rattle.clause_blocks.proofs.trace_clauses.TraceClauses.eval_piece.Goals as goal

@@ -1,4 +1,4 @@
-use Rattle.traces.specs.Trace.{TraceValue}
+use Rattle.trace_semantics.specs.Trace.{TraceValue}
 use Rattle.forced_order.specs.Forced.{IsForcedByNumber, AreForced}
 use Rattle.forced_order.proofs.rows.OrderRows.raise_from.Given as goal
 

@@ -1,6 +1,6 @@
 use Rattle.std.proofs.Common.{ap, ◌∙◌}
-use Rattle.traces.specs.declared.operation.OpName.{OpName}
-use Rattle.traces.specs.Operation.{same_op}
+use Rattle.trace_semantics.specs.declared.operation.OpName.{OpName}
+use Rattle.trace_semantics.specs.Operation.{same_op}
 use Rattle.schedule_judge.specs.Tables.{is_below}
 use Rattle.schedule_judge.proofs.PlaceLemmas.{below_first}
 use Rattle.schedule_judge.proofs.survey.Survey.has_come.Goals as goal

@@ -1,5 +1,5 @@
 use Rattle.std.proofs.Common.{◌≡◌, ap, ◌∙◌, length, rules}
-use Rattle.traces.specs.Trace.{operation_count}
+use Rattle.trace_semantics.specs.Trace.{operation_count}
 use Rattle.var_layout.proofs.NumberingLemmas.{counted}
 use Rattle.var_layout.proofs.numbering.Numbering.count.Goals as goal
 

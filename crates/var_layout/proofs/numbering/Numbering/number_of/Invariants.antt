@@ -1,5 +1,5 @@
 use Rattle.std.proofs.Common.{◌≡◌, ◌<◌, ℕ, false}
-use Rattle.traces.specs.Judgement.{is_the_op}
+use Rattle.trace_semantics.specs.Judgement.{is_the_op}
 use Rattle.var_layout.specs.Numbers.{name_at}
 use Rattle.var_layout.proofs.numbering.Numbering.number_of.Given as goal
 

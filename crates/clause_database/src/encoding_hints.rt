@@ -1,0 +1,124 @@
+//! Hints about the structure of an encoding.
+
+use crate::reads_from::{ReadsFromTable, ReadsFromVariable};
+use order_sets::MAX_ELEMENTS;
+use order_sets::tables::size;
+
+/// Hints of the caller of `solve` about the formula: which of its clauses are the transitivity of an order.
+///
+/// The order is of elements 0 to n - 1. Its variables are `y(i,j) = i * (2n - i - 1) / 2 + (j - i)` for i below j, which says
+/// that i stands before j. Its clauses are `-y(i,j) -y(j,k) y(i,k)` and then `y(i,j) y(j,k) -y(i,k)`, for all i below j below k in
+/// lexicographic order, and stand one after the other. They are never read: the search keeps the order as sets of bits, and
+/// names the clauses by arithmetic.
+///
+/// Untrusted: wrong hints make the search take other clauses for these, so that it may answer with a model that is none or a derivation
+/// that the checker refuses, as any faulty solver may. An error here can only slow the search down: the caller evaluates the model or
+/// checks the derivation, and no contract rests on the hints.
+#[derive(Clone, Copy)]
+pub struct EncodingHints<'a> {
+    elements: u32,
+    first: u32,
+    reads_from: Option<&'a ReadsFromTable>,
+}
+
+/// Returns the number of transitivity clauses of an order of this many events.
+fn transitivity_of(elements: u32) -> u32 {
+    let triples = elements
+        .wrapping_mul(elements.wrapping_sub(1))
+        .wrapping_mul(elements.wrapping_sub(2));
+    triples / 3
+}
+
+impl<'a> EncodingHints<'a> {
+    /// Returns no hints.
+    pub fn none() -> EncodingHints<'a> {
+        EncodingHints {
+            elements: 0,
+            first: 1,
+            reads_from: None,
+        }
+    }
+
+    /// Hints that the formula has the transitivity clauses of an order of this many events, from this id on, counted from 1. Returns no hints
+    /// unless there are 3 to 192 events: sets of bits have room for 192, and below 3 there are no such clauses.
+    pub fn with_order(elements: u32, first: u32) -> EncodingHints<'a> {
+        if elements < 3 || elements > MAX_ELEMENTS {
+            return EncodingHints::none();
+        }
+        EncodingHints {
+            elements,
+            first,
+            reads_from: None,
+        }
+    }
+
+    /// Adds hints about reads-from variables. They are ignored if they are of another number of events.
+    pub fn with_reads_from(self, reads_from: &'a ReadsFromTable) -> EncodingHints<'a> {
+        if reads_from.elements() != self.elements {
+            return self;
+        }
+        EncodingHints {
+            reads_from: Some(reads_from),
+            ..self
+        }
+    }
+
+    /// Returns those hints that fit a formula of this many variables and clauses.
+    pub fn fitting(self, variables: u32, clauses: usize) -> EncodingHints<'a> {
+        let pairs = self.elements.wrapping_mul(self.elements.wrapping_sub(1)) / 2;
+        if pairs > variables
+            || self.first == 0
+            || self.end_id() as usize > clauses.saturating_add(1)
+        {
+            return EncodingHints::none();
+        }
+        let last = pairs.saturating_add(size(self.choices()));
+        if last > variables {
+            return EncodingHints {
+                reads_from: None,
+                ..self
+            };
+        }
+        self
+    }
+
+    /// Returns the reads-from variables, if there are hints about them.
+    pub fn reads_from(self) -> Option<&'a ReadsFromTable> {
+        self.reads_from
+    }
+
+    /// Returns the reads-from variables by number, with gaps.
+    pub fn choices(self) -> &'a [Option<ReadsFromVariable>] {
+        match self.reads_from {
+            Some(reads_from) => reads_from.choices(),
+            None => &[],
+        }
+    }
+
+    /// Returns the number of events.
+    pub fn elements(self) -> u32 {
+        self.elements
+    }
+
+    /// Returns the order variable of these two events.
+    pub fn variable_of_pair(self, a: u32, b: u32) -> u32 {
+        let i = a.min(b);
+        let j = a.max(b);
+        let before = self
+            .elements
+            .wrapping_mul(2)
+            .wrapping_sub(i)
+            .wrapping_sub(1);
+        (i.wrapping_mul(before) / 2).wrapping_add(j).wrapping_sub(i)
+    }
+
+    /// Returns the id of the first transitivity clause.
+    pub fn first(self) -> u32 {
+        self.first
+    }
+
+    /// Returns the id after the last transitivity clause.
+    pub fn end_id(self) -> u32 {
+        self.first.wrapping_add(transitivity_of(self.elements))
+    }
+}

@@ -1,0 +1,213 @@
+//! Hints about the reads-from variables of an encoding.
+
+use order_sets::tables::{at, put};
+use order_sets::{ElementSets, MAX_ELEMENTS};
+use std::alloc::{AllocError, Global};
+
+/// Maximum number of reads-from variables that are tabled. Others are left to their clauses.
+const MAX_VARIABLES: u32 = 1 << 16;
+
+/// A reads-from variable: if it is true, the reader reads from this writer.
+#[derive(Clone, Copy)]
+pub struct ReadsFromVariable {
+    /// The variable.
+    pub variable: u32,
+    /// The element that reads.
+    pub reader: u32,
+    /// The writer, or none for the initial value.
+    pub writer: Option<u32>,
+    /// The number of the first of its clauses, counted from 1.
+    pub first: u32,
+}
+
+/// A writer that may be the last one of its location, if the final value is known.
+#[derive(Clone, Copy)]
+pub struct LastWriter {
+    /// The variable which says that it is the last one.
+    pub variable: u32,
+    /// The element that writes.
+    pub writer: u32,
+    /// The number of the clause that says that one of the location's last writers is the last one, counted from 1.
+    pub clause: u32,
+    /// The number of the first of its own clauses.
+    pub first: u32,
+}
+
+/// Hints of a caller of `solve` about the reads of an order: which elements write where others read, and which clauses say what a choice
+/// means. With y of `EncodingHints`, let x(i,j) be `y(i,j)` for i below j, and `-y(j,i)` otherwise.
+///
+/// A choice with the variable s and without a writer has the clauses `-s x(r,q)`, for all writers q of the reader r that it
+/// knows. One with the writer w has the clause `-s x(w,r)`, and then `-s x(q,w) x(r,q)` for all these q other than w. All go by
+/// rising q and stand one after the other. The clause which says that one of a reader's choices is made stands before those of its
+/// first choice.
+///
+/// A last writer w with the variable f has the clauses `-f x(q,w)` for all other writers q of its location, by rising q. These are read as
+/// any clauses are; the count of sources cites them by their numbers.
+///
+/// Untrusted too: an error here can only slow the search down (see `EncodingHints`).
+#[derive(Drop)]
+pub struct ReadsFromTable {
+    elements: u32,
+    /// The last variable of the order.
+    base: u32,
+    /// For each element those others that write its location.
+    writers: ElementSets,
+    /// The choices by their variables, counted from the first one after the order's.
+    choices: Vec<Option<ReadsFromVariable>>,
+    /// 1 for each element that has a choice.
+    reading: Vec<u8>,
+    /// 1 for each element that writes a location of others.
+    writing: Vec<u8>,
+    /// For each reader and each writer the variable of the choice, or 0; after the writers the one of the choice without a
+    /// writer.
+    variables: Vec<u32>,
+    /// The last writers, those of one location one after the other.
+    last_writers: Vec<LastWriter>,
+}
+
+impl ReadsFromTable {
+    /// Starts without reads-from variables, over at most 192 events.
+    pub fn new(alloc: Global, elements: u32) -> Result<ReadsFromTable, AllocError> {
+        let elements = elements.min(MAX_ELEMENTS);
+        let pairs = elements.wrapping_mul(elements.wrapping_add(1));
+        Ok(ReadsFromTable {
+            elements,
+            base: elements.wrapping_mul(elements.wrapping_sub(1)) / 2,
+            writers: ElementSets::new(alloc, elements)?,
+            choices: Vec::new(alloc),
+            reading: vec![in alloc; 0; elements as usize]?,
+            writing: vec![in alloc; 0; elements as usize]?,
+            variables: vec![in alloc; 0; pairs as usize]?,
+            last_writers: Vec::new(alloc),
+        })
+    }
+
+    /// Records that the writer writes the location that the element reads or writes, and is another one.
+    pub fn add_writer(&mut self, element: u32, writer: u32) {
+        if element != writer && writer < self.elements {
+            self.writers.insert(element, writer);
+            put(self.writing.as_mut_slice(), writer, 1);
+        }
+    }
+
+    /// Adds a choice. They are added by rising variables; others, and those that are not of two elements of the order, are left to their
+    /// clauses.
+    pub fn add_choice(&mut self, choice: ReadsFromVariable) -> Result<(), AllocError> {
+        let place = choice.variable.wrapping_sub(self.base).wrapping_sub(1);
+        let column = choice.writer.unwrap_or(self.elements);
+        if place >= MAX_VARIABLES
+            || (place as usize) < self.choices.len()
+            || choice.reader >= self.elements
+            || column > self.elements
+            || column == choice.reader
+        {
+            return Ok(());
+        }
+        for _ in self.choices.len()..place as usize {
+            self.choices.push(None)?;
+        }
+        self.choices.push(Some(choice))?;
+        let place = self.place_of(choice.reader, column);
+        put(self.variables.as_mut_slice(), place, choice.variable);
+        put(self.reading.as_mut_slice(), choice.reader, 1);
+        Ok(())
+    }
+
+    /// Adds a last writer. Those of one location are added one after the other.
+    pub fn add_last_writer(&mut self, last: LastWriter) -> Result<(), AllocError> {
+        self.last_writers.push(last)?;
+        Ok(())
+    }
+
+    /// Returns the place of the choice of this reader and this writer.
+    #[inline(always)]
+    fn place_of(&self, reader: u32, column: u32) -> u32 {
+        reader
+            .wrapping_mul(self.elements.wrapping_add(1))
+            .wrapping_add(column)
+    }
+
+    /// Returns the number of elements.
+    pub fn elements(&self) -> u32 {
+        self.elements
+    }
+
+    /// Returns all choices, with gaps.
+    pub fn choices(&self) -> &[Option<ReadsFromVariable>] {
+        self.choices.as_slice()
+    }
+
+    /// Returns the last writers, those of one location one after the other.
+    pub fn last_writers(&self) -> &[LastWriter] {
+        self.last_writers.as_slice()
+    }
+
+    /// Returns the place of the writer among those of its location, counted from 0.
+    pub fn place_of_writer(&self, writer: u32) -> u32 {
+        self.writers.count_below(writer, writer)
+    }
+
+    /// Returns for each element those others that write its location.
+    #[inline(always)]
+    pub fn writers(&self) -> &ElementSets {
+        &self.writers
+    }
+
+    /// Returns the choice of this variable, if it is one.
+    #[inline(always)]
+    pub fn choice(&self, variable: u32) -> Option<ReadsFromVariable> {
+        let place = variable.wrapping_sub(self.base).wrapping_sub(1);
+        at(self.choices.as_slice(), place, None)
+    }
+
+    /// Returns the variable of the choice of this reader and this writer, or 0.
+    #[inline(always)]
+    pub fn variable(&self, reader: u32, writer: u32) -> u32 {
+        at(self.variables.as_slice(), self.place_of(reader, writer), 0)
+    }
+
+    /// Returns the variable of the choice of this reader without a writer, or 0.
+    #[inline(always)]
+    pub fn variable_without_writer(&self, reader: u32) -> u32 {
+        self.variable(reader, self.elements)
+    }
+
+    /// Whether the element writes a location of others.
+    #[inline(always)]
+    pub fn writes(&self, element: u32) -> bool {
+        at(self.writing.as_slice(), element, 0) != 0
+    }
+
+    /// Returns the event that represents the location of this one: the first of its writers.
+    pub fn location(&self, element: u32) -> u32 {
+        let first = self.writers.first(element);
+        if self.writes(element) || first >= self.elements {
+            element.min(first)
+        } else {
+            first
+        }
+    }
+
+    /// Whether the element reads.
+    pub fn reads(&self, element: u32) -> bool {
+        at(self.reading.as_slice(), element, 0) != 0
+    }
+
+    /// Returns the id after the last clause of the variable: it has one for each writer.
+    pub fn end_id(&self, choice: ReadsFromVariable) -> u32 {
+        choice.first.wrapping_add(self.writers.count(choice.reader))
+    }
+
+    /// Returns the number of the choice's clause for this writer.
+    pub fn clause_of(&self, choice: ReadsFromVariable, writer: u32) -> u32 {
+        let place = self.writers.count_below(choice.reader, writer);
+        let place = match choice.writer {
+            None => place,
+            Some(chosen) if chosen == writer => 0,
+            // The clause of the chosen writer stands before those of all others.
+            Some(chosen) if writer < chosen => place.wrapping_add(1),
+            Some(_) => place,
+        };
+        choice.first.wrapping_add(place)
+    }
+}

@@ -1,0 +1,81 @@
+//! Reasons of literals.
+
+use order_sets::tables::at;
+use proof_log::codes::NEVER;
+
+/// Reason (antecedent) of an assigned literal. It is kept as it was found; its clause is built only when conflict analysis asks for it.
+#[derive(Clone, Copy)]
+pub enum Reason {
+    /// A decision.
+    Decision,
+    /// A clause of at most three literals, of which these were false. It is stored inline, so that analysis reads no clause memory.
+    Clause { id: u32, first: u32, second: u32 },
+    /// The clause at this offset of the arena.
+    Stored { place: u32 },
+    /// Transitivity of the order, via this event.
+    Transitive { element: u32 },
+    /// The clause of this reads-from variable for this writer.
+    Choice { choice: u32, writer: u32 },
+}
+
+/// A reason clause with its id, to be iterated over: in the arena, or inline with at most three literals.
+#[derive(Clone, Copy)]
+pub struct ReasonClause {
+    /// The number of the clause.
+    pub id: u32,
+    /// Number of its literals.
+    pub count: u32,
+    /// Offset of its literals in the arena, or 0.
+    pub place: u32,
+    first: u32,
+    second: u32,
+    third: u32,
+}
+
+impl ReasonClause {
+    /// Returns the clause of these literals, of which the last ones may be missing.
+    pub fn of_literals(id: u32, first: u32, second: u32, third: u32) -> ReasonClause {
+        let count = if first == NEVER {
+            0
+        } else if second == NEVER {
+            1
+        } else if third == NEVER {
+            2
+        } else {
+            3
+        };
+        ReasonClause {
+            id,
+            count,
+            place: 0,
+            first,
+            second,
+            third,
+        }
+    }
+
+    /// Returns the clause of this number of literals that begin at this offset of the arena.
+    pub fn stored(id: u32, place: u32, count: u32) -> ReasonClause {
+        ReasonClause {
+            id,
+            count,
+            place,
+            first: NEVER,
+            second: NEVER,
+            third: NEVER,
+        }
+    }
+
+    /// Returns its literal of this number, counted from 0.
+    #[inline(always)]
+    pub fn literal(&self, store: &[u32], number: u32) -> u32 {
+        if self.place != 0 {
+            return at(store, self.place.wrapping_add(number), NEVER);
+        }
+        match number {
+            0 => self.first,
+            1 => self.second,
+            _ => self.third,
+        }
+    }
+}

@@ -1,0 +1,127 @@
+//! Occurrence lists of the clauses of two and three literals.
+
+use order_sets::tables::{at, piece, put};
+use proof_log::codes::NEVER;
+use std::alloc::{AllocError, Global};
+
+/// A clause of two or three literals, with its number. A clause of two has `NEVER` as its third.
+#[derive(Clone, Copy)]
+pub struct SmallClause {
+    pub first: u32,
+    pub second: u32,
+    pub third: u32,
+    pub id: u32,
+}
+
+/// The other literals of a clause, seen from one of them.
+#[derive(Clone, Copy)]
+pub struct Others {
+    pub first: u32,
+    pub second: u32,
+}
+
+/// The clauses of two and three literals. For each literal the other literals of its clauses stand one after the other, and the clauses'
+/// numbers apart from them, since these are read only if something follows. A table of watches instead doubled the time of a propagation:
+/// such a clause is visited without a load of its own.
+#[derive(Drop)]
+pub struct SmallClauses {
+    /// For each literal the place where its part of the tables begins, and at the end where the last one ends.
+    starts: Vec<u32>,
+    others: Vec<Others>,
+    ids: Vec<u32>,
+}
+
+/// Adds one to the entry.
+fn count_one(counts: &mut [u32], place: u32) {
+    let count = at(counts, place, 0);
+    put(counts, place, count.wrapping_add(1));
+}
+
+/// Returns for each literal where its part of the tables begins, two places further on: one for the end of the table, and one that is used
+/// up while the parts are filled.
+fn starts_of(
+    alloc: Global,
+    literals: u32,
+    clauses: &[SmallClause],
+) -> Result<Vec<u32>, AllocError> {
+    let mut starts = vec![in alloc; 0; literals.wrapping_add(2) as usize]?;
+    for clause in clauses {
+        count_one(starts.as_mut_slice(), clause.first.wrapping_add(2));
+        count_one(starts.as_mut_slice(), clause.second.wrapping_add(2));
+        if clause.third != NEVER {
+            count_one(starts.as_mut_slice(), clause.third.wrapping_add(2));
+        }
+    }
+    let mut sum: u32 = 0;
+    for start in starts.iter_mut() {
+        sum = sum.wrapping_add(*start);
+        *start = sum;
+    }
+    Ok(starts)
+}
+
+impl SmallClauses {
+    /// Makes the lists of these clauses, of literals whose codes are below this number.
+    pub fn new(
+        alloc: Global,
+        literals: u32,
+        clauses: &[SmallClause],
+    ) -> Result<SmallClauses, AllocError> {
+        let starts = starts_of(alloc, literals, clauses)?;
+        let total = at(starts.as_slice(), literals.wrapping_add(1), 0) as usize;
+        let nothing = Others {
+            first: NEVER,
+            second: NEVER,
+        };
+        let mut small = SmallClauses {
+            starts,
+            others: vec![in alloc; nothing; total]?,
+            ids: vec![in alloc; 0; total]?,
+        };
+        for clause in clauses {
+            let SmallClause {
+                first,
+                second,
+                third,
+                id,
+            } = *clause;
+            small.enter(first, second, third, id);
+            small.enter(second, first, third, id);
+            if third != NEVER {
+                small.enter(third, first, second, id);
+            }
+        }
+        Ok(small)
+    }
+
+    /// Enters a clause under one of its literals.
+    fn enter(&mut self, literal: u32, first: u32, second: u32, id: u32) {
+        let start = literal.wrapping_add(1);
+        let place = at(self.starts.as_slice(), start, 0);
+        put(self.starts.as_mut_slice(), start, place.wrapping_add(1));
+        put(self.others.as_mut_slice(), place, Others { first, second });
+        put(self.ids.as_mut_slice(), place, id);
+    }
+
+    /// Returns the place where the part of this literal begins.
+    #[inline(always)]
+    pub fn start(&self, literal: u32) -> u32 {
+        at(self.starts.as_slice(), literal, 0)
+    }
+
+    /// Returns the other literals of the clauses with this literal.
+    #[inline(always)]
+    pub fn others(&self, literal: u32) -> &[Others] {
+        piece(
+            self.others.as_slice(),
+            self.start(literal),
+            self.start(literal.wrapping_add(1)),
+        )
+    }
+
+    /// Returns the number of the clause whose other literals stand at this place.
+    #[inline(always)]
+    pub fn id(&self, place: u32) -> u32 {
+        at(self.ids.as_slice(), place, 0)
+    }
+}

@@ -1,0 +1,139 @@
+//! The clause arena: longer clauses of the formula, and learned clauses.
+
+use crate::reason::ReasonClause;
+use order_sets::tables::{at, piece, put, size};
+use std::alloc::{AllocError, Global};
+
+/// Words of the header before the literals of a clause: the number of literals, the id, the LBD, and the conflict of its last use.
+pub const HEADER: u32 = 4;
+
+/// LBD of a clause of the formula, which is never dropped.
+pub const GIVEN: u32 = 0;
+
+/// LBD that marks a clause to be dropped.
+pub const DROPPED: u32 = 0xffff_ffff;
+
+/// Clauses one after the other in one vector. A clause is named by the offset of its header. No clause is at offset 0.
+#[derive(Drop)]
+pub struct Store {
+    words: Vec<u32>,
+}
+
+impl Store {
+    /// Starts without clauses.
+    pub fn new(alloc: Global) -> Result<Store, AllocError> {
+        Ok(Store {
+            words: vec![in alloc; 0; 1]?,
+        })
+    }
+
+    /// Returns a copy with the same clauses: each search of a cube adds and drops its own.
+    pub fn try_clone(&self, alloc: Global) -> Result<Store, AllocError> {
+        let mut words = Vec::with_capacity(alloc, self.words.len())?;
+        words.extend_from_slice(self.words.as_slice())?;
+        Ok(Store { words })
+    }
+
+    /// Returns the words of all clauses.
+    #[inline(always)]
+    pub fn words(&self) -> &[u32] {
+        self.words.as_slice()
+    }
+
+    /// Returns the words of all clauses, to be changed.
+    #[inline(always)]
+    pub fn words_mut(&mut self) -> &mut [u32] {
+        self.words.as_mut_slice()
+    }
+
+    /// Returns the number of words: the offset of the clause that is added next.
+    pub fn end(&self) -> u32 {
+        size(self.words.as_slice())
+    }
+
+    /// Adds a clause.
+    pub fn add(
+        &mut self,
+        literals: &[u32],
+        id: u32,
+        lbd: u32,
+        used: u32,
+    ) -> Result<(), AllocError> {
+        let count = size(literals);
+        self.words.extend_from_slice(&[count, id, lbd, used])?;
+        self.words.extend_from_slice(literals)
+    }
+
+    /// Returns the literals of the clause, to be iterated over.
+    #[inline(always)]
+    pub fn reason(&self, clause: u32) -> ReasonClause {
+        let id = at(self.words.as_slice(), clause.wrapping_add(1), 0);
+        ReasonClause::stored(id, clause.wrapping_add(HEADER), self.count(clause))
+    }
+
+    /// Returns the number of literals of the clause.
+    pub fn count(&self, clause: u32) -> u32 {
+        at(self.words.as_slice(), clause, 0)
+    }
+
+    /// Returns its literal of this number, counted from 0.
+    pub fn literal(&self, clause: u32, number: u32) -> u32 {
+        at(
+            self.words.as_slice(),
+            clause.wrapping_add(HEADER).wrapping_add(number),
+            0,
+        )
+    }
+
+    /// Returns the LBD of the clause.
+    pub fn lbd(&self, clause: u32) -> u32 {
+        at(self.words.as_slice(), clause.wrapping_add(2), 0)
+    }
+
+    /// Returns the conflict in which the clause was used last.
+    pub fn used(&self, clause: u32) -> u32 {
+        at(self.words.as_slice(), clause.wrapping_add(3), 0)
+    }
+
+    /// Sets the LBD of the clause.
+    pub fn set_lbd(&mut self, clause: u32, lbd: u32) {
+        put(self.words.as_mut_slice(), clause.wrapping_add(2), lbd);
+    }
+
+    /// Records that the clause was used in this conflict.
+    pub fn set_used(&mut self, clause: u32, conflict: u32) {
+        put(self.words.as_mut_slice(), clause.wrapping_add(3), conflict);
+    }
+
+    /// Returns the offset of the next clause.
+    pub fn next_clause(&self, clause: u32) -> u32 {
+        clause.wrapping_add(HEADER).wrapping_add(self.count(clause))
+    }
+
+    /// Returns a compacted arena without the clauses that are marked as dropped. In the old one the id of each clause becomes its forwarding
+    /// offset, or 0.
+    pub fn compacted(&mut self, alloc: Global) -> Result<Store, AllocError> {
+        let mut compact = Store::new(alloc)?;
+        let mut clause: u32 = 1;
+        for _ in 0..self.words.len() {
+            let behind = self.next_clause(clause);
+            if clause >= self.end() || behind <= clause {
+                break;
+            }
+            let mut moved = 0;
+            if self.lbd(clause) != DROPPED {
+                moved = compact.end();
+                let words = piece(self.words.as_slice(), clause, behind);
+                compact.words.extend_from_slice(words)?;
+            }
+            put(self.words.as_mut_slice(), clause.wrapping_add(1), moved);
+            clause = behind;
+        }
+        Ok(compact)
+    }
+
+    /// Returns the offset of the clause in the compacted arena, or 0.
+    pub fn moved(&self, clause: u32) -> u32 {
+        at(self.words.as_slice(), clause.wrapping_add(1), 0)
+    }
+}

@@ -1,0 +1,135 @@
+//! Watch lists: which clauses are visited when a literal is falsified.
+
+use crate::store::Store;
+use order_sets::tables::{at, put, size};
+use std::alloc::{AllocError, Global};
+use std::mem;
+
+/// A watch: the clause, and a blocking literal of it. If that one is true, the clause is satisfied and need not be read, which spares most
+/// loads of clause memory (Chu, Harwood and Stuckey, 2009).
+#[derive(Clone, Copy)]
+pub struct Watch {
+    pub clause: u32,
+    pub blocker: u32,
+}
+
+/// Watch lists by literal. Each clause watches its first two literals. Most order literals are never watched, so a list is allocated when
+/// it is first needed.
+#[derive(Drop)]
+pub struct Watches {
+    alloc: Global,
+    /// For each literal the place of its list, plus one, or 0.
+    places: Vec<u32>,
+    lists: Vec<Vec<Watch>>,
+}
+
+/// Returns the watch at this place.
+#[inline(always)]
+pub fn watch_at(list: &[Watch], place: u32) -> Watch {
+    let nothing = Watch {
+        clause: 0,
+        blocker: 0,
+    };
+    at(list, place, nothing)
+}
+
+/// Retains the watches whose clauses survived, with their new offsets.
+fn move_list(list: &mut Vec<Watch>, old: &Store) {
+    let mut kept: u32 = 0;
+    for place in 0..size(list.as_slice()) {
+        let watch = watch_at(list.as_slice(), place);
+        let clause = old.moved(watch.clause);
+        if clause != 0 {
+            let blocker = watch.blocker;
+            put(list.as_mut_slice(), kept, Watch { clause, blocker });
+            kept = kept.wrapping_add(1);
+        }
+    }
+    list.truncate(kept as usize);
+}
+
+impl Watches {
+    /// Starts without watches, over this number of literals.
+    pub fn new(alloc: Global, literals: u32) -> Result<Watches, AllocError> {
+        Ok(Watches {
+            alloc,
+            places: vec![in alloc; 0; literals as usize]?,
+            lists: Vec::new(alloc),
+        })
+    }
+
+    /// Returns the place of the literal's list, or one past the last list.
+    #[inline(always)]
+    fn place(&self, literal: u32) -> usize {
+        at(self.places.as_slice(), literal, 0).wrapping_sub(1) as usize
+    }
+
+    /// Adds a watch of the clause.
+    #[inline(always)]
+    pub fn add(&mut self, literal: u32, watch: Watch) -> Result<(), AllocError> {
+        if at(self.places.as_slice(), literal, 1) == 0 {
+            self.lists.push(Vec::new(self.alloc))?;
+            let place = size(self.lists.as_slice());
+            put(self.places.as_mut_slice(), literal, place);
+        }
+        let place = self.place(literal);
+        if place < self.lists.len() {
+            self.lists[place].push(watch)?;
+        }
+        Ok(())
+    }
+
+    /// Attaches the clause: it watches its first two literals.
+    pub fn attach(&mut self, store: &Store, clause: u32) -> Result<(), AllocError> {
+        let first = store.literal(clause, 0);
+        let second = store.literal(clause, 1);
+        self.add(
+            first,
+            Watch {
+                clause,
+                blocker: second,
+            },
+        )?;
+        self.add(
+            second,
+            Watch {
+                clause,
+                blocker: first,
+            },
+        )
+    }
+
+    /// Takes the watch list of the literal out, so that other lists can grow while it is iterated over.
+    #[inline(always)]
+    pub fn take(&mut self, literal: u32) -> Vec<Watch> {
+        let place = self.place(literal);
+        if place < self.lists.len() {
+            mem::replace(&mut self.lists[place], Vec::new(self.alloc))
+        } else {
+            Vec::new(self.alloc)
+        }
+    }
+
+    /// Puts the watch list of the literal back.
+    #[inline(always)]
+    pub fn give_back(&mut self, literal: u32, list: Vec<Watch>) {
+        let place = self.place(literal);
+        if place < self.lists.len() {
+            self.lists[place] = list;
+        }
+    }
+
+    /// Whether no clause watches the literal.
+    #[inline(always)]
+    pub fn is_empty(&self, literal: u32) -> bool {
+        let place = self.place(literal);
+        place >= self.lists.len() || self.lists[place].is_empty()
+    }
+
+    /// Redirects all watches after the arena was compacted.
+    pub fn move_all(&mut self, old: &Store) {
+        for list in self.lists.iter_mut() {
+            move_list(list, old);
+        }
+    }
+}

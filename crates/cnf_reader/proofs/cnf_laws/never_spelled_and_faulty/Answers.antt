@@ -1,5 +1,0 @@
-use Rattle.cnf_reader.proofs.CnfLawLemmas.{never_both}
-use Rattle.cnf_reader.proofs.cnf_laws.never_spelled_and_faulty.Goals as goal
-
-pub returns : goal.returns
-returns c = never_both

@@ -1,5 +1,0 @@
-use Rattle.cnf_reader.proofs.CnfLawLemmas.{spelled_or_refused}
-use Rattle.cnf_reader.proofs.cnf_laws.spelled_or_faulty.Goals as goal
-
-pub returns : goal.returns
-returns c = spelled_or_refused

@@ -1,5 +1,0 @@
-use Rattle.cnf_reader.proofs.CnfWrittenLemmas as written
-use Rattle.cnf_reader.proofs.cnf_laws.written_spells.Goals as goal
-
-pub returns : goal.returns
-returns c = written.written_spells

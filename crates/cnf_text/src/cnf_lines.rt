@@ -1,0 +1,77 @@
+//! The lines of a formula's text that say something.
+
+ghost use Rattle.std.specs.Prelude.{◌≡◌, ◌<◌, ◌≤◌, ◌+◌, ◌^◌, ◌==◌, [], ◌∷◌, length, slice_index, MatchResult};
+ghost use Rattle.text_lines.specs.Lines.{lines_of};
+ghost use Rattle.text_lines.specs.Words.{words_of};
+ghost use Rattle.cnf_text.specs.CnfLines.{is_end, is_silent, said_from, end_from};
+
+use text_lines::lines::cut_line;
+use text_lines::words::cut_word;
+
+/// A line that says something, and what follows it.
+#[derive(Clone, Copy)]
+pub(crate) struct ContentLine<'a> {
+    /// Its bytes.
+    pub line: &'a [u8],
+    /// Its number.
+    pub number: usize,
+    /// The text after it.
+    pub rest: &'a [u8],
+}
+
+/// Whether the word begins with that byte.
+fn begins_with_byte(word: &[u8], byte: u8) -> bool
+    requires { 0 < byte }
+    ensures { result ≡ (slice_index word.now 0 == byte) }
+{
+    !word.is_empty() && word[0] == byte
+}
+
+/// Whether the text ends at the line.
+fn is_end_line(line: &[u8]) -> bool
+    ensures { result ≡ is_end line.now }
+{
+    match cut_word(line) {
+        Some((word, _)) => begins_with_byte(word, b'%'),
+        None => false,
+    }
+}
+
+/// Whether the line is skipped.
+fn is_silent_line(line: &[u8]) -> bool
+    ensures { result ≡ is_silent (words_of line.now) }
+{
+    match cut_word(line) {
+        Some((word, _)) => begins_with_byte(word, b'c'),
+        None => true,
+    }
+}
+
+/// The next line that says something, where the first one of the text has this number; or the number of the line at
+/// which the text ends.
+pub(crate) fn next_said(text: &[u8], first: usize) -> Result<ContentLine<'_>, usize>
+    requires { first + length text.now < 2 ^ 64 }
+    ensures { MatchResult result
+        (λ said. (said_from first (lines_of text.now) ≡ (said.number, words_of said.line.now) ∷ said_from (said.number + 1) (lines_of said.rest.now))
+        × (end_from first (lines_of text.now) ≡ end_from (said.number + 1) (lines_of said.rest.now))
+        × (length said.rest.now < length text.now) × (said.number + 1 + length said.rest.now ≤ first + length text.now))
+        (λ end. (said_from first (lines_of text.now) ≡ []) × (end_from first (lines_of text.now) ≡ end)) }
+{
+    let mut number = first;
+    let mut rest = text;
+    while let Some((line, after)) = cut_line(rest) {
+        if is_end_line(line) {
+            return Err(number);
+        }
+        if !is_silent_line(line) {
+            return Ok(ContentLine {
+                line,
+                number,
+                rest: after,
+            });
+        }
+        number += 1;
+        rest = after;
+    }
+    Err(number)
+}

@@ -1,0 +1,102 @@
+//! How a trace is searched.
+ghost use Rattle.std.specs.Prelude.{◌≡◌, Ok};
+ghost use Rattle.command_line.specs.CommandLine.{AreSearchNumbers};
+ghost use Rattle.command_run.specs.CommandRun.{search_of};
+ghost use Rattle.verdict_report.specs.Runs.{source_run, sink_run};
+ghost use Rattle.verdict_report.specs.VerifyEngine.{IsRunOfCertifiedVerify, IsRunOfVerify, TellsOpen};
+ghost use Rattle.verdict_report.specs.declared.status.Status.TheVariants.{Unknown};
+
+use crate::host::Host;
+use command_line::SearchNumbers;
+use cube_jobs::{Gate, OpenGate, Options};
+use dimacs::Sink;
+use std::alloc::Global;
+use std::sync::Wait;
+use std::thread::Threads;
+use verdict_report::{Fault, Status, run_certified_verify, run_verify};
+
+/// The options of a search, and whether its progress is reported.
+#[derive(Clone, Copy)]
+pub struct SearchRequest {
+    /// How it goes about its work.
+    pub options: Options,
+    /// Whether its progress is reported on standard error.
+    pub tells_progress: bool,
+}
+
+impl SearchRequest {
+    /// The search of these numbers.
+    pub(crate) fn new(numbers: SearchNumbers, tells_progress: bool) -> SearchRequest
+        requires { AreSearchNumbers numbers }
+        ensures { result ≡ search_of numbers tells_progress }
+    {
+        let options = Options::new(
+            numbers.workers,
+            numbers.split,
+            numbers.budget,
+            numbers.rounds,
+        )
+        .unwrap();
+        SearchRequest {
+            options,
+            tells_progress,
+        }
+    }
+}
+
+/// Tells the host of the search, and runs the engine that decides traces with it: with the gate `progress` if the progress is to be
+/// reported, and with one that does nothing if not.
+pub(crate) fn decide<'p, R: Threads + Wait + Sync, G: Gate + Sync, H: Host<'p>, W: Sink>(
+    alloc: Global,
+    rt: &R,
+    progress: &G,
+    host: &mut H,
+    trace: &mut H::Input,
+    search: &SearchRequest,
+    out: &mut W,
+) -> Result<Status, Fault>
+    ensures searches { H.calls.searches host.old search.now host.new }
+    ensures run { IsRunOfVerify
+        (source_run H.Input.handed_out H.Input.is_at_end H.Input.failures trace.old trace.new)
+        (sink_run W.written W.failures out.old out.new)
+        result }
+    ensures unknown { result ≡ Ok Unknown → TellsOpen search.now.options
+        (source_run H.Input.handed_out H.Input.is_at_end H.Input.failures trace.old trace.new)
+        (sink_run W.written W.failures out.old out.new) }
+{
+    host.begin_search(search);
+    if search.tells_progress {
+        run_verify(alloc, rt, trace, &search.options, progress, out)
+    } else {
+        run_verify(alloc, rt, trace, &search.options, &OpenGate, out)
+    }
+}
+
+/// Does the same, with a certificate.
+pub(crate) fn certify<'p, R: Threads + Wait + Sync, G: Gate + Sync, H: Host<'p>, W: Sink>(
+    alloc: Global,
+    rt: &R,
+    progress: &G,
+    host: &mut H,
+    trace: &mut H::Input,
+    search: &SearchRequest,
+    cert: &mut H::Output,
+    out: &mut W,
+) -> Result<Status, Fault>
+    ensures searches { H.calls.searches host.old search.now host.new }
+    ensures run { IsRunOfCertifiedVerify
+        (source_run H.Input.handed_out H.Input.is_at_end H.Input.failures trace.old trace.new)
+        (sink_run H.Output.written H.Output.failures cert.old cert.new)
+        (sink_run W.written W.failures out.old out.new)
+        result }
+    ensures unknown { result ≡ Ok Unknown → TellsOpen search.now.options
+        (source_run H.Input.handed_out H.Input.is_at_end H.Input.failures trace.old trace.new)
+        (sink_run W.written W.failures out.old out.new) }
+{
+    host.begin_search(search);
+    if search.tells_progress {
+        run_certified_verify(alloc, rt, trace, &search.options, progress, cert, out)
+    } else {
+        run_certified_verify(alloc, rt, trace, &search.options, &OpenGate, cert, out)
+    }
+}

@@ -1,0 +1,163 @@
+//! Elimination of operations, one after the other, by resolution on the order. Steps grow with the square of their number: to resolve all
+//! clauses with each other at once would take exponentially many.
+
+use crate::step_log::StepLog;
+use order_sets::TripleIds;
+use order_sets::tables::{at, put, size};
+use proof_log::codes::NEVER;
+use source_matching::{Grid, OrderClauses};
+use std::alloc::{AllocError, Global};
+
+/// On which side of an operation those others stand of which its clause speaks.
+#[derive(Clone, Copy)]
+pub enum Side {
+    Before,
+    Behind,
+}
+
+/// Operations, each with a clause which says that one of some others stands on this side of it, or that its own literal is true. When one
+/// is eliminated, what stands on that side of it takes its place.
+#[derive(Drop)]
+pub struct Elimination {
+    order: OrderClauses,
+    cycles: TripleIds,
+    side: Side,
+    operations: Vec<u32>,
+    /// For each operation 1 at those others of which its clause speaks.
+    others: Grid<u8>,
+    /// For each operation its own literal, or the constant that is never true.
+    own: Vec<u32>,
+    /// For each operation 1 at those whose own literals its clause has.
+    owners: Grid<u8>,
+    clauses: Vec<u32>,
+}
+
+impl Elimination {
+    /// Starts with these operations, with their own literals and without clauses.
+    pub fn of(
+        alloc: Global,
+        order: OrderClauses,
+        side: Side,
+        operations: Vec<u32>,
+        own: Vec<u32>,
+    ) -> Result<Elimination, AllocError> {
+        let count = size(operations.as_slice());
+        Ok(Elimination {
+            order,
+            cycles: TripleIds::new(alloc, order.operations, order.first)?,
+            side,
+            others: Grid::new(alloc, count, count, 0)?,
+            own,
+            owners: Grid::new(alloc, count, count, 0)?,
+            clauses: vec![in alloc; 0; operations.len()]?,
+            operations,
+        })
+    }
+
+    /// Returns the place of this operation.
+    pub fn place_of(&self, operation: u32) -> u32 {
+        let place = self
+            .operations
+            .as_slice()
+            .iter()
+            .position(|other| *other == operation);
+        match place {
+            Some(place) => u32::try_from(place).unwrap_or(u32::MAX),
+            None => u32::MAX,
+        }
+    }
+
+    /// Returns the literal that says that the other one stands on this side of the operation.
+    pub fn literal(&self, other: u32, operation: u32) -> u32 {
+        match self.side {
+            Side::Before => self.order.before(other, operation),
+            Side::Behind => self.order.before(operation, other),
+        }
+    }
+
+    /// Returns the number of the transitivity clause which says that what stands on this side of the one between stands on this side of the
+    /// operation, if the one between does.
+    pub fn step(&self, other: u32, between: u32, operation: u32) -> i64 {
+        let clause = match self.side {
+            Side::Before => self.cycles.of_cycle(other, between, operation),
+            Side::Behind => self.cycles.of_cycle(operation, between, other),
+        };
+        i64::from(clause)
+    }
+
+    /// Records the clause of the operation at this place, which has its own literal and speaks of others.
+    pub fn set_clause(&mut self, place: u32, clause: u32) {
+        put(self.clauses.as_mut_slice(), place, clause);
+        self.owners.set(place, place, 1);
+    }
+
+    /// Records that the clause of the operation at this place speaks of the one at that place.
+    pub fn set_other(&mut self, place: u32, other: u32) {
+        self.others.set(place, other, 1);
+    }
+
+    /// Resolves the last operation out of the clause of this one.
+    fn leave_out(
+        &mut self,
+        alloc: Global,
+        log: &mut StepLog,
+        last: u32,
+        place: u32,
+    ) -> Result<(), AllocError> {
+        let operation = at(self.operations.as_slice(), place, 0);
+        let out = at(self.operations.as_slice(), last, 0);
+        let mut literals = Vec::new(alloc);
+        let mut hints = Vec::new(alloc);
+        hints.push(i64::from(at(self.clauses.as_slice(), place, 0)))?;
+        for other in 0..last {
+            let its = at(self.operations.as_slice(), other, 0);
+            if other != place && self.others.get(last, other) == 1 {
+                hints.push(self.step(its, out, operation))?;
+                self.others.set(place, other, 1);
+            }
+            if self.others.get(place, other) == 1 {
+                literals.push(self.literal(its, operation))?;
+            }
+        }
+        self.add_owners(&mut literals, last, place)?;
+        hints.push(i64::from(at(self.clauses.as_slice(), last, 0)))?;
+        let id = log.add(literals.as_slice(), hints.as_slice())?;
+        put(self.clauses.as_mut_slice(), place, id);
+        Ok(())
+    }
+
+    /// Adds the own literals of the clauses of both.
+    fn add_owners(
+        &mut self,
+        literals: &mut Vec<u32>,
+        last: u32,
+        place: u32,
+    ) -> Result<(), AllocError> {
+        for owner in 0..size(self.operations.as_slice()) {
+            if self.owners.get(last, owner) == 1 {
+                self.owners.set(place, owner, 1);
+            }
+            if self.owners.get(place, owner) == 1 {
+                literals.push(at(self.own.as_slice(), owner, NEVER))?;
+            }
+        }
+        Ok(())
+    }
+
+    /// Eliminates one operation after the other, and deletes the clauses that no later step needs. Returns the number of the clause that is
+    /// left: one of the own literals is true.
+    pub fn run(&mut self, alloc: Global, log: &mut StepLog) -> Result<u32, AllocError> {
+        for last in (1..size(self.operations.as_slice())).rev() {
+            let mut old = Vec::new(alloc);
+            for place in 0..last {
+                if self.others.get(place, last) == 1 {
+                    old.push(at(self.clauses.as_slice(), place, 0))?;
+                    self.leave_out(alloc, log, last, place)?;
+                }
+            }
+            old.push(at(self.clauses.as_slice(), last, 0))?;
+            log.delete(old.as_slice())?;
+        }
+        Ok(at(self.clauses.as_slice(), 0, 0))
+    }
+}

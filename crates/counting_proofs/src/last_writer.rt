@@ -1,0 +1,150 @@
+//! The last writer of a location as one more reader.
+
+use crate::elimination::{Elimination, Side};
+use crate::step_log::StepLog;
+use crate::units::UnitTable;
+use order_sets::tables::{at, size};
+use source_matching::{KnownOrder, LastWriters, MatchingInstance, Reader};
+use std::alloc::{AllocError, Global};
+
+/// The definition of each candidate: the code of the literal which says that it is the last writer, the first of the clauses which say that
+/// no other writer comes after it, and the clause which says that one does if it is not the last one.
+#[derive(Clone, Copy)]
+struct Defined {
+    literal: u32,
+    first: u32,
+    only: u32,
+}
+
+/// Adds the definition of a literal which says that this candidate is the last writer: all others stand before it. The long clause is added
+/// first: the short ones are RAT on the new variable, and their hints name it.
+fn define_last(
+    alloc: Global,
+    log: &mut StepLog,
+    ending: &LastWriters,
+    known: KnownOrder<'_>,
+    candidate: u32,
+) -> Result<Defined, AllocError> {
+    let literal = log.new_variable();
+    let mut literals = Vec::new(alloc);
+    literals.push(literal)?;
+    for writer in ending.writers() {
+        if *writer != candidate {
+            literals.push(known.order.before(candidate, *writer))?;
+        }
+    }
+    let only = log.add(literals.as_slice(), &[])?;
+    for writer in ending.writers() {
+        if *writer != candidate {
+            let comes_before = known.order.before(*writer, candidate);
+            log.add(&[literal ^ 1, comes_before], &[-i64::from(only)])?;
+        }
+    }
+    Ok(Defined {
+        literal,
+        first: only.wrapping_add(1),
+        only,
+    })
+}
+
+/// Adds the clause which says that the candidate is the last writer, or another candidate comes after it: any other writer has a candidate
+/// behind it.
+fn add_clause(
+    alloc: Global,
+    log: &mut StepLog,
+    ending: &LastWriters,
+    known: KnownOrder<'_>,
+    units: &UnitTable,
+    elimination: &mut Elimination,
+    candidate: u32,
+    defined: Defined,
+) -> Result<(), AllocError> {
+    let place = elimination.place_of(candidate);
+    let mut literals = Vec::new(alloc);
+    let mut hints = Vec::new(alloc);
+    literals.push(defined.literal)?;
+    for other in ending.candidates() {
+        if *other != candidate {
+            literals.push(elimination.literal(*other, candidate))?;
+            elimination.set_other(place, elimination.place_of(*other));
+        }
+    }
+    for writer in ending.writers() {
+        let Some(later) = ending.candidate_behind(known, *writer) else {
+            continue;
+        };
+        hints.push(units.hint(known.order.before(*writer, later)))?;
+        if later != candidate {
+            hints.push(elimination.step(later, *writer, candidate))?;
+        }
+    }
+    hints.push(i64::from(defined.only))?;
+    let clause = log.add(literals.as_slice(), hints.as_slice())?;
+    elimination.set_clause(place, clause);
+    log.delete(&[defined.only])
+}
+
+/// Returns the readers with one more after them, which has the last writer as its source.
+fn with_last_reader(
+    alloc: Global,
+    reads: &MatchingInstance,
+    ending: &LastWriters,
+    defined: &[Defined],
+    clause: u32,
+) -> Result<MatchingInstance, AllocError> {
+    let mut all = reads.copied(alloc)?;
+    all.add_reader(Reader {
+        update: None,
+        clause,
+    })?;
+    let mut candidate: u32 = 0;
+    for its in defined {
+        let variable = its.literal >> 1;
+        all.add_choice(ending.choice(candidate, variable, its.first))?;
+        candidate = candidate.wrapping_add(1);
+    }
+    Ok(all)
+}
+
+/// Adds the steps which say that one of the candidates is the last writer, and none of the others then comes after it. Returns all readers,
+/// with one more that has the last writer as its source.
+pub fn add_last_writer(
+    alloc: Global,
+    log: &mut StepLog,
+    reads: &MatchingInstance,
+    ending: &LastWriters,
+    known: KnownOrder<'_>,
+    units: &UnitTable,
+) -> Result<MatchingInstance, AllocError> {
+    let nothing = Defined {
+        literal: 0,
+        first: 0,
+        only: 0,
+    };
+    let mut defined = Vec::new(alloc);
+    let mut own = Vec::new(alloc);
+    let mut operations = Vec::new(alloc);
+    for candidate in ending.candidates() {
+        let its = define_last(alloc, log, ending, known, *candidate)?;
+        defined.push(its)?;
+        own.push(its.literal)?;
+        operations.push(*candidate)?;
+    }
+    let mut elimination = Elimination::of(alloc, known.order, Side::Behind, operations, own)?;
+    for place in 0..size(ending.candidates()) {
+        let candidate = at(ending.candidates(), place, 0);
+        let its = at(defined.as_slice(), place, nothing);
+        add_clause(
+            alloc,
+            log,
+            ending,
+            known,
+            units,
+            &mut elimination,
+            candidate,
+            its,
+        )?;
+    }
+    let clause = elimination.run(alloc, log)?;
+    with_last_reader(alloc, reads, ending, defined.as_slice(), clause)
+}

@@ -1,0 +1,184 @@
+//! Implied steps, and definitions of new variables (extended resolution).
+
+use crate::codes::{ALWAYS, is_tautology};
+use crate::replay::{Replay, ShortClause};
+use crate::step_log::StepLog;
+use lrat_check::derivation::Derivation;
+use proof_log::codes::NEVER;
+use std::alloc::{AllocError, Global};
+
+/// A literal with the clauses of its definition.
+#[derive(Clone, Copy)]
+pub struct Definition {
+    pub literal: u32,
+    pub clauses: [ShortClause; 4],
+}
+
+impl Definition {
+    /// Returns the definition of a literal that stands for itself: it has no clauses.
+    pub fn same(literal: u32) -> Definition {
+        Definition {
+            literal,
+            clauses: [ShortClause::nothing(); 4],
+        }
+    }
+}
+
+/// Returns the hint that begins a group for the clause.
+fn group(known: ShortClause) -> i64 {
+    -i64::from(known.id)
+}
+
+/// Adds the numbers of those of the clauses that have one.
+pub fn add_ids(ids: &mut Vec<u32>, clauses: &[ShortClause]) -> Result<(), AllocError> {
+    for known in clauses {
+        if known.id != 0 {
+            ids.push(known.id)?;
+        }
+    }
+    Ok(())
+}
+
+/// Writes steps into a log.
+#[derive(Drop)]
+pub struct ProofWriter {
+    log: StepLog,
+    replay: Replay,
+    /// The clause of the step at hand.
+    literals: [u32; 3],
+}
+
+impl ProofWriter {
+    /// Writes into this log.
+    pub fn new(alloc: Global, log: StepLog) -> ProofWriter {
+        ProofWriter {
+            log,
+            replay: Replay::new(alloc),
+            literals: [NEVER; 3],
+        }
+    }
+
+    /// Returns the log.
+    pub fn log(&mut self) -> &mut StepLog {
+        &mut self.log
+    }
+
+    /// Returns the derivation, if nothing was left out.
+    pub fn into_derivation(self) -> Option<Derivation> {
+        let ProofWriter { log, .. } = self;
+        log.into_derivation()
+    }
+
+    /// Begins the step of this clause.
+    pub fn begin(&mut self, literals: [u32; 3]) -> Result<(), AllocError> {
+        self.literals = literals;
+        self.replay.begin(literals)
+    }
+
+    /// Offers the clause as a hint of the step. It becomes one only if it is unit or false, since the checker refuses any other hint.
+    pub fn take(&mut self, known: ShortClause) -> Result<(), AllocError> {
+        self.replay.take(known)
+    }
+
+    /// Ends the step's hints with the clause of this number, which is false after all hints so far.
+    pub fn end(&mut self, id: u32) -> Result<(), AllocError> {
+        self.replay.end(id)
+    }
+
+    /// Adds the step. One whose clause is a tautology is left out.
+    pub fn add(&mut self) -> Result<ShortClause, AllocError> {
+        if is_tautology(self.literals) {
+            return Ok(ShortClause::nothing());
+        }
+        if !self.replay.is_done() {
+            self.log.spoil();
+        }
+        let id = self.log.add(&self.literals, self.replay.hints())?;
+        Ok(ShortClause {
+            id,
+            literals: self.literals,
+        })
+    }
+
+    /// Adds the step of this clause, of which these may be hints, in this order.
+    pub fn derive(
+        &mut self,
+        literals: [u32; 3],
+        hints: &[ShortClause],
+    ) -> Result<ShortClause, AllocError> {
+        self.begin(literals)?;
+        for known in hints {
+            self.take(*known)?;
+        }
+        self.add()
+    }
+
+    /// Adds a clause of a definition, by resolution on its first literal (RAT). Each clause with the negation of that literal has a group,
+    /// so the order in which a definition's clauses are added is the one on which its hints rest.
+    fn define(
+        &mut self,
+        literals: [u32; 3],
+        opposed: (ShortClause, ShortClause),
+    ) -> Result<ShortClause, AllocError> {
+        if literals[1] == ALWAYS || literals[2] == ALWAYS {
+            return Ok(ShortClause::nothing());
+        }
+        let (first, second) = opposed;
+        let id = if second.id == 0 {
+            self.log.add(&literals, &[])?
+        } else if first.id == 0 {
+            self.log.add(&literals, &[group(second)])?
+        } else {
+            self.log.add(&literals, &[group(first), group(second)])?
+        };
+        Ok(ShortClause { id, literals })
+    }
+
+    /// Defines a literal that is true if one of two is.
+    pub fn define_or(&mut self, first: u32, second: u32) -> Result<Definition, AllocError> {
+        if first == NEVER {
+            return Ok(Definition::same(second));
+        }
+        if second == NEVER || second == first {
+            return Ok(Definition::same(first));
+        }
+        let nothing = (ShortClause::nothing(), ShortClause::nothing());
+        let literal = self.log.new_variable();
+        let by_first = self.define([literal, first ^ 1, NEVER], nothing)?;
+        let by_second = self.define([literal, second ^ 1, NEVER], nothing)?;
+        let only = self.define([literal ^ 1, first, second], (by_first, by_second))?;
+        Ok(Definition {
+            literal,
+            clauses: [by_first, by_second, only, ShortClause::nothing()],
+        })
+    }
+
+    /// Defines a literal that is true if the first is, or the other two are.
+    pub fn define_either(
+        &mut self,
+        alone: u32,
+        together: (u32, u32),
+    ) -> Result<Definition, AllocError> {
+        let (one, other) = together;
+        if alone == ALWAYS || one == NEVER || other == NEVER {
+            return Ok(Definition::same(alone));
+        }
+        if alone == NEVER && one == ALWAYS {
+            return Ok(Definition::same(other));
+        }
+        if alone == NEVER && other == ALWAYS {
+            return Ok(Definition::same(one));
+        }
+        let nothing = (ShortClause::nothing(), ShortClause::nothing());
+        let literal = self.log.new_variable();
+        let by_alone = self.define([literal, alone ^ 1, NEVER], nothing)?;
+        let by_both = self.define([literal, one ^ 1, other ^ 1], nothing)?;
+        let opposed = (by_alone, by_both);
+        let needs_one = self.define([literal ^ 1, alone, one], opposed)?;
+        let needs_other = self.define([literal ^ 1, alone, other], opposed)?;
+        Ok(Definition {
+            literal,
+            clauses: [by_alone, by_both, needs_one, needs_other],
+        })
+    }
+}

@@ -1,0 +1,308 @@
+//! Counts of the first readers that have one of the first sources: a row for each reader.
+
+use crate::codes::ALWAYS;
+use crate::proof_writer::{Definition, ProofWriter, add_ids};
+use crate::replay::ShortClause;
+use crate::taken::{Taken, has_source};
+use proof_log::codes::NEVER;
+use source_matching::{Grid, HallViolator, MatchingInstance};
+use std::alloc::{AllocError, Global};
+
+/// The counts of the readers 1 to i: for sources 1 to j and a count k the literal "at least k of them have one of these sources", and
+/// clauses on it. Some of these literals are constants: each reader has a source, and no two have the same.
+#[derive(Drop)]
+pub struct CountRow {
+    reader: u32,
+    sources: u32,
+    /// For each source j a literal that says that the reader i has one of the sources 1 to j.
+    served: Grid<Definition>,
+    /// For each j and k the literal and its definition.
+    counts: Grid<Definition>,
+    /// If at least k of them have one of the sources 1 to j, and none has j, then k have one of those before j.
+    without_last: Grid<ShortClause>,
+    /// If at least k of them have one of the sources 1 to j, then k - 1 have one of those before j.
+    one_fewer: Grid<ShortClause>,
+}
+
+/// The place in a definition of the clause "the literal is true if the count of the row before is reached". The places follow the order in
+/// which `ProofWriter::define_either` adds its clauses; with others here the hints name wrong clauses.
+const BY_BEFORE: usize = 0;
+
+/// The place of the clause "the literal is true if the row before has one fewer, and this reader has one of the sources".
+const BY_SOURCE: usize = 1;
+
+/// The place of the clause "if the literal is true and the row before does not reach the count, the row before has one fewer".
+const NEEDS_FEWER: usize = 2;
+
+/// The place of the clause "if the literal is true and the row before does not reach the count, this reader has one of the sources".
+const NEEDS_SOURCE: usize = 3;
+
+impl CountRow {
+    /// Makes the row of this reader, without clauses.
+    pub fn new(alloc: Global, reader: u32, sources: u32) -> Result<CountRow, AllocError> {
+        let size = sources.wrapping_add(2);
+        Ok(CountRow {
+            reader,
+            sources,
+            served: Grid::new(alloc, 1, size, Definition::same(NEVER))?,
+            counts: Grid::new(alloc, size, size, Definition::same(NEVER))?,
+            without_last: Grid::new(alloc, size, size, ShortClause::nothing())?,
+            one_fewer: Grid::new(alloc, size, size, ShortClause::nothing())?,
+        })
+    }
+
+    /// Returns the literal that says that at least `count` of the readers have one of the sources up to this one.
+    fn at_least(&self, count: u32, source: u32) -> u32 {
+        if count > self.reader {
+            return NEVER;
+        }
+        if source == self.sources {
+            return ALWAYS;
+        }
+        if count > source {
+            return NEVER;
+        }
+        let left_out = self.sources.wrapping_sub(source);
+        if count == 0 || count.wrapping_add(left_out) <= self.reader {
+            return ALWAYS;
+        }
+        self.counts.get(source, count).literal
+    }
+
+    /// Returns the smallest count for which the literal of this source is no constant.
+    fn least_open(&self, source: u32) -> u32 {
+        let readers = self.reader.wrapping_add(source).wrapping_add(1);
+        readers.saturating_sub(self.sources).max(1)
+    }
+
+    /// Returns the literal that says that the reader has one of the sources up to this one.
+    fn is_served(&self, source: u32) -> u32 {
+        if source == self.sources {
+            ALWAYS
+        } else {
+            self.served.get(0, source).literal
+        }
+    }
+
+    /// Returns the clause which says that the reader has this source or one before it, if it has one up to this one.
+    fn served_only(&self, source: u32) -> ShortClause {
+        self.served.get(0, source).clauses[2]
+    }
+
+    /// Returns a clause of the definition of this count and source, by its place there: `BY_BEFORE`, `BY_SOURCE`, `NEEDS_FEWER` or
+    /// `NEEDS_SOURCE`.
+    fn clause(&self, source: u32, count: u32, which: usize) -> ShortClause {
+        let definition = self.counts.get(source, count);
+        let clauses = &definition.clauses;
+        if which < clauses.len() {
+            clauses[which]
+        } else {
+            ShortClause::nothing()
+        }
+    }
+
+    /// Writes a clause for a count and source whose literal is a constant, so that the next row finds it at the place of a definition's
+    /// clause.
+    fn set_border(&mut self, source: u32, count: u32, which: usize, known: ShortClause) {
+        let mut definition = self.counts.get(source, count);
+        if which < definition.clauses.len() {
+            definition.clauses[which] = known;
+        }
+        self.counts.set(source, count, definition);
+    }
+
+    /// Adds the clauses on the sources of this reader alone: its literal is true at each source from its own on. The clause of this number
+    /// says that one of its choices is made.
+    pub fn add_served(
+        &mut self,
+        writer: &mut ProofWriter,
+        reads: &MatchingInstance,
+        shortage: &HallViolator,
+        clause: u32,
+    ) -> Result<(), AllocError> {
+        let mut before = NEVER;
+        for source in 1..self.sources {
+            let literal = has_source(reads, shortage, self.reader, source);
+            let definition = writer.define_or(before, literal)?;
+            self.served.set(0, source, definition);
+            before = definition.literal;
+        }
+        let last = has_source(reads, shortage, self.reader, self.sources);
+        writer.begin([before, last, NEVER])?;
+        for source in (1..self.sources).rev() {
+            let definition = self.served.get(0, source);
+            writer.take(definition.clauses[0])?;
+            writer.take(definition.clauses[1])?;
+        }
+        writer.end(clause)?;
+        let mut definition = Definition::same(ALWAYS);
+        definition.clauses[2] = writer.add()?;
+        self.served.set(0, self.sources, definition);
+        Ok(())
+    }
+
+    /// Adds the clauses for the literals that are always true: this number of readers have a source up to this one, since the sources after
+    /// it have no room for the others.
+    pub fn add_full_ends(
+        &mut self,
+        writer: &mut ProofWriter,
+        taken: &Taken,
+        before: &CountRow,
+    ) -> Result<(), AllocError> {
+        for source in (1..self.sources).rev() {
+            let readers = self.reader.wrapping_add(source);
+            if readers <= self.sources {
+                break;
+            }
+            let count = readers.wrapping_sub(self.sources);
+            let (next, more) = (source.wrapping_add(1), count.wrapping_add(1));
+            let literals = [
+                before.at_least(count, source),
+                self.is_served(source),
+                NEVER,
+            ];
+            let hints = [
+                before.one_fewer.get(next, more),
+                self.clause(next, more, NEEDS_SOURCE),
+                self.served_only(next),
+                taken.exclusion(self.reader, next),
+                before.without_last.get(next, count),
+            ];
+            let known = writer.derive(literals, &hints)?;
+            self.set_border(source, count, NEEDS_SOURCE, known);
+        }
+        Ok(())
+    }
+
+    /// Adds the clauses for the literals that are never true, for the sources up to the last of these: a number of sources has at most as
+    /// many readers. For all readers and all sources that is the empty clause.
+    pub fn add_crowded_ends(
+        &mut self,
+        writer: &mut ProofWriter,
+        taken: &Taken,
+        before: &CountRow,
+        last: u32,
+    ) -> Result<(), AllocError> {
+        for source in 1..=last {
+            let previous = source.wrapping_sub(1);
+            let literals = [
+                before.at_least(source, source) ^ 1,
+                self.is_served(source) ^ 1,
+                NEVER,
+            ];
+            let hints = [
+                before.one_fewer.get(source, source),
+                self.clause(previous, source, BY_SOURCE),
+                self.served_only(source),
+                taken.exclusion(self.reader, source),
+                before.without_last.get(source, source),
+            ];
+            let known = writer.derive(literals, &hints)?;
+            self.set_border(source, source.wrapping_add(1), BY_SOURCE, known);
+        }
+        Ok(())
+    }
+
+    /// Adds the definitions of the literals that are no constants.
+    pub fn add_counts(
+        &mut self,
+        writer: &mut ProofWriter,
+        before: &CountRow,
+    ) -> Result<(), AllocError> {
+        for source in 1..self.sources {
+            for count in self.least_open(source)..=self.reader.min(source) {
+                let alone = before.at_least(count, source);
+                let fewer = before.at_least(count.wrapping_sub(1), source);
+                let definition = writer.define_either(alone, (fewer, self.is_served(source)))?;
+                self.counts.set(source, count, definition);
+            }
+        }
+        Ok(())
+    }
+
+    /// Adds the clauses on a source that none of the readers has.
+    pub fn add_without_last(
+        &mut self,
+        writer: &mut ProofWriter,
+        taken: &Taken,
+        before: &CountRow,
+    ) -> Result<(), AllocError> {
+        for source in 1..=self.sources {
+            let previous = source.wrapping_sub(1);
+            let definition = taken.definition(self.reader, source);
+            let least = self.least_open(source).wrapping_sub(1).max(1);
+            for count in least..=self.reader.min(source) {
+                let literals = [
+                    self.at_least(count, source) ^ 1,
+                    definition.literal,
+                    self.at_least(count, previous),
+                ];
+                let hints = [
+                    definition.clauses[0],
+                    definition.clauses[1],
+                    self.clause(previous, count, BY_BEFORE),
+                    before.without_last.get(source, count),
+                    self.clause(source, count, NEEDS_SOURCE),
+                    self.served_only(source),
+                    self.clause(previous, count, BY_SOURCE),
+                    self.clause(source, count, NEEDS_FEWER),
+                    before.without_last.get(source, count.wrapping_sub(1)),
+                ];
+                let known = writer.derive(literals, &hints)?;
+                self.without_last.set(source, count, known);
+            }
+        }
+        Ok(())
+    }
+
+    /// Adds the clauses on one source fewer: it takes at most one reader away.
+    pub fn add_one_fewer(
+        &mut self,
+        writer: &mut ProofWriter,
+        taken: &Taken,
+        before: &CountRow,
+    ) -> Result<(), AllocError> {
+        for source in 1..self.sources {
+            let previous = source.wrapping_sub(1);
+            for count in self.least_open(source).max(2)..=self.reader.min(source) {
+                let fewer = count.wrapping_sub(1);
+                let literals = [
+                    self.at_least(count, source) ^ 1,
+                    self.at_least(fewer, previous),
+                    NEVER,
+                ];
+                let hints = [
+                    self.clause(previous, fewer, BY_BEFORE),
+                    before.one_fewer.get(source, count),
+                    self.clause(source, count, NEEDS_FEWER),
+                    self.clause(source, count, NEEDS_SOURCE),
+                    before.without_last.get(source, fewer),
+                    taken.exclusion(self.reader, source),
+                    self.served_only(source),
+                    self.clause(previous, fewer, BY_SOURCE),
+                    before.one_fewer.get(source, fewer),
+                ];
+                let known = writer.derive(literals, &hints)?;
+                self.one_fewer.set(source, count, known);
+            }
+        }
+        Ok(())
+    }
+
+    /// Adds the numbers of the clauses that only this row needs.
+    pub fn add_own_ids(&self, ids: &mut Vec<u32>) -> Result<(), AllocError> {
+        for definition in self.served.items() {
+            add_ids(ids, &definition.clauses)?;
+        }
+        for definition in self.counts.items() {
+            add_ids(ids, &definition.clauses)?;
+        }
+        Ok(())
+    }
+
+    /// Adds the numbers of the clauses that the next row needs too.
+    pub fn add_lasting_ids(&self, ids: &mut Vec<u32>) -> Result<(), AllocError> {
+        add_ids(ids, self.without_last.items())?;
+        add_ids(ids, self.one_fewer.items())
+    }
+}

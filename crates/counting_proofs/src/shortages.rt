@@ -1,0 +1,125 @@
+//! The steps which say that the readers of a Hall violator do not all have a source of their own.
+
+use crate::proof_writer::ProofWriter;
+use crate::rows::CountRow;
+use crate::taken::Taken;
+use crate::units::UnitTable;
+use source_matching::{HallViolator, MatchingInstance};
+use std::alloc::{AllocError, Global};
+
+/// A Hall violator, and what is cited of its readers.
+#[derive(Clone, Copy)]
+struct Cited<'a> {
+    shortage: &'a HallViolator,
+    reads: &'a MatchingInstance,
+    units: &'a UnitTable,
+}
+
+/// Returns the number of a clause which says that the reader makes one of those of its choices that are not excluded. It is the reader's
+/// own clause if none is excluded.
+fn open_clause(
+    alloc: Global,
+    writer: &mut ProofWriter,
+    cited: Cited<'_>,
+    reader: u32,
+) -> Result<u32, AllocError> {
+    let Cited { reads, units, .. } = cited;
+    let clause = reads.reader(reader).clause;
+    let mut literals = Vec::new(alloc);
+    let mut hints = Vec::new(alloc);
+    for number in reads.first_choice(reader)..reads.first_choice(reader.wrapping_add(1)) {
+        let choice = reads.choice(number);
+        if choice.is_excluded {
+            hints.push(units.hint(choice.literal() ^ 1))?;
+        } else {
+            literals.push(choice.literal())?;
+        }
+    }
+    if hints.is_empty() {
+        return Ok(clause);
+    }
+    hints.push(i64::from(clause))?;
+    writer.log().add(literals.as_slice(), hints.as_slice())
+}
+
+/// Adds the row of a reader that has one after it, and deletes what no later row needs: so the checker keeps at most two rows at a time.
+fn add_row(
+    alloc: Global,
+    writer: &mut ProofWriter,
+    cited: Cited<'_>,
+    taken: &Taken,
+    before: &CountRow,
+    reader: u32,
+) -> Result<CountRow, AllocError> {
+    let Cited {
+        shortage,
+        reads,
+        ..
+    } = cited;
+    let sources = shortage.sources();
+    let mut row = CountRow::new(alloc, reader, sources)?;
+    let number = shortage.reader(reader);
+    let clause = open_clause(alloc, writer, cited, number)?;
+    row.add_served(writer, reads, shortage, clause)?;
+    row.add_full_ends(writer, taken, before)?;
+    let last = reader.min(sources).saturating_sub(1);
+    row.add_crowded_ends(writer, taken, before, last)?;
+    row.add_counts(writer, before)?;
+    row.add_without_last(writer, taken, before)?;
+    row.add_one_fewer(writer, taken, before)?;
+    let mut old = Vec::new(alloc);
+    if clause != reads.reader(number).clause {
+        old.push(clause)?;
+    }
+    row.add_own_ids(&mut old)?;
+    before.add_lasting_ids(&mut old)?;
+    taken.add_row_ids(reader, &mut old)?;
+    writer.log().delete(old.as_slice())?;
+    Ok(row)
+}
+
+/// Adds the row of the last reader, for which there is no source left. Its last step is the empty clause.
+fn add_last_row(
+    alloc: Global,
+    writer: &mut ProofWriter,
+    cited: Cited<'_>,
+    taken: &Taken,
+    before: &CountRow,
+) -> Result<(), AllocError> {
+    let Cited {
+        shortage,
+        reads,
+        ..
+    } = cited;
+    let sources = shortage.sources();
+    let mut row = CountRow::new(alloc, shortage.readers(), sources)?;
+    let clause = open_clause(alloc, writer, cited, shortage.reader(shortage.readers()))?;
+    row.add_served(writer, reads, shortage, clause)?;
+    row.add_crowded_ends(writer, taken, before, sources)
+}
+
+/// Adds all steps. The last one is the empty clause.
+pub fn add_shortage(
+    alloc: Global,
+    writer: &mut ProofWriter,
+    reads: &MatchingInstance,
+    units: &UnitTable,
+    shortage: &HallViolator,
+) -> Result<(), AllocError> {
+    let cited = Cited {
+        shortage,
+        reads,
+        units,
+    };
+    if shortage.sources() == 0 {
+        let clause = open_clause(alloc, writer, cited, shortage.reader(1))?;
+        let _id = writer.log().add(&[], &[i64::from(clause)])?;
+        return Ok(());
+    }
+    let taken = Taken::of(alloc, writer, reads, shortage)?;
+    let mut before = CountRow::new(alloc, 0, shortage.sources())?;
+    for reader in 1..shortage.readers() {
+        before = add_row(alloc, writer, cited, &taken, &before, reader)?;
+    }
+    add_last_row(alloc, writer, cited, &taken, &before)
+}

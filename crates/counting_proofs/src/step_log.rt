@@ -1,0 +1,123 @@
+//! The steps of a derivation as they are written.
+
+use dimacs::{Clause, Lit, MAX_VARIABLE};
+use lrat_check::derivation::{Derivation, Step};
+use lrat_check::hints::Hints;
+use lrat_check::ids::Ids;
+use proof_log::codes::{NEVER, literal_of};
+use std::alloc::{AllocError, Global};
+
+/// The first free numbers: all above them are free too.
+#[derive(Clone, Copy)]
+pub struct Free {
+    /// The number of the next clause.
+    pub clause: u32,
+    /// The next variable.
+    pub variable: u32,
+}
+
+/// The steps of a derivation up to a bound. What does not fit is left out, and then there is no derivation.
+#[derive(Drop)]
+pub struct StepLog {
+    alloc: Global,
+    steps: Vec<Step>,
+    next_id: u32,
+    next_variable: u32,
+    /// Number of further steps for which there is room.
+    left: u64,
+    is_whole: bool,
+}
+
+/// Returns the literals of these codes, each once, without the constant that is never true.
+fn literals_of(alloc: Global, codes: &[u32]) -> Result<Vec<Lit>, AllocError> {
+    let mut literals: Vec<Lit> = Vec::with_capacity(alloc, codes.len())?;
+    for code in codes {
+        let literal = literal_of(*code);
+        let is_new = *code != NEVER && !literals.as_slice().iter().any(|other| *other == literal);
+        if is_new {
+            literals.push(literal)?;
+        }
+    }
+    Ok(literals)
+}
+
+impl StepLog {
+    /// Starts with these steps, to which others are added up to `most_steps` in all. What they add has the free numbers.
+    pub fn new(alloc: Global, steps: Vec<Step>, free: Free, most_steps: u64) -> StepLog {
+        StepLog {
+            alloc,
+            left: most_steps.saturating_sub(steps.len() as u64),
+            steps,
+            next_id: free.clause,
+            next_variable: free.variable,
+            is_whole: true,
+        }
+    }
+
+    /// Returns the code of a new variable.
+    pub fn new_variable(&mut self) -> u32 {
+        let variable = self.next_variable;
+        self.next_variable = variable.wrapping_add(1);
+        if variable > MAX_VARIABLE {
+            self.spoil();
+        }
+        variable.wrapping_mul(2)
+    }
+
+    /// Records that there will be no derivation.
+    pub fn spoil(&mut self) {
+        self.is_whole = false;
+    }
+
+    /// Adds the step, if there is room for it.
+    fn push(&mut self, step: Step) -> Result<(), AllocError> {
+        if self.left == 0 {
+            self.spoil();
+            return Ok(());
+        }
+        self.left = self.left.saturating_sub(1);
+        self.steps.push(step)?;
+        Ok(())
+    }
+
+    /// Adds the clause of these literals with these hints. Returns its number.
+    pub fn add(&mut self, literals: &[u32], hints: &[i64]) -> Result<u32, AllocError> {
+        let id = self.next_id;
+        self.next_id = id.wrapping_add(1);
+        let literals = literals_of(self.alloc, literals)?;
+        let mut numbers = Vec::with_capacity(self.alloc, hints.len())?;
+        numbers.extend_from_slice(hints)?;
+        self.push(Step::Addition {
+            id: u64::from(id),
+            literals: Clause::from_slice(self.alloc, literals.as_slice())?,
+            hints: Hints::new(numbers),
+        })?;
+        Ok(id)
+    }
+
+    /// Deletes the clauses of these numbers.
+    pub fn delete(&mut self, ids: &[u32]) -> Result<(), AllocError> {
+        let mut numbers = Vec::with_capacity(self.alloc, ids.len())?;
+        for id in ids {
+            numbers.push(u64::from(*id))?;
+        }
+        self.push(Step::Deletion {
+            first: u64::from(self.next_id),
+            ids: Ids::new(numbers),
+        })
+    }
+
+    /// Returns the derivation, if nothing was left out.
+    pub fn into_derivation(self) -> Option<Derivation> {
+        let StepLog {
+            steps,
+            is_whole,
+            ..
+        } = self;
+        if is_whole {
+            Some(Derivation::new(steps))
+        } else {
+            None
+        }
+    }
+}

@@ -1,0 +1,158 @@
+//! The sources of the first readers: which of them one of these readers has.
+
+use crate::proof_writer::{Definition, ProofWriter, add_ids};
+use crate::replay::ShortClause;
+use order_sets::tables::{at, put};
+use proof_log::codes::NEVER;
+use source_matching::{Grid, HallViolator, MatchingInstance};
+use std::alloc::{AllocError, Global};
+
+/// For each reader and source a literal that says that one of the readers up to this one has the source, and the clause that says
+/// that this one has not if one before it has.
+#[derive(Drop)]
+pub struct Taken {
+    columns: u32,
+    definitions: Grid<Definition>,
+    exclusions: Grid<ShortClause>,
+}
+
+/// Returns the literal that says that the reader has the source.
+pub fn has_source(
+    reads: &MatchingInstance,
+    shortage: &HallViolator,
+    reader: u32,
+    source: u32,
+) -> u32 {
+    match shortage.choice(reader, source) {
+        Some(choice) => reads.choice(choice).literal(),
+        None => NEVER,
+    }
+}
+
+/// Adds the step which says that two readers do not both have the source, if both may have it.
+fn add_pair(
+    writer: &mut ProofWriter,
+    reads: &MatchingInstance,
+    shortage: &HallViolator,
+    readers: (u32, u32),
+    source: u32,
+) -> Result<ShortClause, AllocError> {
+    let Some(first) = shortage.choice(readers.0, source) else {
+        return Ok(ShortClause::nothing());
+    };
+    let Some(second) = shortage.choice(readers.1, source) else {
+        return Ok(ShortClause::nothing());
+    };
+    let numbers = (shortage.reader(readers.0), shortage.reader(readers.1));
+    let hints = reads.hints_of_pair(numbers, (first, second));
+    let literals = [
+        reads.choice(first).literal() ^ 1,
+        reads.choice(second).literal() ^ 1,
+        NEVER,
+    ];
+    writer.begin(literals)?;
+    for hint in hints {
+        if hint != 0 {
+            writer.end(hint)?;
+        }
+    }
+    writer.add()
+}
+
+impl Taken {
+    /// Adds the steps of all sources.
+    pub fn of(
+        alloc: Global,
+        writer: &mut ProofWriter,
+        reads: &MatchingInstance,
+        shortage: &HallViolator,
+    ) -> Result<Taken, AllocError> {
+        let rows = shortage.readers().wrapping_add(1);
+        let columns = shortage.sources().wrapping_add(1);
+        let mut taken = Taken {
+            columns,
+            definitions: Grid::new(alloc, rows, columns, Definition::same(NEVER))?,
+            exclusions: Grid::new(alloc, rows, columns, ShortClause::nothing())?,
+        };
+        for source in 1..columns {
+            taken.add_source(alloc, writer, reads, shortage, source)?;
+        }
+        Ok(taken)
+    }
+
+    /// Adds the steps of this source, and deletes the clauses on pairs, of which the number grows with the square of the readers.
+    fn add_source(
+        &mut self,
+        alloc: Global,
+        writer: &mut ProofWriter,
+        reads: &MatchingInstance,
+        shortage: &HallViolator,
+        source: u32,
+    ) -> Result<(), AllocError> {
+        let mut pairs = vec![in alloc; ShortClause::nothing(); shortage.readers() as usize]?;
+        let mut old = Vec::new(alloc);
+        for reader in 1..=shortage.readers() {
+            for other in 1..reader {
+                let pair = add_pair(writer, reads, shortage, (other, reader), source)?;
+                put(pairs.as_mut_slice(), other, pair);
+                old.push(pair.id)?;
+            }
+            let literal = has_source(reads, shortage, reader, source);
+            self.add_exclusion(writer, reader, source, literal, pairs.as_slice())?;
+            if reader < shortage.readers() {
+                let before = self.literal(reader.wrapping_sub(1), source);
+                let definition = writer.define_or(before, literal)?;
+                self.definitions.set(reader, source, definition);
+                old.push(definition.clauses[2].id)?;
+            }
+        }
+        old.retain(|id| *id != 0);
+        writer.log().delete(old.as_slice())
+    }
+
+    /// Adds the step which says that the reader has not the source if one before it has. The clauses on pairs and the definitions of the
+    /// readers before it are hints from the last one down, in the order in which they become unit.
+    fn add_exclusion(
+        &mut self,
+        writer: &mut ProofWriter,
+        reader: u32,
+        source: u32,
+        literal: u32,
+        pairs: &[ShortClause],
+    ) -> Result<(), AllocError> {
+        let before = self.literal(reader.wrapping_sub(1), source);
+        writer.begin([before ^ 1, literal ^ 1, NEVER])?;
+        for other in (1..reader).rev() {
+            writer.take(at(pairs, other, ShortClause::nothing()))?;
+            writer.take(self.definitions.get(other, source).clauses[2])?;
+        }
+        let exclusion = writer.add()?;
+        self.exclusions.set(reader, source, exclusion);
+        Ok(())
+    }
+
+    /// Returns the literal that says that one of the readers up to this one has the source.
+    pub fn literal(&self, reader: u32, source: u32) -> u32 {
+        self.definitions.get(reader, source).literal
+    }
+
+    /// Returns the literal's definition: it follows from the one of the reader before, and from the reader's own choice.
+    pub fn definition(&self, reader: u32, source: u32) -> Definition {
+        self.definitions.get(reader, source)
+    }
+
+    /// Returns the clause which says that the reader has not the source if one before it has.
+    pub fn exclusion(&self, reader: u32, source: u32) -> ShortClause {
+        self.exclusions.get(reader, source)
+    }
+
+    /// Adds the numbers of the clauses on this reader.
+    pub fn add_row_ids(&self, reader: u32, ids: &mut Vec<u32>) -> Result<(), AllocError> {
+        for source in 0..self.columns {
+            let definition = self.definitions.get(reader, source);
+            add_ids(ids, &definition.clauses[..2])?;
+            add_ids(ids, &[self.exclusions.get(reader, source)])?;
+        }
+        Ok(())
+    }
+}

@@ -1,0 +1,4 @@
+pub mod Models
+pub mod Options
+pub mod Results
+pub mod SearchCauses

@@ -1,0 +1,18 @@
+//! Cubes as jobs: what is handed to a worker, and what comes back.
+#![tactic(auto)]
+
+mod gate;
+mod job;
+mod job_cube;
+mod models;
+pub mod options;
+mod outcome;
+mod search_fault;
+
+pub use gate::{Gate, OpenGate};
+pub use job::{Job, Settled};
+pub use job_cube::{JobCube, MAX_LITERALS};
+pub use models::is_model_in;
+pub use options::{BadOption, Options};
+pub use outcome::Outcome;
+pub use search_fault::{SearchCause, SearchFault};

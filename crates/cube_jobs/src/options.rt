@@ -1,0 +1,129 @@
+//! The options of a search.
+ghost use Rattle.std.specs.Prelude.{◌≡◌, ◌≤◌, ◌↔◌, IsOk, IfOk, IfErr, MatchResult, Some, None, Err};
+ghost use Rattle.cube_jobs.specs.Options.{OptionsValue, bad_option};
+
+use std::marker::Model;
+use text_lines::fault::FaultCause;
+
+/// How a search goes about its work. No verdict rests on it.
+#[derive(Clone, Copy)]
+pub struct Options {
+    workers: u32,
+    split: u32,
+    budget: u64,
+    rounds: u32,
+}
+
+impl Model for Options {
+    ghost use Rattle.std.specs.Prelude.{◌≡◌, None};
+    ghost use Rattle.cube_jobs.specs.Options.{OptionsValue, bad_option};
+
+    ghost Value = { OptionsValue };
+
+    ghost view = { λ o. record { workers = o.workers; split = o.split; budget = o.budget; rounds = o.rounds } };
+
+    ghost invariant = { λ o. bad_option (record { workers = o.workers; split = o.split; budget = o.budget; rounds = o.rounds }) ≡ None };
+
+    ghost inverse = { λ o. record { workers = o.workers; split = o.split; budget = o.budget; rounds = o.rounds } };
+}
+
+/// The first of the options that is out of its range.
+#[derive(Clone, Copy, Debug, PartialEq, Eq)]
+pub enum BadOption {
+    /// Not 1 to 8 workers.
+    Workers,
+    /// A first split deeper than 10.
+    Split,
+    /// A budget above 1,000,000,000.
+    Budget,
+    /// Not 1 to 4 rounds.
+    Rounds,
+}
+
+impl FaultCause for BadOption {
+    ghost use Rattle.cube_jobs.specs.Options.{cause_number, cause_name};
+
+    ghost number_of = { cause_number };
+
+    ghost name_of = { cause_name };
+
+    fn number(&self) -> u8 {
+        match self {
+            BadOption::Workers => 2,
+            BadOption::Split => 3,
+            BadOption::Budget => 4,
+            BadOption::Rounds => 5,
+        }
+    }
+
+    fn name(&self) -> &'static str {
+        match self {
+            BadOption::Workers => "Workers",
+            BadOption::Split => "Split",
+            BadOption::Budget => "Budget",
+            BadOption::Rounds => "Rounds",
+        }
+    }
+}
+
+impl Options {
+    /// The options of these numbers: workers from 1 to 8, a first split of depth 0 to 10, a budget of 0 to 1,000,000,000
+    /// conflicts a cube, and rounds from 1 to 4. Else the first of them that is out of its range.
+    pub fn new(workers: u32, split: u32, budget: u64, rounds: u32) -> Result<Options, BadOption>
+        ensures { MatchResult result
+            (λ options. (options ≡ record { workers = workers; split = split; budget = budget; rounds = rounds }) × (bad_option options ≡ None))
+            (λ bad. bad_option (record { workers = workers; split = split; budget = budget; rounds = rounds }) ≡ Some bad) }
+    {
+        if workers < 1 || workers > 8 {
+            return Err(BadOption::Workers);
+        }
+        if split > 10 {
+            return Err(BadOption::Split);
+        }
+        if budget > 1_000_000_000 {
+            return Err(BadOption::Budget);
+        }
+        if rounds < 1 || rounds > 4 {
+            return Err(BadOption::Rounds);
+        }
+        Ok(Options {
+            workers,
+            split,
+            budget,
+            rounds,
+        })
+    }
+
+    /// How many workers search, from 1 to 8.
+    pub fn workers(&self) -> u32
+        ensures workers { result ≡ self.now.workers }
+        ensures some { 1 ≤ result }
+        ensures few { result ≤ 8 }
+    {
+        self.workers
+    }
+
+    /// How deep the first tree is at most, from 0 to 10.
+    pub fn split(&self) -> u32
+        ensures split { result ≡ self.now.split }
+        ensures few { result ≤ 10 }
+    {
+        self.split
+    }
+
+    /// How many conflicts are worked on in a cube before it stays open.
+    pub fn budget(&self) -> u64
+        ensures { result ≡ self.now.budget }
+    {
+        self.budget
+    }
+
+    /// How many rounds there are at most, from 1 to 4. Between two of them the open leaves are split.
+    pub fn rounds(&self) -> u32
+        ensures rounds { result ≡ self.now.rounds }
+        ensures some { 1 ≤ result }
+        ensures few { result ≤ 4 }
+    {
+        self.rounds
+    }
+}

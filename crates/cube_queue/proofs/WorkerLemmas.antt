@@ -1,0 +1,80 @@
+-- What a worker knows and has given, job by job.
+use Rattle.std.proofs.Common.{◌≡◌, ◌⊎◌, ℕ, ◌<◌, ◌≤◌, ℤ, List, [], ◌∷◌, ◌++◌, Option, None, Some, sym, ◌∙◌, ap, subst, inl, inr, arith}
+use Rattle.std.specs.Prelude.{IfSome, IfNone}
+use Rattle.std.specs.List.{Contains}
+use Rattle.std.proofs.lemmas.List.Elements.{Contains-append_cases, Contains-append_left, Contains-append_right}
+use Rattle.trace_semantics.proofs.ElementLemmas.{cases_in, head_in, none_in}
+use Rattle.cube_jobs.specs.declared.job.Settled.{Settled}
+use Rattle.cube_jobs.specs.declared.outcome.Outcome.TheVariants.{Skipped}
+use Rattle.cube_jobs.specs.Models.{IsModelResult}
+use Rattle.stop_word.specs.declared.views.View.{View}
+use Rattle.stop_word.specs.Seats.{KnowsNothing}
+use Rattle.stop_word.specs.WordRule.{Looks, or_nothing}
+use Rattle.cube_queue.specs.Workers.{MarkModels, IsHonest}
+
+-- a worker that has done nothing
+pub honest_new : (clauses : List (List ℤ)) (knows : View) (given : List Settled) → KnowsNothing knows → given ≡ [] → IsHonest clauses knows given
+honest_new clauses knows given new none = record {
+  marked = λ k c. absurd (none_in k (subst (λ (ks : List ℕ). Contains ks k) new.0 c));
+  skipped = λ settled c s. absurd (none_in settled (subst (λ (l : List Settled). Contains l settled) none c));
+}
+
+-- a look only lowers what was shown
+lower_shown : (shown : Option ℕ) (v : View) → IfSome shown (λ k. k ≤ v.least) → IfNone shown (KnowsNothing v) → or_nothing shown ≤ v.least
+lower_shown None v some none = omega (arith, none.1)
+lower_shown (Some k) v some none = some
+
+pub look_lowers : (v w : View) (shown : Option ℕ) → Looks v (or_nothing shown) w → IfSome shown (λ k. k ≤ v.least) → IfNone shown (KnowsNothing v) → w.least ≤ v.least
+look_lowers v w shown looks some none =
+    let least : w.least ≡ or_nothing shown = ap (λ (u : View). u.least) looks.4 in
+    omega (arith, least, lower_shown shown v some none)
+
+-- one result more, after a look and a mark
+module _
+    (clauses : List (List ℤ)) (old seen new : View) (given : List Settled) (settled : Settled)
+    (honest : IsHonest clauses old given) (same : seen.marks ≡ old.marks) (lower : seen.least ≤ old.least)
+    (skips : settled.outcome ≡ Skipped → seen.least < settled.ticket)
+    (marks : (new.marks ≡ seen.marks) ⊎ ((new.marks ≡ seen.marks ++ settled.ticket ∷ []) × IsModelResult clauses settled))
+    (falls : new.least ≤ seen.least)
+  where
+    abbrev more : List Settled
+    more = given ++ settled ∷ []
+
+    marked_before : MarkModels clauses old.marks more
+    marked_before k c =
+        let before = honest.marked k c in
+        (before.0, Contains-append_left given (settled ∷ []) before.0 before.1, before.2, before.3)
+
+    marked_seen : MarkModels clauses seen.marks more
+    marked_seen = subst (λ (ks : List ℕ). MarkModels clauses ks more) (sym same) marked_before
+
+    marked_last : IsModelResult clauses settled → MarkModels clauses (seen.marks ++ settled.ticket ∷ []) more
+    marked_last model k c = elim (Contains-append_cases seen.marks (settled.ticket ∷ []) k c) [
+      | inl before ↦ marked_seen k before
+      | inr last ↦ elim (cases_in settled.ticket [] k last) [
+        | inl is ↦ (settled, Contains-append_right given (settled ∷ []) settled (head_in settled []), is, model)
+        | inr none ↦ absurd (none_in k none)
+      ]
+    ]
+
+    marked_now : MarkModels clauses new.marks more
+    marked_now = elim marks [
+      | inl none ↦ subst (λ (ks : List ℕ). MarkModels clauses ks more) (sym none) marked_seen
+      | inr one ↦ subst (λ (ks : List ℕ). MarkModels clauses ks more) (sym one.0) (marked_last one.1)
+    ]
+
+    skipped_now : (s : Settled) → Contains more s → s.outcome ≡ Skipped → new.least < s.ticket
+    skipped_now s c e = elim (Contains-append_cases given (settled ∷ []) s c) [
+      | inl before ↦ (let less = honest.skipped s before e in omega (arith, less, lower, falls))
+      | inr last ↦ elim (cases_in settled [] s last) [
+        | inl is ↦ (
+            let less = skips (ap (λ (x : Settled). x.outcome) is ∙ e) in
+            let ticket = ap (λ (x : Settled). x.ticket) is in
+            omega (arith, less, falls, ticket)
+            )
+        | inr none ↦ absurd (none_in s none)
+      ]
+    ]
+
+    pub honest_more : IsHonest clauses new more
+    honest_more = record { marked = marked_now; skipped = skipped_now }

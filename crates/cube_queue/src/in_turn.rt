@@ -1,0 +1,57 @@
+//! A search in one thread.
+ghost use Rattle.std.specs.Prelude.{◌⊎◌, IsTrue, IfOk};
+ghost use Rattle.cube_jobs.specs.Results.{AreLeaves, AreResultsOf, HasModel};
+ghost use Rattle.cube_tree.specs.CubeTree.{cubes_of};
+
+use crate::leaf_jobs::job_of;
+use crate::settling::{is_model_result, settle_job};
+use cube_jobs::{Gate, Settled};
+use cube_tree::{Tree, cubes};
+use dimacs::ClauseList;
+use solver::PreparedFormula;
+use std::alloc::{AllocError, Global};
+
+/// Whether the last of the results is a model of the formula that makes its cube true.
+fn ends_in_model<L: ClauseList>(formula: &L, results: &[Settled]) -> bool
+    ensures { IsTrue result → HasModel (L.formula formula.now).clauses results.now }
+{
+    match results.last() {
+        Some(settled) => is_model_result(formula, settled),
+        None => false,
+    }
+}
+
+/// Whether there is a model among the results: one was known before the last of them, or that is one.
+fn knows_model<L: ClauseList>(formula: &L, known_before: bool, results: &[Settled]) -> bool
+    ensures { IsTrue result → IsTrue known_before ⊎ HasModel (L.formula formula.now).clauses results.now }
+{
+    known_before || ends_in_model(formula, results)
+}
+
+/// Searches the cubes of these leaves of the tree one after the other, between the two calls of the gate, as worker 0.
+pub(crate) fn search_in_turn<L: ClauseList, G: Gate>(
+    alloc: Global,
+    formula: &L,
+    prepared: &PreparedFormula,
+    tree: &Tree,
+    which: &[u32],
+    budget: u64,
+    gate: &G,
+) -> Result<Vec<Settled>, AllocError>
+    requires { AreLeaves (cubes_of tree.now) which.now }
+    ensures { IfOk result (λ results. AreResultsOf (L.formula formula.now).clauses (cubes_of tree.now) which.now results.items) }
+{
+    let cubes = cubes(alloc, tree)?;
+    let mut results = Vec::with_capacity(alloc, which.len())?;
+    let mut has_model = false;
+    for leaf in which {
+        // What the last leaf says is not looked at here: no leaf comes after it that could be skipped.
+        has_model = knows_model(formula, has_model, results.as_slice());
+        let job = job_of(alloc, cubes.as_slice(), *leaf);
+        gate.before(0, *leaf);
+        let settled = settle_job(alloc, prepared, job, budget, has_model);
+        results.push(settled)?;
+        gate.after(0, *leaf);
+    }
+    Ok(results)
+}

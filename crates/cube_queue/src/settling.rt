@@ -1,0 +1,73 @@
+//! Jobs are settled by the solver.
+ghost use Rattle.std.specs.Prelude.{◌≡◌, IsTrue};
+ghost use Rattle.cube_jobs.specs.declared.outcome.Outcome.TheVariants.{Skipped};
+ghost use Rattle.cube_jobs.specs.Models.{IsModelResult};
+
+use crate::settler::Settler;
+use cube_jobs::{Job, Outcome, Settled, is_model_in};
+use dimacs::{ClauseList, Lit};
+use solver::{Answer, PreparedFormula, solve_cube};
+use std::alloc::Global;
+
+/// A formula, what is prepared of it for all cubes, and how many conflicts are worked on in a cube.
+#[derive(Clone, Copy)]
+pub(crate) struct CubeSettler<'a, L> {
+    pub(crate) formula: &'a L,
+    pub(crate) prepared: &'a PreparedFormula<'a>,
+    pub(crate) budget: u64,
+}
+
+impl<'a, L: ClauseList> Settler for CubeSettler<'a, L> {
+    ghost clauses = { λ settler. (L.formula settler.formula.now).clauses };
+
+    fn settle(&self, alloc: Global, job: Job, skips: bool) -> Settled {
+        settle_job(alloc, self.prepared, job, self.budget, skips)
+    }
+
+    fn confirms(&self, settled: &Settled) -> bool {
+        is_model_result(self.formula, settled)
+    }
+}
+
+/// What the solver says of the cube. A search that finds no memory leaves it open.
+fn outcome_of(alloc: Global, prepared: &PreparedFormula, cube: &[Lit], budget: u64) -> Outcome
+    ensures { result ≡ Skipped → ⊥ }
+{
+    match solve_cube(alloc, prepared, cube, budget) {
+        Ok(Answer::Model(assignment)) => Outcome::Model(assignment),
+        Ok(Answer::Refuted(derivation)) => Outcome::Refuted(derivation),
+        Ok(Answer::Open) => Outcome::Open,
+        Err(_) => Outcome::Open,
+    }
+}
+
+/// Settles the job: its cube is searched, or skipped where it is to be.
+pub(crate) fn settle_job(
+    alloc: Global,
+    prepared: &PreparedFormula,
+    job: Job,
+    budget: u64,
+    skips: bool,
+) -> Settled
+    ensures ticket { result.ticket ≡ job.ticket }
+    ensures cube { result.cube ≡ job.cube }
+    ensures skipped { result.outcome ≡ Skipped → IsTrue skips }
+{
+    if skips {
+        return job.settle(Outcome::Skipped);
+    }
+    let outcome = outcome_of(alloc, prepared, job.cube(), budget);
+    job.settle(outcome)
+}
+
+/// Whether the result is a model of the formula that makes its cube true.
+pub(crate) fn is_model_result<L: ClauseList>(formula: &L, settled: &Settled) -> bool
+    ensures { IsTrue result → IsModelResult (L.formula formula.now).clauses settled.now }
+{
+    match settled.outcome() {
+        Outcome::Model(assignment) => is_model_in(formula, settled.cube(), assignment),
+        Outcome::Refuted(_) => false,
+        Outcome::Open => false,
+        Outcome::Skipped => false,
+    }
+}

@@ -1,0 +1,116 @@
+//! A worker's work.
+ghost use Rattle.std.specs.Prelude.{◌≡◌, ◌<◌, ◌≤◌, ◌⊎◌, [], ◌∷◌, ◌++◌, None, Some, IsTrue, IsFalse};
+ghost use Rattle.cube_jobs.specs.declared.outcome.Outcome.TheVariants.{Skipped};
+ghost use Rattle.cube_jobs.specs.Models.{IsModelResult};
+ghost use Rattle.job_board.specs.Hands.{ticket_in};
+ghost use Rattle.job_board.specs.Seats.{given_by, IsWorkerAt};
+ghost use Rattle.stop_word.specs.WordRule.{or_nothing};
+ghost use Rattle.cube_queue.specs.Workers.{IsHonest, IsReady, HasWorked};
+
+use crate::participants::Worker;
+use crate::settler::Settler;
+use crate::shared_search::SharedSearch;
+use cube_jobs::{Gate, Job, Settled};
+use job_board::WorkerSeat;
+use std::alloc::Global;
+use std::sync::Wait;
+use stop_word::StopSeat;
+
+/// Whether a mark was shown that is below this ticket.
+fn is_past(shown: Option<u32>, ticket: u32) -> bool
+    ensures { IsTrue result → or_nothing shown < ticket }
+{
+    match shown {
+        Some(least) => least < ticket,
+        None => false,
+    }
+}
+
+/// Looks at the stop word and settles the job, which is skipped where a lower ticket is marked.
+fn look_and_settle<S: Settler, G: Gate>(
+    alloc: Global,
+    site: &SharedSearch,
+    settler: &S,
+    gate: &G,
+    worker: u32,
+    stop: &mut StopSeat,
+    job: Job,
+) -> Settled
+    requires { stop.old.word ≡ site.now.word }
+    ensures ticket { result.ticket ≡ job.ticket }
+    ensures stop { (stop.new.word ≡ site.now.word) × (stop.new.knows.parts ≡ stop.old.knows.parts) × (stop.new.knows.marks ≡ stop.old.knows.marks) }
+    ensures lower { stop.new.knows.least ≤ stop.old.knows.least }
+    ensures skipped { result.outcome ≡ Skipped → stop.new.knows.least < result.ticket }
+{
+    gate.before(worker, job.ticket());
+    let shown = site.word.look(stop);
+    let skips = is_past(shown, job.ticket());
+    settler.settle(alloc, job, skips)
+}
+
+/// Marks the result's ticket where the result is a model of the clauses that makes its cube true.
+fn mark_model<S: Settler>(site: &SharedSearch, settler: &S, stop: &mut StopSeat, settled: &Settled)
+    requires { stop.old.word ≡ site.now.word }
+    ensures stop { (stop.new.word ≡ site.now.word) × (stop.new.knows.parts ≡ stop.old.knows.parts) }
+    ensures lower { stop.new.knows.least ≤ stop.old.knows.least }
+    ensures marks { (stop.new.knows.marks ≡ stop.old.knows.marks) ⊎ ((stop.new.knows.marks ≡ stop.old.knows.marks ++ settled.now.ticket ∷ []) × IsModelResult (S.clauses settler.now) settled.now) }
+{
+    if settler.confirms(settled) {
+        site.word.mark(stop, settled.ticket());
+    }
+}
+
+/// Settles the job in the hand, and gives its result. Where the board hands it back, the job stays in the hand.
+fn settle_next<R: Wait, S: Settler, G: Gate>(
+    alloc: Global,
+    rt: &R,
+    site: &SharedSearch,
+    settler: &S,
+    gate: &G,
+    seat: &mut WorkerSeat,
+    stop: &mut StopSeat,
+    job: Job,
+) -> bool
+    requires seat { IsWorkerAt site.now.board seat.old × (ticket_in seat.old.hand ≡ Some job.ticket) }
+    requires stop { (stop.old.word ≡ site.now.word) × IsHonest (S.clauses settler.now) stop.old.knows (given_by seat.old) }
+    ensures seat { IsWorkerAt site.now.board seat.new × (seat.new.number ≡ seat.old.number) }
+    ensures stop { (stop.new.word ≡ site.now.word) × (stop.new.knows.parts ≡ stop.old.knows.parts) }
+    ensures given { IsTrue result → (ticket_in seat.new.hand ≡ None) × IsHonest (S.clauses settler.now) stop.new.knows (given_by seat.new) }
+    ensures held { IsFalse result → ticket_in seat.new.hand ≡ Some job.ticket }
+{
+    let worker = seat.number();
+    let ticket = job.ticket();
+    let settled = look_and_settle(alloc, site, settler, gate, worker, stop, job);
+    mark_model(site, settler, stop, &settled);
+    match site.board.give(rt, seat, settled) {
+        Ok(()) => {
+            gate.after(worker, ticket);
+            true
+        }
+        Err(_settled) => false,
+    }
+}
+
+/// Settles jobs until there are no more.
+pub(crate) fn work<R: Wait, S: Settler, G: Gate>(
+    alloc: Global,
+    rt: &R,
+    site: &SharedSearch,
+    settler: &S,
+    gate: &G,
+    member: Worker,
+) -> Worker
+    requires { IsReady site.now member }
+    ensures { HasWorked (S.clauses settler.now) site.now member result }
+{
+    let Worker { mut seat, mut stop } = member;
+    for _ in rt.forever() {
+        let Ok(job) = site.board.take(alloc, rt, &mut seat) else {
+            return Worker { seat, stop };
+        };
+        if !settle_next(alloc, rt, site, settler, gate, &mut seat, &mut stop, job) {
+            return Worker { seat, stop };
+        }
+    }
+    unreachable!()
+}

@@ -1,6 +1,0 @@
-use Rattle.std.proofs.Common.{take}
-use Rattle.cube_search.specs.Crew.{AreJobsOf}
-use Rattle.cube_search.proofs.leaf_jobs.jobs_of.Given as goal
-
-abbrev pub invariant-loop-leaf : goal.invariant-loop-leaf
-invariant-loop-leaf l = AreJobsOf l.cubes (take l.leaf-index l.which) l.jobs.items

@@ -1,3 +1,0 @@
-pub mod Workers
-pub mod Crew
-pub mod Faults

@@ -1,0 +1,11 @@
+//! Outcomes that were given.
+use cube_jobs::Outcome;
+
+/// An outcome that a worker gave, under the ticket of the job that it took.
+#[derive(Drop)]
+pub struct GivenOutcome {
+    /// The job's ticket.
+    pub ticket: u32,
+    /// What the worker says of it.
+    pub outcome: Outcome,
+}

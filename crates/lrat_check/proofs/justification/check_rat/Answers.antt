@@ -1,0 +1,46 @@
+use Rattle.std.proofs.Common.{◌≡◌, ◌<◌, ℤ, Bool, length, refl, subst, neg_ℤ, MatchBool, rules}
+use Rattle.lrat_check.specs.ClauseAt.{clause_at}
+use Rattle.lrat_check.specs.Counts.{IsCount}
+use Rattle.lrat_check.specs.Hints.{groups_of}
+use Rattle.lrat_check.specs.Rat.{AreSettled, HasAllGroups, LacksGroup}
+use Rattle.lrat_check.specs.declared.active_clauses.ActiveClauses.{ActiveClauses}
+use Rattle.lrat_check.proofs.OpposeLemmas.{rat_shows, rat_lacks, rat_empty}
+use Rattle.lrat_check.proofs.justification.check_rat.Goals as goal
+
+pub returns-then-is_empty-clause-rat : goal.returns-then-is_empty-clause-rat
+returns-then-is_empty-clause-rat g c = λ h.
+    let active = clause_at (g.F.ClauseList.formula c.args.formula.now).clauses c.args.active.now.clauses in
+    let none : length c.args.clause.now ≡ 0 = search rules in
+    (rat_empty active (groups_of c.args.hints.now) c.args.trues.now c.args.clause.now c.without_pivot.result none (c.without_pivot.ensures active c.args.trues.now), refl)
+
+pub returns-then-branch-clause-rat : goal.returns-then-branch-clause-rat
+returns-then-branch-clause-rat g c = λ h.
+    let clauses = (g.F.ClauseList.formula c.args.formula.now).clauses in
+    let active = clause_at clauses c.args.active.now.clauses in
+    let groups = groups_of c.args.hints.now in
+    let pivot = c.index-clause-0.result in
+    let long : 0 < length c.args.clause.now = search rules in
+    let settled : AreSettled active pivot c.args.trues.now groups = c.in_ok-check_candidates.ensures in
+    let negation : c.negated.result ≡ neg_ℤ pivot = search rules in
+    let count = subst (λ (z : ℤ). IsCount active z c.in_ok-count.count) negation (c.in_ok-count.ensures.count h) in
+    let decided : MatchBool c.in_ok-has_all.field-0 (HasAllGroups active pivot groups) (LacksGroup active pivot groups) =
+    subst (λ (k : ActiveClauses). IsCount (clause_at clauses k) (neg_ℤ pivot) c.in_ok-count.count → MatchBool c.in_ok-has_all.field-0 (HasAllGroups (clause_at clauses k) pivot groups) (LacksGroup (clause_at clauses k) pivot groups))
+    c.count_of.ensures.same c.in_ok-has_all.ensures count in
+    let all = subst (λ (b : Bool). MatchBool b (HasAllGroups active pivot groups) (LacksGroup active pivot groups)) c.if-branch.true decided in
+    rat_shows active groups c.args.trues.now c.args.clause.now pivot long c.index-clause-0.is settled all
+
+pub returns-else-branch-clause-rat : goal.returns-else-branch-clause-rat
+returns-else-branch-clause-rat g c = λ h.
+    let clauses = (g.F.ClauseList.formula c.args.formula.now).clauses in
+    let active = clause_at clauses c.args.active.now.clauses in
+    let groups = groups_of c.args.hints.now in
+    let pivot = c.index-clause-0.result in
+    let long : 0 < length c.args.clause.now = search rules in
+    let settled : AreSettled active pivot c.args.trues.now groups = c.in_ok-check_candidates.ensures in
+    let negation : c.negated.result ≡ neg_ℤ pivot = search rules in
+    let count = subst (λ (z : ℤ). IsCount active z c.in_ok-count.count) negation (c.in_ok-count.ensures.count h) in
+    let decided : MatchBool c.in_ok-has_all.field-0 (HasAllGroups active pivot groups) (LacksGroup active pivot groups) =
+    subst (λ (k : ActiveClauses). IsCount (clause_at clauses k) (neg_ℤ pivot) c.in_ok-count.count → MatchBool c.in_ok-has_all.field-0 (HasAllGroups (clause_at clauses k) pivot groups) (LacksGroup (clause_at clauses k) pivot groups))
+    c.count_of.ensures.same c.in_ok-has_all.ensures count in
+    let lacks = subst (λ (b : Bool). MatchBool b (HasAllGroups active pivot groups) (LacksGroup active pivot groups)) c.if-branch.false decided in
+    (rat_lacks active groups c.args.trues.now c.args.clause.now pivot c.without_group.result long c.index-clause-0.is settled lacks c.without_group.ensures, refl)

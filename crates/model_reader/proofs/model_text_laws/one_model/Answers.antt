@@ -1,5 +1,0 @@
-use Rattle.model_reader.proofs.ModelTextLemmas.{one_spelled_model}
-use Rattle.model_reader.proofs.model_text_laws.one_model.Goals as goal
-
-pub returns : goal.returns
-returns c = one_spelled_model

@@ -1,0 +1,128 @@
+//! Sets of a few hundred elements as bits.
+
+use crate::tables::{at, put};
+use std::alloc::{AllocError, Global};
+
+/// Maximum number of elements of an order: a set is three words of 64 bits.
+pub const MAX_ELEMENTS: u32 = 192;
+
+/// Number of 64-bit words of a set.
+const WORDS: u32 = 3;
+
+/// A set of elements for each element, its owner.
+#[derive(Drop)]
+pub struct ElementSets {
+    /// Number of the words of a set that are in use.
+    words: u32,
+    sets: Vec<u64>,
+}
+
+/// Returns the element's bit in its word of a set.
+#[inline(always)]
+fn bit(element: u32) -> u64 {
+    1 << (element & 63)
+}
+
+/// Returns the place of the element's word in the set of its owner.
+#[inline(always)]
+fn word_of(owner: u32, element: u32) -> u32 {
+    owner.wrapping_mul(WORDS).wrapping_add(element >> 6)
+}
+
+/// Removes the first element from a word of a set, if it has one, and returns it.
+#[inline(always)]
+pub fn next_element(word: &mut u64, number: u32) -> Option<u32> {
+    let left = *word;
+    if left == 0 {
+        return None;
+    }
+    *word = left & left.wrapping_sub(1);
+    Some(number.wrapping_mul(64).wrapping_add(left.trailing_zeros()))
+}
+
+impl ElementSets {
+    /// Makes an empty set for each of at most 192 elements.
+    pub fn new(alloc: Global, elements: u32) -> Result<ElementSets, AllocError> {
+        let elements = elements.min(MAX_ELEMENTS);
+        Ok(ElementSets {
+            words: elements.wrapping_add(63) >> 6,
+            sets: vec![in alloc; 0; (elements.wrapping_mul(WORDS)) as usize]?,
+        })
+    }
+
+    /// Returns the number of words of a set that are in use.
+    #[inline(always)]
+    pub fn words(&self) -> u32 {
+        self.words
+    }
+
+    /// Returns a word of the owner's set.
+    #[inline(always)]
+    pub fn word(&self, owner: u32, number: u32) -> u64 {
+        at(
+            self.sets.as_slice(),
+            owner.wrapping_mul(WORDS).wrapping_add(number),
+            0,
+        )
+    }
+
+    /// Writes a word of the owner's set.
+    #[inline(always)]
+    pub fn set_word(&mut self, owner: u32, number: u32, word: u64) {
+        let place = owner.wrapping_mul(WORDS).wrapping_add(number);
+        put(self.sets.as_mut_slice(), place, word);
+    }
+
+    /// Whether the element is in the set of the owner.
+    #[inline(always)]
+    pub fn has(&self, owner: u32, element: u32) -> bool {
+        at(self.sets.as_slice(), word_of(owner, element), 0) & bit(element) != 0
+    }
+
+    /// Puts the element into the set of its owner.
+    #[inline(always)]
+    pub fn insert(&mut self, owner: u32, element: u32) {
+        let place = word_of(owner, element);
+        let word = at(self.sets.as_slice(), place, 0);
+        put(self.sets.as_mut_slice(), place, word | bit(element));
+    }
+
+    /// Removes the element from the set of its owner.
+    #[inline(always)]
+    pub fn take_out(&mut self, owner: u32, element: u32) {
+        let place = word_of(owner, element);
+        let word = at(self.sets.as_slice(), place, 0);
+        put(self.sets.as_mut_slice(), place, word & !bit(element));
+    }
+
+    /// Returns the first element of the owner's set, or 192 if it is empty.
+    pub fn first(&self, owner: u32) -> u32 {
+        for number in 0..self.words {
+            let mut word = self.word(owner, number);
+            if let Some(element) = next_element(&mut word, number) {
+                return element;
+            }
+        }
+        MAX_ELEMENTS
+    }
+
+    /// Returns the number of elements of the owner's set.
+    pub fn count(&self, owner: u32) -> u32 {
+        self.count_below(owner, MAX_ELEMENTS)
+    }
+
+    /// Returns the number of elements of the owner's set that have a smaller number than this one.
+    pub fn count_below(&self, owner: u32, element: u32) -> u32 {
+        let mut count: u32 = 0;
+        for number in 0..self.words {
+            let mut word = self.word(owner, number);
+            if number > element >> 6 {
+                word = 0;
+            } else if number == element >> 6 {
+                word &= bit(element).wrapping_sub(1);
+            }
+            count = count.wrapping_add(word.count_ones());
+        }
+        count
+    }
+}

@@ -1,0 +1,14 @@
+//! A strict order of a few hundred elements as sets of bits, closed at each pair that is added, and the numbers of its
+//! variables and of the clauses that say that it is transitive.
+//!
+//! Nothing here is trusted: callers check what comes of it, by a model's evaluation or by a derivation's check.
+#![tactic(auto)]
+
+mod element_sets;
+mod order_matrix;
+pub mod tables;
+mod triple_ids;
+
+pub use element_sets::{ElementSets, MAX_ELEMENTS, next_element};
+pub use order_matrix::{Implied, OrderMatrix};
+pub use triple_ids::TripleIds;

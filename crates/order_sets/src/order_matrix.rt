@@ -1,0 +1,179 @@
+//! A transitively closed strict order as sets of bits.
+
+use crate::element_sets::{ElementSets, MAX_ELEMENTS, next_element};
+use crate::tables::{at, piece, put};
+use std::alloc::{AllocError, Global};
+
+/// A literal of the order that follows, and the element over which it does: x(a,c) over b, from x(a,b) and x(b,c).
+#[derive(Clone, Copy)]
+pub struct Implied {
+    /// Twice the number of its variable, plus one if it is negative.
+    pub literal: u32,
+    /// The element between the two that the literal puts in order.
+    pub over: u32,
+}
+
+/// Which elements stand before which. For each element there are two sets, of those after it and of those before it, and
+/// both are transitively closed at all times, so that transitivity never comes into conflict.
+///
+/// The variable y(i,j) = i * (2n - i - 1) / 2 + (j - i) says that i stands before j, for i below j below n. Its negation says
+/// that j stands before i.
+#[derive(Drop)]
+pub struct OrderMatrix {
+    elements: u32,
+    variables: u32,
+    successors: ElementSets,
+    before: ElementSets,
+    /// For each element i the number y(i,j) minus j.
+    bases: Vec<u32>,
+    /// For each variable its two elements, i in the upper half.
+    pairs: Vec<u32>,
+    implied: Vec<Implied>,
+    count: u32,
+}
+
+impl OrderMatrix {
+    /// Makes the order of at most 192 elements in which no two are in order yet.
+    pub fn new(alloc: Global, elements: u32) -> Result<OrderMatrix, AllocError> {
+        let elements = elements.min(MAX_ELEMENTS);
+        let variables = elements.wrapping_mul(elements.wrapping_sub(1)) / 2;
+        let nothing = Implied {
+            literal: 0,
+            over: 0,
+        };
+        let mut matrix = OrderMatrix {
+            elements,
+            variables,
+            successors: ElementSets::new(alloc, elements)?,
+            before: ElementSets::new(alloc, elements)?,
+            bases: vec![in alloc; 0; elements as usize]?,
+            pairs: vec![in alloc; 0; variables.wrapping_add(1) as usize]?,
+            implied: vec![in alloc; nothing; variables.wrapping_add(1) as usize]?,
+            count: 0,
+        };
+        matrix.number_variables();
+        Ok(matrix)
+    }
+
+    /// Gives each pair its variable.
+    fn number_variables(&mut self) {
+        let elements = self.elements;
+        let mut variable: u32 = 0;
+        for i in 0..elements {
+            put(self.bases.as_mut_slice(), i, variable.wrapping_sub(i));
+            for j in i + 1..elements {
+                variable = variable.wrapping_add(1);
+                put(self.pairs.as_mut_slice(), variable, (i << 16) | j);
+            }
+        }
+    }
+
+    /// Returns the number of variables of the order, which are counted from 1.
+    #[inline(always)]
+    pub fn variables(&self) -> u32 {
+        self.variables
+    }
+
+    /// Returns the number of elements.
+    pub fn elements(&self) -> u32 {
+        self.elements
+    }
+
+    /// Returns the literal that says that the one stands before the other.
+    #[inline(always)]
+    pub fn literal(&self, a: u32, b: u32) -> u32 {
+        let bases = self.bases.as_slice();
+        if a < b {
+            at(bases, a, 0).wrapping_add(b).wrapping_mul(2)
+        } else {
+            at(bases, b, 0).wrapping_add(a).wrapping_mul(2) | 1
+        }
+    }
+
+    /// Returns the two elements of the literal, the one that it puts first before the other.
+    #[inline(always)]
+    pub fn ends(&self, literal: u32) -> (u32, u32) {
+        let pair = at(self.pairs.as_slice(), literal >> 1, 0);
+        if literal & 1 == 0 {
+            (pair >> 16, pair & 0xffff)
+        } else {
+            (pair & 0xffff, pair >> 16)
+        }
+    }
+
+    /// Returns the successors of each element.
+    #[inline(always)]
+    pub fn successors(&self) -> &ElementSets {
+        &self.successors
+    }
+
+    /// Returns the predecessors of each element. Sorting by their number gives a total order that extends this one.
+    #[inline(always)]
+    pub fn predecessors(&self) -> &ElementSets {
+        &self.before
+    }
+
+    /// Records that a stands before b over the element.
+    #[inline(always)]
+    fn imply(&mut self, a: u32, b: u32, over: u32) {
+        let literal = self.literal(a, b);
+        put(
+            self.implied.as_mut_slice(),
+            self.count,
+            Implied { literal, over },
+        );
+        self.count = self.count.wrapping_add(1);
+    }
+
+    /// Puts a before all elements that stand after b and not yet after a, over b.
+    #[inline(always)]
+    fn inherit_behind(&mut self, a: u32, b: u32) {
+        for w in 0..self.successors.words() {
+            let behind_a = self.successors.word(a, w);
+            let mut added = self.successors.word(b, w) & !behind_a;
+            self.successors.set_word(a, w, behind_a | added);
+            for _ in 0..64 {
+                let Some(c) = next_element(&mut added, w) else {
+                    break;
+                };
+                self.before.insert(c, a);
+                self.imply(a, c, b);
+            }
+        }
+    }
+
+    /// Adds the pair (a, b) and closes the order incrementally: all of a and its predecessors come before all of b and its successors. New
+    /// literals are in `implied`, each after those from which it follows. Precondition (not checked): b is not before a.
+    pub fn add(&mut self, a: u32, b: u32) {
+        self.count = 0;
+        self.inherit_behind(a, b);
+        self.successors.insert(a, b);
+        for v in 0..self.before.words() {
+            let before_b = self.before.word(b, v);
+            let mut added = self.before.word(a, v) & !before_b;
+            self.before.set_word(b, v, before_b | added);
+            for _ in 0..64 {
+                let Some(c) = next_element(&mut added, v) else {
+                    break;
+                };
+                self.successors.insert(c, b);
+                self.imply(c, b, a);
+                self.inherit_behind(c, b);
+            }
+        }
+        self.before.insert(b, a);
+    }
+
+    /// Returns the literals that the last added pair implied.
+    #[inline(always)]
+    pub fn implied(&self) -> &[Implied] {
+        piece(self.implied.as_slice(), 0, self.count)
+    }
+
+    /// Removes the pair (a, b) alone. Callers undo all later pairs too, in reverse order, as the trail does.
+    #[inline(always)]
+    pub fn remove(&mut self, a: u32, b: u32) {
+        self.successors.take_out(a, b);
+        self.before.take_out(b, a);
+    }
+}

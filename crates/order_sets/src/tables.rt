@@ -1,0 +1,46 @@
+//! Tables that can be read at every place.
+//!
+//! A search promises nothing of what it finds, so no invariant says that its places are in range. A place past the end of a
+//! table reads as a value that the caller names, and a write there does nothing: such code is safe as it stands.
+
+/// Returns the entry at this place, or the other value past the end.
+#[inline(always)]
+pub fn at<T: Copy>(table: &[T], place: u32, otherwise: T) -> T {
+    let place = place as usize;
+    if place < table.len() {
+        table[place]
+    } else {
+        otherwise
+    }
+}
+
+/// Writes the entry at this place. Past the end nothing happens.
+#[inline(always)]
+pub fn put<T: Copy>(table: &mut [T], place: u32, value: T) {
+    let place = place as usize;
+    if place < table.len() {
+        table[place] = value;
+    }
+}
+
+/// Returns the entries from one place up to another, or none if these are no places of the table.
+#[inline(always)]
+pub fn piece<T>(table: &[T], from: u32, to: u32) -> &[T] {
+    let from = from as usize;
+    let to = to as usize;
+    if from <= to && to <= table.len() {
+        &table[from..to]
+    } else {
+        &table[..0]
+    }
+}
+
+/// Returns the number of entries, at most the largest `u32`.
+#[inline(always)]
+pub fn size<T>(table: &[T]) -> u32 {
+    if table.len() <= 0xffff_ffff {
+        table.len() as u32
+    } else {
+        0xffff_ffff
+    }
+}

@@ -1,0 +1,63 @@
+//! The numbers of the clauses that say that an order is transitive.
+
+use crate::tables::{at, put};
+use std::alloc::{AllocError, Global};
+
+/// The numbers of the clauses `-y(i,j) -y(j,k) y(i,k)` and `y(i,j) y(j,k) -y(i,k)`, for all i below j below k in lexicographic order. The
+/// encoding writes them in this order: with another one here each hint names a wrong clause.
+#[derive(Drop)]
+pub struct TripleIds {
+    first: u32,
+    smallest: Vec<u32>,
+    middle: Vec<u32>,
+}
+
+impl TripleIds {
+    /// Makes the numbers for an order of this number of elements, if the first clause has the given number.
+    pub fn new(alloc: Global, elements: u32, first: u32) -> Result<TripleIds, AllocError> {
+        let mut smallest = vec![in alloc; 0; elements as usize]?;
+        let mut middle = vec![in alloc; 0; elements as usize]?;
+        // The number of triples that begin below i, and of pairs (j, k) with j below the element at hand.
+        let mut triples: u32 = 0;
+        let mut pairs: u32 = 0;
+        for i in 0..elements {
+            let above = elements - 1 - i;
+            put(middle.as_mut_slice(), i, pairs);
+            pairs = pairs.wrapping_add(above);
+            put(smallest.as_mut_slice(), i, triples.wrapping_sub(pairs));
+            triples = triples.wrapping_add(above.wrapping_mul(above.wrapping_sub(1)) / 2);
+        }
+        Ok(TripleIds {
+            first,
+            smallest,
+            middle,
+        })
+    }
+
+    /// Returns the number of the clause of i below j below k that has one negative literal or two.
+    fn of_triple(&self, i: u32, j: u32, k: u32, one_negative: u32) -> u32 {
+        let triple = at(self.smallest.as_slice(), i, 0)
+            .wrapping_add(at(self.middle.as_slice(), j, 0))
+            .wrapping_add(k.wrapping_sub(j).wrapping_sub(1));
+        self.first
+            .wrapping_add(triple.wrapping_mul(2))
+            .wrapping_add(one_negative)
+    }
+
+    /// Returns the number of the clause that forbids the cycle in which a stands before b, b before c and c before a.
+    pub fn of_cycle(&self, a: u32, b: u32, c: u32) -> u32 {
+        // The cycle is turned so that its smallest element comes first. Then its direction picks one of two clauses.
+        let (i, p, q) = if b < a && b < c {
+            (b, c, a)
+        } else if c < a && c < b {
+            (c, a, b)
+        } else {
+            (a, b, c)
+        };
+        if p < q {
+            self.of_triple(i, p, q, 0)
+        } else {
+            self.of_triple(i, q, p, 1)
+        }
+    }
+}

@@ -1,0 +1,15 @@
+//! What a search answers.
+
+use dimacs::Assignment;
+use lrat_check::derivation::Derivation;
+
+/// Answer of a search. Untrusted: the caller evaluates a model and checks a derivation.
+#[derive(Drop)]
+pub enum Answer {
+    /// A model: it makes all clauses and all literals of the cube true.
+    Model(Assignment),
+    /// A derivation that there is no model.
+    Refuted(Derivation),
+    /// The budget was too small to decide.
+    Open,
+}

@@ -1,0 +1,37 @@
+//! The interface of a clause-learning search to its budget.
+
+use crate::proof_log::ProofLog;
+use dimacs::Assignment;
+use lrat_check::derivation::Derivation;
+use std::alloc::AllocError;
+
+/// A clause-learning search: it learns a clause from each conflict, where a conflict is a clause all of whose literals have become false.
+/// Literals are given by their codes. Nothing is promised of what it learns.
+pub trait Learner {
+    /// Decides and propagates until there is a conflict or nothing is left to decide. Returns whether there is a conflict, which is kept
+    /// until it is analysed.
+    fn meets_conflict(&mut self) -> Result<bool, AllocError>;
+
+    /// Analyses the conflict and learns a clause.
+    fn learn(&mut self) -> Result<(), AllocError>;
+
+    /// Returns the literals of the last learned clause.
+    fn learned(&self) -> &[u32];
+
+    /// Returns its LRAT hints.
+    fn hints(&self) -> &[u32];
+
+    /// Backjumps and asserts the last learned clause, which has this id.
+    fn go_on(&mut self, id: u32) -> Result<(), AllocError>;
+
+    /// Backtracks to level 0, and looks there for a derivation of at most `budget` steps that takes no further conflict. The log has what
+    /// was learned.
+    fn refute_at_root(
+        &mut self,
+        log: &ProofLog,
+        budget: u64,
+    ) -> Result<Option<Derivation>, AllocError>;
+
+    /// Returns the values of all variables, if there is no conflict and nothing is left to decide.
+    fn model(&self) -> Result<Assignment, AllocError>;
+}

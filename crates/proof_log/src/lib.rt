@@ -1,0 +1,27 @@
+//! What a search has learned, as a derivation that keeps to a budget.
+//!
+//! - `ProofLog` keeps the clauses that were learned, each with its hints, and makes a derivation of them.
+//! - `Attempt` is a search with a log of its own. It analyses at most as many conflicts as its budget has, each of which makes one
+//!   addition. `search_alone` runs one by turns, and `take_turns` two; after each turn it looks for a derivation that takes no further
+//!   conflict. The search is any `Learner`, of which nothing is promised.
+//! - `Answer` is the result: a model, a derivation within the budget, or open.
+//! - `within` and `refuted_within` keep derivations that no search has made to a budget.
+//! - `codes` says how literals are written as numbers.
+//!
+//! So what is proved of an answer, that it keeps to its budget, is proved here, whatever the search does. Whether a derivation is right the
+//! checker decides.
+#![tactic(auto)]
+
+mod answer;
+mod attempt;
+pub mod codes;
+mod learner;
+mod limit;
+mod proof_log;
+mod searching;
+
+pub use answer::Answer;
+pub use attempt::{Attempt, TURN, search_alone, take_turns};
+pub use learner::Learner;
+pub use limit::{refuted_within, within};
+pub use proof_log::ProofLog;

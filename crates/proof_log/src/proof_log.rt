@@ -1,0 +1,184 @@
+//! The proof log: learned clauses with their hints.
+
+ghost use Rattle.std.specs.Prelude.{◌≡◌, ◌≤◌, ◌+◌, length, IfOk, OnOk};
+
+use crate::codes::literal_of;
+use dimacs::Clause;
+use lrat_check::derivation::{Derivation, Step};
+use lrat_check::hints::Hints;
+use order_sets::tables::{at, piece, put, size};
+use std::alloc::{AllocError, Global};
+use std::marker::Model;
+
+/// The ends of an addition in the lists of literals and of hints.
+#[derive(Clone, Copy)]
+struct End {
+    literals: u32,
+    hints: u32,
+}
+
+/// The additions of a derivation, apart from the search, so that nothing but `add` makes them more. Contracts see their number.
+#[derive(Drop)]
+pub struct ProofLog {
+    /// The number of the first addition.
+    first: u32,
+    literals: Vec<u32>,
+    hints: Vec<u32>,
+    ends: Vec<End>,
+}
+
+impl Model for ProofLog {
+    ghost use Rattle.std.specs.Prelude.{ℕ, vec_len};
+
+    ghost Value = { ℕ };
+
+    ghost view = { λ log. vec_len log.ends };
+}
+
+impl ProofLog {
+    /// Starts empty. The first addition will have this number.
+    pub fn new(alloc: Global, first: u32) -> ProofLog
+        ensures { result ≡ 0 }
+    {
+        ProofLog {
+            first,
+            literals: Vec::new(alloc),
+            hints: Vec::new(alloc),
+            ends: Vec::new(alloc),
+        }
+    }
+
+    /// Returns the number of the next addition.
+    pub fn next_id(&self) -> u32 {
+        self.first.wrapping_add(size(self.ends.as_slice()))
+    }
+
+    /// Adds the clause of these literals with these hints.
+    pub fn add(&mut self, literals: &[u32], hints: &[u32]) -> Result<(), AllocError>
+        ensures { OnOk result (self.new ≤ self.old + 1) }
+    {
+        self.literals.extend_from_slice(literals)?;
+        self.hints.extend_from_slice(hints)?;
+        let end = End {
+            literals: size(self.literals.as_slice()),
+            hints: size(self.hints.as_slice()),
+        };
+        self.ends.push(end)?;
+        Ok(())
+    }
+
+    /// Returns the place where the addition of this number, counted from 0, ends. The one before the first ends at 0.
+    fn end_before(&self, addition: u32) -> End {
+        let nothing = End {
+            literals: 0,
+            hints: 0,
+        };
+        if addition == 0 {
+            nothing
+        } else {
+            at(self.ends.as_slice(), addition.wrapping_sub(1), nothing)
+        }
+    }
+
+    /// Returns the hints of the addition of this number.
+    fn hints_of(&self, addition: u32) -> &[u32] {
+        let from = self.end_before(addition).hints;
+        let to = self.end_before(addition.wrapping_add(1)).hints;
+        piece(self.hints.as_slice(), from, to)
+    }
+
+    /// Returns the literals of the addition of this number.
+    fn literals_of(&self, addition: u32) -> &[u32] {
+        let from = self.end_before(addition).literals;
+        let to = self.end_before(addition.wrapping_add(1)).literals;
+        piece(self.literals.as_slice(), from, to)
+    }
+
+    /// Marks the additions that are among these clauses.
+    fn mark(&self, clauses: &[u32], marks: &mut [u8]) {
+        for clause in clauses {
+            if *clause >= self.first {
+                put(marks, clause.wrapping_sub(self.first), 1);
+            }
+        }
+    }
+
+    /// Returns 1 for each addition on which these clauses rest: the backward pass that trims a proof to its core.
+    fn needed(&self, alloc: Global, clauses: &[u32]) -> Result<Vec<u8>, AllocError> {
+        let count = size(self.ends.as_slice());
+        let mut needed = vec![in alloc; 0; count as usize]?;
+        self.mark(clauses, needed.as_mut_slice());
+        for addition in (0..count).rev() {
+            if at(needed.as_slice(), addition, 0) != 0 {
+                self.mark(self.hints_of(addition), needed.as_mut_slice());
+            }
+        }
+        Ok(needed)
+    }
+
+    /// Returns the addition of this number as a step.
+    fn step(&self, alloc: Global, addition: u32) -> Result<Step, AllocError> {
+        let codes = self.literals_of(addition);
+        let mut literals = Vec::with_capacity(alloc, codes.len())?;
+        for code in codes {
+            literals.push(literal_of(*code))?;
+        }
+        let hints = self.hints_of(addition);
+        let mut ids = Vec::with_capacity(alloc, hints.len())?;
+        for hint in hints {
+            ids.push(i64::from(*hint))?;
+        }
+        Ok(Step::Addition {
+            id: u64::from(self.first.wrapping_add(addition)),
+            literals: Clause::from_slice(alloc, literals.as_slice())?,
+            hints: Hints::new(ids),
+        })
+    }
+
+    /// Returns the clauses on which the additions rest, one list after the other.
+    pub fn cited(&self) -> &[u32] {
+        self.hints.as_slice()
+    }
+
+    /// Returns all additions as steps.
+    pub fn steps(&self, alloc: Global) -> Result<Vec<Step>, AllocError> {
+        let mut steps = Vec::with_capacity(alloc, self.ends.len())?;
+        for addition in 0..size(self.ends.as_slice()) {
+            steps.push(self.step(alloc, addition)?)?;
+        }
+        Ok(steps)
+    }
+
+    /// Returns those additions as steps that are marked, or have no mark at all.
+    fn marked_steps(&self, alloc: Global, marks: &[u8]) -> Result<Vec<Step>, AllocError>
+        ensures { IfOk result (λ steps. length steps.items ≤ self.now) }
+    {
+        let mut steps = Vec::new(alloc);
+        for place in 0..self.ends.len() {
+            let addition = u32::try_from(place).unwrap_or(u32::MAX);
+            if at(marks, addition, 1) != 0 {
+                steps.push(self.step(alloc, addition)?)?;
+            }
+        }
+        Ok(steps)
+    }
+
+    /// Returns the derivation, trimmed to the additions on which the last one rests. If there is no memory to mark these, it has all of them.
+    pub fn derivation(&self, alloc: Global) -> Result<Derivation, AllocError>
+        ensures { IfOk result (λ derivation. length derivation ≤ self.now) }
+    {
+        let last = self.next_id().wrapping_sub(1);
+        let needed = match self.needed(alloc, &[last]) {
+            Ok(needed) => needed,
+            Err(_) => Vec::new(alloc),
+        };
+        let steps = self.marked_steps(alloc, needed.as_slice())?;
+        Ok(Derivation::new(steps))
+    }
+
+    /// Returns those additions as steps that are among these clauses or are what these rest on.
+    pub fn steps_to(&self, alloc: Global, clauses: &[u32]) -> Result<Vec<Step>, AllocError> {
+        let needed = self.needed(alloc, clauses)?;
+        self.marked_steps(alloc, needed.as_slice())
+    }
+}

@@ -1,9 +1,0 @@
-use Rattle.std.proofs.Common.{◌≡◌, map}
-use Rattle.std.specs.List.{filter}
-use Rattle.traces.specs.declared.operation.OpName.{OpName}
-use Rattle.traces.specs.Trace.{first_names}
-use Rattle.reducer.specs.Runs.{keeps}
-use Rattle.reducer.proofs.bounds.bounds_in.Given as goal
-
-abbrev pub invariant-loop-k : goal.invariant-loop-k
-invariant-loop-k l = l.places.items ≡ map (λ (n : OpName). n.place) (filter (keeps l.fn.set l.process) (first_names l.process.name l.k))

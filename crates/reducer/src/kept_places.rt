@@ -1,0 +1,118 @@
+//! Where the runs of dropped reads lie in the processes.
+
+ghost use Rattle.std.specs.Prelude.{◌≡◌, ◌<◌, ◌≤◌, ◌+◌, length, IfOk};
+ghost use Rattle.trace_semantics.specs.Trace.{at_place};
+ghost use Rattle.reducer.specs.Named.{HasNamed};
+ghost use Rattle.reducer.specs.Reduction as reduction;
+ghost use Rattle.reducer.specs.Runs.{bounds_by, keeps, AreBounds};
+
+use crate::named_ops::NamedOps;
+use std::alloc::{AllocError, Global};
+use std::marker::Model;
+use trace_semantics::operation::{Op, Origin};
+use trace_semantics::trace::{Process, Trace};
+
+/// The places of the kept operations of a process, and then one more than its last place.
+#[derive(Drop)]
+pub struct KeptPlaces {
+    places: Vec<u16>,
+}
+
+impl Model for KeptPlaces {
+    ghost use Rattle.std.specs.Prelude.{List, ℕ};
+
+    ghost Value = { List ℕ };
+
+    ghost view = { λ bounds. bounds.places.items };
+}
+
+impl KeptPlaces {
+    /// The bounds as a slice.
+    pub fn as_slice(&self) -> &[u16]
+        ensures { result.now ≡ self.now }
+    {
+        self.places.as_slice()
+    }
+}
+
+/// What its location holds directly after the operation.
+fn value_behind(op: &Op) -> u64
+    ensures { result ≡ reduction.value_behind op.now }
+{
+    match op {
+        Op::Read { value, .. } => *value,
+        Op::Write { value, .. } => *value,
+        Op::Update { left, .. } => *left,
+    }
+}
+
+/// Whether the second is a plain read of what its location holds directly after the first, and nothing is said of its source.
+fn is_repeat(earlier: &Op, op: &Op) -> bool
+    ensures { result ≡ reduction.is_repeat earlier.now op.now }
+{
+    match op {
+        Op::Read {
+            location,
+            value,
+            origin: Origin::Any,
+        } => {
+            earlier.location().as_bytes() == location.as_bytes() && value_behind(earlier) == *value
+        }
+        _ => false,
+    }
+}
+
+/// Whether the operation repeats the one directly before it.
+fn repeats_previous(operations: &[Op], k: usize) -> bool
+    requires { k < length operations.now }
+    ensures { result ≡ reduction.repeats (at_place operations.now k) (at_place operations.now (k + 1)) }
+{
+    0 < k && is_repeat(&operations[k - 1], &operations[k])
+}
+
+/// Whether the operation is kept.
+fn is_kept<'a>(set: &NamedOps<'a>, process: &'a Process, k: usize) -> bool
+    requires { k < length process.now.operations }
+    ensures { result ≡ keeps set.now process.now (record { process = process.now.name; place = k + 1 }) }
+{
+    !repeats_previous(process.operations.as_slice(), k)
+        || set.contains(process.name.as_bytes(), k + 1)
+}
+
+/// The bounds of the runs of a process.
+fn bounds_in<'a>(
+    alloc: Global,
+    set: &NamedOps<'a>,
+    process: &'a Process,
+) -> Result<KeptPlaces, AllocError>
+    requires { length process.now.operations ≤ 4096 }
+    ensures { IfOk result (λ bounds. bounds ≡ bounds_by (keeps set.now process.now) process.now) }
+{
+    let mut places = Vec::new(alloc);
+    let count = process.operations.as_slice().len();
+    for k in 0..count {
+        if is_kept(set, process, k) {
+            places.push((k + 1) as u16)?;
+        }
+    }
+    places.push((count + 1) as u16)?;
+    Ok(KeptPlaces { places })
+}
+
+/// The bounds of the runs of each process, where the set has the operations that are named.
+pub fn all_bounds<'a>(
+    alloc: Global,
+    set: &NamedOps<'a>,
+    trace: &'a Trace,
+) -> Result<Vec<KeptPlaces>, AllocError>
+    requires { HasNamed trace.now set.now }
+    ensures { IfOk result (λ bounds. AreBounds trace.now bounds.items) }
+{
+    trace.is_trace();
+    let processes = trace.processes();
+    let mut all = Vec::new(alloc);
+    for process in processes {
+        all.push(bounds_in(alloc, set, process)?)?;
+    }
+    Ok(all)
+}

@@ -1,0 +1,75 @@
+//! A formula prepared for the searches of all its cubes.
+
+use crate::wanted::wanted_variables;
+use clause_database::{EncodingHints, FormulaLoader, SmallClauses, number_of};
+use dimacs::{ClauseList, Lit};
+use std::alloc::{AllocError, Global};
+
+/// The clauses of a formula in the form in which every search of one of its cubes begins. It is made once and then only read, so all cubes
+/// share it, in whichever threads they are searched.
+///
+/// Untrusted: using the preparation of a different formula yields answers that the check refuses, and never a wrong verdict (see
+/// `EncodingHints`).
+#[derive(Drop)]
+pub struct PreparedFormula<'a> {
+    /// The caller's hints, if they fit the formula.
+    pub(crate) encoding: EncodingHints<'a>,
+    /// Largest variable of the formula.
+    pub(crate) variables: u32,
+    /// Number of clauses of the formula.
+    count: usize,
+    /// The clauses of which the hints say nothing.
+    pub(crate) loader: FormulaLoader,
+    /// Those of two and three literals, by the literals that are in them.
+    pub(crate) small: SmallClauses,
+    /// The variables that can be decided.
+    pub(crate) wanted: Vec<u32>,
+}
+
+impl<'a> PreparedFormula<'a> {
+    /// Loads the formula, with the caller's hints about its structure.
+    pub fn of<L: ClauseList>(
+        alloc: Global,
+        formula: &L,
+        encoding: EncodingHints<'a>,
+    ) -> Result<PreparedFormula<'a>, AllocError> {
+        PreparedFormula::over(alloc, formula.variables(), formula, encoding)
+    }
+
+    /// Loads it likewise, over this many variables.
+    pub(crate) fn over<L: ClauseList>(
+        alloc: Global,
+        variables: u32,
+        formula: &L,
+        encoding: EncodingHints<'a>,
+    ) -> Result<PreparedFormula<'a>, AllocError> {
+        let count = formula.count();
+        let encoding = encoding.fitting(variables, count);
+        let loader = FormulaLoader::of(alloc, variables, formula, encoding)?;
+        let literals = variables.wrapping_mul(2).wrapping_add(2);
+        let small = SmallClauses::new(alloc, literals, loader.small.as_slice())?;
+        let wanted = wanted_variables(alloc, variables, &loader, encoding)?;
+        Ok(PreparedFormula {
+            encoding,
+            variables,
+            count,
+            loader,
+            small,
+            wanted,
+        })
+    }
+
+    /// Returns the largest variable of the formula and of the cube.
+    pub(crate) fn variables_in(&self, cube: &[Lit]) -> u32 {
+        let mut variables = self.variables;
+        for literal in cube {
+            variables = variables.max(literal.variable());
+        }
+        variables
+    }
+
+    /// Returns the id of the unit clause that a cube's literal at this place stands for: after those of the formula, as the checker counts.
+    pub(crate) fn id_in_cube(&self, place: usize) -> u32 {
+        number_of(self.count.saturating_add(place))
+    }
+}

@@ -1,0 +1,92 @@
+//! Hall violators: readers with fewer possible sources than readers.
+
+use crate::grid::Grid;
+use crate::matching_instance::MatchingInstance;
+use order_sets::tables::{at, put, size};
+use std::alloc::{AllocError, Global};
+
+/// A Hall violator (Hall, "On representatives of subsets", 1935): some readers, and their possible sources, of which there is one fewer.
+/// Both are counted from 1, as the counts of the derivation are.
+#[derive(Drop)]
+pub struct HallViolator {
+    readers: Vec<u32>,
+    sources: u32,
+    /// For each reader and source the number of the choice, plus one, or 0.
+    choices: Grid<u32>,
+}
+
+impl HallViolator {
+    /// Makes a Hall violator of these readers, with all sources that they have.
+    pub fn of(
+        alloc: Global,
+        reads: &MatchingInstance,
+        readers: &[u32],
+    ) -> Result<HallViolator, AllocError> {
+        let count = size(readers);
+        let mut its_readers = Vec::with_capacity(alloc, readers.len())?;
+        its_readers.extend_from_slice(readers)?;
+        let mut places = vec![in alloc; 0; reads.sources() as usize]?;
+        let mut shortage = HallViolator {
+            sources: 0,
+            choices: Grid::new(alloc, count.wrapping_add(1), count, 0)?,
+            readers: its_readers,
+        };
+        for reader in 1..=count {
+            shortage.take_choices(reads, reader, places.as_mut_slice());
+        }
+        Ok(shortage)
+    }
+
+    /// Adds the choices of the reader that are not excluded. A source that is new has the next number.
+    fn take_choices(&mut self, reads: &MatchingInstance, reader: u32, places: &mut [u32]) {
+        let number = self.reader(reader);
+        for choice in reads.first_choice(number)..reads.first_choice(number.wrapping_add(1)) {
+            let its = reads.choice(choice);
+            if its.is_excluded {
+                continue;
+            }
+            if at(places, its.source, 0) == 0 {
+                self.sources = self.sources.wrapping_add(1);
+                put(places, its.source, self.sources);
+            }
+            let source = at(places, its.source, 0);
+            self.choices.set(reader, source, choice.wrapping_add(1));
+        }
+    }
+
+    /// Returns a bound on the steps of the derivation: about half of the cube of the sources for pairs of readers, and the cube for counts.
+    pub fn most_steps(&self) -> u64 {
+        let sources = u64::from(self.sources);
+        let square = sources.wrapping_mul(sources);
+        let cube = square.wrapping_mul(sources);
+        (cube.wrapping_mul(3) / 2)
+            .wrapping_add(square.wrapping_mul(9))
+            .wrapping_add(sources.wrapping_mul(30))
+            .wrapping_add(10)
+    }
+
+    /// Returns the number of sources.
+    pub fn sources(&self) -> u32 {
+        self.sources
+    }
+
+    /// Returns the number of readers.
+    pub fn readers(&self) -> u32 {
+        size(self.readers.as_slice())
+    }
+
+    /// Returns the number of this reader among all, counted from 0.
+    pub fn reader(&self, reader: u32) -> u32 {
+        at(self.readers.as_slice(), reader.wrapping_sub(1), u32::MAX)
+    }
+
+    /// Returns the number of the choice of this reader and source, if it can be made.
+    pub fn choice(&self, reader: u32, source: u32) -> Option<u32> {
+        let choice = self.choices.get(reader, source);
+        if choice == 0 {
+            None
+        } else {
+            Some(choice.wrapping_sub(1))
+        }
+    }
+}

@@ -1,0 +1,185 @@
+//! The last writer of a location.
+
+use crate::known_order::KnownOrder;
+use crate::matching_instance::ReadsFromEdge;
+use crate::source_sets::SourceSets;
+use order_sets::next_element;
+use order_sets::tables::{at, put};
+use std::alloc::{AllocError, Global};
+
+/// The writers of a location by rising numbers, and those of them that may be the last one. No update reads from the last one, so if the
+/// final value is not known, a reader may still be added, which has these as its sources. Without it a count misses the contradictions that
+/// only the last writer closes.
+#[derive(Drop)]
+pub struct LastWriters {
+    writers: Vec<u32>,
+    candidates: Vec<u32>,
+}
+
+/// Whether no writer of its location surely comes after this one.
+pub fn may_be_last(known: KnownOrder<'_>, writer: u32) -> bool {
+    // The next one of its process has mostly a number in the same word.
+    let likeliest = writer >> 6;
+    if known.writers.word(writer, likeliest) & known.successors.word(writer, likeliest) != 0 {
+        return false;
+    }
+    (0..known.writers.words()).all(|number| {
+        known.writers.word(writer, number) & known.successors.word(writer, number) == 0
+    })
+}
+
+/// Returns a word of the set of writers of this one's location, itself among them.
+#[inline(always)]
+pub fn location_word(known: KnownOrder<'_>, writer: u32, number: u32) -> u64 {
+    let others = known.writers.word(writer, number);
+    if writer >> 6 == number {
+        others | 1 << (writer & 63)
+    } else {
+        others
+    }
+}
+
+/// Returns those writers of this one's location that may be the last one.
+pub fn candidates_of(
+    alloc: Global,
+    known: KnownOrder<'_>,
+    writer: u32,
+) -> Result<Vec<u32>, AllocError> {
+    let mut candidates = Vec::new(alloc);
+    for number in 0..known.writers.words() {
+        let mut word = location_word(known, writer, number);
+        for _ in 0..64 {
+            let Some(candidate) = next_element(&mut word, number) else {
+                break;
+            };
+            if may_be_last(known, candidate) {
+                candidates.push(candidate)?;
+            }
+        }
+    }
+    Ok(candidates)
+}
+
+impl LastWriters {
+    /// Makes the writers of this one's location, with these candidates.
+    pub fn of(
+        alloc: Global,
+        known: KnownOrder<'_>,
+        writer: u32,
+        candidates: Vec<u32>,
+    ) -> Result<LastWriters, AllocError> {
+        let mut writers = Vec::new(alloc);
+        for number in 0..known.writers.words() {
+            let mut word = location_word(known, writer, number);
+            for _ in 0..64 {
+                let Some(operation) = next_element(&mut word, number) else {
+                    break;
+                };
+                writers.push(operation)?;
+            }
+        }
+        Ok(LastWriters {
+            writers,
+            candidates,
+        })
+    }
+
+    /// Returns a bound on the steps which say that one of the candidates is the last one.
+    pub fn most_steps(&self) -> u64 {
+        let writers = self.writers.len() as u64;
+        let candidates = self.candidates.len() as u64;
+        let sum = writers.saturating_add(candidates).saturating_add(4);
+        candidates.saturating_mul(sum)
+    }
+
+    /// Returns the writers.
+    pub fn writers(&self) -> &[u32] {
+        self.writers.as_slice()
+    }
+
+    /// Returns those that may be the last one.
+    pub fn candidates(&self) -> &[u32] {
+        self.candidates.as_slice()
+    }
+
+    /// Returns one of the candidates that surely comes after this writer, which is no candidate.
+    pub fn candidate_behind(&self, known: KnownOrder<'_>, writer: u32) -> Option<u32> {
+        let mut found = None;
+        for candidate in &self.candidates {
+            if known.successors.has(writer, *candidate) {
+                found = Some(*candidate);
+            }
+        }
+        found
+    }
+
+    /// Returns the choice of the writer at this place among the candidates, with this variable, if its clauses begin with this one.
+    pub fn choice(&self, candidate: u32, variable: u32, first: u32) -> ReadsFromEdge {
+        let source = at(self.candidates.as_slice(), candidate, u32::MAX);
+        let mut place: u32 = 0;
+        for writer in &self.writers {
+            if *writer < source {
+                place = place.wrapping_add(1);
+            }
+        }
+        ReadsFromEdge {
+            source,
+            place: Some(place),
+            variable,
+            first,
+            is_excluded: false,
+        }
+    }
+}
+
+/// Whether a free source may be the last writer of this one's location. (Of those in a word only the last one is examined, which is the
+/// likeliest.)
+fn has_free_end(known: KnownOrder<'_>, free: &[u64], writer: u32) -> bool {
+    for number in 0..known.writers.words() {
+        let word = known.writers.word(writer, number) & at(free, number, 0);
+        let last = number.wrapping_mul(64).wrapping_add(63);
+        let last = last.wrapping_sub(word.leading_zeros());
+        if word != 0 && may_be_last(known, last) {
+            return true;
+        }
+    }
+    false
+}
+
+/// Adds the writer and all others of its location to the set.
+fn add_location(known: KnownOrder<'_>, done: &mut [u64], writer: u32) {
+    for number in 0..known.writers.words() {
+        let word = at(done, number, 0) | location_word(known, writer, number);
+        put(done, number, word);
+    }
+}
+
+/// Returns a writer of each location that has an update and no final value among the readers, but for those where one of these free sources
+/// may be the last writer: there one more reader has a source.
+pub fn writers_without_end(
+    alloc: Global,
+    possible: &SourceSets,
+    free: &[u64],
+    known: KnownOrder<'_>,
+) -> Result<Vec<u32>, AllocError> {
+    let mut done = vec![in alloc; 0; known.writers.words() as usize]?;
+    for reader in 0..possible.readers() {
+        if possible.update(reader).is_none()
+            && let Some(writer) = possible.first(reader)
+        {
+            add_location(known, done.as_mut_slice(), writer);
+        }
+    }
+    let mut writers = Vec::new(alloc);
+    for reader in 0..possible.readers() {
+        if let Some(update) = possible.update(reader)
+            && at(done.as_slice(), update >> 6, u64::MAX) >> (update & 63) & 1 == 0
+        {
+            add_location(known, done.as_mut_slice(), update);
+            if !has_free_end(known, free, update) {
+                writers.push(update)?;
+            }
+        }
+    }
+    Ok(writers)
+}

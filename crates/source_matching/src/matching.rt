@@ -1,0 +1,183 @@
+//! A maximum bipartite matching of readers and sources, by augmenting paths (Berge, 1957; Hopcroft and Karp, 1973). Paths are searched one
+//! at a time: the instances have at most a few hundred readers, so phases of shortest paths would not pay.
+
+use crate::source_sets::SourceSets;
+use order_sets::next_element;
+use order_sets::tables::{at, put, size};
+use std::alloc::{AllocError, Global};
+
+/// A matching of maximum size: readers with sources of their own.
+#[derive(Drop)]
+pub struct Matching {
+    possible: SourceSets,
+    readers: u32,
+    /// For each reader its source, plus one, or 0.
+    source_of: Vec<u32>,
+    /// For each source its reader, plus one, or 0.
+    reader_of: Vec<u32>,
+    /// The free sources.
+    free: Vec<u64>,
+    /// The sources that the search at hand has not visited.
+    unseen: Vec<u64>,
+    /// For each visited source the reader from which the search came.
+    came_from: Vec<u32>,
+    /// The visited readers.
+    reached: Vec<u32>,
+    /// The unmatched readers.
+    left_over: Vec<u32>,
+}
+
+impl Matching {
+    /// Computes a maximum matching: first greedily, and then along augmenting paths from each reader that is left.
+    pub fn of(alloc: Global, possible: SourceSets) -> Result<Matching, AllocError> {
+        let readers = possible.readers();
+        let sources = possible.sources() as usize;
+        let mut matching = Matching {
+            readers,
+            source_of: vec![in alloc; 0; readers as usize]?,
+            reader_of: vec![in alloc; 0; sources]?,
+            free: vec![in alloc; u64::MAX; possible.words() as usize]?,
+            unseen: vec![in alloc; 0; possible.words() as usize]?,
+            came_from: vec![in alloc; 0; sources]?,
+            reached: Vec::new(alloc),
+            left_over: Vec::new(alloc),
+            possible,
+        };
+        // The first free source has a small number, and stands mostly before a reader with a large one. So these are matched first.
+        let mut waiting = Vec::new(alloc);
+        for reader in (0..matching.readers).rev() {
+            if !matching.take_free(reader) {
+                waiting.push(reader)?;
+            }
+        }
+        for reader in &waiting {
+            match matching.walk(*reader)? {
+                Some(source) => matching.enlarge(source),
+                None => matching.left_over.push(*reader)?,
+            }
+        }
+        Ok(matching)
+    }
+
+    /// Returns for each reader the sources that are still possible.
+    pub fn possible(&self) -> &SourceSets {
+        &self.possible
+    }
+
+    /// Returns the smallest Hall violator that alternating paths from an unmatched reader reach, or no reader if all are matched.
+    pub fn smallest_shortage(&mut self, alloc: Global) -> Result<Vec<u32>, AllocError> {
+        let mut smallest = Vec::new(alloc);
+        for number in 0..size(self.left_over.as_slice()) {
+            let reader = at(self.left_over.as_slice(), number, 0);
+            let _source = self.walk(reader)?;
+            if smallest.is_empty() || self.reached.len() < smallest.len() {
+                smallest.clear();
+                smallest.extend_from_slice(self.reached.as_slice())?;
+            }
+        }
+        Ok(smallest)
+    }
+
+    /// Whether one more reader with these sources would remain unmatched.
+    pub fn has_none_for(&mut self, sources: &[u32]) -> Result<bool, AllocError> {
+        self.possible.set_last(sources);
+        let found = self.walk(self.readers)?;
+        Ok(found.is_none())
+    }
+
+    /// Returns the readers that the last search has visited: with no augmenting path they are a Hall violator.
+    pub fn reached(&self) -> &[u32] {
+        self.reached.as_slice()
+    }
+
+    /// Returns the free sources, as words of a set.
+    pub fn free(&self) -> &[u64] {
+        self.free.as_slice()
+    }
+
+    /// Matches the reader with this source.
+    #[inline(always)]
+    fn give(&mut self, reader: u32, source: u32) {
+        let number = source.wrapping_add(1);
+        put(self.source_of.as_mut_slice(), reader, number);
+        let number = reader.wrapping_add(1);
+        put(self.reader_of.as_mut_slice(), source, number);
+    }
+
+    /// Matches the reader with the first of its sources that is free, if there is one.
+    #[inline(always)]
+    fn take_free(&mut self, reader: u32) -> bool {
+        for number in 0..self.possible.words() {
+            let free = at(self.free.as_slice(), number, 0);
+            let mut word = self.possible.word(reader, number) & free;
+            if let Some(source) = next_element(&mut word, number) {
+                let bit = 1 << (source & 63);
+                put(self.free.as_mut_slice(), number, free & !bit);
+                self.give(reader, source);
+                return true;
+            }
+        }
+        false
+    }
+
+    /// Visits the sources of this reader that were not visited, up to the first free one. The search goes on from the readers of the
+    /// others.
+    fn look_around(&mut self, reader: u32) -> Result<Option<u32>, AllocError> {
+        for number in 0..self.possible.words() {
+            let unseen = at(self.unseen.as_slice(), number, 0);
+            let mut word = self.possible.word(reader, number) & unseen;
+            put(self.unseen.as_mut_slice(), number, unseen & !word);
+            let mut free = word & at(self.free.as_slice(), number, 0);
+            if let Some(source) = next_element(&mut free, number) {
+                put(self.came_from.as_mut_slice(), source, reader);
+                return Ok(Some(source));
+            }
+            for _ in 0..64 {
+                let Some(source) = next_element(&mut word, number) else {
+                    break;
+                };
+                put(self.came_from.as_mut_slice(), source, reader);
+                let its_reader = at(self.reader_of.as_slice(), source, 0);
+                self.reached.push(its_reader.wrapping_sub(1))?;
+            }
+        }
+        Ok(None)
+    }
+
+    /// Searches for an augmenting path from this reader: to its possible sources, from a source to its reader, and so on. It ends at a free
+    /// source, or after all that can be reached was visited.
+    fn walk(&mut self, reader: u32) -> Result<Option<u32>, AllocError> {
+        for number in 0..self.possible.words() {
+            put(self.unseen.as_mut_slice(), number, u64::MAX);
+        }
+        self.reached.clear();
+        self.reached.push(reader)?;
+        for place in 0..=self.readers {
+            if place >= size(self.reached.as_slice()) {
+                break;
+            }
+            let next = at(self.reached.as_slice(), place, 0);
+            if let Some(source) = self.look_around(next)? {
+                return Ok(Some(source));
+            }
+        }
+        Ok(None)
+    }
+
+    /// Flips the alternating path that ends at this source, which matches one more reader.
+    fn enlarge(&mut self, source: u32) {
+        let word = at(self.free.as_slice(), source >> 6, 0);
+        let bit = 1 << (source & 63);
+        put(self.free.as_mut_slice(), source >> 6, word & !bit);
+        let mut source = source;
+        for _ in 0..=self.readers {
+            let reader = at(self.came_from.as_slice(), source, 0);
+            let left = at(self.source_of.as_slice(), reader, 0);
+            self.give(reader, source);
+            if left == 0 {
+                break;
+            }
+            source = left.wrapping_sub(1);
+        }
+    }
+}

@@ -1,0 +1,190 @@
+//! The matching instance of a formula: readers, sources, and the reads-from edges between them.
+
+use order_sets::tables::{at, size};
+use std::alloc::{AllocError, Global};
+
+/// A read-modify-write.
+#[derive(Clone, Copy)]
+pub struct Update {
+    /// Its number among all operations, counted from 0.
+    pub operation: u32,
+    /// Its place among the writers of its location, counted from 0 by rising numbers of operations.
+    pub place: u32,
+}
+
+/// A reader that needs a source of its own: an update, or the final value of a location, from which no update has read.
+#[derive(Clone, Copy)]
+pub struct Reader {
+    /// The update that reads, or none for the final value.
+    pub update: Option<Update>,
+    /// The number of the clause that says that it has one of its choices, counted from 1.
+    pub clause: u32,
+}
+
+/// A reads-from edge: if its variable is true, the reader reads from this source.
+///
+/// With the variable s and x(i,j) for "i stands before j", the choice of the update r and the writer w has the clauses `-s x(w,r)`,
+/// and then `-s x(q,w) x(r,q)` for all other writers q of the location, by their places. That of r and the initial value has
+/// `-s x(r,q)` for all q but r, and that of the final value and the writer w `-s x(q,w)` for all q but w.
+#[derive(Clone, Copy)]
+pub struct ReadsFromEdge {
+    /// The source: the number of an operation, or that of the initial value of a location, which is above those of all operations.
+    pub source: u32,
+    /// The source's place among the writers of its location, or none for the initial value.
+    pub place: Option<u32>,
+    /// The variable.
+    pub variable: u32,
+    /// The number of the first of its clauses, counted from 1.
+    pub first: u32,
+    /// Whether the edge is excluded: `-s` is true.
+    pub is_excluded: bool,
+}
+
+impl ReadsFromEdge {
+    /// Returns the code of the literal that says that the edge is chosen.
+    pub fn literal(self) -> u32 {
+        self.variable.wrapping_mul(2)
+    }
+
+    /// Returns the number of its clause that forbids this writer to come between, if it is an edge of this reader.
+    fn clause_against(self, reader: Reader, writer: u32) -> u32 {
+        let mut number = self.first.wrapping_add(writer);
+        if let Some(update) = reader.update {
+            if update.place < writer {
+                number = number.wrapping_sub(1);
+            }
+            // The clause that puts the source before the reader comes first.
+            if self.place.is_some() {
+                number = number.wrapping_add(1);
+            }
+        }
+        if let Some(place) = self.place {
+            if place < writer {
+                number = number.wrapping_sub(1);
+            }
+        }
+        number
+    }
+}
+
+/// The readers that need a source of their own, and their edges.
+#[derive(Drop)]
+pub struct MatchingInstance {
+    readers: Vec<Reader>,
+    choices: Vec<ReadsFromEdge>,
+    /// The place where the choices of each reader begin.
+    begins: Vec<u32>,
+    sources: u32,
+}
+
+impl MatchingInstance {
+    /// Starts without readers.
+    pub fn new(alloc: Global) -> MatchingInstance {
+        MatchingInstance {
+            readers: Vec::new(alloc),
+            choices: Vec::new(alloc),
+            begins: Vec::new(alloc),
+            sources: 0,
+        }
+    }
+
+    /// Adds a reader without choices.
+    pub fn add_reader(&mut self, reader: Reader) -> Result<(), AllocError> {
+        self.begins.push(size(self.choices.as_slice()))?;
+        self.readers.push(reader)?;
+        Ok(())
+    }
+
+    /// Adds a choice of the reader that was added last.
+    pub fn add_choice(&mut self, choice: ReadsFromEdge) -> Result<(), AllocError> {
+        self.sources = self.sources.max(choice.source.saturating_add(1));
+        self.choices.push(choice)?;
+        Ok(())
+    }
+
+    /// Returns a copy, to which readers can be added.
+    pub fn copied(&self, alloc: Global) -> Result<MatchingInstance, AllocError> {
+        let mut copy = MatchingInstance::new(alloc);
+        copy.readers.extend_from_slice(self.readers.as_slice())?;
+        copy.choices.extend_from_slice(self.choices.as_slice())?;
+        copy.begins.extend_from_slice(self.begins.as_slice())?;
+        copy.sources = self.sources;
+        Ok(copy)
+    }
+
+    /// Returns the number of readers.
+    pub fn readers(&self) -> u32 {
+        size(self.readers.as_slice())
+    }
+
+    /// Returns the number after that of the last source.
+    pub fn sources(&self) -> u32 {
+        self.sources
+    }
+
+    /// Returns the reader of this number, counted from 0.
+    pub fn reader(&self, number: u32) -> Reader {
+        let nobody = Reader {
+            update: None,
+            clause: 0,
+        };
+        at(self.readers.as_slice(), number, nobody)
+    }
+
+    /// Returns the number of the reader's first choice, counted from 0. Its choices stand before the first one of the next reader.
+    pub fn first_choice(&self, reader: u32) -> u32 {
+        at(
+            self.begins.as_slice(),
+            reader,
+            size(self.choices.as_slice()),
+        )
+    }
+
+    /// Returns the choice of this number.
+    pub fn choice(&self, number: u32) -> ReadsFromEdge {
+        let nothing = ReadsFromEdge {
+            source: u32::MAX,
+            place: None,
+            variable: 0,
+            first: 0,
+            is_excluded: true,
+        };
+        at(self.choices.as_slice(), number, nothing)
+    }
+
+    /// Returns the hints of a clause which says that two readers do not have the same source, filled up with 0 if fewer than four are
+    /// needed.
+    ///
+    /// Each of two updates would stand before the other: if both come after the source, the clause against the one between it and the other
+    /// forbids that. And an update that reads the last write comes after it. The order of the hints is the order in which they become unit,
+    /// so the checker refuses another one.
+    pub fn hints_of_pair(&self, readers: (u32, u32), choices: (u32, u32)) -> [u32; 4] {
+        let reader = self.reader(readers.0);
+        let other = self.reader(readers.1);
+        let choice = self.choice(choices.0);
+        let its_choice = self.choice(choices.1);
+        match (reader.update, other.update) {
+            (Some(update), Some(its_update)) => {
+                let between = choice.clause_against(reader, its_update.place);
+                let its_between = its_choice.clause_against(other, update.place);
+                if choice.place.is_none() {
+                    return [between, its_between, 0, 0];
+                }
+                [choice.first, its_choice.first, between, its_between]
+            }
+            (None, Some(update)) => [
+                choice.clause_against(reader, update.place),
+                its_choice.first,
+                0,
+                0,
+            ],
+            (Some(update), None) => [
+                its_choice.clause_against(other, update.place),
+                choice.first,
+                0,
+                0,
+            ],
+            (None, None) => [0; 4],
+        }
+    }
+}

@@ -1,0 +1,145 @@
+//! Sets of sources as bits: a matching visits a word of 64 sources at once.
+
+use crate::matching_instance::MatchingInstance;
+use order_sets::ElementSets;
+use order_sets::tables::{at, put, size};
+use std::alloc::{AllocError, Global};
+
+/// For each reader the sources that are still possible, and a set for one more reader, which comes after all others.
+#[derive(Drop)]
+pub struct SourceSets {
+    words: u32,
+    /// For each reader the number of its operation, plus one, if it is an update, or 0.
+    updates: Vec<u32>,
+    bits: Vec<u64>,
+}
+
+impl SourceSets {
+    /// Starts without readers, with room for this number of readers and for sources of smaller numbers than the given one.
+    pub fn new(alloc: Global, readers: u32, sources: u32) -> Result<SourceSets, AllocError> {
+        let words = sources.div_ceil(64);
+        let count = readers.wrapping_add(1).wrapping_mul(words) as usize;
+        Ok(SourceSets {
+            words,
+            updates: Vec::with_capacity(alloc, readers as usize)?,
+            bits: vec![in alloc; 0; count]?,
+        })
+    }
+
+    /// Returns the sources of choices that are not excluded.
+    pub fn of(alloc: Global, reads: &MatchingInstance) -> Result<SourceSets, AllocError> {
+        let mut sets = SourceSets::new(alloc, reads.readers(), reads.sources())?;
+        for reader in 0..reads.readers() {
+            let update = reads.reader(reader).update;
+            sets.add_reader(update.map(|update| update.operation))?;
+            for number in reads.first_choice(reader)..reads.first_choice(reader.wrapping_add(1)) {
+                let choice = reads.choice(number);
+                if !choice.is_excluded {
+                    sets.add_source(choice.source);
+                }
+            }
+        }
+        Ok(sets)
+    }
+
+    /// Adds a reader without sources: the update with this number among all operations, or the final value of a location.
+    pub fn add_reader(&mut self, update: Option<u32>) -> Result<(), AllocError> {
+        let entry = match update {
+            Some(operation) => operation.wrapping_add(1),
+            None => 0,
+        };
+        self.updates.push(entry)?;
+        Ok(())
+    }
+
+    /// Adds the update with this number among all operations, which may have these sources: the set of its number.
+    #[inline(always)]
+    pub fn add_update(&mut self, update: u32, sources: &ElementSets) -> Result<(), AllocError> {
+        let start = self.readers().wrapping_mul(self.words);
+        self.updates.push(update.wrapping_add(1))?;
+        for number in 0..self.words.min(sources.words()) {
+            let place = start.wrapping_add(number);
+            put(
+                self.bits.as_mut_slice(),
+                place,
+                sources.word(update, number),
+            );
+        }
+        Ok(())
+    }
+
+    /// Adds a source to those of the reader that was added last.
+    #[inline(always)]
+    pub fn add_source(&mut self, source: u32) {
+        let last = self.readers().wrapping_sub(1);
+        self.insert(last, source >> 6, 1 << (source & 63));
+    }
+
+    /// Adds the sources of a word to the set of the reader.
+    #[inline(always)]
+    fn insert(&mut self, reader: u32, number: u32, sources: u64) {
+        if number < self.words {
+            let place = reader.wrapping_mul(self.words).wrapping_add(number);
+            let word = at(self.bits.as_slice(), place, 0);
+            put(self.bits.as_mut_slice(), place, word | sources);
+        }
+    }
+
+    /// Sets the sources of the one more reader.
+    pub fn set_last(&mut self, sources: &[u32]) {
+        let last = self.readers();
+        for number in 0..self.words {
+            let place = last.wrapping_mul(self.words).wrapping_add(number);
+            put(self.bits.as_mut_slice(), place, 0);
+        }
+        for source in sources {
+            self.insert(last, *source >> 6, 1 << (*source & 63));
+        }
+    }
+
+    /// Returns the number of readers, without the one more.
+    #[inline(always)]
+    pub fn readers(&self) -> u32 {
+        size(self.updates.as_slice())
+    }
+
+    /// Returns the number of the reader's operation, if it is an update.
+    #[inline(always)]
+    pub fn update(&self, reader: u32) -> Option<u32> {
+        let entry = at(self.updates.as_slice(), reader, 0);
+        if entry == 0 {
+            None
+        } else {
+            Some(entry.wrapping_sub(1))
+        }
+    }
+
+    /// Returns a bound above the numbers of all sources.
+    pub fn sources(&self) -> u32 {
+        self.words.wrapping_mul(64)
+    }
+
+    /// Returns the number of 64-bit words of a set.
+    #[inline(always)]
+    pub fn words(&self) -> u32 {
+        self.words
+    }
+
+    /// Returns a word of the reader's set.
+    #[inline(always)]
+    pub fn word(&self, reader: u32, number: u32) -> u64 {
+        let place = reader.wrapping_mul(self.words).wrapping_add(number);
+        at(self.bits.as_slice(), place, 0)
+    }
+
+    /// Returns the first of the reader's sources, if it has one.
+    pub fn first(&self, reader: u32) -> Option<u32> {
+        for number in 0..self.words {
+            let word = self.word(reader, number);
+            if word != 0 {
+                return Some(number.wrapping_mul(64).wrapping_add(word.trailing_zeros()));
+            }
+        }
+        None
+    }
+}

@@ -1,0 +1,212 @@
+//! Command lines over files in memory: what the standard streams take, and the exit status.
+
+use command_run::{MemoryHost, run};
+use cube_jobs::OpenGate;
+use dimacs::ShortSink;
+use std::alloc::Global;
+use std::process::Abort;
+use std::sync::Wait;
+use std::thread::Threads;
+
+/// The paths of files and what they hold: a process writes a value and another one reads it, a schedule that explains the read, one that
+/// does not, and a trace of which nothing explains the read.
+static FILES: [(&str, &[u8]); 4] = [
+    ("handed", b"vsc 1\nproc P\nW x 1\nproc Q\nR x 1\n"),
+    ("right", b"P.1\nQ.1\n"),
+    ("wrong", b"Q.1\nP.1\n"),
+    ("unread", b"vsc 1\ninit x 0\nproc P\nR x 1\nproc Q\nW x 0\n"),
+];
+
+/// A command line, its exit status, and what standard output and standard error take of it.
+struct Case {
+    words: &'static [&'static str],
+    status: u8,
+    out: &'static str,
+    err: &'static str,
+}
+
+/// Command lines whose texts are known.
+static CASES: [Case; 10] = [
+    Case {
+        words: &["vsc", "judge", "handed", "right"],
+        status: 0,
+        out: "LEGAL\n",
+        err: "",
+    },
+    Case {
+        words: &["vsc", "judge", "handed", "wrong"],
+        status: 1,
+        out: "ILLEGAL 4 WrongRead at 1\n",
+        err: "",
+    },
+    Case {
+        words: &["vsc", "judge", "handed", "absent"],
+        status: 4,
+        out: "",
+        err: "refused: device\n",
+    },
+    Case {
+        words: &["vsc", "judge", "right", "absent"],
+        status: 4,
+        out: "",
+        err: "refused: device\n",
+    },
+    Case {
+        words: &["vsc", "judge", "right", "handed"],
+        status: 2,
+        out: "",
+        err: "refused: trace 3 Header at 1\n",
+    },
+    Case {
+        words: &["vsc", "verify", "handed", "--workers", "1"],
+        status: 0,
+        out: "CONSISTENT\nP.1\nQ.1\n",
+        err: "",
+    },
+    Case {
+        words: &["vsc", "verify", "handed", "--cert", "handed"],
+        status: 2,
+        out: "",
+        err: "error: --cert names the file of TRACE\n",
+    },
+    Case {
+        words: &["vsc", "part", "handed", "wrong", "--names"],
+        status: 0,
+        out: "vsc 1\nproc P\n# P.1\nW x 1\nproc Q\n# Q.1\nR x 1\n",
+        err: "",
+    },
+    Case {
+        words: &["vsc", "decode", "handed", "absent"],
+        status: 4,
+        out: "",
+        err: "refused: device\n",
+    },
+    Case {
+        words: &["vsc", "lrat", "absent", "right"],
+        status: 4,
+        out: "",
+        err: "refused: device\n",
+    },
+];
+
+/// Asserts how the command line of the case ends, with files and streams that move a byte a call.
+fn assert_case<R: Threads + Wait + Abort + Sync>(
+    alloc: Global,
+    rt: &R,
+    number: usize,
+    case: &Case,
+) {
+    let mut host = MemoryHost::new(alloc, &FILES, 1);
+    let mut out = ShortSink::new(alloc, 1);
+    let mut err = ShortSink::new(alloc, 1);
+    let status = run(
+        alloc, rt, &OpenGate, &mut host, case.words, &mut out, &mut err,
+    );
+    assert!(rt; status == case.status, "the status of case {number}");
+    assert!(rt;
+        out.as_slice() == case.out.as_bytes(),
+        "standard output of case {number}"
+    );
+    assert!(rt;
+        err.as_slice() == case.err.as_bytes(),
+        "standard error of case {number}"
+    );
+}
+
+#[test]
+fn ends_as_the_words_ask(rt: HostRuntime) {
+    for number in 0..CASES.len() {
+        assert_case(rt.alloc(), &rt, number, &CASES[number]);
+    }
+}
+
+/// Asserts that the command line prints something on one stream only: on standard output with the status 0, on standard error with 2.
+fn assert_prints<R: Threads + Wait + Abort + Sync>(
+    alloc: Global,
+    rt: &R,
+    words: &[&str],
+    is_answer: bool,
+) {
+    let mut host = MemoryHost::new(alloc, &FILES, 1);
+    let mut out = ShortSink::new(alloc, 100);
+    let mut err = ShortSink::new(alloc, 100);
+    let status = run(alloc, rt, &OpenGate, &mut host, words, &mut out, &mut err);
+    assert!(rt; status == if is_answer { 0 } else { 2 });
+    assert!(rt; out.as_slice().is_empty() != is_answer);
+    assert!(rt; err.as_slice().is_empty() == is_answer);
+}
+
+#[test]
+fn prints_help_or_what_is_wrong(rt: HostRuntime) {
+    assert_prints(rt.alloc(), &rt, &["vsc", "--help"], true);
+    assert_prints(rt.alloc(), &rt, &["vsc", "--version"], true);
+    assert_prints(rt.alloc(), &rt, &["vsc"], false);
+    assert_prints(rt.alloc(), &rt, &["vsc", "judge", "handed"], false);
+}
+
+/// Asserts that the command line searches with the options of its test, and leaves a certificate in the file that it makes.
+fn assert_certifies<R: Threads + Wait + Abort + Sync>(alloc: Global, rt: &R, words: &[&str]) {
+    let mut host = MemoryHost::new(alloc, &FILES, 100);
+    let mut out = ShortSink::new(alloc, 100);
+    let mut err = ShortSink::new(alloc, 100);
+    let status = run(alloc, rt, &OpenGate, &mut host, words, &mut out, &mut err);
+    assert!(rt; status == 1);
+    assert!(rt; err.as_slice().is_empty());
+    let Some(search) = host.searched() else {
+        panic!(rt; "nothing was searched")
+    };
+    assert!(rt; search.options.workers() == 2);
+    assert!(rt; search.options.split() == 1);
+    assert!(rt; search.options.budget() == 70);
+    assert!(rt; search.options.rounds() == 3);
+    assert!(rt; search.tells_progress);
+    let Some(certificate) = host.made() else {
+        panic!(rt; "no certificate was given back")
+    };
+    assert!(rt; certificate.starts_with("vsc-cert 1\n".as_bytes()));
+}
+
+#[test]
+fn searches_with_the_options_and_writes_the_certificate(rt: HostRuntime) {
+    assert_certifies(
+        rt.alloc(),
+        &rt,
+        &[
+            "vsc",
+            "verify",
+            "unread",
+            "--cert",
+            "made",
+            "--workers",
+            "2",
+            "--split",
+            "1",
+            "--budget",
+            "70",
+            "--rounds",
+            "3",
+            "--progress",
+        ],
+    );
+}
+
+/// Asserts that the command line ends with `Device` if the file of the certificate cannot be made, and that nothing is searched.
+fn assert_not_made<R: Threads + Wait + Abort + Sync>(alloc: Global, rt: &R, words: &[&str]) {
+    let mut host = MemoryHost::new(alloc, &FILES, 100).read_only();
+    let mut out = ShortSink::new(alloc, 100);
+    let mut err = ShortSink::new(alloc, 100);
+    let status = run(alloc, rt, &OpenGate, &mut host, words, &mut out, &mut err);
+    assert!(rt; status == 4);
+    assert!(rt; out.as_slice().is_empty());
+    assert!(rt; err.as_slice() == "refused: device\n".as_bytes());
+    assert!(rt; host.searched().is_none());
+}
+
+#[test]
+fn answers_device_if_no_file_can_be_made(rt: HostRuntime) {
+    assert_not_made(
+        rt.alloc(),
+        &rt,
+        &["vsc", "verify", "unread", "--cert", "made"],
+    );
+}

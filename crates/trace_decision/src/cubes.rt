@@ -1,0 +1,35 @@
+//! Lists of cubes.
+ghost use Rattle.std.specs.Prelude.{◌≡◌};
+
+use cube_jobs::JobCube;
+use std::marker::Model;
+
+/// A list of cubes.
+#[derive(Drop)]
+pub struct Cubes {
+    cubes: Vec<JobCube>,
+}
+
+impl Model for Cubes {
+    ghost use Rattle.std.specs.Prelude.{List, ℤ};
+
+    ghost Value = { List (List ℤ) };
+
+    ghost view = { λ cubes. cubes.cubes.items };
+}
+
+impl Cubes {
+    /// The list of these cubes.
+    pub fn new(cubes: Vec<JobCube>) -> Cubes
+        ensures { result ≡ cubes.items }
+    {
+        Cubes { cubes }
+    }
+
+    /// The cubes, in order.
+    pub fn as_slice(&self) -> &[JobCube]
+        ensures { result.now ≡ self.now }
+    {
+        self.cubes.as_slice()
+    }
+}

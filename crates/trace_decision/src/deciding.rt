@@ -1,0 +1,115 @@
+//! From a reduced trace to what is decided of it.
+ghost use Rattle.std.specs.Prelude.{◌≡◌, ◌<◌, ℕ, length, IfOk};
+ghost use Rattle.std.specs.List.{Contains};
+ghost use Rattle.cube_tree.specs.CubeTree.{cubes_of};
+ghost use Rattle.dimacs.specs.Assignment.{value_of};
+ghost use Rattle.schedule_decode.specs.Decode.{IsModelOfKept};
+ghost use Rattle.trace_semantics.specs.Legal.{IsLegal};
+ghost use Rattle.result_ledger.specs.Ledger.{cubes_in};
+ghost use Rattle.trace_decision.specs.Decision.{IsDecided, NamesOpen, AreCubesOf};
+ghost use Rattle.trace_decision.specs.Rounds.{HaveEnded};
+
+use crate::cubes::Cubes;
+use crate::decided::Decided;
+use crate::decision::Decision;
+use crate::guide::{guide_to_order, reads_from_table};
+use crate::refutation::Refutation;
+use crate::rounds::search_in_rounds;
+use clause_blocks::trace_clauses::TraceClauses;
+use cube_jobs::{Gate, JobCube, Options, SearchFault};
+use dimacs::{Assignment, ClauseList};
+use reducer::expand::expand;
+use reducer::reduced::Reduced;
+use result_ledger::{Ledger, Verdict, inconsistent_has_no_model, unknown_holds_all_models};
+use schedule_decode::decode::schedule_of;
+use solver::PreparedFormula;
+use std::alloc::{AllocError, Global};
+use std::sync::Wait;
+use std::thread::Threads;
+use trace_semantics::schedule::Schedule;
+
+/// The schedule of the whole trace in which a model puts the kept operations. It is legal. The model is not tried again.
+fn whole_schedule(
+    alloc: Global,
+    reduced: &Reduced,
+    clauses: &TraceClauses,
+    truth: &Assignment,
+) -> Result<Schedule, AllocError>
+    requires { IsModelOfKept (value_of truth.now) clauses.now reduced.now.kept }
+    ensures { IfOk result (λ schedule. IsLegal reduced.now.whole schedule) }
+{
+    let _kept = reduced.kept();
+    let kept = schedule_of(alloc, reduced, clauses.layout(), truth)?;
+    expand(alloc, reduced, &kept)
+}
+
+/// The cubes of these leaves, in order.
+fn cubes_of_leaves(alloc: Global, ledger: &Ledger, leaves: &[u32]) -> Result<Cubes, AllocError>
+    requires { (leaf : ℕ) → Contains leaves.now leaf → leaf < length ledger.now }
+    ensures { IfOk result (λ cubes. AreCubesOf ledger.now leaves.now cubes) }
+{
+    let mut cubes = Vec::with_capacity(alloc, leaves.len())?;
+    for leaf in leaves {
+        cubes.push(JobCube::of(alloc, ledger.cube(*leaf)))?;
+    }
+    Ok(Cubes::new(cubes))
+}
+
+/// What is decided of the whole trace, by the verdict on the clauses of what is kept of it.
+fn decision_of(
+    alloc: Global,
+    reduced: &Reduced,
+    clauses: &TraceClauses,
+    _options: &Options,
+    decided: Decided,
+) -> Result<Decision, AllocError>
+    requires clauses { clauses.now ≡ reduced.now.kept }
+    requires cubes { cubes_in decided.ledger ≡ cubes_of decided.tree }
+    requires ended { HaveEnded clauses.now _options.now decided.ledger decided.verdict }
+    ensures decided { IfOk result (λ decision. IsDecided _options.now reduced.now.whole decision) }
+    ensures named { IfOk result (λ decision. NamesOpen decided decision) }
+{
+    let _kept = reduced.kept();
+    clauses.is_formula();
+    let Decided {
+        tree,
+        ledger,
+        verdict,
+    } = decided;
+    tree.covers();
+    ledger.has_clauses();
+    inconsistent_has_no_model();
+    unknown_holds_all_models();
+    match &verdict {
+        Verdict::Consistent(_, truth) => {
+            let schedule = whole_schedule(alloc, reduced, clauses, truth)?;
+            Ok(Decision::Consistent(schedule))
+        }
+        Verdict::Inconsistent(_) => {
+            let derivations = ledger.into_derivations(alloc)?;
+            Ok(Decision::Inconsistent(Refutation { tree, derivations }))
+        }
+        Verdict::Unknown(leaves) => {
+            let cubes = cubes_of_leaves(alloc, &ledger, leaves.as_slice())?;
+            Ok(Decision::Unknown(cubes))
+        }
+    }
+}
+
+/// Decides whether the whole trace has a legal schedule, as far as the options let the search go.
+pub fn decide<R: Threads + Wait + Sync, G: Gate + Sync>(
+    alloc: Global,
+    rt: &R,
+    reduced: &Reduced,
+    options: &Options,
+    gate: &G,
+) -> Result<Decision, SearchFault>
+    ensures { IfOk result (λ decision. IsDecided options.now reduced.now.whole decision) }
+{
+    let clauses = TraceClauses::of(alloc, reduced)?;
+    let reads_from = reads_from_table(alloc, clauses.layout())?;
+    let encoding = guide_to_order(clauses.layout()).with_reads_from(&reads_from);
+    let prepared = PreparedFormula::of(alloc, &clauses, encoding)?;
+    let decided = search_in_rounds(alloc, rt, &clauses, &prepared, options, gate)?;
+    Ok(decision_of(alloc, reduced, &clauses, options, decided)?)
+}

@@ -1,0 +1,43 @@
+//! Sets of operations.
+
+use std::alloc::{AllocError, Global};
+use std::collections::HashMap;
+use trace_semantics::operation::OpName;
+
+/// Some operations, by the names of their processes and their places.
+#[derive(Drop)]
+pub struct ChosenOps<'a> {
+    members: HashMap<(&'a [u8], usize), bool>,
+}
+
+impl<'a> ChosenOps<'a> {
+    ghost use Rattle.std.specs.Prelude.{◌≡◌, false, OnOk, ◌||◌};
+    ghost use Rattle.trace_semantics.specs.declared.operation.OpName.{OpName};
+    ghost use Rattle.trace_semantics.specs.Operation.{same_op};
+    ghost use Rattle.trace_part.specs.Chosen.{has};
+
+    /// The set of no operations.
+    pub fn new(alloc: Global) -> ChosenOps<'a>
+        ensures { (n : OpName) → has result n ≡ false }
+    {
+        ChosenOps {
+            members: HashMap::new(alloc),
+        }
+    }
+
+    /// Whether the operation at this place of this process is in the set.
+    pub fn contains(&self, process: &[u8], place: usize) -> bool
+        ensures { result ≡ has self.now (record { process = process.now; place = place }) }
+    {
+        self.members.get(&(process, place)).is_some()
+    }
+
+    /// Puts the operation into the set.
+    pub fn insert(&mut self, name: &'a OpName) -> Result<(), AllocError>
+        ensures { OnOk result ((n : OpName) → has self.new n ≡ (same_op name.now n || has self.old n)) }
+    {
+        self.members
+            .insert((name.process.as_bytes(), name.place as usize), true)?;
+        Ok(())
+    }
+}

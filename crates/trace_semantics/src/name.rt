@@ -1,0 +1,71 @@
+//! Names of processes and of locations.
+
+ghost use Rattle.std.specs.Prelude.{◌≡◌, IfOk};
+ghost use Rattle.std.specs.List.{list_all};
+ghost use Rattle.trace_semantics.specs.Names.{is_name, may_begin_name, may_be_in_name};
+
+use smallvec::SmallVec;
+use std::alloc::{AllocError, Global};
+use std::marker::Model;
+
+/// Bytes of the longest name that lies in the value itself; longer ones lie in an allocation.
+const INLINE: usize = 16;
+
+/// A name, as its bytes. Names of processes and names of locations are apart from one another.
+#[derive(Drop)]
+pub struct Name {
+    bytes: SmallVec<u8, INLINE>,
+}
+
+impl Model for Name {
+    ghost use Rattle.std.specs.Prelude.{List, ℕ};
+
+    ghost Value = { List ℕ };
+
+    ghost view = { λ name. name.bytes.items };
+}
+
+impl Name {
+    /// The name of these bytes.
+    pub fn copy_of(alloc: Global, bytes: &[u8]) -> Result<Name, AllocError>
+        ensures { IfOk result (λ name. name ≡ bytes.now) }
+    {
+        Ok(Name {
+            bytes: SmallVec::from_slice(alloc, bytes)?,
+        })
+    }
+
+    /// Its bytes.
+    pub fn as_bytes(&self) -> &[u8]
+        ensures { result.now ≡ self.now }
+    {
+        self.bytes.as_slice()
+    }
+}
+
+/// Whether a name may begin with the byte: a letter or an underscore.
+fn may_begin(byte: u8) -> bool
+    ensures { result ≡ may_begin_name byte }
+{
+    byte.is_ascii_alphabetic() || byte == b'_'
+}
+
+/// Whether the byte may stand in a name: a letter, a digit or an underscore.
+fn may_stand(byte: u8) -> bool
+    ensures { result ≡ may_be_in_name byte }
+{
+    may_begin(byte) || byte.is_ascii_digit()
+}
+
+fn all_may_stand(word: &[u8]) -> bool
+    ensures { result ≡ list_all may_be_in_name word.now }
+{
+    word.iter().all(|byte| may_stand(*byte))
+}
+
+/// Whether the word is a name: 1 to 32 bytes, a letter or an underscore and then letters, digits and underscores.
+pub fn is_name_word(word: &[u8]) -> bool
+    ensures { result ≡ is_name word.now }
+{
+    1 <= word.len() && word.len() <= 32 && may_begin(word[0]) && all_may_stand(word)
+}

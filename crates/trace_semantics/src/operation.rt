@@ -1,0 +1,82 @@
+//! Operations on memory, and how one is named.
+
+use crate::name::Name;
+
+/// The name of an operation: its process, and its place there, counted from 1.
+#[derive(Drop)]
+pub struct OpName {
+    pub process: Name,
+    pub place: u16,
+}
+
+/// What a trace says of where a reading operation has its value from.
+#[derive(Drop)]
+pub enum Origin {
+    /// Nothing is said.
+    Any,
+    /// It reads the initial value: no operation has written the location before it.
+    Initial,
+    /// The last operation before it that writes the location is this one.
+    Operation(OpName),
+}
+
+/// An operation. Each is one point of a schedule.
+#[derive(Drop)]
+pub enum Op {
+    /// Reads this value at the location.
+    Read {
+        location: Name,
+        value: u64,
+        origin: Origin,
+    },
+    /// Writes this value to the location.
+    Write {
+        location: Name,
+        value: u64,
+    },
+    /// Reads one value at the location and leaves another there.
+    Update {
+        location: Name,
+        read: u64,
+        left: u64,
+        origin: Origin,
+    },
+}
+
+impl Op {
+    ghost use Rattle.std.specs.Prelude.{◌≡◌};
+    ghost use Rattle.trace_semantics.specs.Operation.{location_of, value_read, written_value};
+
+    /// The location on which it works.
+    pub fn location(&self) -> &Name
+        ensures { result.now ≡ location_of self.now }
+    {
+        match self {
+            Op::Read { location, .. } => location,
+            Op::Write { location, .. } => location,
+            Op::Update { location, .. } => location,
+        }
+    }
+
+    /// The value that it reads, if it is a reading operation.
+    pub fn value_read(&self) -> Option<u64>
+        ensures { result ≡ value_read self.now }
+    {
+        match self {
+            Op::Read { value, .. } => Some(*value),
+            Op::Write { .. } => None,
+            Op::Update { read, .. } => Some(*read),
+        }
+    }
+
+    /// The value that it leaves, if it writes.
+    pub fn written_value(&self) -> Option<u64>
+        ensures { result ≡ written_value self.now }
+    {
+        match self {
+            Op::Read { .. } => None,
+            Op::Write { value, .. } => Some(*value),
+            Op::Update { left, .. } => Some(*left),
+        }
+    }
+}
