@@ -1,4 +1,5 @@
-//! Reads-from candidates: which choices are open, and which are made.
+//! Reads-from candidates: which choices are open, and which are made. They are bits, so that propagation handles the writers of a word
+//! at once.
 
 use clause_database::ReadsFromVariable;
 use order_sets::ElementSets;

@@ -1,4 +1,4 @@
--- Where a walk over the words has no fault, each entry that it makes has a value.
+-- If a walk over the words has no fault, each entry that it makes has a value.
 use Rattle.std.proofs.Common.{◌≡◌, ◌∙◌, ◌&&◌, ◌||◌, ℕ, Bool, cond, true, false, zero, suc, refl, sym, ap, List, [], ◌∷◌, ◌++◌, length, drop, Option, Some, None, is_some, true≢false, nat_lt, fold}
 use Rattle.std.specs.Prelude.{IfSome, encode_utf8, find, option_and_then, option_map, slice_get}
 use Rattle.std.specs.List.{list_all}

@@ -21,13 +21,13 @@ use std::alloc::Global;
 /// How a search goes about its work.
 #[derive(Clone, Copy)]
 pub struct SearchNumbers {
-    /// How many threads may search, 1 to 8.
+    /// The number of threads that may search, 1 to 8.
     pub workers: u32,
     /// On how many variables the search is split at first, 0 to 10.
     pub split: u32,
     /// After how many conflicts the search of a cube is given up, 0 to 1,000,000,000.
     pub budget: u64,
-    /// How many rounds there are at most, 1 to 4.
+    /// The largest number of rounds, 1 to 4.
     pub rounds: u32,
 }
 
@@ -66,8 +66,7 @@ pub enum Line<'a> {
         names: &'a str,
         shows_names: bool,
     },
-    /// To decide whether a trace has a legal schedule, to write a certificate to a file or to none, and to tell of the
-    /// progress or not.
+    /// To decide whether a trace has a legal schedule, to write a certificate to a file or to none, and to report the progress or not.
     Verify {
         trace: &'a str,
         cert: Option<&'a str>,
@@ -89,8 +88,7 @@ fn matches_of<'a>(alloc: Global, words: &'a [&'a str]) -> Result<ArgMatches<'a>,
 
 /// Reads the words of a command line, of which the first is the program's name.
 ///
-/// A fault is what `clap` finds wrong with the words, a request for help or for the version, or want
-/// of memory.
+/// A fault is what `clap` finds wrong with the words, a request for help or for the version, or that memory ran out.
 pub fn read_line<'a>(alloc: Global, words: &'a [&'a str]) -> Result<Line<'a>, LineFault>
     ensures line { IfOk result (Asks (texts words.now)) }
     ensures ranges { IfOk result IsWithinRanges }

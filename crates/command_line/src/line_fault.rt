@@ -32,8 +32,8 @@ impl LineFault {
         self.error.kind()
     }
 
-    /// Whether the text is the help or the version that was asked for. It goes to standard output,
-    /// and every other text to standard error.
+    /// Returns whether the text is the help or the version that was asked for. It goes to standard output, and every other text to standard
+    /// error.
     pub fn is_answer(&self) -> bool
         ensures { result ≡ is_answer self.now }
     {

@@ -70,8 +70,8 @@ abbrev pub RunsRecheck : {H I O : Type 0} → HostCalls H I O → (I → I → S
 RunsRecheck calls read from trace cert None out outcome to = RunsOnFiles calls read IsRunOfRecheck from trace cert out outcome to
 RunsRecheck calls read from trace cert (Some names) out outcome to = RunsOnThreeFiles calls read IsRunOfPartRecheck from trace cert names.now out outcome to
 
--- The host was told of this search, and the engine that decides traces was run on the file at this path. If nothing is decided, what was
--- taken names the cubes that a search with these options leaves open.
+-- This search was reported to the host, and the engine that decides traces was run on the file at this path. If nothing is decided, what
+-- was taken names the cubes that a search with these options leaves open.
 pub record RunsSearch {H I O : Type 0} (calls : HostCalls H I O) (read : I → I → SourceRun) (from : H) (trace : List ℕ) (search : SearchRequest) (out : SinkRun) (outcome : Result Status Fault) (to : H) : Type 0 where
   pub file : SourceRun
   pub between : H
@@ -180,7 +180,7 @@ pub record EndsLine {H I O : Type 0} (calls : HostCalls H I O) (read : I → I �
   pub compares : Overwrites calls from line overwrites compared
   pub ends : EndsCompared calls read wrote compared line overwrites out err status to
 
--- this is the text of a fault of the command line, as far as it is known
+-- this is the text of a fault of the command line, or what is known of it
 abbrev pub IsTextOf : ErrorKind → List ℕ → Type 0
 IsTextOf kind text = IfSome (text_on_memory kind) (λ known. text ≡ known)
 

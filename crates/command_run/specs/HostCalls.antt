@@ -13,7 +13,7 @@ pub record HostCalls (H Input Output : Type 0) : Type 1 where
   pub fails_to_make : H → List ℕ → H → Type 0
   -- the file was given back
   pub closes : H → Output → H → Type 0
-  -- it was told that an engine which decides traces is run with this search
+  -- it was reported that an engine which decides traces is run with this search
   pub searches : H → SearchRequest → H → Type 0
   -- the host was asked whether the files at these paths are the same one, and this is what it said
   pub compares : H → List ℕ → List ℕ → Bool → H → Type 0

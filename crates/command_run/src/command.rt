@@ -19,7 +19,7 @@ use verdict_report::exit_status;
 /// What is printed if the certificate would overwrite the trace.
 const OVERWRITES: &[u8] = b"error: --cert names the file of TRACE\n";
 
-/// Whether the files at these paths are one.
+/// Returns whether the files at these paths are one.
 fn is_one_file<'p, H: Host<'p>>(host: &mut H, first: &str, second: &str) -> bool
     ensures { IsOneFile H.calls host.old first.now second.now result host.new }
 {
@@ -29,7 +29,7 @@ fn is_one_file<'p, H: Host<'p>>(host: &mut H, first: &str, second: &str) -> bool
     host.is_same_file(first, second)
 }
 
-/// Whether the line asks for a certificate in the file of its trace.
+/// Returns whether the line asks for a certificate in the file of its trace.
 fn overwrites_trace<'p, H: Host<'p>>(host: &mut H, line: Line<'p>) -> bool
     ensures { Overwrites H.calls host.old line.entry result host.new }
 {

@@ -6,7 +6,7 @@ use crate::search_request::SearchRequest;
 use dimacs::{Failed, Sink};
 use verdict_report::Source;
 
-/// What a command asks of the outside beside its two standard streams: files. It is told of each search, too.
+/// What a command asks of the outside beside its two standard streams: files. Each search is reported to it, too.
 ///
 /// A run over any host says in its contract what it asked of it, as a chain of `calls` from the host before to the host after, and
 /// that is all that it asked.
@@ -38,11 +38,11 @@ pub trait Host<'p> {
     fn close(&mut self, file: Self::Output)
         ensures { calls.closes self.old file self.new };
 
-    /// Whether there is a file at both paths, and it is the same one.
+    /// Returns whether there is a file at both paths, and it is the same one.
     fn is_same_file(&mut self, first: &str, second: &str) -> bool
         ensures { calls.compares self.old first.now second.now result self.new };
 
-    /// Is told of a search before it is run.
+    /// Takes the report of a search before it is run.
     fn begin_search(&mut self, search: &SearchRequest)
         ensures { calls.searches self.old search.now self.new };
 }

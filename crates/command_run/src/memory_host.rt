@@ -7,8 +7,8 @@ use dimacs::{Failed, MemorySink};
 use std::alloc::Global;
 use verdict_report::ShortSource;
 
-/// Files that are slices, and one that may be made. It keeps the file that was made, after it was given back, and the last
-/// search of which it was told.
+/// Files that are slices, and one that may be made. It keeps the file that was made, after it was given back, and the last search that was
+/// reported to it.
 #[derive(Drop)]
 pub struct MemoryHost<'p> {
     alloc: Global,
@@ -20,7 +20,7 @@ pub struct MemoryHost<'p> {
 }
 
 impl<'p> MemoryHost<'p> {
-    /// A host that has these files, each with its path, and that hands out at most so many bytes of them a call.
+    /// A host that has these files, each with its path, and that hands out at most the given number of bytes of them a call.
     pub fn new(alloc: Global, files: &'p [(&'p str, &'p [u8])], most: usize) -> MemoryHost<'p> {
         MemoryHost {
             alloc,
@@ -43,7 +43,7 @@ impl<'p> MemoryHost<'p> {
         self.made.as_ref().map(|file| file.as_slice())
     }
 
-    /// The last search of which it was told.
+    /// The last search that was reported to it.
     pub fn searched(&self) -> Option<SearchRequest> {
         self.searched
     }

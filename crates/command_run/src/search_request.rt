@@ -44,8 +44,8 @@ impl SearchRequest {
     }
 }
 
-/// Tells the host of the search, and runs the engine that decides traces with it: with the gate `progress` if the progress is to be
-/// reported, and with one that does nothing if not.
+/// Reports the search to the host, and runs the engine that decides traces with it: with the gate `progress` if the progress is wanted, and
+/// with one that does nothing if not.
 pub(crate) fn decide<'p, R: Threads + Wait + Sync, G: Gate + Sync, H: Host<'p>, W: Sink>(
     alloc: Global,
     rt: &R,

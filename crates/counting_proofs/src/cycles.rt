@@ -1,4 +1,5 @@
-//! The steps which say that some updates have a first one, so that it has no source.
+//! The steps which say that some updates have a first one, so that it has no source. No count shows this: there may be as many sources
+//! as updates, so it has steps of its own.
 
 use crate::elimination::{Elimination, Side};
 use crate::step_log::StepLog;

@@ -1,5 +1,5 @@
-//! Elimination of operations, one after the other, by resolution on the order. Steps grow with the square of their number: to resolve all
-//! clauses with each other at once would take exponentially many.
+//! Elimination of operations, one after the other, by resolution on the order. The steps grow with the square of their
+//! number.
 
 use crate::step_log::StepLog;
 use order_sets::TripleIds;

@@ -49,7 +49,7 @@ pub struct ProofWriter {
 }
 
 impl ProofWriter {
-    /// Writes into this log.
+    /// Begins to write into this log.
     pub fn new(alloc: Global, log: StepLog) -> ProofWriter {
         ProofWriter {
             log,

@@ -13,7 +13,7 @@ use proof_log::within;
 use source_matching::{Kind, KnownOrder, MatchingInstance, SourceContradiction};
 use std::alloc::{AllocError, Global};
 
-/// What is given: steps with which the derivation begins, and for each literal on which a contradiction rests the number of its unit
+/// The premises: steps with which the derivation begins, and for each literal on which a contradiction rests the number of its unit
 /// clause.
 #[derive(Drop)]
 pub struct Premises<'a> {

@@ -16,7 +16,8 @@ pub struct Free {
     pub variable: u32,
 }
 
-/// The steps of a derivation up to a bound. What does not fit is left out, and then there is no derivation.
+/// The steps of a derivation up to a bound. What does not fit is left out, and then there is no derivation: one past
+/// the budget is of no use, so no memory is spent on it.
 #[derive(Drop)]
 pub struct StepLog {
     alloc: Global,

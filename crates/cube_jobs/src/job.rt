@@ -6,8 +6,8 @@ use crate::outcome::Outcome;
 use dimacs::Lit;
 use std::alloc::Global;
 
-/// A cube that is to be searched, under a ticket. It is not copied, so that each job is in one place at a time. Contracts
-/// see it as the pair of its ticket and its cube.
+/// A cube to search, under a ticket: its leaf's number. It is not copied, so that each job is in one place at a time. Contracts see it as
+/// the pair of its ticket and its cube.
 #[derive(Drop)]
 pub struct Job {
     ticket: u32,
@@ -80,7 +80,7 @@ impl Settled {
         self.cube.as_slice()
     }
 
-    /// What was said of the cube.
+    /// The outcome for the cube.
     pub fn outcome(&self) -> &Outcome
         ensures { result.now ≡ self.now.outcome }
     {

@@ -10,7 +10,7 @@ use std::marker::Model;
 /// The most literals of a cube, which is how deep a tree may be.
 pub const MAX_LITERALS: usize = 20;
 
-/// The literals of a job, of which all are to be true: at most 20, which need no memory of their own.
+/// The literals of a job, which are all assumed to be true: at most 20, which need no memory of their own.
 #[derive(Drop)]
 pub struct JobCube {
     literals: SmallVec<Lit, MAX_LITERALS>,

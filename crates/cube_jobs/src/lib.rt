@@ -1,4 +1,5 @@
-//! Cubes as jobs: what is handed to a worker, and what comes back.
+//! Cubes as jobs: what a worker takes, and what it returns. Cube and conquer: Heule, Kullmann, Wieringa, Biere, "Cube and Conquer: Guiding
+//! CDCL SAT Solvers by Lookaheads", 2011.
 #![tactic(auto)]
 
 mod gate;

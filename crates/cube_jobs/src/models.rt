@@ -5,7 +5,7 @@ ghost use Rattle.dimacs.specs.Assignment.{value_of};
 
 use dimacs::{Assignment, ClauseList, Lit};
 
-/// Whether the assignment is a model of the formula and makes all literals of the cube true.
+/// Returns whether the assignment is a model of the formula and makes all literals of the cube true.
 pub fn is_model_in<L: ClauseList>(formula: &L, cube: &[Lit], assignment: &Assignment) -> bool
     ensures { IsTrue result ↔ IsModelIn (L.formula formula.now).clauses cube.now (value_of assignment.now) }
 {

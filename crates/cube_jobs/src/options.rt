@@ -5,7 +5,7 @@ ghost use Rattle.cube_jobs.specs.Options.{OptionsValue, bad_option};
 use std::marker::Model;
 use text_lines::fault::FaultCause;
 
-/// How a search goes about its work. No verdict rests on it.
+/// The limits of a search: workers, depth, conflicts and rounds. No verdict rests on them.
 #[derive(Clone, Copy)]
 pub struct Options {
     workers: u32,
@@ -94,7 +94,7 @@ impl Options {
         })
     }
 
-    /// How many workers search, from 1 to 8.
+    /// The number of workers that search, from 1 to 8.
     pub fn workers(&self) -> u32
         ensures workers { result ≡ self.now.workers }
         ensures some { 1 ≤ result }
@@ -103,7 +103,7 @@ impl Options {
         self.workers
     }
 
-    /// How deep the first tree is at most, from 0 to 10.
+    /// The largest depth of the first tree, from 0 to 10.
     pub fn split(&self) -> u32
         ensures split { result ≡ self.now.split }
         ensures few { result ≤ 10 }
@@ -111,14 +111,14 @@ impl Options {
         self.split
     }
 
-    /// How many conflicts are worked on in a cube before it stays open.
+    /// Conflicts per cube, after which it stays open.
     pub fn budget(&self) -> u64
         ensures { result ≡ self.now.budget }
     {
         self.budget
     }
 
-    /// How many rounds there are at most, from 1 to 4. Between two of them the open leaves are split.
+    /// The largest number of rounds, from 1 to 4. Between two of them the open leaves are split.
     pub fn rounds(&self) -> u32
         ensures rounds { result ≡ self.now.rounds }
         ensures some { 1 ≤ result }

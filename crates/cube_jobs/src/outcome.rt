@@ -1,8 +1,8 @@
-//! What a worker says of a cube. Nobody trusts it.
+//! A worker's answer for a cube. It is untrusted.
 use dimacs::Assignment;
 use lrat_check::derivation::Derivation;
 
-/// What a worker says of a cube. It is an answer to be checked, and may be wrong.
+/// A worker's answer for a cube. It is checked by the caller, and may be wrong.
 #[derive(Drop)]
 pub enum Outcome {
     /// A model of the formula that makes all literals of the cube true.

@@ -3,7 +3,7 @@
 use text_lines::fault::FaultCause;
 use text_lines::plain_fault::PlainFault;
 
-/// What went wrong with a search.
+/// The fault of a search.
 #[derive(Clone, Copy, Debug, PartialEq, Eq)]
 pub enum SearchCause {
     /// The way from or to a worker was cut.
@@ -12,7 +12,7 @@ pub enum SearchCause {
     NoThread,
 }
 
-/// Why a search has no results: what went wrong with it, or that memory ran out.
+/// The reason why a search has no results: its fault, or that memory ran out.
 pub type SearchFault = PlainFault<SearchCause>;
 
 impl FaultCause for SearchCause {

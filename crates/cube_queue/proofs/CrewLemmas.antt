@@ -1,4 +1,4 @@
--- A crew whose seats were just made.
+-- Participants of a search, with seats that were just made.
 use Rattle.std.proofs.Common.{◌≡◌, ℕ, suc, ◌<◌, ◌≤◌, List, [], ◌∷◌, Some, refl, sym, subst, arith}
 use Rattle.std.specs.List.{All, AllPairs, slice_get}
 use Rattle.std.proofs.lemmas.List.Elements.{All-nil, All-cons, All-head, All-tail}
@@ -34,12 +34,12 @@ module _ (site : SharedSearch) where
       (All-tail (λ (s : SeatValue). s.word ≡ site.word) m.stop (stops_of members) word)
       (All-tail KnowsNothing m.stop.knows (known_by (stops_of members)) new))
 
-  -- members with seats that were just made are ready
+  -- workers with seats that were just made are ready
   pub all_ready : (members : List Worker) → AreWorkersAt site.board (seats_of members) → All IsIdle (seats_of members) → AreAllSeats site.word (stops_of members) →
       All KnowsNothing (known_by (stops_of members)) → All (IsReady site) members
   all_ready members workers idle stops new = each_ready members (λ number seat is. (workers.each number seat is).0) idle stops.at_word new
 
--- the crew of a board and a stop word that were just opened
+-- the participants at a board and a stop word that were just opened
 pub opened : (site : SharedSearch) (crew : Participants) (workers cubes : ℕ) (seats : List WorkerSeat) (stops : List SeatValue) → (site.board.workers ≡ workers) × (site.board.cubes ≡ cubes) →
     IsDealerAt site.board crew.dealer × (put_by crew.dealer ≡ []) → IsCollectorAt site.board crew.collector × (gathered_by crew.collector ≡ []) →
     AreWorkersAt site.board seats → All IsIdle seats → AreAllSeats site.word stops → All KnowsNothing (known_by stops) →

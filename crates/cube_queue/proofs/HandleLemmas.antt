@@ -1,4 +1,4 @@
--- Threads' handles, each with its promise: members are started one after the other, and all are joined.
+-- Threads' handles, each with its promise: workers are started one after the other, and all are joined.
 use Rattle.std.proofs.Common.{◌≡◌, ℕ, ◌<◌, suc, List, [], ◌∷◌, ◌++◌, map, length, refl, sym, ◌∙◌, ap, subst, arith}
 use Rattle.std.specs.Prelude.{slice_index_or}
 use Rattle.std.specs.List.{All, AllZip, Contains}
@@ -12,7 +12,7 @@ use Rattle.cube_queue.specs.declared.participants.Worker.{Worker}
 use Rattle.cube_queue.specs.declared.promised.WorkerOf.{WorkerOf}
 use Rattle.cube_queue.specs.declared.shared_search.SharedSearch.{SharedSearch}
 
--- threads of these members were started, all at this site and with this settler
+-- threads of these workers were started, all of this shared search and with this settler
 pub record AreStarted (S : Type 0) (site : SharedSearch) (settler : S) (members : List Worker) (handles : List (PromisedHandle Worker (WorkerOf S))) : Type 0 where
   pub members_are : map (λ (h : PromisedHandle Worker (WorkerOf S)). h.promise.member.value) handles ≡ members
   pub sites_are : All (λ (h : PromisedHandle Worker (WorkerOf S)). h.promise.site.value ≡ site) handles
@@ -33,11 +33,11 @@ one_started S site settler members handles member handle started at with_it of =
   settlers_are = All-push (λ (h : PromisedHandle Worker (WorkerOf S)). h.promise.settler.value ≡ settler) handles handle started.settlers_are with_it;
 }
 
--- what holds of all members holds of the next
+-- what holds of all workers holds of the next
 pub next_member : (P : Worker → Type 0) (all before : List Worker) (member : Worker) (rest : List Worker) → all ≡ before ++ member ∷ rest → All P all → P member
 next_member P all before member rest is every = All-contains P all member every (subst (λ (ms : List Worker). Contains ms member) (sym is) (in_middle before member rest))
 
--- all members were started
+-- all workers were started
 pub all_members : (all before rest : List Worker) → all ≡ before ++ rest → length rest ≡ 0 → before ≡ all
 all_members all before [] is none = sym (append-nil before) ∙ sym is
 all_members all before (m ∷ rest) is none = absurd (omega (arith, none))

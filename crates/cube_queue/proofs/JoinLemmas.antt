@@ -1,4 +1,4 @@
--- What is known of all members of a search once each of them has ended.
+-- What is known of all workers of a search once each of them has ended.
 use Rattle.std.proofs.Common.{◌≡◌, ℕ, zero, suc, ℤ, List, [], ◌∷◌, map, length, Some, None, refl, sym, ◌∙◌, ap, subst, arith}
 use Rattle.std.specs.List.{All, AllZip, slice_get}
 use Rattle.std.proofs.lemmas.List.{length-map}
@@ -18,7 +18,7 @@ use Rattle.cube_queue.specs.declared.participants.Worker.{Worker}
 use Rattle.cube_queue.specs.declared.participants.Returned.{Returned}
 use Rattle.cube_queue.specs.declared.shared_search.SharedSearch.{SharedSearch}
 
--- What each thread's handle was promised, where the handles are known by the members that they were given.
+-- What each thread's handle was promised, where the handles are known by the workers that they were given.
 module _
     {H F : Type 0} (clauses_of : F → List (List ℤ)) (formula_of : H → F) (site_of : H → SharedSearch) (member_of : H → Worker) (formula : F) (site : SharedSearch)
   where
@@ -39,7 +39,7 @@ module _
       all_worked handles after (All-tail (λ (k : H). site_of k ≡ site) h handles sites) (All-tail (λ (k : H). formula_of k ≡ formula) h handles formulas) worked.1,
     )
 
-    -- each member has worked
+    -- each worker has worked
     pub worked_zip : (handles : List H) (before after : List Worker) → map member_of handles ≡ before → All (λ (h : H). site_of h ≡ site) handles → All (λ (h : H). formula_of h ≡ formula) handles →
         AllZip WorkedFor handles after → AllZip (HasWorked (clauses_of formula) site) before after
     worked_zip handles before after are sites formulas worked = subst (λ (l : List Worker). AllZip (HasWorked (clauses_of formula) site) l after) are (all_worked handles after sites formulas worked)
@@ -92,7 +92,7 @@ module _ (clauses : List (List ℤ)) (site : SharedSearch) where
   all_honest (b ∷ before) (a ∷ after) worked =
       All-cons (λ (m : Worker). ticket_in m.seat.hand ≡ None → IsHonest clauses m.stop.knows (given_by m.seat)) a after worked.0.honest (all_honest before after worked.1)
 
-  -- all seats of the crew came back
+  -- all seats of the search came back
   pub all_returned : (crew : Participants) (returned : Returned) → IsCrewAt site crew → HasRun clauses site crew returned → AreAllAt site returned
   all_returned crew returned began ran = record {
     dealer_at = ran.dealer_at;
@@ -103,7 +103,7 @@ module _ (clauses : List (List ℤ)) (site : SharedSearch) where
     all_gathered = ran.all_gathered ∙ sym (jobs_counted site.board.cubes crew.jobs.items (put_by returned.dealer) began.low ran.dealt);
   }
 
-  -- the run of a crew that was given the jobs of these leaves
+  -- the run of a search that was given the jobs of these leaves
   pub honest_run : (cubes : List (List ℤ)) (which : List ℕ) (crew : Participants) (returned : Returned) → AreLeaves cubes which → AreJobsOf cubes which crew.jobs.items → site.board.cubes ≡ length cubes →
       IsCrewAt site crew → HasRun clauses site crew returned → IsHonestRun clauses cubes which site returned
   honest_run cubes which crew returned asked jobs same began ran = record {

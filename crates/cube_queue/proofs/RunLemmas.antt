@@ -21,7 +21,7 @@ use Rattle.cube_queue.specs.declared.participants.Returned.{Returned}
 use Rattle.cube_queue.specs.declared.shared_search.SharedSearch.{SharedSearch}
 use Rattle.cube_queue.proofs.AnswerLemmas.{are_results, model_below}
 
--- no member has a job left in its hand
+-- no worker has a job left in flight
 pub hands_empty : (members : List Worker) → All (λ (seat : WorkerSeat). ticket_in seat.hand ≡ None) (seats_of members) → All (λ (m : Worker). ticket_in m.seat.hand ≡ None) members
 hands_empty [] empty = All-nil (λ (m : Worker). ticket_in m.seat.hand ≡ None)
 hands_empty (m ∷ members) empty =

@@ -14,11 +14,11 @@ use Rattle.cube_queue.specs.declared.participants.Worker.{Worker}
 use Rattle.cube_queue.specs.declared.participants.Returned.{Returned}
 use Rattle.cube_queue.specs.declared.shared_search.SharedSearch.{SharedSearch}
 
--- the members' seats at the board
+-- the workers' seats at the board
 abbrev pub seats_of : List Worker → List WorkerSeat
 seats_of members = map (λ (m : Worker). m.seat) members
 
--- the members' seats at the stop word
+-- the workers' seats at the stop word
 abbrev pub stops_of : List Worker → List SeatValue
 stops_of members = map (λ (m : Worker). m.stop) members
 
@@ -31,7 +31,7 @@ pub record AreJobsOf (cubes : List (List ℤ)) (which : List ℕ) (jobs : List J
 abbrev pub WithStops : ℕ → List Job → List Job → Type 0
 WithStops cubes jobs put = (stops : List Job) × (put ≡ jobs ++ stops) × All (λ (job : Job). cubes ≤ job.ticket) stops
 
--- All seats at this site, where nothing was put, given or marked yet; and jobs of its cubes, whose tickets rise.
+-- All seats of this shared search, where nothing was put, given or marked yet; and jobs of its cubes, whose tickets rise.
 pub record IsCrewAt (site : SharedSearch) (crew : Participants) : Type 0 where
   pub dealer_at : IsDealerAt site.board crew.dealer
   pub none_put : put_by crew.dealer ≡ []
@@ -45,7 +45,7 @@ pub record IsCrewAt (site : SharedSearch) (crew : Participants) : Type 0 where
   pub workers_at : AreWorkersAt site.board (seats_of crew.members.items)
   pub stops_at : AreAllSeats site.word (stops_of crew.members.items)
 
--- All jobs of the crew were put, and then stop tickets; the results are those that were gathered, as many as the jobs; each member has
+-- All jobs of the search were put, and then stop tickets; the results are those that were gathered, as many as the jobs; each worker has
 -- worked.
 pub record HasRun (clauses : List (List ℤ)) (site : SharedSearch) (crew : Participants) (returned : Returned) : Type 0 where
   pub dealer_at : IsDealerAt site.board returned.dealer
@@ -55,7 +55,7 @@ pub record HasRun (clauses : List (List ℤ)) (site : SharedSearch) (crew : Part
   pub all_gathered : length returned.results.items ≡ length crew.jobs.items
   pub worked : AllZip (HasWorked clauses site) crew.members.items returned.members.items
 
--- all seats at this site, and the results that were gathered, as many as jobs were put
+-- all seats of this shared search, and the results that were gathered, as many as jobs were put
 pub record AreAllAt (site : SharedSearch) (returned : Returned) : Type 0 where
   pub dealer_at : IsDealerAt site.board returned.dealer
   pub collector_at : IsCollectorAt site.board returned.collector
@@ -64,7 +64,7 @@ pub record AreAllAt (site : SharedSearch) (returned : Returned) : Type 0 where
   pub results_are : returned.results.items ≡ gathered_by returned.collector
   pub all_gathered : length returned.results.items ≡ length (below site.board.cubes (of_jobs (put_by returned.dealer)))
 
--- What was put were the jobs of these leaves and then stop tickets, and each member in whose hand no job is left was honest.
+-- What was put were the jobs of these leaves and then stop tickets, and each worker of which no job is left in flight was honest.
 pub record IsHonestRun (clauses cubes : List (List ℤ)) (which : List ℕ) (site : SharedSearch) (returned : Returned) : Type 0 where
   pub asked : AreLeaves cubes which
   pub cubes_are : site.board.cubes ≡ length cubes

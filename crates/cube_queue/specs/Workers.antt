@@ -20,15 +20,15 @@ pub record IsHonest (clauses : List (List ℤ)) (knows : View) (given : List Set
   pub marked : MarkModels clauses knows.marks given
   pub skipped : (settled : Settled) → Contains given settled → settled.outcome ≡ Skipped → knows.least < settled.ticket
 
--- a worker at this site that has taken, given, marked and been shown nothing
+-- a worker of this shared search that has taken, given, marked and been shown nothing
 pub record IsReady (site : SharedSearch) (member : Worker) : Type 0 where
   pub at : IsWorkerAt site.board member.seat
   pub idle : IsIdle member.seat
   pub word_is : member.stop.word ≡ site.word
   pub new : KnowsNothing member.stop.knows
 
--- A worker at this site, before and after its work: it has the same number, and the same parts of the stop word. Where no job is
--- left in its hand, it was honest.
+-- A worker of this shared search, before and after its work: it has the same number, and the same parts of the stop word. If no job of it
+-- is left in flight, it was honest.
 pub record HasWorked (clauses : List (List ℤ)) (site : SharedSearch) (before after : Worker) : Type 0 where
   pub at : IsWorkerAt site.board after.seat
   pub number_is : after.seat.number ≡ before.seat.number

@@ -11,7 +11,7 @@ use std::alloc::{AllocError, Global};
 use std::sync::Wait;
 use stop_word::StopSeat;
 
-/// The members' seats at the board, and those at the stop word, in the order of the members.
+/// The workers' seats at the board, and those at the stop word, in the order of the workers.
 fn parted(
     alloc: Global,
     members: Vec<Worker>,
@@ -29,8 +29,8 @@ fn parted(
     Ok((seats, stops))
 }
 
-/// The results that were gathered. Where the jobs of these leaves were put, and each worker was honest, they are the results of these
-/// leaves. It needs no look at the account: as many were gathered as were put, so none was left on the way.
+/// The results that were gathered. If the jobs of these leaves were put, and each worker was honest, they are the results of these leaves.
+/// It needs no look at the account: as many were gathered as were put, so none was left on the way.
 pub(crate) fn close<R: Wait>(
     alloc: Global,
     rt: &R,

@@ -10,7 +10,7 @@ use std::alloc::Global;
 use std::sync::Wait;
 use text_lines::plain_fault::PlainFault;
 
-/// Gathers so many results, in the order in which they come. `Cut` where the channel ends before.
+/// Gathers the given number of results, in the order in which they come. `Cut` if the channel ends before.
 pub(crate) fn gather_all<R: Wait>(
     alloc: Global,
     rt: &R,

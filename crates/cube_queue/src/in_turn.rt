@@ -11,7 +11,7 @@ use dimacs::ClauseList;
 use solver::PreparedFormula;
 use std::alloc::{AllocError, Global};
 
-/// Whether the last of the results is a model of the formula that makes its cube true.
+/// Returns whether the last of the results is a model of the formula that makes its cube true.
 fn ends_in_model<L: ClauseList>(formula: &L, results: &[Settled]) -> bool
     ensures { IsTrue result → HasModel (L.formula formula.now).clauses results.now }
 {
@@ -21,7 +21,7 @@ fn ends_in_model<L: ClauseList>(formula: &L, results: &[Settled]) -> bool
     }
 }
 
-/// Whether there is a model among the results: one was known before the last of them, or that is one.
+/// Returns whether there is a model among the results: one was known before the last of them, or that is one.
 fn knows_model<L: ClauseList>(formula: &L, known_before: bool, results: &[Settled]) -> bool
     ensures { IsTrue result → IsTrue known_before ⊎ HasModel (L.formula formula.now).clauses results.now }
 {

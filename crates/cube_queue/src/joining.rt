@@ -9,7 +9,7 @@ use crate::settler::Settler;
 use std::alloc::AllocError;
 use std::thread::{PromisedHandle, Threads, join_promised};
 
-/// All members, in the order of their handles, once each thread has ended.
+/// All workers, in the order of their handles, once each thread has ended.
 pub(crate) fn join_all<R: Threads, S: Settler>(
     rt: &R,
     handles: Vec<PromisedHandle<Worker, WorkerOf<S>>>,

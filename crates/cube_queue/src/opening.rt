@@ -10,7 +10,7 @@ use job_board::{Board, WorkerSeat};
 use std::alloc::{AllocError, Global};
 use stop_word::{StopSeat, StopWord};
 
-/// Members, each with a seat at the board and a seat at the stop word, in the order of both.
+/// Workers, each with a seat at the board and a seat at the stop word, in the order of both.
 fn paired(
     alloc: Global,
     seats: Vec<WorkerSeat>,
@@ -31,8 +31,8 @@ fn paired(
     Ok(members)
 }
 
-/// A board and a stop word for so many workers, from 1 to 8, and so many cubes, from 1 to 1,024, and all seats at both, with the jobs
-/// that are to be put. Twice as many jobs as workers may wait at the board.
+/// Opens a board and a stop word for 1 to 8 workers and 1 to 1,024 cubes, and returns all seats at both, with the jobs that will be put.
+/// Twice as many jobs as workers may wait at the board.
 pub(crate) fn open(
     alloc: Global,
     workers: u32,

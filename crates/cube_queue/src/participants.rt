@@ -10,7 +10,7 @@ pub(crate) struct Worker {
     pub(crate) stop: StopSeat,
 }
 
-/// All seats of a search before it begins, and the jobs that are to be put.
+/// All seats of a search before it begins, and the jobs that will be put.
 #[derive(Drop)]
 pub(crate) struct Participants {
     pub(crate) dealer: DealerSeat,

@@ -5,7 +5,7 @@ use crate::shared_search::SharedSearch;
 use std::snapshot::Snapshot;
 use std::thread::Promise;
 
-/// The promise that this member will have worked at this site, with this settler.
+/// The promise that this worker will have worked on this shared search, with this settler.
 #[derive(Drop)]
 pub(crate) struct WorkerOf<S> {
     pub(crate) site: Snapshot<SharedSearch>,

@@ -17,7 +17,7 @@ use std::thread;
 use std::thread::{Scope, Threads};
 use text_lines::plain_fault::PlainFault;
 
-/// Starts a thread for each member, puts all jobs, gathers their results, and joins the threads. A stop ticket is put for each member
+/// Starts a thread for each worker, puts all jobs, gathers their results, and joins the threads. A stop ticket is put for each worker
 /// whatever has failed before, so each thread that was started ends. No job is put where one could not be started.
 fn run_members<'s, E, R: Threads + Wait + Sync, S: Settler + Sync, G: Gate + Sync>(
     alloc: Global,
@@ -59,7 +59,7 @@ fn run_members<'s, E, R: Threads + Wait + Sync, S: Settler + Sync, G: Gate + Syn
     })
 }
 
-/// Runs the search of this crew: each member works in a thread of its own, and this thread deals and gathers.
+/// Runs the search of these participants: each worker works in a thread of its own, and this thread deals and gathers.
 pub(crate) fn run<R: Threads + Wait + Sync, S: Settler + Sync, G: Gate + Sync>(
     alloc: Global,
     rt: &R,

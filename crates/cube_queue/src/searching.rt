@@ -30,7 +30,7 @@ fn leaf_cubes(alloc: Global, tree: &Tree) -> Result<Vec<Cube>, AllocError>
     Ok(cubes)
 }
 
-/// How many of the workers so many leaves need.
+/// The number of workers, at most one for each leaf.
 fn needed(workers: u32, leaves: usize) -> u32
     ensures few { result ≤ workers }
     ensures used { result ≤ leaves }
@@ -66,9 +66,9 @@ fn search_in_threads<R: Threads + Wait + Sync, L: ClauseList + Sync, G: Gate + S
     Ok(results)
 }
 
-/// Searches the cubes of these leaves of the tree, between the two calls of the gate. There is one result for each of them, with
-/// its cube, and no other. What a result says of its cube is to be checked. What is prepared of the formula is shared by all cubes, and
-/// nothing rests on it.
+/// Searches the cubes of these leaves of the tree (cube and conquer: Heule, Kullmann, Wieringa and Biere, 2011), between the two calls of
+/// the gate. There is one result for each of them, with its cube, and no other. What a result says of its cube is untrusted, and checked by
+/// the caller. What is prepared of the formula is shared by all cubes, and nothing rests on it.
 ///
 /// The workers search in threads of their own; a single one, or one for a single leaf, in the caller's. A worker that finds no memory
 /// in a cube leaves that cube open. After a result that is a model of the formula and makes its cube true, the cubes of higher leaves

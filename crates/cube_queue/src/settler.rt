@@ -6,18 +6,18 @@ ghost use Rattle.cube_jobs.specs.Models.{IsModelResult};
 use cube_jobs::{Job, Settled};
 use std::alloc::Global;
 
-/// What settles jobs for all workers, which share it.
+/// A settler of jobs, which all workers share.
 pub(crate) trait Settler {
     /// The clauses of which models are sought.
     ghost clauses: { Self → List (List ℤ) };
 
-    /// Settles the job: its cube is searched, or skipped where it is to be.
+    /// Settles the job: its cube is searched, or skipped if a model in a lower leaf makes it unneeded.
     fn settle(&self, alloc: Global, job: Job, skips: bool) -> Settled
         ensures ticket { result.ticket ≡ job.ticket }
         ensures cube { result.cube ≡ job.cube }
         ensures skipped { result.outcome ≡ Skipped → IsTrue skips };
 
-    /// Whether the result is a model of the clauses that makes its cube true.
+    /// Returns whether the result is a model of the clauses that makes its cube true.
     fn confirms(&self, settled: &Settled) -> bool
         ensures { IsTrue result → IsModelResult (clauses self.now) settled.now };
 }

@@ -29,7 +29,7 @@ impl<'a, L: ClauseList> Settler for CubeSettler<'a, L> {
     }
 }
 
-/// What the solver says of the cube. A search that finds no memory leaves it open.
+/// The solver's answer for the cube. A search that finds no memory leaves it open.
 fn outcome_of(alloc: Global, prepared: &PreparedFormula, cube: &[Lit], budget: u64) -> Outcome
     ensures { result ≡ Skipped → ⊥ }
 {
@@ -41,7 +41,7 @@ fn outcome_of(alloc: Global, prepared: &PreparedFormula, cube: &[Lit], budget: u
     }
 }
 
-/// Settles the job: its cube is searched, or skipped where it is to be.
+/// Settles the job: its cube is searched, or skipped if a model in a lower leaf makes it unneeded.
 pub(crate) fn settle_job(
     alloc: Global,
     prepared: &PreparedFormula,
@@ -60,7 +60,7 @@ pub(crate) fn settle_job(
     job.settle(outcome)
 }
 
-/// Whether the result is a model of the formula that makes its cube true.
+/// Returns whether the result is a model of the formula that makes its cube true.
 pub(crate) fn is_model_result<L: ClauseList>(formula: &L, settled: &Settled) -> bool
     ensures { IsTrue result → IsModelResult (L.formula formula.now).clauses settled.now }
 {

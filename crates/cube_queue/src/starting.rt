@@ -17,7 +17,7 @@ use std::sync::Wait;
 use std::thread::{PromisedHandle, Scope};
 use text_lines::plain_fault::PlainFault;
 
-/// Starts a thread in which this member works.
+/// Starts a thread in which this worker works.
 fn start<'s, E, R: Wait + Sync, S: Settler + Sync, G: Gate + Sync>(
     alloc: Global,
     rt: &'s R,
@@ -48,7 +48,7 @@ fn start<'s, E, R: Wait + Sync, S: Settler + Sync, G: Gate + Sync>(
     }
 }
 
-/// Starts a thread for each of these members. The first that cannot be started ends it, and those started before it work on.
+/// Starts a thread for each of these workers. The first that cannot be started ends it, and those started before it work on.
 pub(crate) fn start_all<'s, E, R: Wait + Sync, S: Settler + Sync, G: Gate + Sync>(
     alloc: Global,
     rt: &'s R,

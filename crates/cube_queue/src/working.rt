@@ -16,7 +16,7 @@ use std::alloc::Global;
 use std::sync::Wait;
 use stop_word::StopSeat;
 
-/// Whether a mark was shown that is below this ticket.
+/// Returns whether a mark was shown that is below this ticket.
 fn is_past(shown: Option<u32>, ticket: u32) -> bool
     ensures { IsTrue result → or_nothing shown < ticket }
 {
@@ -60,7 +60,7 @@ fn mark_model<S: Settler>(site: &SharedSearch, settler: &S, stop: &mut StopSeat,
     }
 }
 
-/// Settles the job in the hand, and gives its result. Where the board hands it back, the job stays in the hand.
+/// Settles the job in flight, and gives its result. If the board returns it, the job stays in flight.
 fn settle_next<R: Wait, S: Settler, G: Gate>(
     alloc: Global,
     rt: &R,

@@ -20,7 +20,7 @@ or_comm true false = refl
 or_comm false true = refl
 or_comm false false = refl
 
--- whether it is in a hand
+-- whether it is in flight
 pub in_hands : (ticket : ℕ) (hands : List (Option ℕ)) → list_any (is_in_hand ticket) hands ≡ is_among ticket (held_in hands)
 in_hands ticket [] = refl
 in_hands ticket (None ∷ hands) = in_hands ticket hands

@@ -42,7 +42,7 @@ once_more ticket new xs few none =
     let h = once_by ticket new xs (new == ticket) refl few none in
     omega (arith, h, times-append ticket xs (new ∷ []))
 
--- a hand that changes
+-- a worker's job in flight that changes
 pub held_set : (ticket : ℕ) (hands : List (Option ℕ)) (worker : ℕ) (hand : Option ℕ) → worker < length hands →
     times ticket (held_in (set hands worker hand)) + times ticket (option_to_list (get_or hands worker None)) ≡ times ticket (held_in hands) + times ticket (option_to_list hand)
 held_set ticket [] worker hand within = absurd (omega arith)
@@ -54,7 +54,7 @@ held_set ticket (h ∷ hands) (suc worker) hand within =
 abbrev no_ticket : Option ℕ
 no_ticket = None
 
--- empty hands
+-- no job in flight
 pub none_held : (workers worker : ℕ) → get_or (replicate workers None) worker None ≡ no_ticket
 none_held zero worker = refl
 none_held (suc workers) zero = refl

@@ -1,5 +1,5 @@
--- Where tickets are, by counting events alone: the k-th Take takes what the k-th Put put; a worker's k-th Give answers its
--- k-th Take; the k-th Gather gathers what the k-th Give gave. There are positions here, and neither queues nor hands.
+-- The places of tickets, by counting events alone: the k-th Take takes what the k-th Put put; a worker's k-th Give answers its k-th Take;
+-- the k-th Gather gathers what the k-th Give gave. There are positions here, and neither queues nor jobs in flight.
 use Rattle.std.specs.Prelude.{◌≡◌, ℕ, ◌+◌, ◌≤◌, List, [], ◌∷◌, length, map, drop, take, Option, Some, None, ◌==◌, cond}
 use Rattle.std.specs.List.{Contains, slice_get, filter, filter_map, zip}
 use Rattle.std.specs.Option.{option_to_list}
@@ -76,8 +76,8 @@ pub record AreAnswers (events : List Event) (answers : List Answer) : Type 0 whe
   pub given : map (λ (a : Answer). (a.worker, a.outcome)) answers ≡ gives events
   pub each : (worker : ℕ) → answered_by worker answers ≡ take (length (given_by worker events)) (taken_by worker events)
 
--- The machine's queues, hands and ledger are those found by counting: the job queue is the Puts that no Take has taken, a hand its
--- worker's Take without a Give, the result queue the Gives that no Gather has gathered, the ledger those gathered.
+-- The machine's queues, jobs in flight and ledger are those found by counting: the job queue is the Puts that no Take has taken, a worker's
+-- job in flight its Take without a Give, the result queue the Gives that no Gather has gathered, the ledger those gathered.
 pub record IsByCounting (events : List Event) (m : State) : Type 0 where
   pub answers : List Answer
   pub are_answers : AreAnswers events answers
@@ -93,7 +93,7 @@ abbrev pub times : ℕ → List ℕ → ℕ
 times ticket [] = 0
 times ticket (other ∷ tickets) = cond (other == ticket) 1 0 + times ticket tickets
 
--- each ticket put is in exactly one of job queue, one hand, result queue and ledger, once, and no other is in any
+-- each ticket put is in exactly one of job queue, jobs in flight, result queue and ledger, once, and no other is in any
 abbrev pub AreInOnePlace : List Event → State → Type 0
 AreInOnePlace events m =
     (ticket : ℕ) → times ticket m.jobs + times ticket (held_in m.hands) + times ticket (tickets_of m.results) + times ticket (tickets_of m.ledger) ≡ cond (is_among ticket (puts events)) 1 0
@@ -104,7 +104,7 @@ AreGivenByTakers events m =
     (ticket : ℕ) (outcome : Outcome) → Contains m.ledger (given_of ticket outcome) →
     (worker : ℕ) × (k : ℕ) × (slice_get (taken_by worker events) k ≡ Some ticket) × (slice_get (given_by worker events) k ≡ Some outcome)
 
--- where queues and hands are empty, the ledger holds each ticket put, once, and no other
+-- where queues are empty and no job is in flight, the ledger holds each ticket put, once, and no other
 abbrev pub AreAllSettled : List Event → State → Type 0
 AreAllSettled events m =
     m.jobs ≡ [] → ((worker : ℕ) → hand_of m worker ≡ None) → m.results ≡ [] →

@@ -11,15 +11,15 @@ use Rattle.dealing.specs.declared.refused.EventCause.TheVariants.{PutTwice, NoJo
 use Rattle.text_lines.specs.declared.plain_fault.PlainFault.{PlainFault}
 use Rattle.text_lines.specs.declared.plain_fault.PlainFault.TheVariants.{OutOfMemory, For}
 
--- The tickets in the job queue, its front first. What each worker has in its hand. The outcomes in the result queue, each under
--- its ticket, its front first. The ledger: a map of tickets to outcomes, as the list of its entries.
+-- The tickets in the job queue, its front first. What each worker has in flight. The outcomes in the result queue, each under its ticket,
+-- its front first. The ledger: a map of tickets to outcomes, as the list of its entries.
 pub record State : Type 0 where
   pub jobs : List ℕ
   pub hands : List (Option ℕ)
   pub results : List GivenOutcome
   pub ledger : List GivenOutcome
 
--- the machine of so many workers before any event
+-- the machine of these workers, by their number, before any event
 abbrev pub empty_machine : ℕ → State
 empty_machine workers = record { jobs = []; hands = replicate workers None; results = []; ledger = [] }
 
@@ -27,15 +27,15 @@ empty_machine workers = record { jobs = []; hands = replicate workers None; resu
 abbrev pub given_of : ℕ → Outcome → GivenOutcome
 given_of ticket outcome = record { ticket = ticket; outcome = outcome }
 
--- what the worker has in its hand
+-- what the worker has in flight
 abbrev pub hand_of : State → ℕ → Option ℕ
 hand_of m worker = slice_index_or m.hands worker None
 
--- the tickets in these hands
+-- the tickets in these slots
 abbrev pub held_in : List (Option ℕ) → List ℕ
 held_in hands = flat_map option_to_list hands
 
--- whether the ticket is in this hand
+-- whether the ticket is in this slot
 abbrev pub is_in_hand : ℕ → Option ℕ → Bool
 is_in_hand ticket None = false
 is_in_hand ticket (Some held) = held == ticket
@@ -44,7 +44,7 @@ is_in_hand ticket (Some held) = held == ticket
 abbrev pub tickets_of : List GivenOutcome → List ℕ
 tickets_of given = map (λ (g : GivenOutcome). g.ticket) given
 
--- all tickets in the machine: in the job queue, in a hand, in the result queue, in the ledger
+-- all tickets in the machine: in the job queue, in flight, in the result queue, in the ledger
 abbrev pub tickets_in : State → List ℕ
 tickets_in m = m.jobs ++ (held_in m.hands ++ (tickets_of m.results ++ tickets_of m.ledger))
 
@@ -56,8 +56,8 @@ is_among ticket tickets = list_any (λ other. other == ticket) tickets
 abbrev pub outcome_under : ℕ → List GivenOutcome → Option Outcome
 outcome_under ticket ledger = option_map (λ (g : GivenOutcome). g.outcome) (find (λ (g : GivenOutcome). g.ticket == ticket) ledger)
 
--- Why an event is refused. Put: the ticket is in the machine. Take: there is no such worker; the job queue is empty; the hand is
--- not. Give: there is no such worker; its hand is empty. Gather: the result queue is empty.
+-- Why an event is refused. Put: the ticket is in the machine. Take: there is no such worker; the job queue is empty; the worker has a job
+-- in flight. Give: there is no such worker; it has no job in flight. Gather: the result queue is empty.
 abbrev pub refusal_of : State → Event → Option EventCause
 refusal_of m (Put ticket) = if is_among ticket (tickets_in m) then Some PutTwice else None
 refusal_of m (Take worker) =
@@ -71,9 +71,9 @@ refusal_of m (Give worker outcome) =
     else Some HoldsNothing
 refusal_of m Gather = if length m.results == 0 then Some NoResult else None
 
--- What a possible event makes of the machine. Put: the ticket joins the job queue's back. Take: the job queue's front goes into
--- the hand. Give: the hand's ticket joins the result queue's back with the outcome, and the hand is empty. Gather: the result
--- queue's front goes into the ledger.
+-- What a possible event makes of the machine. Put: the ticket joins the job queue's back. Take: the job queue's front goes to the worker.
+-- Give: the ticket in flight joins the result queue's back with the outcome, and the worker has none in flight. Gather: the result queue's
+-- front goes into the ledger.
 abbrev pub after : State → Event → State
 after m (Put ticket) = record { jobs = m.jobs ++ ticket ∷ []; hands = m.hands; results = m.results; ledger = m.ledger }
 after m (Take worker) = record { jobs = drop 1 m.jobs; hands = slice_set m.hands worker (slice_get m.jobs 0); results = m.results; ledger = m.ledger }

@@ -6,6 +6,6 @@ use cube_jobs::Outcome;
 pub struct GivenOutcome {
     /// The job's ticket.
     pub ticket: u32,
-    /// What the worker says of it.
+    /// The worker's outcome for it.
     pub outcome: Outcome,
 }

@@ -1,4 +1,4 @@
-//! The hands of the workers.
+//! The jobs in flight, by worker.
 ghost use Rattle.std.specs.Prelude.{◌≡◌, ◌<◌, ◌≤◌, ℕ, Option, length, replicate, slice_index_or, slice_set, None};
 ghost use Rattle.std.specs.List.{list_any};
 ghost use Rattle.dealing.specs.Machine.{is_in_hand};
@@ -8,7 +8,7 @@ use std::marker::Model;
 /// The most workers of a machine.
 pub(crate) const MAX_WORKERS: usize = 8;
 
-/// What each worker has in its hand: a ticket, or nothing. Of the eight places those of the machine's workers count.
+/// For each worker what it has in flight: a ticket, or nothing. Of the eight places those of the machine's workers count.
 #[derive(Drop)]
 pub(crate) struct Hands {
     places: [Option<u32>; MAX_WORKERS],
@@ -25,7 +25,7 @@ impl Model for Hands {
     ghost invariant = { λ hands. (hands.workers ≤ 8) × (length hands.places ≡ 8) };
 }
 
-/// Whether the ticket is in this hand.
+/// Returns whether the ticket is in this slot.
 fn is_in_hand(hand: Option<u32>, ticket: u32) -> bool
     ensures { result ≡ is_in_hand ticket hand }
 {
@@ -36,7 +36,7 @@ fn is_in_hand(hand: Option<u32>, ticket: u32) -> bool
 }
 
 impl Hands {
-    /// So many empty hands.
+    /// Slots for jobs in flight, one for each worker, all empty.
     pub(crate) fn new(workers: u32) -> Hands
         requires { workers ≤ 8 }
         ensures { result ≡ replicate workers None }
@@ -47,14 +47,14 @@ impl Hands {
         }
     }
 
-    /// How many there are.
+    /// The number of workers.
     pub(crate) fn len(&self) -> usize
         ensures { result ≡ length self.now }
     {
         self.workers
     }
 
-    /// What the worker has in its hand.
+    /// The ticket that the worker has in flight.
     pub(crate) fn hand(&self, worker: u32) -> Option<u32>
         requires { worker < length self.now }
         ensures { result ≡ slice_index_or self.now worker None }
@@ -62,7 +62,7 @@ impl Hands {
         self.places[worker as usize]
     }
 
-    /// Puts this into the worker's hand, in place of what it had.
+    /// Sets what the worker has in flight.
     pub(crate) fn put(&mut self, worker: u32, hand: Option<u32>)
         requires { worker < length self.old }
         ensures { self.new ≡ slice_set self.old worker hand }
@@ -70,7 +70,7 @@ impl Hands {
         self.places[worker as usize] = hand;
     }
 
-    /// Whether the ticket is in some hand.
+    /// Returns whether the ticket is in flight.
     pub(crate) fn have(&self, ticket: u32) -> bool
         ensures { result ≡ list_any (is_in_hand ticket) self.now }
     {

@@ -1,5 +1,5 @@
-//! The dealing machine: jobs go from a queue into the hands of workers, and their outcomes through a second queue into a ledger.
-//! Over every list of events, each job is in exactly one place, and is settled by the worker that took it.
+//! The dealing machine: jobs go from a queue to workers, in which they are in flight, and their outcomes through a second queue into a
+//! ledger. Over every list of events, each job is in exactly one place, and is settled by the worker that took it.
 #![tactic(auto)]
 
 mod event;

@@ -36,7 +36,7 @@ impl Model for Machine {
     ghost invariant = { λ m. m.gathered ≤ length m.given.items };
 }
 
-/// Whether one of these was given under the ticket.
+/// Returns whether one of these was given under the ticket.
 fn has_ticket(given: &[GivenOutcome], ticket: u32) -> bool
     ensures { result ≡ list_any (λ one. one.ticket == ticket) given.now }
 {
@@ -56,7 +56,7 @@ fn find_outcome(given: &[GivenOutcome], ticket: u32) -> Option<&Outcome>
 }
 
 impl Machine {
-    /// The machine of so many workers, from 1 to 8, before any event. It takes no memory.
+    /// The machine of 1 to 8 workers, before any event. It takes no memory.
     pub fn new(alloc: Global, workers: u32) -> Machine
         requires some { 1 ≤ workers }
         requires few { workers ≤ 8 }
@@ -70,9 +70,8 @@ impl Machine {
         }
     }
 
-    /// One event. Where it is not possible, it is refused and given up, and the machine is unchanged: the number of an event's
-    /// worker is looked at first, and then the lowest refusal from `PutTwice` on is reported. `OutOfMemory` is reported of possible
-    /// events alone.
+    /// Takes one event. If it is not possible, it is refused and given up, and the machine is unchanged: the number of an event's worker is
+    /// looked at first, and then the lowest refusal from `PutTwice` on is reported. `OutOfMemory` is reported of possible events alone.
     pub fn step(&mut self, event: Event) -> Result<(), Refused>
         ensures { IsStep self.old event result self.new }
     {
@@ -84,14 +83,14 @@ impl Machine {
         }
     }
 
-    /// What the ledger holds under the ticket. It takes no memory.
+    /// The outcome that the ledger holds under the ticket. It takes no memory.
     pub fn outcome(&self, ticket: u32) -> Option<&Outcome>
         ensures { option_copied result ≡ outcome_under ticket self.now.ledger }
     {
         find_outcome(&self.given[..self.gathered], ticket)
     }
 
-    /// Whether the ticket is in the machine.
+    /// Returns whether the ticket is in the machine.
     fn has(&self, ticket: u32) -> bool
         ensures { result ≡ is_among ticket (tickets_in self.now) }
     {
@@ -115,7 +114,7 @@ impl Machine {
         Ok(())
     }
 
-    /// The job queue's front goes into the worker's hand.
+    /// The job queue's front goes to the worker, as its job in flight.
     fn take(&mut self, worker: u32) -> Result<(), Refused>
         ensures { IsStep self.old (Take worker) result self.new }
     {
@@ -133,7 +132,7 @@ impl Machine {
         Ok(())
     }
 
-    /// The hand's ticket joins the result queue's back with the outcome, and the hand is empty.
+    /// The ticket in flight joins the result queue's back with the outcome, and the worker has none in flight.
     fn give(&mut self, worker: u32, outcome: Outcome) -> Result<(), Refused>
         ensures { IsStep self.old (Give worker outcome) result self.new }
     {

@@ -3,16 +3,16 @@
 use text_lines::fault::FaultCause;
 use text_lines::plain_fault::PlainFault;
 
-/// What is wrong with an event.
+/// The fault of an event.
 #[derive(Clone, Copy, Debug, PartialEq, Eq)]
 pub enum EventCause {
     /// The ticket was put before.
     PutTwice,
     /// The job queue is empty.
     NoJob,
-    /// The worker has a job in its hand.
+    /// The worker has a job in flight.
     Busy,
-    /// The worker has no job in its hand.
+    /// The worker has no job in flight.
     HoldsNothing,
     /// The result queue is empty.
     NoResult,
@@ -20,7 +20,7 @@ pub enum EventCause {
     NoSuchWorker,
 }
 
-/// Why an event is refused: what is wrong with it, or that memory ran out.
+/// The reason why an event is refused: its fault, or that memory ran out.
 pub type Refused = PlainFault<EventCause>;
 
 impl FaultCause for EventCause {

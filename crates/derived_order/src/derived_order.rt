@@ -6,7 +6,7 @@ use order_sets::tables::{at, size};
 use source_reasons::{Concerned, Edge, EdgeReason, NO_EDGE, Reasons, Sources, Waiting};
 use std::alloc::{AllocError, Global};
 
-/// Why work on an order ends before it is done.
+/// The reason why work on an order ends before it is done.
 #[derive(Clone, Copy)]
 pub enum Halt {
     OutOfMemory,
@@ -20,7 +20,7 @@ impl From<AllocError> for Halt {
     }
 }
 
-/// What contradicts itself.
+/// The contradiction of an order.
 #[derive(Clone, Copy)]
 pub enum OrderContradiction {
     /// Nothing yet.
@@ -31,7 +31,7 @@ pub enum OrderContradiction {
     NoSource(u32),
 }
 
-/// How far saturation came.
+/// The result of a saturation.
 #[derive(Clone, Copy, PartialEq, Eq)]
 pub enum Saturation {
     /// Nothing more follows.
@@ -42,7 +42,7 @@ pub enum Saturation {
     Spent,
 }
 
-/// How much there was when a decision was taken.
+/// Lengths of the lists at the time of a decision, to which backtracking cuts them.
 #[derive(Clone, Copy)]
 struct Level {
     changes: usize,
@@ -105,7 +105,7 @@ impl<'a> DerivedOrder<'a> {
         Ok(order)
     }
 
-    /// Adds the pairs of the log. Whether there is no cycle.
+    /// Adds the pairs of the log. Returns whether there is no cycle.
     fn add_pairs(&mut self) -> Result<bool, AllocError> {
         let log = self.log;
         for pair in log.pairs() {
@@ -119,7 +119,7 @@ impl<'a> DerivedOrder<'a> {
         Ok(true)
     }
 
-    /// Finds the sources of all readers, which all are to be looked at.
+    /// Finds the sources of all readers, and has each reader wait for its turn.
     fn find_sources(&mut self, alloc: Global, readers: u32) -> Result<(), AllocError> {
         self.sources = sources_of(alloc, self.log, &self.rows, &self.writers, &mut self.budget)?;
         let initial = initial_numbers(alloc, self.log)?;
@@ -153,12 +153,12 @@ impl<'a> DerivedOrder<'a> {
         &self.reasons
     }
 
-    /// What contradicts itself.
+    /// The contradiction of an order.
     pub fn contradiction(&self) -> OrderContradiction {
         self.contradiction
     }
 
-    /// Whether it contradicts itself.
+    /// Returns whether it contradicts itself.
     pub fn is_contradicted(&self) -> bool {
         !matches!(self.contradiction, OrderContradiction::None)
     }
@@ -168,7 +168,7 @@ impl<'a> DerivedOrder<'a> {
         self.now.wrapping_add(1)
     }
 
-    /// What is left of the budget.
+    /// The rest of the budget.
     pub fn budget(&self) -> Budget {
         self.budget
     }
@@ -178,7 +178,7 @@ impl<'a> DerivedOrder<'a> {
         self.budget.spend(steps);
     }
 
-    /// Whether one operation stands before the other.
+    /// Returns whether one operation stands before the other.
     #[inline(always)]
     pub fn stands_before(&self, first: u32, second: u32) -> bool {
         self.rows.stands_before(self.log, first, second)
@@ -211,7 +211,7 @@ impl<'a> DerivedOrder<'a> {
         self.log.count().wrapping_add(location)
     }
 
-    /// How many decisions stand.
+    /// The number of decisions that stand.
     pub fn decisions(&self) -> u32 {
         size(self.levels.as_slice())
     }
@@ -246,8 +246,8 @@ impl<'a> DerivedOrder<'a> {
         Ok(())
     }
 
-    /// Raises the rows of the process's operations that stand after the second one of a new pair, or are it, up to the first that has
-    /// all of that already.
+    /// Raises the rows of the process's operations that stand after the second one of a new pair, or are it, up to the first that has all
+    /// of that already: so have those after it, as rows grow along a process. This end is what makes a new pair cheap.
     fn raise_process(&mut self, second: u32, process: u32) -> Result<(), AllocError> {
         let operation = self.log.operation(second);
         let mut from = self.rows.after(second, process);
@@ -265,7 +265,7 @@ impl<'a> DerivedOrder<'a> {
         Ok(())
     }
 
-    /// The same the other way.
+    /// Lowers the rows of the process's operations that stand before the first one of a new pair, or are it, in the same way.
     fn lower_process(&mut self, first: u32, process: u32) -> Result<(), AllocError> {
         let operation = self.log.operation(first);
         let mut from = self.rows.before(first, process);
@@ -283,7 +283,8 @@ impl<'a> DerivedOrder<'a> {
         Ok(())
     }
 
-    /// The row of the operation has changed, so all readers that look at it are to be looked at.
+    /// The row of the operation has changed, so each reader whose sources depend on it waits for another turn. A reader that is left out
+    /// here makes saturation end too early.
     #[inline(always)]
     fn concern(&mut self, number: u32) {
         if self.sources.is_bound(number) {
@@ -330,7 +331,8 @@ impl<'a> DerivedOrder<'a> {
         self.reasons.edge(level.edges)
     }
 
-    /// Takes back all decisions but so many, with all that followed.
+    /// Backtracks to the first decisions, of which the given number stays, and undoes all that followed from the others. Readers that still
+    /// wait are dropped with them: their turn would be spent on rows that are as they were.
     pub fn take_back(&mut self, decisions: u32) {
         for _ in decisions..self.decisions() {
             let Some(level) = self.levels.pop() else {

@@ -8,7 +8,7 @@ use numbered_log::{
 use source_reasons::Sources;
 use std::alloc::{AllocError, Global};
 
-/// Whether some writer of the location stands between the two operations.
+/// Returns whether some writer of the location stands between the two operations.
 fn is_hidden(
     log: &NumberedLog,
     rows: &Rows,
@@ -74,7 +74,7 @@ pub fn initial_numbers(alloc: Global, log: &NumberedLog) -> Result<Vec<u32>, All
     Ok(numbers)
 }
 
-/// What sources are looked for in.
+/// The tables in which sources are looked for.
 #[derive(Drop)]
 struct Finder<'a> {
     log: &'a NumberedLog,
@@ -126,7 +126,7 @@ pub fn sources_of(
 }
 
 impl<'a> Finder<'a> {
-    /// Adds a source, if there is room for it and the budget is not spent. Whether it was added.
+    /// Adds a source, if there is room for it and the budget is not spent. Returns whether it was added.
     fn add(&mut self, sources: &mut Sources, source: u32) -> Result<bool, AllocError> {
         if self.budget.is_spent() {
             return Ok(false);
@@ -134,7 +134,7 @@ impl<'a> Finder<'a> {
         sources.add(source)
     }
 
-    /// Adds the sources of the reading operation. Whether these are all.
+    /// Adds the sources of the reading operation. Returns whether these are all.
     fn add_of_reader(&mut self, sources: &mut Sources, number: u32) -> Result<bool, AllocError> {
         let operation = self.log.operation(number);
         let may_be_initial = match operation.origin {
@@ -160,7 +160,7 @@ impl<'a> Finder<'a> {
         Ok(true)
     }
 
-    /// Whether the writer is a possible source of the operation.
+    /// Returns whether the writer is a possible source of the operation.
     fn may_be_source(&mut self, operation: Operation, number: u32, writer: u32) -> bool {
         let source = self.log.operation(writer);
         self.budget.spend(1);
@@ -181,13 +181,14 @@ impl<'a> Finder<'a> {
         !is_hidden(self.log, self.rows, self.writers, writer, number)
     }
 
-    /// Whether the location has a final value that some writer has to leave. A location that no operation writes keeps its initial value.
+    /// Returns whether the location has a final value that some writer has to leave. A location that no operation writes keeps its initial
+    /// value.
     fn needs_last_writer(&self, location: u32) -> bool {
         let last = self.log.last(location);
         last.is_some() && (self.is_written(location) || self.log.initial(location) != last)
     }
 
-    /// Adds the writers that may be the last one of the location. Whether these are all.
+    /// Adds the writers that may be the last one of the location. Returns whether these are all.
     fn add_of_last(&mut self, sources: &mut Sources, location: u32) -> Result<bool, AllocError> {
         let Some(value) = self.log.last(location) else {
             return Ok(true);
@@ -211,7 +212,7 @@ impl<'a> Finder<'a> {
         Ok(true)
     }
 
-    /// Whether some operation writes the location.
+    /// Returns whether some operation writes the location.
     fn is_written(&self, location: u32) -> bool {
         for process in 0..self.log.processes() {
             let place = self.writers.next(self.log, process, location, 1);

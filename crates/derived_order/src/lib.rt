@@ -1,6 +1,7 @@
-//! What stands before what in each legal schedule of a trace, as far as it can be derived, with the reasons.
+//! What stands before what in each legal schedule of a trace, found by saturation (Gibbons and Korach, "Testing Shared Memories", 1997),
+//! with the reasons. What it misses is left to a walk or a search.
 //!
-//! Nothing here is believed: whoever uses it judges the schedule, or refutes the part of the trace, that comes of it.
+//! Nothing here is believed: the caller judges the schedule, or refutes the part of the trace, that comes of it.
 #![tactic(auto)]
 
 mod derived_order;

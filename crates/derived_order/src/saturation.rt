@@ -1,4 +1,5 @@
-//! What follows from possible sources, until nothing more follows.
+//! Saturation: what follows from possible sources, until nothing more follows (relations of must-stand-before that are derived in turn:
+//! Gibbons and Korach, "Testing Shared Memories", 1997).
 
 use crate::derived_order::{DerivedOrder, Halt, OrderContradiction, Saturation};
 use crate::finding_sources::{hider, later_writer};
@@ -11,7 +12,8 @@ use std::alloc::AllocError;
 const FAR: u32 = u32::MAX;
 
 impl<'a> DerivedOrder<'a> {
-    /// Derives what follows, until nothing more does.
+    /// Derives what follows, until nothing more does. Readers are looked at only when a row that they depend on has changed: a look at all
+    /// of them each time is what makes saturation slow.
     pub fn saturate(&mut self) -> Result<Saturation, AllocError> {
         if self.is_contradicted() {
             return Ok(Saturation::Contradicted);
@@ -65,7 +67,7 @@ impl<'a> DerivedOrder<'a> {
         Ok(())
     }
 
-    /// Says that a source of the reader is not possible.
+    /// Drops a source of the reader as not possible.
     fn drop_source(&mut self, reader: u32, place: u32, fate: Fate) -> Result<(), AllocError> {
         self.now = self.now.wrapping_add(1);
         self.sources.drop_source(reader, place, fate, self.now)?;
@@ -73,7 +75,7 @@ impl<'a> DerivedOrder<'a> {
         Ok(())
     }
 
-    /// Drops the sources that are not possible any more.
+    /// Drops the sources that have become impossible.
     fn drop_sources(&mut self, reader: u32) -> Result<(), AllocError> {
         for place in self.sources.begin(reader)..self.sources.end(reader) {
             let source = self.sources.source(place);
@@ -87,7 +89,7 @@ impl<'a> DerivedOrder<'a> {
         Ok(())
     }
 
-    /// Why this is no source of the reading operation, if it is none.
+    /// The reason why this is no source of the reading operation, if it is none.
     #[inline(always)]
     fn fate_of(&self, reader: u32, source: u32) -> Option<Fate> {
         if source == NOBODY {
@@ -137,7 +139,8 @@ impl<'a> DerivedOrder<'a> {
         }
     }
 
-    /// Widens the bounds by one more source. Whether they still say more than the rows of the reader.
+    /// Widens the bounds by one more source. Returns whether they still say more than the rows of the reader: if not, no further source can
+    /// change that, and the look ends early.
     #[inline(always)]
     fn widen_bounds(&mut self, reader: u32, source: u32) -> bool {
         let location = self.log.operation(reader).location;
@@ -290,7 +293,7 @@ impl<'a> DerivedOrder<'a> {
         Ok(())
     }
 
-    /// How many reads and final values have more than one possible source.
+    /// The number of reads and final values that have more than one possible source.
     pub fn undecided(&self) -> u32 {
         let mut count: u32 = 0;
         for reader in 0..self.sources.readers() {

@@ -1,4 +1,4 @@
--- Where the account's four numbers are equal, jobs put and results gathered weigh the same.
+-- If the account's four numbers are equal, jobs put and results gathered weigh the same.
 use Rattle.std.proofs.Common.{◌≡◌, ℕ, ◌+◌, Bool, true, false, cond, nat_lt, List, [], ◌∷◌, ◌++◌, map, length, refl, sym, ◌∙◌, ap, arith}
 use Rattle.cube_jobs.specs.declared.job.Job.{Job}
 use Rattle.cube_jobs.specs.declared.job.Settled.{Settled}
@@ -84,8 +84,8 @@ got_weighs cubes h got left workers given =
     ∙ merge_total (result_weight cubes h) (map given_by workers) (got ++ left) given
     ∙ total-map (λ (part : List Settled). total (result_weight cubes h) part) given_by workers
 
--- What is known of the counts of jobs and results, as weights: what was put was taken or is left, what was taken was given or is in a
--- hand, what was given was gathered or is left.
+-- What is known of the counts of jobs and results, as weights: what was put was taken or is left, what was taken was given or is in flight,
+-- what was given was gathered or is left.
 pub record AddUp (cubes : ℕ) (put queue : List Job) (got left : List Settled) (workers : List WorkerSeat) : Type 0 where
   pub taken_or_left : total (job_weight cubes one) put ≡ total (taken_weight cubes one) workers + total (job_weight cubes one) queue
   pub given_or_held : total (taken_weight cubes one) workers ≡ total (given_weight cubes one) workers + total (hand_weight cubes one) workers

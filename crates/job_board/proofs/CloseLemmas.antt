@@ -187,7 +187,7 @@ all_equal cubes dealer seats collector account is dealt gathered same =
     omega (arith, same, weights.put_weighs, weights.given_weighs, weights.gathered_weighs, sums.taken_or_left, sums.given_or_held, sums.got_or_left) in
     (taken, given, same)
 
--- a hand that weighs nothing holds no job
+-- what is in flight and weighs nothing is no job
 no_job : (cubes : ℕ) (hand : InFlight) → is_within cubes hand ≡ true → total (only cubes one) (held_in hand) ≡ 0 → ticket_in hand ≡ None
 no_job cubes Empty within none = refl
 no_job cubes (Holds held) within none =
@@ -206,7 +206,7 @@ no_jobs cubes (seat ∷ seats) same none =
     (no_job cubes seat.hand (subst (λ (n : ℕ). is_within n seat.hand ≡ true) (same 0 seat refl) seat.within) here)
     (no_jobs cubes seats (λ number other at. same (suc number) other at) rest)
 
--- where the four numbers are equal, no worker has a job left in its hand
+-- where the four numbers are equal, no worker has a job left in flight
 pub all_empty : (cubes : ℕ) (dealer : DealerSeat) (seats : List WorkerSeat) (collector : CollectorSeat) (account : Account) → IsAccountOf cubes dealer seats collector account →
     ((number : ℕ) (seat : WorkerSeat) → slice_get seats number ≡ Some seat → seat.cubes ≡ cubes) → IsBalanced account → All (λ (seat : WorkerSeat). ticket_in seat.hand ≡ None) seats
 all_empty cubes dealer seats collector account is same balanced =

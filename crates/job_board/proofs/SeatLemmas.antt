@@ -70,7 +70,7 @@ rises_more before after job rise above more =
     all_pairs_push (λ (p q : Pair). p.0 < q.0) (of_jobs before) (of_job job) rise (All-map (λ (p : Pair). p.0 < job.ticket) of_job before above) in
     subst (λ (jobs : List Job). Rise (of_jobs jobs)) (sym more) (subst Rise (sym (map-append of_job before (job ∷ []))) longer)
 
--- the seat rule after a take, with an empty hand before, and after a give
+-- the seat rule after a take, with nothing in flight before, and after a give
 pub answers_take : (before after : List Job) (given : List Settled) (job : Job) → of_jobs before ≡ of_results given ++ [] → after ≡ before ++ job ∷ [] → of_jobs after ≡ of_results given ++ of_job job ∷ []
 answers_take before after given job so more =
     ap of_jobs more ∙ map-append of_job before (job ∷ []) ∙ ap (λ (pairs : List Pair). pairs ++ of_job job ∷ []) (so ∙ append-nil (of_results given))
@@ -79,7 +79,7 @@ pub answers_give : (taken : List Job) (before after : List Settled) (settled : S
 answers_give taken before after settled so more =
     so ∙ sym (map-append of_result before (settled ∷ [])) ∙ ap of_results (sym more) ∙ sym (append-nil (of_results after))
 
--- a hand that holds no job, where nothing has ended, is empty
+-- if no job is in flight and nothing has ended, nothing is in flight
 pub empty_hand : (hand : InFlight) → ticket_in hand ≡ None → is_done hand ≡ false → held_in hand ≡ []
 empty_hand Empty none running = refl
 empty_hand (Holds held) none running = absurd (cc)
@@ -103,18 +103,18 @@ pub took_stop : (cubes number : ℕ) (v w : ChannelView Job) (job : Job) (taken 
 took_stop cubes number v w job taken is more so high =
     job_counted cubes (list_in v) (list_in w) job taken false so (worker_more_item v w number (list_in v) job is more).0 (le-ltb job.ticket cubes high)
 
--- a hand with a job in it
+-- a job is in flight
 pub held_within : (cubes : ℕ) (hand : InFlight) (held : HeldJob) → hand ≡ Holds held → is_within cubes hand ≡ true → held.ticket < cubes
 held_within cubes hand held is within = ltb-true held.ticket cubes (sym (ap (λ (h : InFlight). is_within cubes h) is) ∙ within)
 
--- the seat rule after the result of the job in the hand was given
+-- the seat rule after the result of the job in flight was given
 pub gave : (number : ℕ) (v w : ChannelView Settled) (taken : List Job) (hand : InFlight) (held : HeldJob) (settled : Settled) → v ≡ Worker number (list_in v) → w ≡ with_item v settled →
     of_jobs taken ≡ of_results (list_in v) ++ held_in hand → hand ≡ Holds held → (held.ticket, held.cube) ≡ of_result settled → of_jobs taken ≡ of_results (list_in w) ++ []
 gave number v w taken hand held settled is more so holds same =
     let mine : held_in hand ≡ of_result settled ∷ [] = ap held_in holds ∙ ap (λ (p : Pair). p ∷ []) same in
     answers_give taken (list_in v) (list_in w) settled (so ∙ ap (λ (pairs : List Pair). of_results (list_in v) ++ pairs) mine) (worker_more_item v w number (list_in v) settled is more).0
 
--- the job in the hand is below, and so is its result
+-- the job in flight is below, and so is its result
 pub held_low : (cubes : ℕ) (hand : InFlight) (held : HeldJob) (settled : Settled) → hand ≡ Holds held → is_within cubes hand ≡ true → (held.ticket, held.cube) ≡ of_result settled → settled.ticket < cubes
 held_low cubes hand held settled holds within same =
     subst (λ (n : ℕ). n < cubes) (ap (λ (p : Pair). p.0) same) (held_within cubes hand held holds within)

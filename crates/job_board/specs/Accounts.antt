@@ -39,11 +39,11 @@ pub record AreJoined (cubes workers : ℕ) (put : List Job) (got : List Settled)
   pub taken_is : taken ≡ total (taken_below cubes) seats
   pub given_is : given ≡ total (given_below cubes) seats
 
--- the job rule, as it ends: what was put is some merge of what the workers took, followed by the jobs that nobody took
+-- the job rule, as it ends: what was put is some merge of what the workers took, followed by the jobs that no worker took
 abbrev pub WereDealt : DealerSeat → List WorkerSeat → Type 0
 WereDealt dealer workers = (front : List Job) × (queue : List Job) × IsMergeOf (map taken_by workers) front × (put_by dealer ≡ front ++ queue)
 
--- the result rule, as it ends: what was gathered, followed by the results that nobody gathered, is some merge of what the workers gave
+-- the result rule, as it ends: what was gathered, followed by the results that were never gathered, is some merge of what the workers gave
 abbrev pub WereGathered : CollectorSeat → List WorkerSeat → Type 0
 WereGathered collector workers = (queue : List Settled) × IsMergeOf (map given_by workers) (gathered_by collector ++ queue)
 

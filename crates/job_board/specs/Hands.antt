@@ -1,10 +1,10 @@
--- What a worker has in its hand.
+-- The job that is in flight at a worker.
 use Rattle.std.specs.Prelude.{ℕ, nat_lt, Bool, true, false, not, List, [], ◌∷◌, Option, Some, None}
 use Rattle.job_board.specs.declared.in_flight.InFlight.{InFlight}
 use Rattle.job_board.specs.declared.in_flight.InFlight.TheVariants.{Empty, Holds, Stopped, Cut}
 use Rattle.job_board.specs.Pairs.{Pair, of_job}
 
--- the pair in the hand: that of the job it holds, or of the stop ticket that it has received
+-- the pair in flight: that of the job it holds, or of the stop ticket that it has received
 abbrev pub held_in : InFlight → List Pair
 held_in Empty = []
 held_in (Holds held) = (held.ticket, held.cube) ∷ []

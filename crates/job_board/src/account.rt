@@ -1,14 +1,14 @@
 //! What a board's seats have done.
 
-/// How many jobs were put, taken and settled, and how many results were gathered, stop tickets left out.
+/// The numbers of jobs that were put, taken and settled, and of results that were gathered, stop tickets left out.
 #[derive(Clone, Copy)]
 pub struct Account {
-    /// How many jobs were put.
+    /// The number of jobs that were put.
     pub put: u32,
-    /// How many the workers took.
+    /// The number of jobs that the workers took.
     pub taken: u32,
-    /// How many results the workers gave.
+    /// The number of results that the workers gave.
     pub given: u32,
-    /// How many of these were gathered.
+    /// The number of results that were gathered.
     pub gathered: u32,
 }

@@ -22,14 +22,14 @@ pub struct Board {
 }
 
 impl Board {
-    /// How many cubes it has. Tickets from this number on are stop tickets.
+    /// The number of cubes. Tickets from this number on are stop tickets.
     pub fn cubes(&self) -> u32
         ensures { result ≡ self.now.cubes }
     {
         self.cubes
     }
 
-    /// How many workers' seats it has.
+    /// The number of workers' seats.
     pub fn workers(&self) -> u32
         ensures { result ≡ self.now.workers }
     {

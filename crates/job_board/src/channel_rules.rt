@@ -1,4 +1,4 @@
-//! The rules of the two channels, and what their steps tell.
+//! The rules of the two channels, and what their steps show.
 ghost use Rattle.std.specs.Prelude.{◌≡◌, List, [], ◌∷◌, ⊤};
 ghost use Rattle.job_board.specs.declared.channel_view.ChannelView.TheVariants.{Single, Spent};
 ghost use Rattle.job_board.specs.ChannelRules.{MeetsJobRule, MeetsResultRule, with_item, with_worker_made, worker_made, with_worker_joined, PutAddsUp, GotAddsUp};

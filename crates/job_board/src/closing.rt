@@ -21,10 +21,10 @@ use std::sync::Wait;
 
 impl Board {
     /// The account of all seats of the board, the workers' in the order of their numbers. What was put is some merge of what the workers
-    /// took, followed by what nobody took; what was gathered, followed by what nobody gathered, is some merge of what they gave. Where
-    /// as many results were gathered as jobs were put, the four numbers are equal. Where these are, the results are those of the jobs
-    /// put, each once, and of no other, no worker has a job left in its hand, and nothing that a worker gave is left: what was gathered
-    /// is all of it.
+    /// took, followed by what no worker took; what was gathered, followed by what was never gathered, is some merge of what they gave. If
+    /// as many results were gathered as jobs were put, the four numbers are equal. If these are, the results are those of the jobs put,
+    /// each once, and of no other, no worker has a job left in flight, and nothing that a worker gave is left: what was gathered is all of
+    /// it.
     pub fn close<R: Wait>(
         self,
         rt: &R,

@@ -1,4 +1,4 @@
-//! What a worker has in its hand.
+//! The job that is in flight at a worker.
 ghost use Rattle.std.specs.Prelude.{◌≡◌, ◌↔◌, IsTrue};
 ghost use Rattle.job_board.specs.Hands.{ticket_in, is_done};
 ghost use Rattle.job_board.specs.Pairs.{of_result};
@@ -16,7 +16,7 @@ pub struct HeldJob {
     pub(crate) cube: JobCube,
 }
 
-/// What a worker has in its hand.
+/// The job that is in flight at a worker.
 #[derive(Drop)]
 pub enum InFlight {
     /// Nothing: it may take a job.
@@ -29,7 +29,7 @@ pub enum InFlight {
     Cut,
 }
 
-/// Whether these are the same literals in the same order.
+/// Returns whether these are the same literals in the same order.
 fn are_same(first: &[Lit], second: &[Lit]) -> bool
     ensures { IsTrue result ↔ (first.now ≡ second.now) }
 {
@@ -48,7 +48,7 @@ impl HeldJob {
         }
     }
 
-    /// Whether the result is one for this job.
+    /// Returns whether the result is one for this job.
     pub(crate) fn is_settled_by(&self, settled: &Settled) -> bool
         ensures { IsTrue result → (self.now.ticket, self.now.cube) ≡ of_result settled.now }
     {
@@ -69,7 +69,7 @@ impl InFlight {
         }
     }
 
-    /// Whether the result is one for the job that it holds.
+    /// Returns whether the result is one for the job that it holds.
     pub(crate) fn is_settled_by(&self, settled: &Settled) -> bool
         ensures { IsTrue result → (held : HeldJob) × (self.now ≡ Holds held) × ((held.ticket, held.cube) ≡ of_result settled.now) }
     {
@@ -81,7 +81,7 @@ impl InFlight {
         }
     }
 
-    /// Whether a stop ticket was received, or the channel ended.
+    /// Returns whether a stop ticket was received, or the channel ended.
     pub(crate) fn is_done(&self) -> bool
         ensures { result ≡ is_done self.now }
     {

@@ -34,8 +34,8 @@ impl WorkerSeat {
 }
 
 impl Board {
-    /// Puts a job, whose ticket is above all that this seat has put. Tickets past the board's cubes are stop tickets: at the end one is
-    /// put for each worker. The job comes back where the channel hands it back.
+    /// Puts a job, whose ticket is above all that this seat has put. Tickets past the board's cubes are stop tickets: at the end one is put
+    /// for each worker. The job comes back where the channel returns it.
     pub fn put<R: Wait>(&self, rt: &R, seat: &mut DealerSeat, job: Job) -> Result<(), Job>
         requires seat { IsDealerAt self.now seat.old }
         requires above { All (λ earlier. earlier.ticket < job.ticket) (put_by seat.old) }
@@ -92,8 +92,8 @@ impl Board {
         }
     }
 
-    /// Gives the result of the job that the seat holds. It comes back where the seat holds no job of its ticket and its cube, or where
-    /// the channel hands it back.
+    /// Gives the result of the job that the seat holds. It comes back where the seat holds no job of its ticket and its cube, or where the
+    /// channel returns it.
     pub fn give<R: Wait>(
         &self,
         rt: &R,

@@ -20,8 +20,8 @@ pub const MAX_WORKERS: u32 = 8;
 pub const MAX_CUBES: u32 = 1024;
 
 impl Board {
-    /// A board for so many workers, from 1 to 8, and so many cubes, from 1 to 1,024, at which so many jobs may wait, from 1 to 1,024;
-    /// and all seats at it. The result channel has room for all cubes, so a worker never waits for the collector.
+    /// Opens a board for 1 to 8 workers and 1 to 1,024 cubes, at which 1 to 1,024 jobs may wait, and returns it with all seats at it. The
+    /// result channel has room for all cubes, so a worker never waits for the collector.
     pub fn open(
         alloc: Global,
         workers: u32,

@@ -29,7 +29,7 @@ pub struct DealerSeat {
 }
 
 /// The seat of a worker, who takes jobs and gives results. The jobs that it settled are a prefix of those that it took, at most one
-/// shorter; where it is one shorter, the last one is in its hand.
+/// shorter; where it is one shorter, the last one is in flight.
 #[derive(Drop)]
 pub struct WorkerSeat {
     pub(crate) number: u32,

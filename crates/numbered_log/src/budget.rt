@@ -1,4 +1,4 @@
-//! How much work is left.
+//! The work that is left, in steps.
 
 /// A number of steps that may still be taken. A step is a look at an entry of a table, more or less.
 #[derive(Clone, Copy)]
@@ -7,34 +7,34 @@ pub struct Budget {
 }
 
 impl Budget {
-    /// So many steps.
+    /// A budget of this number of steps.
     pub fn new(steps: u64) -> Budget {
         Budget { left: steps }
     }
 
-    /// Takes these steps away, as far as they are there.
+    /// Takes these steps away, or all if there are fewer.
     #[inline(always)]
     pub fn spend(&mut self, steps: u64) {
         self.left = self.left.saturating_sub(steps);
     }
 
-    /// Takes all steps away, where there is no more room to go on.
+    /// Takes all steps away, if there is no more room to go on.
     pub fn use_up(&mut self) {
         self.left = 0;
     }
 
-    /// Whether no step is left.
+    /// Returns whether no step is left.
     #[inline(always)]
     pub fn is_spent(&self) -> bool {
         self.left == 0
     }
 
-    /// How many steps are left.
+    /// The number of steps left.
     pub fn left(&self) -> u64 {
         self.left
     }
 
-    /// Takes away at most so many steps, which are a budget of their own. What is not spent of it comes back by `give_back`.
+    /// Takes away at most the given number of steps, which are a budget of their own. What is not spent of it comes back by `give_back`.
     pub fn share(&mut self, most: u64) -> Budget {
         let steps = self.left.min(most);
         self.left = self.left.saturating_sub(steps);

@@ -6,14 +6,14 @@ use std::alloc::{AllocError, Global};
 /// The number of no operation, and of an initial value where a source is named.
 pub const NOBODY: u32 = u32::MAX;
 
-/// What is said of where a reading operation has its value from.
+/// The origin of the value of a reading operation, by number.
 #[derive(Clone, Copy)]
 pub enum NumberedOrigin {
     /// Nothing.
     Any,
-    /// It is the initial value.
+    /// The initial value.
     Initial,
-    /// It is from the operation of this number.
+    /// The operation of this number.
     Operation(u32),
 }
 
@@ -33,7 +33,7 @@ pub struct Operation {
     pub origin: NumberedOrigin,
 }
 
-/// What stands at the number of no operation.
+/// The operation in place of one that is not there.
 const MISSING: Operation = Operation {
     process: 0,
     place: 0,
@@ -66,7 +66,7 @@ pub struct NumberedLog {
 }
 
 impl NumberedLog {
-    /// A log of no process, and of so many locations.
+    /// A log of no process, and of this number of locations.
     pub fn new(alloc: Global, locations: u32) -> Result<NumberedLog, AllocError> {
         Ok(NumberedLog {
             operations: Vec::new(alloc),
@@ -97,7 +97,7 @@ impl NumberedLog {
         Ok(())
     }
 
-    /// Says what an operation has its value from.
+    /// Sets the origin of an operation's value.
     pub fn set_origin(&mut self, number: u32, origin: NumberedOrigin) {
         let operation = self.operation(number);
         let changed = Operation {
@@ -107,12 +107,12 @@ impl NumberedLog {
         put(self.operations.as_mut_slice(), number, changed);
     }
 
-    /// Says what the location holds before all operations.
+    /// Sets the value that the location holds before all operations.
     pub fn set_initial(&mut self, location: u32, value: Option<u64>) {
         put(self.initial.as_mut_slice(), location, value);
     }
 
-    /// Says what the location holds in the end.
+    /// Sets the value that the location holds in the end.
     pub fn set_last(&mut self, location: u32, value: Option<u64>) {
         put(self.last.as_mut_slice(), location, value);
     }
@@ -123,19 +123,19 @@ impl NumberedLog {
         Ok(())
     }
 
-    /// How many operations there are.
+    /// The number of operations.
     #[inline(always)]
     pub fn count(&self) -> u32 {
         size(self.operations.as_slice())
     }
 
-    /// How many processes have ended.
+    /// The number of processes that have ended.
     #[inline(always)]
     pub fn processes(&self) -> u32 {
         size(self.starts.as_slice()).wrapping_sub(1)
     }
 
-    /// How many locations there are.
+    /// The number of locations.
     pub fn locations(&self) -> u32 {
         size(self.initial.as_slice())
     }
@@ -152,7 +152,7 @@ impl NumberedLog {
         at(self.starts.as_slice(), process, 0)
     }
 
-    /// How many operations the process has.
+    /// The number of the process's operations.
     #[inline(always)]
     pub fn length(&self, process: u32) -> u32 {
         let end = at(self.starts.as_slice(), process.wrapping_add(1), 0);

@@ -12,14 +12,15 @@ struct Change {
     is_after: bool,
 }
 
-/// The most changes that are kept, which is memory for some 50 MB while it grows.
+/// The most changes that are kept: without a limit they grow with the decisions times the rows, which is memory for some 50 MB while it
+/// grows.
 const MAX_CHANGES: usize = 1 << 22;
 
 /// For each operation two rows with a place for each process: the first of its operations that stands after this one, and the last one
 /// that stands before it.
 ///
-/// Since a process is a chain, these rows say of each two operations whether one stands before the other, in as many entries as
-/// there are operations times processes.
+/// Since a process is a chain, these rows say of each two operations whether one stands before the other, in as many entries as there are
+/// operations times processes. A table of all pairs of operations would grow with the square of the trace.
 #[derive(Drop)]
 pub struct Rows {
     width: u32,
@@ -29,13 +30,13 @@ pub struct Rows {
     before: Vec<u16>,
     changes: Vec<Change>,
     keeps_changes: bool,
-    /// What all that stand after a new pair have before them at least.
+    /// The entries that all operations after a new pair have at least as what stands before them.
     floor: Vec<u16>,
-    /// What all that stand before a new pair have after them at most.
+    /// The entries that all operations before a new pair have as what stands after them, as upper limits.
     ceiling: Vec<u16>,
 }
 
-/// The place as an entry of a row. A process has 4,096 operations at most.
+/// The place as an entry of a row. A process has at most 4,096 operations, so 16 bits are enough, and the rows take half the memory.
 #[inline(always)]
 fn entry_of(place: u32) -> u16 {
     (place & 0xffff) as u16
@@ -90,14 +91,14 @@ impl Rows {
         at(self.before.as_slice(), entry, 0) as u32
     }
 
-    /// Whether one operation stands before the other.
+    /// Returns whether one operation stands before the other.
     #[inline(always)]
     pub fn stands_before(&self, log: &NumberedLog, first: u32, second: u32) -> bool {
         let other = log.operation(second);
         self.after(first, other.process) <= other.place
     }
 
-    /// How many entries a row has.
+    /// The number of entries of a row.
     #[inline(always)]
     pub fn width(&self) -> u32 {
         self.width
@@ -125,7 +126,7 @@ impl Rows {
         );
     }
 
-    /// Raises what stands before this operation, which stands after the new pair. Whether anything changed.
+    /// Raises what stands before this operation, which stands after the new pair. Returns whether anything changed.
     pub fn raise(&mut self, number: u32) -> Result<bool, AllocError> {
         let base = number.wrapping_mul(self.width);
         let mut has_changed = false;
@@ -149,7 +150,7 @@ impl Rows {
         Ok(has_changed)
     }
 
-    /// Lowers what stands after this operation, which stands before the new pair. Whether anything changed.
+    /// Lowers what stands after this operation, which stands before the new pair. Returns whether anything changed.
     pub fn lower(&mut self, number: u32) -> Result<bool, AllocError> {
         let base = number.wrapping_mul(self.width);
         let mut has_changed = false;
@@ -173,19 +174,20 @@ impl Rows {
         Ok(has_changed)
     }
 
-    /// Whether there is no room for a further change.
+    /// Returns whether there is no room for a further change.
     #[inline(always)]
     pub fn is_full(&self) -> bool {
         self.changes.len() >= MAX_CHANGES
     }
 
-    /// How many changes are kept. From now on each change is kept, so that it can be taken back.
+    /// The number of changes that are kept. From now on each change is kept, so that it can be taken back.
     pub fn keep_changes(&mut self) -> usize {
         self.keeps_changes = true;
         self.changes.len()
     }
 
-    /// Takes back all changes but so many, the last ones first. Where no change is left, none is kept from now on.
+    /// Undoes changes, the last ones first, until the given number is left: in another order an entry that changed twice would not get its
+    /// first place back. If no change is left, none is kept from now on.
     pub fn take_back(&mut self, left: usize, keeps_changes: bool) {
         self.keeps_changes = keeps_changes;
         for _ in left..self.changes.len() {

@@ -21,7 +21,7 @@ fn entry_of(place: u32) -> u16 {
 }
 
 impl WriterPlaces {
-    /// Those of the log.
+    /// The writers of the log.
     pub fn new(alloc: Global, log: &NumberedLog) -> Result<WriterPlaces, AllocError> {
         let pairs = log.locations().wrapping_mul(log.processes());
         let mut places = WriterPlaces {
@@ -79,7 +79,7 @@ impl WriterPlaces {
         }
     }
 
-    /// Where the first writer stands, from one entry up to another, that has this place or a later one, or the end.
+    /// The entry of the first writer, from one entry up to another, that has this place or a later one, or the end.
     #[inline(always)]
     fn first_from(&self, begin: u32, end: u32, place: u32) -> u32 {
         let mut low = begin;

@@ -7,7 +7,7 @@ use std::alloc::{AllocError, Global};
 /// The writers of each location and value, as lists by a hash of both.
 #[derive(Drop)]
 pub struct WrittenValues {
-    /// How many lists there are, less one: a power of two less one.
+    /// The number of lists less one: a power of two less one, so that a hash is cut to a list by one `&`.
     mask: u32,
     heads: Vec<u32>,
     /// For each operation the next one of its list.
@@ -15,7 +15,7 @@ pub struct WrittenValues {
 }
 
 impl WrittenValues {
-    /// Those of the log.
+    /// The writers of the log.
     pub fn new(alloc: Global, log: &NumberedLog) -> Result<WrittenValues, AllocError> {
         let mut lists: u32 = 16;
         for _ in 0..14 {

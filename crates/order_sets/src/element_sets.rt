@@ -1,4 +1,4 @@
-//! Sets of a few hundred elements as bits.
+//! Sets of a few hundred elements as bits. Closing an order goes over whole sets, so each further word makes every assignment slower.
 
 use crate::tables::{at, put};
 use std::alloc::{AllocError, Global};

@@ -13,7 +13,7 @@ pub struct Implied {
     pub over: u32,
 }
 
-/// Which elements stand before which. For each element there are two sets, of those after it and of those before it, and
+/// A strict order of elements. For each element there are two sets, of those after it and of those before it, and
 /// both are transitively closed at all times, so that transitivity never comes into conflict.
 ///
 /// The variable y(i,j) = i * (2n - i - 1) / 2 + (j - i) says that i stands before j, for i below j below n. Its negation says

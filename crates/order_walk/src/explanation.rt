@@ -6,16 +6,16 @@ use order_sets::tables::{at, put, size};
 use source_reasons::{Edge, EdgeReason, Fate, PossibleSource};
 use std::alloc::{AllocError, Global};
 
-/// What has still to be explained.
+/// A question that has still to be answered.
 #[derive(Clone, Copy)]
 enum Question {
-    /// Why the first operation stood before the second by that time.
+    /// The question why the first operation stood before the second by that time.
     Order { first: u32, second: u32, time: u32 },
-    /// Why sources of the reader were dropped by that time.
+    /// The question why sources of the reader were dropped by that time.
     Drops { reader: u32, time: u32 },
 }
 
-/// By what the search for the shortest way came to an operation.
+/// The step by which the search for the shortest way came to an operation.
 #[derive(Clone, Copy)]
 enum Arrival {
     Start,
@@ -25,12 +25,12 @@ enum Arrival {
     Pair(u32),
 }
 
-/// Where the search for the shortest way came to an operation.
+/// A node of the search for the shortest way.
 #[derive(Clone, Copy)]
 struct PathNode {
     /// The search in which that was.
     search: u32,
-    /// How many new pairs there are on the way.
+    /// The number of new pairs on the way.
     distance: u32,
     arrival: Arrival,
 }
@@ -42,7 +42,7 @@ const UNSEEN: PathNode = PathNode {
     arrival: Arrival::Start,
 };
 
-/// The most questions that wait, which is memory for some 50 MB while they grow.
+/// The most questions that wait, beyond which the explanation is given up, which is memory for some 50 MB while they grow.
 const MAX_QUESTIONS: usize = 1 << 20;
 
 /// The operations and decisions that a contradiction needs.
@@ -53,7 +53,7 @@ pub struct Explanation {
     used_in: Vec<u32>,
     number: u32,
     is_decided: Vec<bool>,
-    /// For each reader until when its drops are told.
+    /// For each reader the time up to which its drops are explained.
     told: Vec<u32>,
     questions: Vec<Question>,
     visits: Vec<PathNode>,
@@ -66,7 +66,7 @@ pub struct Explanation {
 }
 
 impl Explanation {
-    /// No explanation yet, of an order of so many operations and readers.
+    /// No explanation yet, of an order with these numbers of operations and readers.
     pub fn new(alloc: Global, order: &DerivedOrder<'_>) -> Result<Explanation, AllocError> {
         let operations = order.log().count() as usize;
         let readers = order.final_reader(order.log().locations()) as usize;
@@ -171,7 +171,7 @@ impl Explanation {
         self.ask(Question::Drops { reader, time })
     }
 
-    /// Answers all that was asked, and what is asked by the answers, as far as the budget of the order reaches.
+    /// Answers all that was asked, and what is asked by the answers, until the budget of the order is spent.
     pub fn answer(&mut self, order: &DerivedOrder<'_>) -> Result<(), AllocError> {
         for _ in 0..u64::MAX {
             if self.steps >= self.most_steps {
@@ -194,7 +194,8 @@ impl Explanation {
         Ok(())
     }
 
-    /// Explains why one operation stood before the other, by a way with few new pairs.
+    /// Explains why one operation stood before the other, by a way with few new pairs. Each new pair draws its own reasons into the
+    /// explanation, so ways that are longer than needed make larger cores and decisions that are turned round for nothing.
     fn explain_order(
         &mut self,
         order: &DerivedOrder<'_>,
@@ -294,7 +295,8 @@ impl Explanation {
         Ok(())
     }
 
-    /// Whether a way with so many new pairs would be the best one to the operation so far, and may lead on to the second one.
+    /// Returns whether a way with this number of new pairs would be the best one to the operation so far, and may lead on to the second
+    /// one.
     #[inline(always)]
     fn is_better(
         &self,
@@ -400,7 +402,7 @@ impl Explanation {
         }
     }
 
-    /// Whether the source was not dropped before that time.
+    /// Returns whether the source was not dropped before that time.
     fn was_possible(source: PossibleSource, time: u32) -> bool {
         source.is_possible() || source.time >= time
     }
@@ -487,7 +489,7 @@ impl Explanation {
         Ok(())
     }
 
-    /// A final value that nobody can have written is kept in a part that has some writer of the location.
+    /// A final value that no operation can have written is kept in a part that has some writer of the location.
     fn need_some_writer(&mut self, order: &DerivedOrder<'_>, reader: u32) {
         let log = order.log();
         if reader < log.count() {
@@ -507,7 +509,7 @@ impl Explanation {
         self.need(found);
     }
 
-    /// Whether the operation is needed.
+    /// Returns whether the operation is needed.
     pub fn needs(&self, operation: u32) -> bool {
         at(self.is_needed.as_slice(), operation, false)
     }
@@ -545,7 +547,7 @@ impl Explanation {
         0
     }
 
-    /// How many steps the last explanation took.
+    /// The number of steps that the last explanation took.
     pub fn steps(&self) -> u64 {
         self.steps
     }

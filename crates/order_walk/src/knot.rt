@@ -20,7 +20,8 @@ pub struct Knot {
 }
 
 impl Knot {
-    /// The smallest set of those that grow from one process each, if one of them closes. The steps are taken out of the budget.
+    /// The smallest set of those that grow from one process each, if one of them closes. Each process of it draws more operations into the
+    /// core, so the smallest one is taken. The steps are taken out of the budget.
     pub fn find(
         alloc: Global,
         order: &DerivedOrder<'_>,
@@ -75,7 +76,7 @@ impl Knot {
         at(self.is_within.as_slice(), process, false)
     }
 
-    /// Grows the set from this process. Whether it closes.
+    /// Grows the set from this process. Returns whether it closes.
     fn grow_from(&mut self, order: &DerivedOrder<'_>, process: u32) -> Result<bool, AllocError> {
         let processes = size(self.heads.as_slice());
         self.steps = self.steps.saturating_add(processes as u64);
@@ -122,7 +123,7 @@ impl Knot {
         found
     }
 
-    /// Adds the processes for which this one waits. Whether it does wait.
+    /// Adds the processes for which this one waits. Returns whether it does wait.
     fn add_waited_for(
         &mut self,
         order: &DerivedOrder<'_>,
@@ -151,7 +152,7 @@ impl Knot {
         Ok(true)
     }
 
-    /// Whether the source is not placed yet, and of another process.
+    /// Returns whether the source is not placed yet, and of another process.
     fn is_to_come(&self, order: &DerivedOrder<'_>, source: u32, process: u32) -> bool {
         if source == NOBODY {
             return false;

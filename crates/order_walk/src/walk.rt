@@ -7,7 +7,7 @@ use numbered_log::{NOBODY, Operation};
 use order_sets::tables::{at, put, size};
 use std::alloc::{AllocError, Global};
 
-/// How a walk ended.
+/// The end of a walk.
 #[derive(Clone, Copy, PartialEq, Eq)]
 pub enum WalkEnd {
     /// All operations are placed.
@@ -18,7 +18,7 @@ pub enum WalkEnd {
     GivenUp,
 }
 
-/// What came of a contradiction on the way.
+/// The result of a contradiction on the way.
 #[derive(Clone, Copy, PartialEq, Eq)]
 enum Turn {
     /// The walk can go on, from the front.
@@ -38,23 +38,24 @@ pub struct Walk<'a> {
     /// For each location the operation that has written it last, or `NOBODY`.
     memory: Vec<u32>,
     placed: Vec<u32>,
-    /// How many were placed at most.
+    /// The largest number of operations that were placed.
     most_placed: u32,
 }
 
-/// So many operations of another process are looked at for one on the same location.
+/// Operations of another process that are looked at for one on the same location. With more, a step of the walk slows down; with fewer,
+/// writers are chosen that a later read makes impossible.
 const SIGHT: u32 = 12;
 
-/// What it costs that the order to some other operation has to be decided.
+/// The cost if the order to some other operation has to be decided, since each decision is one that may have to be turned round.
 const OPEN: i64 = 100_500;
 
-/// What each reader of the value that is there costs, since it would come too late.
+/// The cost of each reader of the value that is there, since it would come too late.
 const LOSS: i64 = 3000;
 
-/// What each reader is worth that waits for the new value.
+/// The gain of each reader that waits for the new value.
 const GAIN: i64 = 1500;
 
-/// What a process costs that has come to its end. Those that are behind come first.
+/// The cost of a process that has come to its end. Those that are behind come first.
 const PROGRESS: i64 = 2000;
 
 impl<'a> Walk<'a> {
@@ -84,12 +85,13 @@ impl<'a> Walk<'a> {
         self.placed.as_slice()
     }
 
-    /// How many operations were placed at most.
+    /// The largest number of operations that were placed.
     pub fn most_placed(&self) -> u32 {
         self.most_placed
     }
 
-    /// Saturates the order and then walks, until there is a schedule, a contradiction that rests on no decision, or no budget.
+    /// Saturates the order and then walks, as saturation before the first decision is cheap and what it derives is never taken back: until
+    /// there is a schedule, a contradiction that rests on no decision, or no budget.
     pub fn run(&mut self) -> Result<WalkEnd, AllocError> {
         match self.order.saturate()? {
             Saturation::Saturated => {}
@@ -115,7 +117,7 @@ impl<'a> Walk<'a> {
         Ok(())
     }
 
-    /// Takes back all decisions, so that the order has only what follows from the trace.
+    /// Backtracks to no decision, so that the order has only what follows from the trace.
     pub fn take_back_all(&mut self) {
         self.order.take_back(0);
     }
@@ -166,7 +168,8 @@ impl<'a> Walk<'a> {
         at(self.fronts.as_slice(), process, NOBODY)
     }
 
-    /// Which operation is to come next: a plain read that can, or else the best writer. None if there is no such operation.
+    /// The next operation: a plain read that can come, since it changes nothing for others, or else the best writer. None if there is no
+    /// such operation.
     fn next_operation(&mut self) -> Option<u32> {
         let processes = self.order.log().processes();
         for process in 0..processes {
@@ -216,7 +219,7 @@ impl<'a> Walk<'a> {
         Some(number)
     }
 
-    /// Whether the reading operation may read what memory holds.
+    /// Returns whether the reading operation may read what memory holds.
     fn reads_memory(&self, number: u32, operation: Operation) -> bool {
         let writer = at(self.memory.as_slice(), operation.location, NOBODY);
         if self.order.sources().is_bound(number) {
@@ -225,7 +228,7 @@ impl<'a> Walk<'a> {
         self.held(operation.location) == Some(operation.needed)
     }
 
-    /// What the location holds.
+    /// The value that the location holds.
     fn held(&self, location: u32) -> Option<u64> {
         let writer = at(self.memory.as_slice(), location, NOBODY);
         if writer == NOBODY {
@@ -234,7 +237,8 @@ impl<'a> Walk<'a> {
         Some(self.order.log().operation(writer).left)
     }
 
-    /// How well the writer would come next.
+    /// The worth of the writer as the next operation; the highest is placed. A bad choice is not wrong, but is found out late, and then has
+    /// to be turned round.
     fn worth(&mut self, number: u32) -> i64 {
         let log = self.order.log();
         let operation = log.operation(number);
@@ -317,7 +321,7 @@ impl<'a> Walk<'a> {
         self.order.saturate()
     }
 
-    /// Where no operation can come next: explains why, and turns back.
+    /// Explains why no operation can come next, and turns back.
     fn turn_at_knot(&mut self) -> Result<Turn, AllocError> {
         let mut budget = self.order.budget();
         let before = budget.left();
@@ -340,7 +344,8 @@ impl<'a> Walk<'a> {
         self.learn()
     }
 
-    /// Takes back decisions and turns the last one round that the contradiction needs, as long as that is a contradiction again.
+    /// Backtracks, and turns the last decision round that the contradiction needs (conflict-driven backjumping; decisions that it does not
+    /// need would only be tried again in vain), as long as that is a contradiction again.
     fn learn(&mut self) -> Result<Turn, AllocError> {
         for _ in 0..self.order.budget().left() {
             let count = self.order.log().count();
@@ -363,7 +368,7 @@ impl<'a> Walk<'a> {
         Ok(Turn::End(WalkEnd::GivenUp))
     }
 
-    /// Takes back all decisions from this one on and those before it that the contradiction does not need, and turns it round.
+    /// Undoes all decisions from this one on and those before it that the contradiction does not need, and turns it round.
     fn turn_decision(&mut self, last: u32) -> Result<Saturation, AllocError> {
         let earlier = self.explanation.decision_before(last);
         let pair = self.order.decision(last);

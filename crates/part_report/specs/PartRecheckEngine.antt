@@ -19,8 +19,8 @@ use Rattle.part_report.specs.PartEngine.{MakeUp, HasFaultyChoice}
 use Rattle.verdict_report.specs.RecheckEngine.{HasNoSchedule, HasFaultyCertificate, rechecked_line, rechecked_status}
 use Rattle.verdict_report.specs.Runs.{SourceRun, SinkRun}
 
--- The texts spell a trace, a certificate of so many cubes, and names of operations; the certificate is accepted for the clause list of
--- what is kept of the part that they make up. So the whole trace has no legal schedule.
+-- The texts spell a trace, a certificate of this number of cubes, and names of operations; the certificate is accepted for the clause list
+-- of what is kept of the part that they make up. So the whole trace has no legal schedule.
 pub record AreRecheckedByPart (trace_text cert_text names_text : List ℕ) (count : ℕ) : Type 0 where
   pub certificate : Certificate
   pub spelled : SpellsCertificate cert_text certificate
@@ -37,7 +37,7 @@ pub record AreNotRecheckedByPart (trace_text cert_text names_text : List ℕ) (c
   pub made_up : MakeUp trace_text names_text made
   pub refused : HasRecheckFault (clauses_of (kept_trace made.trace)) certificate cause leaf
 
--- the texts spell these, and the part is not reduced for this cause, where so many operations are left
+-- the texts spell these, and the part is not reduced for this cause, and this number of operations is left
 pub record HasUnreducedPart (trace_text cert_text names_text : List ℕ) (cause : ReduceCause) (left : ℕ) : Type 0 where
   pub certificate : Certificate
   pub spelled : SpellsCertificate cert_text certificate

@@ -1,6 +1,6 @@
 //! The engines of parts of traces, from bytes to bytes, over any source and sink.
 //!
-//! Whatever makes up a part: if it has no legal schedule, the whole trace has none. So whoever chose the operations is not trusted.
+//! Whatever makes up a part: if it has no legal schedule, the whole trace has none. So the choice of operations is untrusted.
 #![tactic(auto)]
 
 mod part_engine;

@@ -1,4 +1,4 @@
-//! What a search answers.
+//! The answer of a search.
 
 use dimacs::Assignment;
 use lrat_check::derivation::Derivation;

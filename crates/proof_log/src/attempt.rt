@@ -18,7 +18,7 @@ pub const TURN: u64 = 500;
 pub struct Attempt<S> {
     alloc: Global,
     search: S,
-    /// What the search has learned.
+    /// The clauses that the search has learned.
     pub log: ProofLog,
 }
 
@@ -75,7 +75,7 @@ impl<S: Learner + Drop> Attempt<S> {
     }
 }
 
-/// Runs an attempt by turns, until it has an answer or has met one conflict more than the budget.
+/// Runs an attempt by turns, until it has an answer or has analysed `budget` conflicts and met one more.
 pub fn search_alone<S: Learner + Drop>(
     attempt: &mut Attempt<S>,
     budget: u64,
@@ -95,7 +95,7 @@ pub fn search_alone<S: Learner + Drop>(
     }
 }
 
-/// Runs two attempts by turns, until one of them has an answer or both together have met one conflict more than the budget.
+/// Runs two attempts by turns, until one of them has an answer or both together have analysed `budget` conflicts and met one more.
 pub fn take_turns<S: Learner + Drop>(
     first: &mut Attempt<S>,
     second: &mut Attempt<S>,

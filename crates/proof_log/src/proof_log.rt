@@ -163,7 +163,8 @@ impl ProofLog {
         Ok(steps)
     }
 
-    /// Returns the derivation, trimmed to the additions on which the last one rests. If there is no memory to mark these, it has all of them.
+    /// Returns the derivation, trimmed to the additions on which the last one rests. If there is no memory to mark these, it has all of
+    /// them.
     pub fn derivation(&self, alloc: Global) -> Result<Derivation, AllocError>
         ensures { IfOk result (λ derivation. length derivation ≤ self.now) }
     {

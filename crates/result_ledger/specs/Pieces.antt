@@ -2,7 +2,7 @@
 use Rattle.std.specs.Prelude.{◌⊎◌, ℕ, ◌*◌, ◌<◌, ◌≤◌, List, min}
 use Rattle.std.specs.List.{AllPairs, Contains}
 
--- where a piece begins, where pieces are of this size and there are so many leaves
+-- where a piece begins, by the size of pieces and the number of leaves
 abbrev pub piece_start : ℕ → ℕ → ℕ → ℕ
 piece_start size count piece = min (piece * size) count
 

@@ -45,7 +45,7 @@ fn said_derivation(outcome: &Option<Outcome>) -> Option<&Derivation>
     }
 }
 
-/// Whether the derivation is accepted for the cube.
+/// Returns whether the derivation is accepted for the cube.
 fn is_accepted<L: ClauseList>(
     alloc: Global,
     formula: &L,
@@ -62,7 +62,7 @@ fn is_accepted<L: ClauseList>(
     }
 }
 
-/// Whether the derivation can be written as LRAT, so that others can check it again, and is accepted for the cube.
+/// Returns whether the derivation can be written as LRAT, so that others can check it again, and is accepted for the cube.
 fn is_proof_in<L: ClauseList>(
     alloc: Global,
     formula: &L,
@@ -92,7 +92,7 @@ fn model_of<'a, L: ClauseList>(formula: &L, slot: &'a Slot) -> Option<&'a Assign
     }
 }
 
-/// Whether the slot's answer is a derivation that can be written and is accepted for its cube.
+/// Returns whether the slot's answer is a derivation that can be written and is accepted for its cube.
 pub(crate) fn is_proved<L: ClauseList>(
     alloc: Global,
     formula: &L,

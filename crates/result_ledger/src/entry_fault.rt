@@ -1,8 +1,8 @@
-//! Why a result is not entered.
+//! The reason why a result is not entered.
 
 use text_lines::fault::FaultCause;
 
-/// Why a result is not entered.
+/// The reason why a result is not entered.
 #[derive(Clone, Copy, Debug, PartialEq, Eq)]
 pub enum EntryFault {
     /// There is no leaf of its ticket.

@@ -31,30 +31,29 @@ pub fn entered_in_either_order()
         AreEnteredInTurn slots reordered ledger }
 {}
 
-/// Where all results of a search were entered and one of them is of a leaf that was skipped, the verdict is a model in the cube of a
-/// lower leaf.
+/// If all results of a search were entered and one of them is of a leaf that was skipped, the verdict is a model in the cube of a lower
+/// leaf.
 pub fn skipped_only_above_a_model()
     ensures { (clauses cubes : List (List ℤ)) (which : List ℕ) (results : List Settled) (old new : List Slot) (skipped : Settled) (verdict : Verdict) →
         AreResultsOf clauses cubes which results → AreEntered old results new → Contains results skipped → skipped.outcome ≡ Skipped →
         IsVerdict clauses new verdict → IsConsistentBelow skipped.ticket verdict }
 {}
 
-/// Where the cubes cover and the verdict is that the formula is inconsistent, it has no model.
+/// If the cubes cover and the verdict is that the formula is inconsistent, it has no model.
 pub fn inconsistent_has_no_model()
     ensures { (formula : FormulaValue) (slots : List Slot) (count : ℕ) →
         IsTrue (is_formula formula) → IsTrue (list_all is_clause (cubes_in slots)) → Covers (cubes_in slots) →
         IsVerdict formula.clauses slots (Inconsistent count) → (value : ℕ → Bool) → IsModel value formula.clauses → ⊥ }
 {}
 
-/// Where the verdict is that the formula is inconsistent, the derivations among the answers are one for the cube of each leaf, in the
-/// order of the leaves, and each can be written and is accepted for its cube.
+/// If the verdict is that the formula is inconsistent, the derivations among the answers are one for the cube of each leaf, in the order of
+/// the leaves, and each can be written and is accepted for its cube.
 pub fn proofs_by_leaf()
     ensures { (clauses : List (List ℤ)) (slots : List Slot) (count : ℕ) →
         IsVerdict clauses slots (Inconsistent count) → AllZip (IsProofIn clauses) (cubes_in slots) (derivations_in slots) }
 {}
 
-/// Where the cubes cover and the verdict is open, each model of the formula makes all literals of some listed leaf's cube
-/// true.
+/// If the cubes cover and the verdict is open, each model of the formula makes all literals of some listed leaf's cube true.
 pub fn unknown_holds_all_models()
     ensures { (formula : FormulaValue) (slots : List Slot) (leaves : List ℕ) →
         IsTrue (is_formula formula) → IsTrue (list_all is_clause (cubes_in slots)) → Covers (cubes_in slots) →

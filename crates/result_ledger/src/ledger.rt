@@ -39,7 +39,7 @@ impl Model for Ledger {
     ghost invariant = { λ ledger. length ledger.slots.items ≤ 1024 };
 }
 
-/// Whether these are the same literals in the same order.
+/// Returns whether these are the same literals in the same order.
 fn are_same(first: &[Lit], second: &[Lit]) -> bool
     ensures { IsTrue result ↔ (first.now ≡ second.now) }
 {
@@ -79,7 +79,7 @@ fn empty(alloc: Global, cube: &[Lit]) -> Slot
     }
 }
 
-/// Why the result is not entered, if it is not: there is no such leaf, it has an answer already, or it has another cube.
+/// The reason why the result is not entered, if it is not: there is no such leaf, it has an answer already, or it has another cube.
 fn fault_of(slots: &[Slot], settled: &Settled) -> Option<EntryFault>
     ensures { MatchOption result
         (slice_get slots.now settled.now.ticket ≡ Some (empty_slot settled.now.cube))
@@ -138,7 +138,7 @@ fn split_slot(
     }
 }
 
-/// Whether the leaf has an answer.
+/// Returns whether the leaf has an answer.
 fn is_answered(slot: &Slot) -> bool
     ensures { IsTrue result ↔ IsSome slot.now.outcome }
 {
@@ -180,7 +180,7 @@ impl Ledger {
         are_clauses(self.slots.as_slice());
     }
 
-    /// How many leaves there are.
+    /// The number of leaves.
     pub fn leaves(&self) -> u32
         ensures count { result ≡ length self.now }
         ensures few { result ≤ 1024 }
@@ -206,8 +206,8 @@ impl Ledger {
         unanswered_among(alloc, self.slots.as_slice())
     }
 
-    /// Enters the result as the answer for its leaf. It is handed back, and nothing changes, where there is no such leaf, or
-    /// that leaf has an answer already, or another cube; the lowest that holds is reported. It takes no memory.
+    /// Enters the result as the answer for its leaf. It is returned, and nothing changes, if there is no such leaf, or that leaf has an
+    /// answer already, or another cube; the lowest that holds is reported. It takes no memory.
     pub fn enter(&mut self, settled: Settled) -> Result<(), (Settled, EntryFault)>
         ensures filled { OnOk result (Fills self.old self.new settled) }
         ensures refused { IfErr result (λ back. (back.0 ≡ settled) × IsEntryFault self.old settled back.1) }
@@ -223,9 +223,9 @@ impl Ledger {
         }
     }
 
-    /// The verdict that follows from the answers. Each model is tried on the formula, and each derivation is checked: no
-    /// answer is believed. So many workers, from 1 to 8, check the derivations side by side, each in a thread of its own where one can
-    /// be made; one worker needs none. The verdict is the same for any number of them.
+    /// The verdict that follows from the answers. Each model is tried on the formula, and each derivation is checked: no answer is
+    /// believed. One to eight workers check the derivations side by side, each in a thread of its own where one can be made; one worker
+    /// needs none. The verdict is the same for any number of them.
     pub fn confirm<R: Threads + Sync, L: ClauseList + Sync>(
         &self,
         alloc: Global,

@@ -6,14 +6,14 @@ ghost use Rattle.lrat_check.specs.LratText.{is_id, is_lrat_step};
 use lrat_check::derivation::{Derivation, Step};
 use lrat_check::lrat_number::{MAX_ID, is_id};
 
-/// Whether all of the numbers are ids.
+/// Returns whether all of the numbers are ids.
 fn are_ids(numbers: &[u64]) -> bool
     ensures { result ≡ list_all is_id numbers.now }
 {
     numbers.iter().all(|number| is_id(*number))
 }
 
-/// Whether the step can be written.
+/// Returns whether the step can be written.
 fn is_lrat_step(step: &Step) -> bool
     ensures { result ≡ is_lrat_step step.now }
 {
@@ -23,7 +23,7 @@ fn is_lrat_step(step: &Step) -> bool
             literals,
             hints,
         } => {
-            // What is added is a clause of literals, whoever made it.
+            // What is added is a clause of literals, trusted or not.
             let _literals = literals.as_slice();
             is_id(*id) && hints.are_ids()
         }
@@ -31,14 +31,14 @@ fn is_lrat_step(step: &Step) -> bool
     }
 }
 
-/// Whether each of the steps can be written.
+/// Returns whether each of the steps can be written.
 fn are_lrat_steps(steps: &[Step]) -> bool
     ensures { result ≡ list_all is_lrat_step steps.now }
 {
     steps.iter().all(|step| is_lrat_step(step))
 }
 
-/// Whether each step of the derivation can be written.
+/// Returns whether each step of the derivation can be written.
 pub(crate) fn can_be_written(derivation: &Derivation) -> bool
     ensures { result ≡ list_all is_lrat_step derivation.now }
 {

@@ -32,7 +32,7 @@ fn without_proof_between<L: ClauseList>(
     Ok(leaves)
 }
 
-/// Where a piece begins, where pieces are of this size and there are so many leaves.
+/// The number of the leaf with which a piece begins, by the size of pieces and the number of leaves.
 fn start_of(size: usize, count: usize, piece: usize) -> usize
     requires { (size ≤ 1024) × (piece ≤ 8) }
     ensures { result ≡ piece_start size count piece }
@@ -99,7 +99,7 @@ fn without_proof_in_pieces<R: Threads + Sync, L: ClauseList + Sync>(
     joined(alloc, formula, slots, size, pieces)
 }
 
-/// How many of the workers so many leaves need.
+/// The number of workers, at most one for each leaf.
 fn needed(workers: u32, leaves: usize) -> u32
     ensures { result ≤ workers }
 {

@@ -2,7 +2,7 @@
 use crate::leaves::Leaves;
 use dimacs::Assignment;
 
-/// What follows from the answers for all leaves of a tree.
+/// The verdict that follows from the answers for all leaves of a tree.
 #[derive(Drop)]
 pub enum Verdict {
     /// The answer for this leaf is a model, and for no lower one.

@@ -10,8 +10,8 @@ use std::alloc::AllocError;
 const FUEL: u32 = 2000;
 
 impl<'a> Search<'a> {
-    /// Returns the bit of the variable's level, one of 32. A level whose bit is missing among those of the clause has no literal in it, so a
-    /// walk that meets it can stop early.
+    /// Returns the bit of the variable's level, one of 32. A level whose bit is missing among those of the clause has no literal in it, so
+    /// a walk that meets it can stop early.
     #[inline(always)]
     fn level_bit(&self, variable: u32) -> u32 {
         1 << (self.trail.trail.state(variable).level & 31)
@@ -47,8 +47,8 @@ impl<'a> Search<'a> {
         Ok(false)
     }
 
-    /// Whether the other literals of the learned clause imply this one. Visited variables stay marked as implied if so, and lose their marks
-    /// if not.
+    /// Whether the other literals of the learned clause imply this one. Visited variables stay marked as implied if so, and lose their
+    /// marks if not.
     fn is_implied(&mut self, literal: u32, levels: u32) -> Result<bool, AllocError> {
         if self.trail.was_decided(literal) {
             return Ok(false);

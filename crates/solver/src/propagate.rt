@@ -9,7 +9,7 @@ use clause_database::{
 use order_sets::tables::{at, piece, put, size};
 use std::alloc::AllocError;
 
-/// What becomes of a clause when one of its watched literals is falsified.
+/// The fate of a clause when one of its watched literals is falsified.
 #[derive(Clone, Copy)]
 enum WatchVisit {
     /// It keeps the watch; this is its other watched literal.

@@ -47,8 +47,8 @@ impl<'a> Search<'a> {
         }
     }
 
-    /// Returns the eviction score of each learned clause, LBD first and then age, with its place. The highest are dropped first. (By LBD alone
-    /// the search was two to three times slower.)
+    /// Returns the eviction score of each learned clause, LBD first and then age, with its place. The highest are dropped first. (By LBD
+    /// alone the search was two to three times slower.)
     fn eviction_scores(&self) -> Result<Vec<u64>, AllocError> {
         let mut eviction_scores = Vec::with_capacity(self.alloc, self.clauses.len())?;
         for clause in &self.clauses {

@@ -247,8 +247,8 @@ impl ScheduleHeuristic {
         None
     }
 
-    /// Returns the order literal that puts the best ready event before another ready one, if there are two. If none fits, the state is a dead
-    /// end, and any of them leads to the conflict that says so.
+    /// Returns the order literal that puts the best ready event before another ready one, if there are two. If none fits, the state is a
+    /// dead end, and any of them leads to the conflict that says so.
     fn best(&mut self, trail: &OrderedTrail<'_>, reads_from: &ReadsFromTable) -> Option<u32> {
         let mut best = None;
         let mut most: u32 = 0;

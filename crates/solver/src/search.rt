@@ -246,8 +246,8 @@ impl<'a> Search<'a> {
         Ok(self.conflict.is_none())
     }
 
-    /// Returns the level to jump back to: the latest among the other literals of the learned clause, at which the clause is unit. The literal
-    /// of that level goes second, to be watched.
+    /// Returns the level to jump back to: the latest among the other literals of the learned clause, at which the clause is unit. The
+    /// literal of that level goes second, to be watched.
     fn level_to_resume(&mut self) -> u32 {
         let mut latest: u32 = 1;
         let mut level: u32 = 0;

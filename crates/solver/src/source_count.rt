@@ -65,8 +65,8 @@ impl<'a> Search<'a> {
         has_hall_violator(self.alloc, possible, known)
     }
 
-    /// Derives each of these literals as a unit clause at level 0. Returns the ids of the unit clauses, the proof steps that add them, after
-    /// those steps of the log on which they rest, and the next free id.
+    /// Derives each of these literals as a unit clause at level 0. Returns the ids of the unit clauses, the proof steps that add them,
+    /// after those steps of the log on which they rest, and the next free id.
     fn unit_clauses(
         &mut self,
         literals: &[u32],

@@ -1,4 +1,4 @@
-//! Unit clauses at level 0, added to the proof on demand.
+//! Unit clauses at level 0, added to the proof on demand: each is a step of the budget, and most literals are never cited.
 
 use crate::analyze::{NEEDED, UNSEEN};
 use crate::search::Search;

@@ -135,7 +135,8 @@ fn contradiction_of_cycle(
 }
 
 /// Looks for an infeasible set of readers: a Hall violator, a cycle of reads-from, and then a Hall violator in which the last writer of a
-/// location without a final value is one more reader. The last one is tried last, since its derivation is the longest.
+/// location without a final value is one more reader. The last one is tried last, since it adds the steps of a last writer to those of a
+/// count.
 pub fn find_contradiction(
     alloc: Global,
     reads: &MatchingInstance,

@@ -9,9 +9,9 @@ use std::alloc::{AllocError, Global};
 
 /// Updates, and the writers with which none of them is matched yet, as sets of elements.
 ///
-/// Each update is matched with a free source, or with one that is freed along a short alternating path. If all of them are
-/// matched, and in each location one more writer is free that may be the last, there is no Hall violator. Longer paths are not tried: this
-/// runs after each turn of the search, where it spares the copy of the sets that the full matching needs.
+/// Each update is matched with a free source, or with one that is freed along a short alternating path. If all of them are matched, in each
+/// location one more writer is free that may be the last, and no updates form a cycle of reads-from, then there is no contradiction.
+/// Longer paths are not tried: this runs after each turn of the search, where it spares the copy of the sets that the full matching needs.
 #[derive(Drop)]
 pub struct GreedyMatching<'a> {
     known: KnownOrder<'a>,

@@ -1,4 +1,4 @@
-//! The known order of operations.
+//! The known order of operations. Its clauses are named by arithmetic: a table of them would have an entry for each triple.
 
 use order_sets::ElementSets;
 

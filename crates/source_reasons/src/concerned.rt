@@ -24,7 +24,7 @@ fn number_of(operation: u32, initial: u32) -> u32 {
 }
 
 impl Concerned {
-    /// Nobody is concerned by one of so many numbers.
+    /// No reader is concerned by any of this number of sources.
     pub fn none(alloc: Global, numbers: u32) -> Result<Concerned, AllocError> {
         Ok(Concerned {
             begins: vec![in alloc; 0; numbers.wrapping_add(2) as usize]?,
@@ -32,7 +32,7 @@ impl Concerned {
         })
     }
 
-    /// Those of all sources. The initial values that readers may have are named by `initial`, reader by reader.
+    /// The readers of all sources. The initial values that readers may have are named by `initial`, reader by reader.
     pub fn of(
         alloc: Global,
         sources: &Sources,
@@ -85,7 +85,7 @@ impl Concerned {
         put(self.begins.as_mut_slice(), place, free.wrapping_add(1));
     }
 
-    /// Where the readers of the number begin.
+    /// The place where the readers of the number begin.
     #[inline(always)]
     pub fn begin(&self, number: u32) -> u32 {
         at(self.begins.as_slice(), number, 0)

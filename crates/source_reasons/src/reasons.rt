@@ -4,7 +4,7 @@ use numbered_log::NOBODY;
 use order_sets::tables::{at, piece, put, size};
 use std::alloc::{AllocError, Global};
 
-/// Why one operation stands before another.
+/// The reason why one operation stands before another.
 #[derive(Clone, Copy)]
 pub enum EdgeReason {
     /// The trace says so.
@@ -29,7 +29,7 @@ pub struct Edge {
     pub first: u32,
     pub second: u32,
     pub reason: EdgeReason,
-    /// When it came.
+    /// The time at which it came.
     pub time: u32,
     /// The pair before it that has the same first operation, or `NOBODY`.
     pub next: u32,
@@ -47,7 +47,7 @@ pub const NO_EDGE: Edge = Edge {
 /// The most pairs that are kept, and the most operations and decisions of lemmas, which is memory for some 50 MB while it grows.
 const MAX_ENTRIES: u32 = 1 << 20;
 
-/// Where the operations and the decisions of a lemma end.
+/// The places where the operations and the decisions of a lemma end.
 #[derive(Clone, Copy)]
 struct Ends {
     operations: u32,
@@ -66,7 +66,7 @@ pub struct Reasons {
 }
 
 impl Reasons {
-    /// No pair of so many operations.
+    /// No pair yet, of this number of operations.
     pub fn new(alloc: Global, operations: u32) -> Result<Reasons, AllocError> {
         Ok(Reasons {
             edges: Vec::new(alloc),
@@ -86,12 +86,12 @@ impl Reasons {
         Ok(())
     }
 
-    /// How many pairs there are.
+    /// The number of pairs.
     pub fn count(&self) -> u32 {
         size(self.edges.as_slice())
     }
 
-    /// Whether there is room for no more.
+    /// Returns whether there is room for no more.
     #[inline(always)]
     pub fn is_full(&self) -> bool {
         self.count() >= MAX_ENTRIES
@@ -123,12 +123,12 @@ impl Reasons {
         Ok(number)
     }
 
-    /// How many lemmas there are.
+    /// The number of lemmas.
     pub fn lemmas(&self) -> u32 {
         size(self.ends.as_slice())
     }
 
-    /// Where the lemmas before this number end.
+    /// The places where the lemmas before this number end.
     fn ends_before(&self, number: u32) -> Ends {
         let nothing = Ends {
             operations: 0,
@@ -151,7 +151,8 @@ impl Reasons {
         piece(self.decisions.as_slice(), from, to)
     }
 
-    /// Takes back all pairs but so many, and all lemmas but so many.
+    /// Undoes pairs and lemmas, the last ones first, until the given numbers of them are left. A pair that stays after its decision is gone
+    /// would be explained by a reason that does not hold.
     pub fn take_back(&mut self, edges: u32, lemmas: u32) {
         for _ in edges..self.count() {
             let Some(edge) = self.edges.pop() else {

@@ -22,12 +22,12 @@ pub struct PossibleSource {
     /// The writer, or `NOBODY` for the initial value.
     pub operation: u32,
     pub fate: Fate,
-    /// When it got its fate.
+    /// The time at which it got its fate.
     pub time: u32,
 }
 
 impl PossibleSource {
-    /// Whether it is possible.
+    /// Returns whether it is possible.
     #[inline(always)]
     pub fn is_possible(&self) -> bool {
         matches!(self.fate, Fate::Possible)
@@ -54,20 +54,22 @@ pub struct Sources {
     sources: Vec<PossibleSource>,
     /// For each reader where its sources begin, and where all end.
     begins: Vec<u32>,
-    /// For each reader how many of its sources are possible.
+    /// For each reader the number of its sources that are possible, so that a reader with one or none is found without a look at all of
+    /// them.
     living: Vec<u32>,
     dropped: Vec<Dropped>,
     keeps_drops: bool,
 }
 
-/// What stands at a place where there is no source.
+/// The source in place of one that is not there.
 const NOTHING: PossibleSource = PossibleSource {
     operation: 0,
     fate: Fate::ComesLater,
     time: 0,
 };
 
-/// The most sources that are kept in all, which is memory for some 50 MB. Readers for which there is no room are untold.
+/// The most sources that are kept in all, which is memory for some 50 MB. Readers for which there is no room are untold: nothing is derived
+/// of them, so more goes to the search, and nothing gets wrong.
 const MAX_SOURCES: usize = 1 << 21;
 
 impl Sources {
@@ -88,7 +90,7 @@ impl Sources {
         Ok(())
     }
 
-    /// Adds a source to the reader at hand. Whether there is room for it.
+    /// Adds a source to the reader at hand. Returns whether there is room for it.
     pub fn add(&mut self, operation: u32) -> Result<bool, AllocError> {
         if self.sources.len() >= MAX_SOURCES {
             return Ok(false);
@@ -127,17 +129,17 @@ impl Sources {
         Ok(())
     }
 
-    /// How many numbers there are.
+    /// The number of entries: of readers, and of numbers that are no reader's.
     pub fn readers(&self) -> u32 {
         size(self.living.as_slice())
     }
 
-    /// How many sources all readers have.
+    /// The number of sources of all readers.
     pub fn count(&self) -> u32 {
         size(self.sources.as_slice())
     }
 
-    /// Where the reader's sources begin.
+    /// The place where the reader's sources begin.
     #[inline(always)]
     pub fn begin(&self, reader: u32) -> u32 {
         at(
@@ -147,7 +149,7 @@ impl Sources {
         )
     }
 
-    /// Where the reader's sources end.
+    /// The place where the reader's sources end.
     #[inline(always)]
     pub fn end(&self, reader: u32) -> u32 {
         self.begin(reader.wrapping_add(1))
@@ -159,25 +161,25 @@ impl Sources {
         at(self.sources.as_slice(), place, NOTHING)
     }
 
-    /// How many sources of the reader are possible, or `UNBOUND`, or `UNTOLD`.
+    /// The number of the reader's sources that are possible, or `UNBOUND`, or `UNTOLD`.
     #[inline(always)]
     pub fn living(&self, reader: u32) -> u32 {
         at(self.living.as_slice(), reader, UNBOUND)
     }
 
-    /// Whether the number is of a reader that has to have one of its sources.
+    /// Returns whether the number is of a reader that has to have one of its sources.
     #[inline(always)]
     pub fn is_bound(&self, reader: u32) -> bool {
         self.living(reader) < UNTOLD
     }
 
-    /// Whether it is not known which of several sources the reader has.
+    /// Returns whether it is not known which of several sources the reader has.
     pub fn is_undecided(&self, reader: u32) -> bool {
         let living = self.living(reader);
         living > 1 && living != UNBOUND
     }
 
-    /// How many places must be looked at for one of the reader's sources.
+    /// The number of places that must be looked at for one of the reader's sources.
     #[inline(always)]
     pub fn span(&self, reader: u32) -> u64 {
         self.end(reader).saturating_sub(self.begin(reader)) as u64
@@ -197,7 +199,7 @@ impl Sources {
         None
     }
 
-    /// Whether this is a possible source of the reader.
+    /// Returns whether this is a possible source of the reader.
     pub fn may_be(&self, reader: u32, operation: u32) -> bool {
         for place in self.begin(reader)..self.end(reader) {
             let source = self.source(place);
@@ -208,7 +210,8 @@ impl Sources {
         false
     }
 
-    /// Says that the source at this place, one of the reader's, is not possible.
+    /// Drops the source at this place, one of the reader's, as not possible. Each drop has a time, so that an explanation never cites a
+    /// drop that came later: it would be a circle.
     pub fn drop_source(
         &mut self,
         reader: u32,
@@ -232,13 +235,13 @@ impl Sources {
         Ok(())
     }
 
-    /// How many drops are kept. From now on each is kept, so that it can be taken back.
+    /// The number of drops that are kept. From now on each is kept, so that it can be taken back.
     pub fn keep_drops(&mut self) -> usize {
         self.keeps_drops = true;
         self.dropped.len()
     }
 
-    /// Takes back all drops but so many.
+    /// Undoes drops, the last ones first, until the given number is left.
     pub fn take_back(&mut self, left: usize, keeps_drops: bool) {
         self.keeps_drops = keeps_drops;
         for _ in left..self.dropped.len() {

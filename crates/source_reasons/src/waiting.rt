@@ -3,7 +3,8 @@
 use order_sets::tables::{at, put, size};
 use std::alloc::{AllocError, Global};
 
-/// A queue of readers, in which each stands once at most.
+/// A queue of readers, in which each stands at most once. If one stood there twice, its sources would be looked at again for nothing, and
+/// the ring could overflow.
 #[derive(Drop)]
 pub struct Waiting {
     is_waiting: Vec<bool>,
@@ -14,7 +15,7 @@ pub struct Waiting {
 }
 
 impl Waiting {
-    /// No reader of so many waits.
+    /// No reader waits, of this number of readers.
     pub fn new(alloc: Global, readers: u32) -> Result<Waiting, AllocError> {
         Ok(Waiting {
             is_waiting: vec![in alloc; false; readers as usize]?,
@@ -56,7 +57,7 @@ impl Waiting {
         Some(reader)
     }
 
-    /// No reader waits any more.
+    /// Empties the queue.
     pub fn clear(&mut self) {
         for _ in 0..self.count {
             let _reader = self.take();

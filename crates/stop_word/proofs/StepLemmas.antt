@@ -76,7 +76,7 @@ marks slots id me k low some_part s rule long there small =
       (refl, refl),
     )
 
--- the word that nobody has marked, with one seat that has all parts
+-- the word that no seat has marked, with one seat that has all parts
 pub begins : Keeps (nothing ∷ []) (view_of [] nothing 8 ∷ [])
 begins = (nothing, refl, record { word_is = refl; each = one; parts = refl })
   where

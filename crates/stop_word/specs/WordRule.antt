@@ -35,8 +35,8 @@ pub record Fits (word : ℕ) (v : View) : Type 0 where
   pub small : All (λ k. k < 4294967296) v.marks
   pub idle : v.parts ≡ 0 → v.marks ≡ []
 
--- The word rule, where these are the views of all seats: the word is the least of all marks, or nothing. The parts of all seats are
--- eight, so that whoever has them all has all seats that have marked.
+-- The word rule, where these are the views of all seats: the word is the least of all marks, or nothing. The parts of all seats are eight,
+-- so that all of them together are all seats that have marked.
 pub record MeetsRule (word : ℕ) (views : List View) : Type 0 where
   pub word_is : word ≡ least_of (marks_in views)
   pub each : (id : ℕ) (v : View) → get_elem? views id ≡ some v → Fits word v

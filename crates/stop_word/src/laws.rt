@@ -3,8 +3,8 @@ ghost use Rattle.std.specs.Prelude.{ℕ, List};
 ghost use Rattle.stop_word.specs.declared.views.View.{View};
 ghost use Rattle.stop_word.specs.WordRule.{IsStopWord, MeetsRule};
 
-/// Where the word rule is met, the word is nothing if and only if no seat has marked; else it is the mark of some seat; and no seat
-/// has marked or been shown a lower number.
+/// If the word rule is met, the word is nothing if and only if no seat has marked; else it is the mark of some seat; and no seat has marked
+/// or been shown a lower number.
 pub fn word_is_a_mark()
     ensures { (word : ℕ) (views : List View) → MeetsRule word views → IsStopWord word views }
 {}

@@ -1,5 +1,5 @@
-//! The stop word: a number that workers mark and look at, so that those whose work no answer needs any more may stop. It only falls,
-//! and is the least number that was marked.
+//! The stop word: a number that workers mark and look at, so that those may stop whose work no answer needs. It only falls, and is the
+//! least number that was marked.
 #![tactic(auto)]
 
 pub mod laws;

@@ -1,4 +1,4 @@
-//! The rule of the stop word, and what its steps tell.
+//! The rule of the stop word, and what its steps show.
 ghost use Rattle.std.specs.Prelude.{◌≡◌, ◌+◌, ◌-◌, [], ◌++◌, min};
 ghost use Rattle.stop_word.specs.WordRule.{Keeps, Looks, Marks, view_of, nothing};
 

@@ -14,8 +14,8 @@ use std::marker::Model;
 /// The most seats at a stop word.
 pub const MAX_SEATS: u32 = 8;
 
-/// A number that only falls: nothing, or the least that was marked. Whoever has a seat may mark and look, from any thread, and waits
-/// for nobody. Contracts see which word it is.
+/// A number that only falls: nothing, or the least that was marked. A thread that has a seat may mark and look, and waits for no other one.
+/// Contracts see which word it is.
 #[derive(Drop)]
 pub struct StopWord {
     table: Table<u8, View, (), LeastMark, Global>,
@@ -45,7 +45,7 @@ fn number_in(word: u64) -> Option<u32>
 }
 
 impl StopWord {
-    /// A word that nobody has marked, and so many seats at it, from 1 to 8. These are all its seats.
+    /// A word that no seat has marked, and 1 to 8 seats at it. These are all its seats.
     pub fn open(alloc: Global, seats: u32) -> Result<(StopWord, Vec<StopSeat>), AllocError>
         requires some { 1 ≤ seats }
         requires few { seats ≤ MAX_SEATS }
@@ -90,7 +90,7 @@ impl StopWord {
             .join_seat::<Together>(&mut seat.seat, other.seat);
     }
 
-    /// Marks the number. It waits for nobody and takes no memory.
+    /// Marks the number. It waits for no other thread and takes no memory.
     pub fn mark(&self, seat: &mut StopSeat, k: u32)
         requires { seat.old.word ≡ self.now }
         ensures word { seat.new.word ≡ seat.old.word }
@@ -103,8 +103,8 @@ impl StopWord {
     }
 
     /// The word at one moment of the call: the least of all marks, and so a number that some seat has marked, at most the least that this
-    /// seat has marked or been shown. There is none only where this seat has marked nothing and was shown nothing. It waits for nobody
-    /// and takes no memory.
+    /// seat has marked or been shown. There is none only where this seat has marked nothing and was shown nothing. It waits for no other
+    /// thread and takes no memory.
     pub fn look(&self, seat: &mut StopSeat) -> Option<u32>
         requires { seat.old.word ≡ self.now }
         ensures word { seat.new.word ≡ seat.old.word }

@@ -8,10 +8,10 @@ use order_sets::tables::at;
 use order_walk::Explanation;
 use std::alloc::{AllocError, Global};
 
-/// A core of so many operations is small enough.
+/// Operations of a core that is small enough.
 pub const SMALL: u32 = 10;
 
-/// So often another contradiction is looked for at most.
+/// The largest number of other contradictions that are looked for. Each costs a saturation of the whole trace.
 const MAX_TRIES: u32 = 60;
 
 /// A core that is found in a part of the trace. What the part loses, no part of it finds again, so the core is one of the whole.

@@ -10,7 +10,7 @@ use std::alloc::{AllocError, Global};
 use surveyor::{Extent, Finding, Overview, Surveyor};
 use trace_semantics::trace::Trace;
 
-/// What was found, as numbers.
+/// The finding, as numbers.
 #[derive(Drop)]
 enum NumberedFinding {
     Schedule(Vec<u32>),
@@ -44,7 +44,7 @@ impl Surveyor for BySaturation {
     }
 }
 
-/// What was found, by names. A core is made smaller.
+/// The finding, by names. A core is made smaller.
 fn finding_of(
     alloc: Global,
     trace: &Trace,
@@ -66,7 +66,8 @@ fn finding_of(
     }
 }
 
-/// A schedule, or the operations from which a contradiction follows. A quarter of the budget is kept for what comes after.
+/// A schedule, or the operations from which a contradiction follows. A quarter of the budget is kept for what comes after: a core that is
+/// not made smaller is often too large to be refuted.
 fn walk_over(alloc: Global, log: &NumberedLog, budget: &mut Budget) -> Result<Walked, AllocError> {
     let kept = budget.share(budget.left() / 4);
     let order = DerivedOrder::new(alloc, log, *budget)?;
@@ -89,7 +90,8 @@ fn walk_over(alloc: Global, log: &NumberedLog, budget: &mut Budget) -> Result<Wa
     })
 }
 
-/// Makes the core smaller, as far as saturation, or a walk, still refutes it.
+/// Makes the core smaller while saturation, or a walk, still refutes it. The formula of its part grows with the cube of its operations, so
+/// a core that stays large is never refuted.
 fn smallest_core(
     alloc: Global,
     log: &NumberedLog,

@@ -1,7 +1,7 @@
 //! A look over a whole trace: a schedule, or a few operations by which it has none.
 //!
-//! Nothing here is believed: whoever asks judges the schedule, or makes the part of the core and refutes it. So nothing is proved of
-//! it but that it is safe and comes to an end, and a look past the end of a table reads a fixed value.
+//! Nothing here is believed: the caller judges the schedule, or makes the part of the core and refutes it. So nothing is proved of it but
+//! that it is safe and comes to an end, and a look past the end of a table reads a fixed value.
 #![tactic(auto)]
 
 mod another;

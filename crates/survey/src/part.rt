@@ -1,6 +1,6 @@
 //! What is left of a log on some of its operations.
 //!
-//! Where this is not the part that is made of the trace, the answer is of no use, and nothing worse.
+//! If this is not the part that is made of the trace, the answer is of no use, and nothing worse.
 
 use derived_order::DerivedOrder;
 use numbered_log::{Budget, NOBODY, NumberedLog, NumberedOrigin, NumberedPair, Operation};
@@ -14,26 +14,26 @@ pub struct Chosen {
 }
 
 impl Chosen {
-    /// None of so many operations.
+    /// A choice of none of this number of operations.
     pub fn none(alloc: Global, operations: u32) -> Result<Chosen, AllocError> {
         Ok(Chosen {
             is_chosen: vec![in alloc; false; operations as usize]?,
         })
     }
 
-    /// Whether the operation is chosen.
+    /// Returns whether the operation is chosen.
     #[inline(always)]
     pub fn has(&self, operation: u32) -> bool {
         at(self.is_chosen.as_slice(), operation, false)
     }
 
-    /// Chooses the operation, or no longer.
+    /// Chooses the operation, or takes it out of the choice.
     #[inline(always)]
     pub fn set(&mut self, operation: u32, is_chosen: bool) {
         put(self.is_chosen.as_mut_slice(), operation, is_chosen);
     }
 
-    /// Those of these operations that are chosen.
+    /// The chosen ones of these operations.
     pub fn among(&self, alloc: Global, operations: &[u32]) -> Result<Vec<u32>, AllocError> {
         let mut chosen = Vec::new(alloc);
         for operation in operations {
@@ -76,7 +76,7 @@ struct Renaming {
 }
 
 /// The part of these operations, which stand by rising numbers and are those that are chosen. The order is the one that program order and
-/// pairs force, before anything else was derived.
+/// pairs force, before anything else was derived: what follows from reads that the part loses does not hold in it.
 pub fn part_of(
     alloc: Global,
     order: &DerivedOrder<'_>,
@@ -106,7 +106,7 @@ pub fn part_of(
     Ok(part)
 }
 
-/// How many steps it takes to make the part of these operations.
+/// The number of steps that it takes to make the part of these operations.
 fn steps_of(order: &DerivedOrder<'_>, operations: &[u32]) -> u64 {
     let log = order.log();
     let mut steps = log.count().saturating_add(log.locations()) as u64;
@@ -154,7 +154,7 @@ impl Renaming {
     }
 }
 
-/// Whether all possible sources of the reader are chosen.
+/// Returns whether all possible sources of the reader are chosen.
 pub fn has_all_sources(order: &DerivedOrder<'_>, reader: u32, chosen: &Chosen) -> bool {
     if !order.sources().is_bound(reader) {
         return false;
@@ -168,7 +168,7 @@ pub fn has_all_sources(order: &DerivedOrder<'_>, reader: u32, chosen: &Chosen) -
     true
 }
 
-/// Whether the reading operation still reads.
+/// Returns whether the reading operation still reads.
 fn keeps_read(order: &DerivedOrder<'_>, number: u32, chosen: &Chosen) -> bool {
     match order.log().operation(number).origin {
         NumberedOrigin::Any => has_all_sources(order, number, chosen),

@@ -51,7 +51,7 @@ fn locations_of(alloc: Global, trace: &Trace) -> Result<Locations<'_>, AllocErro
     Ok(locations)
 }
 
-/// What operations are named by.
+/// The numbers by which operations are named.
 #[derive(Drop)]
 struct Starts<'a> {
     processes: NameTable<'a>,
@@ -114,7 +114,7 @@ impl<'a> Starts<'a> {
     }
 }
 
-/// The value, or 0 where nobody asks for it.
+/// The value, or 0 for one that is never asked for.
 fn value_or_nothing(value: Option<u64>) -> u64 {
     match value {
         Some(value) => value,

@@ -7,7 +7,7 @@ use order_sets::tables::{at, piece, size};
 use order_walk::{Walk, WalkEnd};
 use std::alloc::{AllocError, Global};
 
-/// A set of operations whose part has no legal schedule, as far as saturation tells.
+/// A set of operations whose part has no legal schedule, which saturation or a walk has found.
 #[derive(Drop)]
 pub struct Core<'a> {
     alloc: Global,
@@ -19,7 +19,7 @@ pub struct Core<'a> {
     walks: bool,
 }
 
-/// So many steps a walk over a part may take.
+/// The largest number of steps that a walk over a part may take. With more, one part takes the budget of all others.
 const WALK: u64 = 4_000_000;
 
 impl<'a> Core<'a> {
@@ -47,12 +47,12 @@ impl<'a> Core<'a> {
         self.operations.as_slice()
     }
 
-    /// How many they are.
+    /// The number of operations.
     pub fn count(&self) -> u32 {
         size(self.operations.as_slice())
     }
 
-    /// Whether saturation finds a contradiction in the part.
+    /// Returns whether saturation finds a contradiction in the part.
     pub fn is_refuted(&self, budget: &mut Budget) -> Result<bool, AllocError> {
         let part = part_of(
             self.alloc,
@@ -70,7 +70,7 @@ impl<'a> Core<'a> {
         Ok(outcome == Saturation::Contradicted)
     }
 
-    /// Whether a walk over the part ends in a contradiction.
+    /// Returns whether a walk over the part ends in a contradiction.
     fn is_refuted_by_walk(&self, part: &LogPart, budget: &mut Budget) -> Result<bool, AllocError> {
         let share = budget.share(WALK);
         let order = DerivedOrder::new(self.alloc, &part.log, share)?;
@@ -80,7 +80,7 @@ impl<'a> Core<'a> {
         Ok(ending == WalkEnd::Contradicted)
     }
 
-    /// From now on parts are walked over, since saturation alone does not refute the core.
+    /// Has parts walked over from now on, since saturation alone does not refute the core.
     pub fn refute_by_walks(&mut self) {
         self.walks = true;
     }
@@ -109,7 +109,8 @@ impl<'a> Core<'a> {
         Ok(())
     }
 
-    /// Adds the origins of readers, and all writers of what they need. With these the part keeps each read, whatever the order says.
+    /// Adds the origins of readers, and all writers of the values that they read. With these the part keeps each read, whatever the order
+    /// says.
     pub fn add_writers(&mut self) -> Result<(), AllocError> {
         let log = self.forced.log();
         for place in 0..self.count() {
@@ -182,7 +183,7 @@ impl<'a> Core<'a> {
         }
     }
 
-    /// Whether a writer of the location in the process, from one place up to another, is chosen.
+    /// Returns whether a writer of the location in the process, from one place up to another, is chosen.
     fn has_chosen_writer(
         &self,
         process: u32,
@@ -234,7 +235,7 @@ impl<'a> Core<'a> {
         }
     }
 
-    /// Whether a writer of the location that stands after this one is chosen.
+    /// Returns whether a writer of the location that stands after this one is chosen.
     fn has_chosen_after(&self, writer: u32, location: u32, budget: &mut Budget) -> bool {
         let log = self.forced.log();
         budget.spend(log.processes() as u64);
@@ -247,7 +248,7 @@ impl<'a> Core<'a> {
         false
     }
 
-    /// Leaves out these operations, if what is left is still refuted. Whether it is.
+    /// Leaves out these operations, if what is left is still refuted. Returns whether it is.
     fn leave_out(&mut self, operations: &[u32], budget: &mut Budget) -> Result<bool, AllocError> {
         if operations.is_empty() || budget.is_spent() {
             return Ok(false);
@@ -290,7 +291,8 @@ impl<'a> Core<'a> {
     }
 
     /// Leaves out operations as long as what is left is refuted: those of a process, those on a location, halves, quarters and so on, and
-    /// each by itself.
+    /// each by itself. Large groups come first: each try costs a saturation, and one by one most of the budget would be spent on operations
+    /// that a group takes along.
     pub fn shrink(&mut self, budget: &mut Budget) -> Result<(), AllocError> {
         let log = self.forced.log();
         for process in 0..log.processes() {
@@ -327,7 +329,7 @@ impl<'a> Core<'a> {
         Ok(())
     }
 
-    /// Leaves out what can be left out of the pieces of so many operations.
+    /// Leaves out what can be left out, in pieces of the given number of operations.
     fn leave_out_pieces(&mut self, width: u32, budget: &mut Budget) -> Result<(), AllocError> {
         let all = Vec::from_slice(self.alloc, self.operations.as_slice())?;
         let mut from: u32 = 0;

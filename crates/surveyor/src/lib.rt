@@ -7,7 +7,7 @@ use std::alloc::{AllocError, Global};
 use trace_semantics::operation::OpName;
 use trace_semantics::trace::Trace;
 
-/// How far a survey came.
+/// The progress of a survey, as numbers of operations and readers.
 #[derive(Clone, Copy)]
 pub struct Extent {
     /// The most operations that were placed one after the other.
@@ -16,7 +16,7 @@ pub struct Extent {
     pub undecided: u32,
 }
 
-/// What a survey finds. The caller judges the schedule, or refutes the part of the core.
+/// A finding of a survey, which is untrusted. The caller judges the schedule, or refutes the part of the core.
 #[derive(Drop)]
 pub enum Finding {
     /// A schedule that should be legal.
@@ -27,16 +27,16 @@ pub enum Finding {
     Nothing,
 }
 
-/// What a survey finds, and how far it came.
+/// The finding of a survey, and its progress.
 #[derive(Drop)]
 pub struct Overview {
     pub finding: Finding,
     pub extent: Extent,
 }
 
-/// What looks over a trace for a schedule, or for operations by which it has none. Nothing is promised but that the call returns: what
-/// it finds may be wrong.
+/// A surveyor: it looks over a trace for a schedule, or for operations by which it has none. Nothing is promised but that the call returns:
+/// what it finds may be wrong.
 pub trait Surveyor {
-    /// What is found.
+    /// The finding.
     fn survey(&self, alloc: Global, trace: &Trace) -> Result<Overview, AllocError>;
 }

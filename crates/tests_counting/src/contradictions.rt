@@ -7,14 +7,14 @@ use source_matching::Kind;
 use std::alloc::{AllocError, Global};
 use std::test::Fail;
 
-/// What is found: so many readers that cannot all have a source, or none, and whether a derivation of that was written and accepted.
+/// What is found: the number of readers that cannot all have a source, or none, and whether a derivation of that was written and accepted.
 #[derive(Clone, Copy)]
 struct Found {
     readers: u32,
     is_refuted: bool,
 }
 
-/// How many readers there are.
+/// The number of readers.
 fn readers_of(kind: &Kind) -> u32 {
     match kind {
         Kind::HallViolator(shortage) | Kind::LastWriters(_, shortage) => shortage.readers(),
@@ -58,7 +58,7 @@ pub fn update(from: u32, to: u32) -> LocationWriter {
     }
 }
 
-/// Each of these writers so many times: all of the first, then all of the second, and so on.
+/// Each of these writers the given number of times: all of the first, then all of the second, and so on.
 pub fn times(
     alloc: Global,
     writers: &[(LocationWriter, u32)],
@@ -72,7 +72,7 @@ pub fn times(
     Ok(all)
 }
 
-/// These writers one after the other, so many times.
+/// These writers one after the other, the given number of times.
 pub fn rounds(
     alloc: Global,
     writers: &[LocationWriter],
@@ -97,14 +97,14 @@ pub fn from_zero<'a>(writers: &'a [LocationWriter]) -> Location<'a> {
     }
 }
 
-/// Whether so many readers are found to be a contradiction, and that is shown; or nothing is found, for no reader.
+/// Returns whether this number of readers is found to be a contradiction, and that is shown; or nothing is found, for no reader.
 fn is_found(alloc: Global, location: Location<'_>, readers: u32) -> Result<bool, AllocError> {
     let found = find(alloc, location, 10_000)?;
     Ok(found.readers == readers && found.is_refuted == (readers > 0))
 }
 
-/// Locks with so many releases, of this kind: one acquire too many is a contradiction from two missing releases on, or from one on if the
-/// lock is free in the end.
+/// Locks with this number of releases, of this kind: one acquire too many is a contradiction from two missing releases on, or from one on
+/// if the lock is free in the end.
 fn locks_are_told_apart(
     alloc: Global,
     releases: u32,
@@ -133,7 +133,7 @@ fn locks_are_told_apart(
     )
 }
 
-/// Updates from 1 over 2 to 3 and on to 1, so many of each, which have no first one if the location does not hold 2 at the start.
+/// Updates from 1 over 2 to 3 and on to 1, this number of each, which have no first one if the location does not hold 2 at the start.
 fn cycles_are_told_apart(alloc: Global, count: u32) -> Result<bool, AllocError> {
     let updates = rounds(alloc, &[update(1, 2), update(2, 3), update(3, 1)], count)?;
     let cycle = from_zero(updates.as_slice());
@@ -144,8 +144,8 @@ fn cycles_are_told_apart(alloc: Global, count: u32) -> Result<bool, AllocError> 
     Ok(is_found(alloc, cycle, count.wrapping_mul(3))? && is_found(alloc, with_first, 0)?)
 }
 
-/// So many processes that take a lock and give it back, which is not free at the start: each release is read, and so none is the last
-/// writer. A write more at the end of each process may be the last one.
+/// Processes, by their number, that take a lock and give it back, which is not free at the start: each release is read, and so none is the
+/// last writer. A write more at the end of each process may be the last one.
 fn last_writers_are_told_apart(alloc: Global, processes: u32) -> Result<bool, AllocError> {
     let taken = rounds(alloc, &[update(0, 1), WRITE], processes)?;
     let closed = rounds(alloc, &[update(0, 1), WRITE, update(1, 2)], processes)?;
@@ -186,7 +186,8 @@ fn refutes_what_has_too_few_sources(rt: HostRuntime) -> Result<(), Fail> {
     Ok(())
 }
 
-/// Whether a contradiction is found and shown where so many of 1000 choices are excluded. With none it is of all updates that read 0.
+/// Returns whether a contradiction is found and shown if this number of 1000 choices is excluded. With none it is of all updates that read
+/// 0.
 fn is_refuted_with(alloc: Global, seed: u64, excluded: u64) -> Result<bool, AllocError> {
     let releases = u32::try_from(seed % 12).unwrap_or(0);
     let acquires = releases.wrapping_add(2);

@@ -12,7 +12,7 @@ pub struct MatchingProblem<'a> {
     pub known: KnownOrder<'a>,
 }
 
-/// Whether a derivation of the contradiction is written from what is said, and the checker accepts it.
+/// Returns whether a derivation of the contradiction is written from what is said, and the checker accepts it.
 pub fn accepted(
     alloc: Global,
     spelling: &Spelling,

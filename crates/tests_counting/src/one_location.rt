@@ -12,7 +12,7 @@ pub struct LocationWriter {
     pub leaves: u32,
 }
 
-/// The writers, of which so many that follow each other are of one process, the value that the location holds at the start, and the one
+/// The writers, of which this number that follow each other are of one process, the value that the location holds at the start, and the one
 /// that it holds in the end, if that is known.
 #[derive(Clone, Copy)]
 pub struct Location<'a> {
@@ -21,7 +21,7 @@ pub struct Location<'a> {
     pub initial: u32,
     pub last: Option<u32>,
     pub seed: u64,
-    /// Of 1000 choices so many are excluded.
+    /// Excluded choices, of 1000.
     pub excluded: u64,
 }
 
@@ -103,7 +103,7 @@ impl Spelling {
         Ok(())
     }
 
-    /// Adds a clause for each two writers of one process, of which so many follow each other.
+    /// Adds a clause for each two writers of one process, of which this number follow each other.
     fn add_program_order(&mut self, in_process: u32) -> Result<(), AllocError> {
         for i in 0..self.writers {
             for j in 0..self.writers {
@@ -171,12 +171,12 @@ impl Spelling {
         Ok(self.count())
     }
 
-    /// How many clauses there are.
+    /// The number of clauses.
     pub fn count(&self) -> u32 {
         u32::try_from(self.clauses.len()).unwrap_or(0)
     }
 
-    /// How many variables there are.
+    /// The number of variables.
     pub fn variables(&self) -> u32 {
         self.variables
     }
@@ -287,7 +287,7 @@ impl Spelling {
         Ok(())
     }
 
-    /// Adds a clause which says that the choice is not made, if chance wants it. Whether it did.
+    /// Adds a clause which says that the choice is not made, if chance wants it. Returns whether it did.
     fn exclude(&mut self, made: i32) -> Result<bool, AllocError> {
         self.random ^= self.random << 13;
         self.random ^= self.random >> 7;

@@ -9,7 +9,7 @@ use counting_proofs::{
 use std::alloc::{AllocError, Global};
 use std::test::Fail;
 
-/// So many steps are enough for all that is written here.
+/// Steps that are enough for all that is written here.
 const BUDGET: u64 = 10_000;
 
 /// By how much numbers are too large in what is said. Nothing is wrong where all are 0.
@@ -114,7 +114,7 @@ fn mistaken(
     Ok(said)
 }
 
-/// Whether a derivation is accepted that is written with this mistake. What it is of is found without it.
+/// Returns whether a derivation is accepted that is written with this mistake. What it is of is found without it.
 fn is_accepted(
     alloc: Global,
     location: Location<'_>,
@@ -137,7 +137,7 @@ fn is_accepted(
     accepted(alloc, &spelling, said, &contradiction, BUDGET)
 }
 
-/// Whether a derivation is accepted that is written without a mistake, and none with one of these.
+/// Returns whether a derivation is accepted that is written without a mistake, and none with one of these.
 fn is_lost_by(
     alloc: Global,
     location: Location<'_>,
@@ -195,7 +195,7 @@ fn without_initial(
     Ok(said)
 }
 
-/// Whether a derivation of what is found without the initial value is accepted, if anything is found.
+/// Returns whether a derivation of what is found without the initial value is accepted, if anything is found.
 fn accepted_without_initial(
     alloc: Global,
     location: Location<'_>,
@@ -215,7 +215,7 @@ fn accepted_without_initial(
     Ok(Some(is_accepted))
 }
 
-/// Whether a derivation of what is found is accepted where all writers are said to be of one process, if anything is found.
+/// Returns whether a derivation of what is found is accepted where all writers are said to be of one process, if anything is found.
 fn accepted_in_one_process(
     alloc: Global,
     location: Location<'_>,

@@ -30,7 +30,7 @@ pub enum Says {
 pub enum Expected {
     /// A model at this leaf, with these truth values of the variables 1, 2 and so on.
     Consistent(u32, &'static [bool]),
-    /// That there is no model, by so many leaves.
+    /// That there is no model, by this number of leaves.
     Inconsistent(u32),
     /// Nothing, since these leaves are open.
     Unknown(&'static [u32]),
@@ -90,7 +90,7 @@ pub fn settled_of(
     Ok(job_of(rt, alloc, leaf, literals).settle(outcome))
 }
 
-/// Whether these are the values of the variables 1, 2 and so on.
+/// Returns whether these are the values of the variables 1, 2 and so on.
 fn has_values(truth: &Assignment, values: &[bool]) -> bool {
     let mut variable = 0u32;
     for value in values {
@@ -102,7 +102,7 @@ fn has_values(truth: &Assignment, values: &[bool]) -> bool {
     true
 }
 
-/// Whether the verdict is the expected one.
+/// Returns whether the verdict is the expected one.
 pub fn is_expected(verdict: &Verdict, expected: Expected) -> bool {
     match (verdict, expected) {
         (Verdict::Consistent(leaf, truth), Expected::Consistent(there, values)) => {

@@ -87,7 +87,7 @@ fn ledger_of(
     ledger
 }
 
-/// Whether the checker accepts the derivation of these hints for the cube of this literal.
+/// Returns whether the checker accepts the derivation of these hints for the cube of this literal.
 fn is_accepted(
     alloc: Global,
     formula: &Formula,

@@ -21,7 +21,7 @@ use std::thread::Threads;
 struct Round {
     /// The leaves that are asked for: those without an answer.
     asked: &'static [u32],
-    /// How far the number on each result is above that of its leaf. Where it is not 0, each is an answer of another leaf.
+    /// The distance of the number on each result above that of its leaf. If it is not 0, each is an answer of another leaf.
     above: u32,
     /// What is said of these leaves, in their order.
     says: &'static [Says],

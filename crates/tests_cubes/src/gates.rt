@@ -31,7 +31,7 @@ impl Gate for NotingGate {
     }
 }
 
-/// Whether the result is of this leaf, and says that the first leaf has a model and that others were skipped.
+/// Returns whether the result is of this leaf, and says that the first leaf has a model and that others were skipped.
 fn is_of_leaf(settled: &Settled, leaf: usize) -> bool {
     let is_said = match settled.outcome() {
         Outcome::Model(_) => leaf == 0,

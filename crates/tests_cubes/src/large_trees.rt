@@ -4,7 +4,7 @@ use crate::expectations::ample;
 use std::alloc::Global;
 use std::process::Abort;
 
-/// Appends so many lines that split on variable 1, and then so many leaves.
+/// Appends the given number of lines that split on variable 1, and then the given number of leaves.
 pub fn push_lines(rt: &impl Abort, text: &mut Vec<u8>, splits: u32, leaves: u32) {
     for _ in 0..splits {
         ample(rt, text.extend_from_slice(b"split 1\n"));
@@ -14,15 +14,15 @@ pub fn push_lines(rt: &impl Abort, text: &mut Vec<u8>, splits: u32, leaves: u32)
     }
 }
 
-/// The text of so many splits, each in the left tree of the one before, and of all their leaves.
+/// The text of this number of splits, each in the left tree of the one before, and of all their leaves.
 pub fn deep_text(rt: &impl Abort, alloc: Global, splits: u32) -> Vec<u8> {
     let mut text = Vec::new(alloc);
     push_lines(rt, &mut text, splits, splits.wrapping_add(1));
     text
 }
 
-/// Appends the text of a full tree of this depth, which has so many leaves. As many splits stand before a leaf as its number, counted
-/// from 0, can be halved; before the first one as many as the tree is deep.
+/// Appends the text of a full tree of this depth, which has this number of leaves. As many splits stand before a leaf as its number,
+/// counted from 0, can be halved; before the first one as many as the tree is deep.
 fn push_full_text(rt: &impl Abort, text: &mut Vec<u8>, depth: u32, leaves: u32) {
     push_lines(rt, text, depth, 1);
     for leaf in 1..leaves {

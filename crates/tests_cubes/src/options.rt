@@ -17,7 +17,7 @@ const TOLD: [OptionsCase; 8] = [
     (1, 10, 0, 5, Some(BadOption::Rounds)),
 ];
 
-/// Whether this is reported of these options, which keep their numbers where none is out of its range.
+/// Returns whether this is reported of these options, which keep their numbers where none is out of its range.
 fn is_told(workers: u32, split: u32, budget: u64, rounds: u32, bad: Option<BadOption>) -> bool {
     match Options::new(workers, split, budget, rounds) {
         Ok(options) => {

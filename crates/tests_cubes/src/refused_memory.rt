@@ -1,6 +1,6 @@
-//! Calls that may be refused memory: each says so, and hands back what was handed in as it was. With memory enough these tests show
-//! that the calls succeed; `tests/refused-memory` runs them with each request for memory refused in turn. Where that leaves nothing to
-//! show, a test ends with an error, and so none of these asks for what is `ample`.
+//! Calls that may be refused memory: each says so, and returns what it was given as it was. With memory enough these tests show that the
+//! calls succeed; `tests/refused-memory` runs them with each request for memory refused in turn. If that leaves nothing to show, a test
+//! ends with an error, and so none of these asks for what is `ample`.
 ghost use Rattle.std.specs.Prelude.{◌≡◌, IfOk};
 ghost use Rattle.cube_tree.specs.CubeTree.{cubes_of};
 ghost use Rattle.result_ledger.specs.Ledger.{cubes_in, SplitsCube};
@@ -45,7 +45,7 @@ fn formula_if_memory(alloc: Global) -> Result<Formula, AllocError> {
     given(read_cnf(alloc, STORE_BUFFERING.as_bytes()))
 }
 
-/// The tree of this text, which is read again where there was no memory, and nothing else was told.
+/// The tree of this text, which is read again where there was no memory, and nothing else was reported.
 fn tree_read_again(rt: &impl Abort, alloc: Global, text: &str) -> Result<Tree, AllocError> {
     match read_tree(alloc, text.as_bytes()) {
         Ok((tree, _)) => Ok(tree),
@@ -68,7 +68,7 @@ fn trees_are_read_written_and_listed(rt: HostRuntime) -> Result<(), Fail> {
     Ok(())
 }
 
-/// The tree of this text with leaf 1 split on variable 5. Where there was no memory, it came back as it was, and is split again.
+/// The tree of this text with leaf 1 split on variable 5. If there was no memory, it came back as it was, and is split again.
 fn tree_split_again(rt: &impl Abort, alloc: Global, text: &str) -> Result<Tree, AllocError> {
     match split_leaf(alloc, tree_if_memory(alloc, text)?, 1, 5) {
         Ok(tree) => Ok(tree),
@@ -152,7 +152,7 @@ fn ledger_with_answer(rt: &impl Abort, alloc: Global, tree: &Tree) -> Result<Led
     Ok(ledger)
 }
 
-/// The ledger with its leaf 1 split, as it is in the tree. Where there was no memory, it came back as it was, and is split again.
+/// The ledger with its leaf 1 split, as it is in the tree. If there was no memory, it came back as it was, and is split again.
 fn ledger_split_again(
     rt: &impl Abort,
     alloc: Global,
@@ -187,7 +187,7 @@ fn a_split_that_is_refused_hands_the_ledger_back(rt: HostRuntime) -> Result<(), 
     Ok(())
 }
 
-/// How many of the results say that the search came to no end.
+/// The number of results that say that the search came to no end.
 fn count_open(results: &[Settled]) -> usize {
     let mut count = 0usize;
     for settled in results {
@@ -197,7 +197,7 @@ fn count_open(results: &[Settled]) -> usize {
     count
 }
 
-/// Whether the verdict is that there is no model, or that so many of the two leaves are open.
+/// Returns whether the verdict is that there is no model, or that this number of the two leaves is open.
 fn is_without_model(verdict: &Verdict, open: usize) -> bool {
     match verdict {
         Verdict::Inconsistent(count) => open == 0 && *count == 2,
@@ -226,7 +226,7 @@ fn a_cube_without_memory_stays_open(rt: HostRuntime) -> Result<(), Fail> {
 const CERTIFICATE: &str =
     "vsc-cert 1\nsplit 3\nleaf\nleaf\nproof 0\n16 -1 0 13 14 15 0\n0 d 1 2 0\n17 0 13 14 15 0\nend\nproof 1\n16 0 1 2 11 12 3 7 15 0\nend\n";
 
-/// The certificate, which is read again where there was no memory, and nothing else was told.
+/// The certificate, which is read again where there was no memory, and nothing else was reported.
 fn certificate_read_again(rt: &impl Abort, alloc: Global) -> Result<Certificate, AllocError> {
     match read_cert(alloc, CERTIFICATE.as_bytes()) {
         Ok(certificate) => Ok(certificate),

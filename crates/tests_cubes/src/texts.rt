@@ -35,7 +35,7 @@ pub fn derivation_of(rt: &impl Abort, alloc: Global, text: &str) -> Derivation {
     ample(rt, read_lrat(alloc, text.as_bytes()))
 }
 
-/// Whether this is the text of the tree.
+/// Returns whether this is the text of the tree.
 pub fn is_text(alloc: Global, tree: &Tree, text: &[u8]) -> Result<bool, AllocError> {
     Ok(write_tree(alloc, tree)?.as_slice() == text)
 }
@@ -49,7 +49,7 @@ pub fn literals_of(alloc: Global, numbers: &[i32]) -> Result<Vec<Lit>, AllocErro
     Ok(literals)
 }
 
-/// Whether these are the literals of these numbers.
+/// Returns whether these are the literals of these numbers.
 pub fn are_literals(alloc: Global, literals: &[Lit], numbers: &[i32]) -> Result<bool, AllocError> {
     Ok(literals_of(alloc, numbers)?.as_slice() == literals)
 }

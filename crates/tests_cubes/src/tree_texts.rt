@@ -26,7 +26,7 @@ const READ: [Read; 4] = [
     ),
 ];
 
-/// Asserts that so many bytes of the text spell a tree of so many leaves, whose canonical text is this.
+/// Asserts that the first bytes of the text, by their number, spell a tree of this number of leaves, whose canonical text is this.
 fn assert_reads(
     rt: &impl Abort,
     alloc: Global,

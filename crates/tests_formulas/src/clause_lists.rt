@@ -84,7 +84,7 @@ const STORE_BUFFERING_CLAUSES: [&[i32]; 14] = [
     &[-8, -3],
 ];
 
-/// Whether the list has a clause at this place, and it is the one of these numbers.
+/// Returns whether the list has a clause at this place, and it is the one of these numbers.
 fn has_clause(
     rt: &impl Abort,
     alloc: Global,
@@ -109,7 +109,7 @@ fn gives_each_clause_of_a_trace_by_its_number(rt: HostRuntime) {
     }
 }
 
-/// Whether these are the same clauses in the same order.
+/// Returns whether these are the same clauses in the same order.
 fn are_same(left: &[Clause], right: &[Clause]) -> bool {
     if left.len() != right.len() {
         return false;
@@ -138,7 +138,7 @@ fn makes_the_same_clauses_with_more_workers(rt: HostRuntime) {
     }
 }
 
-/// Whether these are the literals of the clause.
+/// Returns whether these are the literals of the clause.
 fn is_of(clause: ListedClause<'_>, literals: &[Lit]) -> bool {
     clause.as_slice() == literals
 }

@@ -55,7 +55,7 @@ fn formula_of_trace<R: Threads + Sync + Abort>(rt: &R, alloc: Global, reduced: &
     }
 }
 
-/// Whether this schedule was found, or this fault.
+/// Returns whether this schedule was found, or this fault.
 fn is_told(
     alloc: Global,
     decoded: Result<Schedule, DecodeFault>,

@@ -49,13 +49,13 @@ const WRITTEN: [FormulaCase; 3] = [
     ),
 ];
 
-/// Whether the formula's text reaches a sink that takes so many bytes a call.
+/// Returns whether the formula's text reaches a sink that takes the given number of bytes a call.
 fn is_written(alloc: Global, formula: &Formula, most: usize, text: &[u8]) -> bool {
     let mut sink = ShortSink::new(alloc, most);
     write_cnf(alloc, formula, &mut sink).is_ok() && sink.as_slice() == text
 }
 
-/// Whether a sink that takes a byte a call and fails at its eighth has the first seven, and the failure is reported.
+/// Returns whether a sink that takes a byte a call and fails at its eighth has the first seven, and the failure is reported.
 fn is_begun(alloc: Global, formula: &Formula, text: &[u8]) -> bool {
     let mut sink = ShortSink::new(alloc, 1).failing_at(8);
     let written = write_cnf(alloc, formula, &mut sink);
@@ -115,7 +115,7 @@ fn keeps_literals(rt: HostRuntime) {
     assert!(rt; !last.is_positive() && last.negated() == Lit::positive(MAX_VARIABLE));
 }
 
-/// Whether these are the literals of the clause.
+/// Returns whether these are the literals of the clause.
 fn is_of(clause: Clause, literals: &[Lit]) -> bool {
     clause.as_slice() == literals
 }

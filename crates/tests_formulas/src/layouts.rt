@@ -10,7 +10,7 @@ use var_layout::layout::{Layout, ReadsFromOwner};
 /// One update undoes the other, and the final value is the initial one.
 const TWO_UPDATES: &str = "vsc 1\ninit x 0\nfinal x 0\nproc P\nU x 0 1\nproc Q\nU x 1 0\n";
 
-/// A value that nobody writes, and a final value that nobody leaves.
+/// A value that no operation writes, and a final value that no operation leaves.
 const LOST_VALUES: &str = "vsc 1\nfinal y 5\nproc P\nR x 1\n";
 
 /// Independent reads of independent writes: two readers see two writes in opposite orders.
@@ -21,7 +21,7 @@ fn layout_of(rt: &impl Abort, alloc: Global, text: &str) -> Layout {
     ample(rt, Layout::of(alloc, &reduced_of(rt, alloc, text)))
 }
 
-/// Asserts that these are the first split variables, where no more than so many are asked for.
+/// Asserts that these are the first split variables, if no more than the given number is asked for.
 fn assert_splits(rt: &impl Abort, alloc: Global, layout: &Layout, most: usize, splits: &[u32]) {
     let found = ample(rt, layout.first_splits(alloc, most));
     expect(rt, found.as_slice() == splits, most);
@@ -37,7 +37,7 @@ fn assert_order(rt: &impl Abort, layout: &Layout, i: usize, j: usize, literal: i
     expect(rt, turned.negated().number() == literal, i);
 }
 
-/// Whether it is the choice of this writer, or of the initial value where that is None, with this variable.
+/// Returns whether it is the choice of this writer, or of the initial value where that is None, with this variable.
 fn is_choice(choice: &ReadsFromChoice, writer: Option<usize>, variable: u32) -> bool {
     let is_chosen = match choice.candidate {
         Candidate::Writer(found) => writer == Some(found),

@@ -29,7 +29,7 @@ const READ: [(&str, &str); 7] = [
     ),
 ];
 
-/// Whether the text spells the formula that is written so.
+/// Returns whether the text spells the formula that is written so.
 fn is_read(rt: &impl Abort, alloc: Global, text: &str, canonical: &str) -> bool {
     let formula = ample(rt, read_cnf(alloc, text.as_bytes()));
     let mut sink = MemorySink::new(alloc);

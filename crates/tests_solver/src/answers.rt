@@ -13,7 +13,7 @@ use std::process::Abort;
 pub enum Shown {
     /// A model, which has been evaluated.
     Model,
-    /// That there is none, by a derivation of so many steps that was accepted.
+    /// That there is none, by a derivation of this number of steps that was accepted.
     NoModel(usize),
     /// Nothing.
     Nothing,

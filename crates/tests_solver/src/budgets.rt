@@ -1,4 +1,4 @@
-//! How many conflicts an answer takes.
+//! Conflicts that an answer takes.
 
 use crate::answers::{Shown, solved};
 use crate::expectations::{ample, expect};
@@ -49,7 +49,7 @@ fn a_clause_without_literals_takes_one_conflict(rt: HostRuntime) {
     assert_one_conflict(&rt, rt.alloc(), &formula, EncodingHints::none());
 }
 
-/// Whether so many conflicts show that the formula has no model. Else they show nothing.
+/// Returns whether this number of conflicts shows that the formula has no model. Else they show nothing.
 fn is_refuted(rt: &impl Abort, alloc: Global, formula: &Formula, budget: u64) -> bool {
     match solved(rt, alloc, formula, &[], EncodingHints::none(), budget) {
         Shown::NoModel(_) => true,

@@ -1,4 +1,4 @@
-//! The checker beside a plain one: on derivations of which it is known what is to be said of them, on derivations of the solver, and on
+//! The checker beside a plain one: on derivations of which it is known what must be said of them, on derivations of the solver, and on
 //! damaged ones of both.
 
 use crate::damage::damaged;
@@ -31,7 +31,7 @@ fn same_answer(
     real
 }
 
-/// Asserts that both checkers say the same of so many damaged derivations. How many of them are accepted.
+/// Asserts that both checkers say the same of this number of damaged derivations. Returns the number of those that are accepted.
 fn assert_same_damaged(
     rt: &impl Abort,
     alloc: Global,
@@ -50,8 +50,8 @@ fn assert_same_damaged(
     accepted
 }
 
-/// Asserts that both checkers accept the solver's derivation, if it finds one, and say the same of so many damaged ones. How many of
-/// these are accepted.
+/// Asserts that both checkers accept the solver's derivation, if it finds one, and say the same of this number of damaged ones. Returns the
+/// number of those that are accepted.
 fn assert_same_solved(
     rt: &impl Abort,
     alloc: Global,
@@ -106,8 +106,8 @@ fn derivation_of(rt: &impl Abort, alloc: Global, pieces: &[&str]) -> Derivation 
     ample(rt, read_lrat(alloc, text.as_slice()))
 }
 
-/// Asserts that both checkers say of these derivations what is known, and the same of so many damaged ones of each. How many of these are
-/// accepted.
+/// Asserts that both checkers say of these derivations what is known, and the same of this number of damaged ones of each. Returns the
+/// number of those that are accepted.
 fn assert_known(
     rt: &impl Abort,
     alloc: Global,

@@ -8,7 +8,7 @@ use lrat_check::derivation::{Derivation, Step};
 use solver::{Answer, EncodingHints, solve};
 use std::alloc::{AllocError, Global};
 
-/// Whether one of these steps has the clause of this number among its hints.
+/// Returns whether one of these steps has the clause of this number among its hints.
 fn is_hint_of(alloc: Global, steps: &[Step], number: u64) -> Result<bool, AllocError> {
     for step in steps {
         if let Step::Addition { hints, .. } = step {
@@ -23,7 +23,7 @@ fn is_hint_of(alloc: Global, steps: &[Step], number: u64) -> Result<bool, AllocE
     Ok(false)
 }
 
-/// Whether each step adds a clause, and each but the last one a clause that is a hint of a later step.
+/// Returns whether each step adds a clause, and each but the last one a clause that is a hint of a later step.
 fn is_cut(alloc: Global, derivation: &Derivation) -> Result<bool, AllocError> {
     let steps = derivation.steps();
     for place in 1..steps.len() {
@@ -37,7 +37,7 @@ fn is_cut(alloc: Global, derivation: &Derivation) -> Result<bool, AllocError> {
     Ok(true)
 }
 
-/// Whether the derivation of the answer is cut, if it has one.
+/// Returns whether the derivation of the answer is cut, if it has one.
 fn is_cut_answer(alloc: Global, formula: &Formula) -> Result<bool, AllocError> {
     match solve(alloc, formula, &[], EncodingHints::none(), 100_000)? {
         Answer::Refuted(derivation) => is_cut(alloc, &derivation),

@@ -6,10 +6,10 @@ use crate::traced::{Access, Traced, TracedMistake, formula_of_trace};
 use std::alloc::{AllocError, Global};
 use std::process::Abort;
 
-/// So many updates go from 0 to 1, and as many from 1 to 0.
+/// Updates that go from 0 to 1, and as many from 1 to 0.
 const EACH: u32 = 7;
 
-/// So many steps are enough to count. So many conflicts are too few.
+/// Steps that are enough to count, and conflicts that are too few.
 const BUDGET: u64 = 1500;
 
 /// As many updates up as down, each in a process of its own, with this final value and this mistake in what is known.

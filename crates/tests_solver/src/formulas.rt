@@ -63,7 +63,7 @@ pub fn add(alloc: Global, clauses: &mut Vec<Clause>, numbers: &[i32]) -> Result<
     Ok(())
 }
 
-/// The formula of these clauses, or one without clauses where they are not over so many variables.
+/// The formula of these clauses, or one without clauses if they are not over this number of variables.
 pub fn formula_of(alloc: Global, variables: u32, clauses: Vec<Clause>) -> Formula {
     if Formula::fits(variables, clauses.as_slice()) {
         Formula::new(variables, clauses)

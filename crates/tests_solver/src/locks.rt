@@ -6,7 +6,7 @@ use crate::traced::{Access, Traced, TracedMistake, formula_of_trace};
 use std::alloc::{AllocError, Global};
 use std::process::Abort;
 
-/// So many conflicts are too few, although more than half of the operations are updates, and the search along a schedule begins.
+/// Conflicts that are too few, although more than half of the operations are updates, and the search along a schedule begins.
 const TOO_FEW: u64 = 300;
 
 /// The search is enough for a model, also where it comes second. A derivation by counting takes more steps.
@@ -15,7 +15,7 @@ const BUDGET: u64 = 3000;
 /// Steps enough for a derivation by counting.
 const ENOUGH: u64 = 100_000;
 
-/// Each of three processes takes a lock and gives it back four times, but so many of them do not give it back at the end.
+/// Each of three processes takes a lock and gives it back four times, but this number of them do not give it back at the end.
 fn lock(alloc: Global, broken: u32) -> Result<Traced, AllocError> {
     let mut accesses = Vec::new(alloc);
     for process in 0..3u32 {
@@ -37,7 +37,7 @@ fn lock(alloc: Global, broken: u32) -> Result<Traced, AllocError> {
     formula_of_trace(alloc, accesses.as_slice(), None, TracedMistake::NONE)
 }
 
-/// What so many conflicts show of the lock that so many processes do not give back.
+/// What this number of conflicts shows of the lock that this number of processes does not give back.
 fn locked(rt: &impl Abort, alloc: Global, broken: u32, budget: u64) -> Shown {
     let trace = ample(rt, lock(alloc, broken));
     solved(rt, alloc, &trace.formula, &[], trace.encoding(), budget)

@@ -18,7 +18,7 @@ fn negation(literal: i32) -> i32 {
     0i32.wrapping_sub(literal)
 }
 
-/// Whether the literal is among these.
+/// Returns whether the literal is among these.
 fn has(literals: &[i32], literal: i32) -> bool {
     for other in literals {
         if *other == literal {
@@ -62,7 +62,7 @@ fn left_open(clause: &[i32], trues: &[i32]) -> Option<i32> {
     Some(open)
 }
 
-/// Follows the hints before the first group from literals that are true. Whether there is a conflict.
+/// Follows the hints before the first group from literals that are true. Returns whether there is a conflict.
 fn follow(
     clauses: &[NumberedClause],
     trues: &mut Vec<i32>,
@@ -119,7 +119,7 @@ fn settle(
     Err(Refusal::At(StepFault::NoConflict, number))
 }
 
-/// Whether one of the groups is of this id.
+/// Returns whether one of the groups is of this id.
 fn has_group(hints: &[i64], id: u64) -> bool {
     for hint in hints {
         if *hint < 0 && hint.unsigned_abs() == id {
@@ -129,7 +129,7 @@ fn has_group(hints: &[i64], id: u64) -> bool {
     false
 }
 
-/// Whether an active clause holds the pivot's negation and has no group.
+/// Returns whether an active clause holds the pivot's negation and has no group.
 fn lacks_group(clauses: &[NumberedClause], pivot: i32, hints: &[i64]) -> bool {
     for clause in clauses {
         if clause.is_active
@@ -174,7 +174,7 @@ fn settle_all(
     Ok(())
 }
 
-/// Whether the hints justify the clause of these literals.
+/// Returns whether the hints justify the clause of these literals.
 fn justify(
     alloc: Global,
     clauses: &[NumberedClause],

@@ -4,7 +4,7 @@
 use dimacs::{Clause, Formula, Lit};
 use std::alloc::{AllocError, Global};
 
-/// So many assignments of one literal are made at most.
+/// The largest number of assignments of one literal that are made.
 const MAX_STEPS: u32 = 10_000_000;
 
 /// A literal that is true, and whether its negation has yet to be tried.
@@ -14,7 +14,7 @@ struct Tried {
     is_decision: bool,
 }
 
-/// Whether this number is among those of the literals that are true.
+/// Returns whether this number is among those of the literals that are true.
 fn is_true(trail: &[Tried], number: i32) -> bool {
     for tried in trail {
         if tried.literal.number() == number {
@@ -24,7 +24,7 @@ fn is_true(trail: &[Tried], number: i32) -> bool {
     false
 }
 
-/// How a clause stands.
+/// The state of a clause.
 #[derive(Clone, Copy)]
 enum ClauseState {
     /// A literal of it is true.
@@ -37,7 +37,7 @@ enum ClauseState {
     Open(Lit),
 }
 
-/// How a clause stands with one more literal, which is open.
+/// The state of a clause with one more literal, which is open.
 fn with_open(standing: ClauseState, literal: Lit) -> ClauseState {
     match standing {
         ClauseState::Satisfied => ClauseState::Satisfied,
@@ -53,7 +53,7 @@ fn with_open(standing: ClauseState, literal: Lit) -> ClauseState {
     }
 }
 
-/// How the clause stands.
+/// The state of the clause.
 fn standing_of(clause: &[Lit], trail: &[Tried]) -> ClauseState {
     let mut standing = ClauseState::Falsified;
     for literal in clause {
@@ -94,7 +94,7 @@ fn next_of(clauses: &[Clause], trail: &[Tried]) -> ClauseState {
     next
 }
 
-/// Takes back what was made true up to the last decision, and tries its negation. Whether there was one.
+/// Takes back what was made true up to the last decision, and tries its negation. Returns whether there was one.
 fn go_back(trail: &mut Vec<Tried>) -> Result<bool, AllocError> {
     for _ in 0..trail.len() {
         let Some(last) = trail.pop() else {
@@ -111,7 +111,7 @@ fn go_back(trail: &mut Vec<Tried>) -> Result<bool, AllocError> {
     Ok(false)
 }
 
-/// Whether the formula has a model that makes all literals of the cube true, if that is found out.
+/// Returns whether the formula has a model that makes all literals of the cube true, if that is found out.
 pub fn has_model(
     alloc: Global,
     formula: &Formula,

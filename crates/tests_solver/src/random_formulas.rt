@@ -31,7 +31,7 @@ impl Random {
         ((self.state >> 32) % 1000) as u16
     }
 
-    /// A literal of one of so many variables from this one on.
+    /// A literal of one of the given number of variables from this one on.
     pub fn literal(&mut self, first: u16, variables: u16) -> i32 {
         if variables == 0 {
             return 1;
@@ -45,7 +45,7 @@ impl Random {
     }
 }
 
-/// Adds a clause of so many random literals over eight variables, which may repeat.
+/// Adds a clause of this number of random literals over eight variables, which may repeat.
 fn add_random(
     alloc: Global,
     random: &mut Random,
@@ -94,7 +94,7 @@ pub fn assert_solved(
     expect(rt, agrees(answer, known), cube.len());
 }
 
-/// Whether an answer shows what the plain solver has found out.
+/// Returns whether an answer shows what the plain solver has found out.
 pub fn agrees(answer: Shown, known: Option<bool>) -> bool {
     match answer {
         Shown::Model => known == Some(true),

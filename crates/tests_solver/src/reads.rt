@@ -54,8 +54,8 @@ fn random_trace(
     formula_of_trace(alloc, accesses.as_slice(), final_value, mistake)
 }
 
-/// Whether the answers with and without the guide are those of the plain solver in a cube: where the guide has a mistake an answer may
-/// show nothing, and what it shows is so.
+/// Returns whether the answers with and without the guide are those of the plain solver in a cube: where the guide has a mistake an answer
+/// may show nothing, and what it shows is so.
 fn agree(
     rt: &impl Abort,
     alloc: Global,

@@ -17,7 +17,7 @@ fn answer_of(alloc: Global, trace: &Traced, budget: u64) -> Result<Answer, Alloc
     }
 }
 
-/// Whether the answer is a derivation that the checker accepts, or cannot check since memory ran out.
+/// Returns whether the answer is a derivation that the checker accepts, or cannot check since memory ran out.
 fn is_refuted(alloc: Global, trace: &Traced, answer: &Answer) -> bool {
     let Answer::Refuted(derivation) = answer else {
         return false;

@@ -103,7 +103,7 @@ impl Made {
         self.mistake.of(variable.wrapping_sub(pairs))
     }
 
-    /// The element that stands so many further on, counted around.
+    /// The element that stands the given number of places further on, counted around.
     fn further(&self, element: u32, by: u32) -> u32 {
         element.wrapping_add(by) % self.elements.max(1)
     }

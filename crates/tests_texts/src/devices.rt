@@ -10,7 +10,8 @@ use verdict_report::{ReadFault, ShortSource, read_whole};
 
 const TEXT: &str = "p cnf 3 4\n";
 
-/// How many bytes a sink takes a call at most, how many of the text it takes at once, and what is left of the text.
+/// The largest number of bytes that a sink takes a call, the number of those of the text that it takes at once, and what is left of the
+/// text.
 const TAKEN: [(usize, usize, &str); 4] = [
     (0, 1, " cnf 3 4\n"),
     (1, 1, " cnf 3 4\n"),
@@ -18,7 +19,7 @@ const TAKEN: [(usize, usize, &str); 4] = [
     (usize::MAX, 10, ""),
 ];
 
-/// Asserts that a sink takes so many bytes at once, and then what is left.
+/// Asserts that a sink takes this number of bytes at once, and then what is left.
 fn assert_takes(rt: &impl Abort, alloc: Global, most: usize, count: usize, rest: &str) {
     let mut sink = ShortSink::new(alloc, most);
     expect(rt, sink.write(TEXT.as_bytes()).ok() == Some(count), most);
@@ -55,7 +56,7 @@ fn writes_a_front_where_a_call_fails(rt: HostRuntime) {
     }
 }
 
-/// Whether the whole text is read from a source that hands out so many bytes a call at most.
+/// Returns whether the whole text is read from a source that hands out at most the given number of bytes a call.
 fn is_read(alloc: Global, most: usize) -> bool {
     let mut source = ShortSource::new(TEXT.as_bytes(), most);
     match read_whole(alloc, &mut source) {
@@ -64,7 +65,7 @@ fn is_read(alloc: Global, most: usize) -> bool {
     }
 }
 
-/// Whether it is reported that the source fails at this call.
+/// Returns whether it is reported that the source fails at this call.
 fn is_failure_told(alloc: Global, call: usize) -> bool {
     let mut source = ShortSource::new(TEXT.as_bytes(), 1).failing_at(call as u64);
     matches!(read_whole(alloc, &mut source), Err(ReadFault::Device))

@@ -17,7 +17,7 @@ const STORE_BUFFERING: &str =
 /// A process writes the initial value again, and another one reads it: both orders are legal, and each is in a cube of its own.
 const WRITTEN_AGAIN: &str = "vsc 1\ninit x 0\nproc P\nW x 0\nproc Q\nR x 0\n";
 
-/// How often a held worker looks again before it gives up.
+/// The number of looks that a held worker takes before it gives up.
 const MAX_LOOKS: u32 = 1_000_000;
 
 /// A gate that holds the cube of one ticket before it is searched until that of another one is settled.
@@ -66,8 +66,8 @@ impl Gate for VerdictGate {
     }
 }
 
-/// Asserts what so many workers report of the trace, over a tree of at most this depth, where the cube of one ticket is held until that
-/// of another one is settled.
+/// Asserts what this number of workers reports of the trace, over a tree of at most this depth, where the cube of one ticket is held until
+/// that of another one is settled.
 fn assert_reports<R: Threads + Wait + Abort + Sync>(
     alloc: Global,
     rt: &R,

@@ -62,7 +62,7 @@ fn behind_word<'a>(rt: &impl Abort, line: &'a [u8], word: &[u8]) -> &'a [u8] {
     }
 }
 
-/// Asserts that these are the first words of the line, where no more than so many are asked for.
+/// Asserts that these are the first words of the line, if no more than the given number is asked for.
 fn assert_first(rt: &impl Abort, alloc: Global, most: usize, words: &[&[u8]]) {
     let found = ample(rt, first_words(alloc, LINE, most));
     expect(rt, found.as_slice() == words, most);
@@ -95,7 +95,7 @@ const NUMBERS: [Number; 8] = [
     (b"1x", None, None),
 ];
 
-/// Whether the word is read as these numbers.
+/// Returns whether the word is read as these numbers.
 fn is_number(word: &[u8], plain: Option<u64>, digits: Option<u64>) -> bool {
     read_plain(word, 65535) == plain && read_digits(word, 65535) == digits
 }
@@ -120,7 +120,7 @@ const WRITTEN: [TextCase; 4] = [
 /// Words that are no such numbers.
 const UNWRITTEN: [&[u8]; 4] = [b"-00", b"+1", b"-", b"1-"];
 
-/// Whether the word is read as this number.
+/// Returns whether the word is read as this number.
 fn is_solver_number(word: &[u8], is_negative: bool, magnitude: Option<u64>) -> bool {
     let number = SolverNumber {
         is_negative,

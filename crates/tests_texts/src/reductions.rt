@@ -69,7 +69,7 @@ fn drops_repeated_reads_and_puts_them_back(rt: HostRuntime) {
     assert_legal(&rt, alloc, &trace, &whole);
 }
 
-/// The text of a process with so many writes.
+/// The text of a process with this number of writes.
 fn writes(rt: &impl Abort, alloc: Global, count: u32) -> Vec<u8> {
     let mut text = ample(rt, Vec::from_slice(alloc, b"vsc 1\nproc P\n"));
     for _ in 0..count {

@@ -93,7 +93,7 @@ fn assert_takes<R: Wait + Abort>(
     job
 }
 
-/// Asserts that the worker may give the result, and holds no job any more.
+/// Asserts that the worker may give the result, and then holds no job.
 fn assert_gives<R: Wait + Abort>(rt: &R, board: &Board, seat: &mut WorkerSeat, settled: Settled)
     requires { IsWorkerAt board.now seat.old }
     ensures seat { IsWorkerAt board.now seat.new × (seat.new.number ≡ seat.old.number) }

@@ -54,7 +54,7 @@ fn ledger_but_for<R: Threads + Wait + Abort + Sync>(
     Ok(ledger)
 }
 
-/// Whether so many workers find that these leaves are open, or, where there are none, that each leaf is refuted.
+/// Returns whether this number of workers finds that these leaves are open, or, where there are none, that each leaf is refuted.
 fn are_open<R: Threads + Sync>(
     rt: &R,
     alloc: Global,

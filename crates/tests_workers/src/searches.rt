@@ -25,7 +25,7 @@ const ALL_RULED_OUT: &str =
 const EIGHT_LEAVES: &[u8] =
     b"split 1\nsplit 2\nsplit 3\nleaf\nleaf\nsplit 3\nleaf\nleaf\nsplit 2\nsplit 3\nleaf\nleaf\nsplit 3\nleaf\nleaf\n";
 
-/// How often a held worker looks again before it gives up.
+/// The number of looks that a held worker takes before it gives up.
 const MAX_LOOKS: u32 = 1_000_000;
 
 /// A gate that holds some cubes before they are searched until another one is settled.
@@ -50,7 +50,7 @@ impl SearchGate {
         }
     }
 
-    /// Whether it holds the cube of this ticket.
+    /// Returns whether it holds the cube of this ticket.
     fn holds(&self, ticket: u32) -> bool {
         self.first <= ticket && ticket <= self.last
     }
@@ -97,7 +97,7 @@ pub fn tree_of(rt: &impl Abort, alloc: Global, text: &[u8]) -> Tree {
     }
 }
 
-/// What a search of all leaves finds with so many workers.
+/// The findings of a search of all leaves with this number of workers.
 fn results_of<R: Threads + Wait + Abort + Sync, G: Gate + Sync>(
     alloc: Global,
     rt: &R,
@@ -154,7 +154,7 @@ fn verdict_of<R: Threads + Abort + Sync>(
     }
 }
 
-/// Whether there is one result of each of the eight leaves, and no other.
+/// Returns whether there is one result of each of the eight leaves, and no other.
 fn are_of_eight_leaves(results: &[Settled]) -> bool {
     let mut seen = 0_u32;
     for settled in results {
@@ -163,14 +163,14 @@ fn are_of_eight_leaves(results: &[Settled]) -> bool {
     results.len() == 8 && seen == 255
 }
 
-/// Whether these are the values of the variables 1, 2 and 3.
+/// Returns whether these are the values of the variables 1, 2 and 3.
 fn has_values(truth: &Assignment, first: bool, second: bool, third: bool) -> bool {
     truth.value(1) == first && truth.value(2) == second && truth.value(3) == third
 }
 
-/// Whether the result may be one of `WRITTEN_AGAIN`. In the leaves 2 and 5 there is a model and no other. Each other cube makes a clause
-/// false: `-2 -1` in the leaves 0 and 1, `2 3` in 3 and 7, `-3 1` in 4 and 6. Leaf 2 is the lowest one with a model, so nothing up to it
-/// is skipped. No cube stays open.
+/// Returns whether the result may be one of `WRITTEN_AGAIN`. In the leaves 2 and 5 there is a model and no other. Each other cube makes a
+/// clause false: `-2 -1` in the leaves 0 and 1, `2 3` in 3 and 7, `-3 1` in 4 and 6. Leaf 2 is the lowest one with a model, so nothing up
+/// to it is skipped. No cube stays open.
 fn may_be_of_written_again(settled: &Settled) -> bool {
     let leaf = settled.ticket();
     match settled.outcome() {
@@ -184,8 +184,8 @@ fn may_be_of_written_again(settled: &Settled) -> bool {
     }
 }
 
-/// Whether the results are those of the eight leaves for `WRITTEN_AGAIN`, and those of these tickets, from the first to the last, were
-/// skipped.
+/// Returns whether the results are those of the eight leaves for `WRITTEN_AGAIN`, and those of these tickets, from the first to the last,
+/// were skipped.
 fn are_of_written_again(results: &[Settled], first: u32, last: u32) -> bool {
     for settled in results {
         let is_past = first <= settled.ticket() && settled.ticket() <= last;
@@ -197,7 +197,7 @@ fn are_of_written_again(results: &[Settled], first: u32, last: u32) -> bool {
     are_of_eight_leaves(results)
 }
 
-/// Whether the verdict is the model of leaf 2.
+/// Returns whether the verdict is the model of leaf 2.
 fn is_model_of_leaf_2(verdict: &Verdict) -> bool {
     match verdict {
         Verdict::Consistent(leaf, truth) => *leaf == 2 && has_values(truth, true, false, true),
@@ -206,7 +206,7 @@ fn is_model_of_leaf_2(verdict: &Verdict) -> bool {
     }
 }
 
-/// Whether the results are those of the eight leaves, and each leaf is refuted.
+/// Returns whether the results are those of the eight leaves, and each leaf is refuted.
 fn are_all_refuted(results: &[Settled]) -> bool {
     for settled in results {
         if !matches!(settled.outcome(), Outcome::Refuted(_)) {
@@ -216,7 +216,7 @@ fn are_all_refuted(results: &[Settled]) -> bool {
     are_of_eight_leaves(results)
 }
 
-/// Asserts what so many workers find behind the gate for `ALL_RULED_OUT`: each leaf is refuted, and the ledger accepts that.
+/// Asserts what this number of workers finds behind the gate for `ALL_RULED_OUT`: each leaf is refuted, and the ledger accepts that.
 fn assert_refutes_all<R: Threads + Wait + Abort + Sync, G: Gate + Sync>(
     alloc: Global,
     rt: &R,
@@ -234,8 +234,8 @@ fn assert_refutes_all<R: Threads + Wait + Abort + Sync, G: Gate + Sync>(
     );
 }
 
-/// Asserts what so many workers find behind the gate for `WRITTEN_AGAIN`: what may be found there, with these tickets skipped, and the
-/// model of leaf 2 as the verdict, whatever else was skipped.
+/// Asserts what this number of workers finds behind the gate for `WRITTEN_AGAIN`: what may be found there, with these tickets skipped, and
+/// the model of leaf 2 as the verdict, whatever else was skipped.
 fn assert_finds_leaf_2<R: Threads + Wait + Abort + Sync, G: Gate + Sync>(
     alloc: Global,
     rt: &R,
@@ -253,7 +253,7 @@ fn assert_finds_leaf_2<R: Threads + Wait + Abort + Sync, G: Gate + Sync>(
     assert!(rt; is_model_of_leaf_2(&verdict), "{workers} workers");
 }
 
-/// How many workers there are, the last of the cubes that are held from the first one on, and the cube that is awaited.
+/// The number of workers, the last of the cubes that are held from the first one on, and the cube that is awaited.
 const HELD: [(u32, u32, u32); 3] = [(2, 0, 7), (8, 0, 7), (8, 6, 7)];
 
 // Jobs are taken in the order of their tickets. So one of two workers settles seven cubes while the other one is held. With seven of
@@ -270,7 +270,7 @@ fn another_worker_goes_on_where_one_is_held(rt: HostRuntime) {
     }
 }
 
-/// How many workers there are, and the first and the last of the cubes that are held until leaf 2 is settled.
+/// The number of workers, and the first and the last of the cubes that are held until leaf 2 is settled.
 const HELD_ABOVE: [(u32, u32, u32); 4] = [(2, 5, 5), (8, 5, 5), (2, 3, 7), (8, 3, 7)];
 
 // A worker that finds a model marks its ticket before it gives the result, and a worker looks at the mark after it was held. So what was
@@ -286,7 +286,7 @@ fn skips_what_lies_above_a_model(rt: HostRuntime) {
     }
 }
 
-// Two hundred of each formula. Where nobody is held, no ticket has to be skipped: 8 is none.
+// Two hundred of each formula. If no worker is held, no ticket has to be skipped: 8 is none.
 #[test]
 fn two_hundred_searches_lose_nothing(rt: HostRuntime) {
     let alloc = rt.alloc();

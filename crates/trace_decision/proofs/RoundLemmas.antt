@@ -79,7 +79,7 @@ after_round clauses variables leaves old between new verdict is v split more sea
 
 -- ---- all rounds
 
--- so many rounds were made as there are numbers below this one, and none was the last
+-- as many rounds were made as there are numbers below this one, and none was the last
 pub record AreUnderWay (t : TraceValue) (options : OptionsValue) (round : ℕ) (decided : Decided) : Type 0 where
   pub confirmed : IsConfirmed (clauses_of t) decided
   pub more : ℕ

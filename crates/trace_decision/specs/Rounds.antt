@@ -62,7 +62,7 @@ abbrev pub IsSplitIfPossible : List ℕ → ℕ → List Slot → List Slot → 
 IsSplitIfPossible variables leaf old new = IsSplitOn variables leaf old new ⊎ (CannotBeSplit variables leaf old × (new ≡ old))
 
 -- The slots after each of these leaves, rising, was split, or was left as it is where it cannot be split. A leaf's number is that before
--- the first split; since then there are so many leaves more before it.
+-- the first split; since then there are as many leaves more before it as splits.
 abbrev pub AreAfterSplits : List ℕ → List ℕ → ℕ → List Slot → List Slot → Type 0
 AreAfterSplits variables [] more old new = new ≡ old
 AreAfterSplits variables (leaf ∷ leaves) more old new =
@@ -71,7 +71,8 @@ AreAfterSplits variables (leaf ∷ leaves) more old new =
 
 -- ---- rounds
 
--- A round after the first: exactly the leaves that were open were split, as far as they can be, and exactly the new leaves were searched.
+-- A round after the first: exactly the leaves that were open were split, except those that cannot be, and exactly the new leaves were
+-- searched.
 pub record IsAfterRound (clauses : List (List ℤ)) (variables : List ℕ) (old new : List Slot) : Type 0 where
   pub leaves : List ℕ
   pub open_are : IsVerdict clauses old (Unknown leaves)
@@ -80,7 +81,7 @@ pub record IsAfterRound (clauses : List (List ℤ)) (variables : List ℕ) (old 
   pub more : length old < length between
   pub searched : IsSearched clauses between new
 
--- The slots after the first round, in which the leaves of this tree were searched, and so many rounds more.
+-- The slots after the first round, in which the leaves of this tree were searched, and after this number of further rounds.
 abbrev pub AreAfterRounds : List (List ℤ) → List ℕ → CubeTree → ℕ → List Slot → Type 0
 AreAfterRounds clauses variables tree zero slots = IsSearched clauses (map empty_slot (cubes_of tree)) slots
 AreAfterRounds clauses variables tree (suc rounds) slots = (before : List Slot) × AreAfterRounds clauses variables tree rounds before × IsAfterRound clauses variables before slots
@@ -95,7 +96,7 @@ HasNoNewLeaves variables slots (Unknown leaves) = AreAfterSplits variables leave
 abbrev pub variables_of : TraceValue → List ℕ
 variables_of t = take 20 (splits t)
 
--- the first tree: the full tree of the first split variables, so many or as many as there are
+-- the first tree: the full tree of the first split variables, by their number or all that there are
 abbrev pub first_tree : TraceValue → ℕ → CubeTree
 first_tree t depth = full_tree (take depth (splits t))
 

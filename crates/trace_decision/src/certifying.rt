@@ -9,8 +9,8 @@ use certificate::write_cert;
 use dimacs::{Sink, SinkFault};
 use std::alloc::Global;
 
-/// Writes the certificate where the trace has no legal schedule, one section after the other, and else nothing. Where memory runs out
-/// or the sink fails, the sink has taken a prefix of it.
+/// Writes the certificate if the trace has no legal schedule, one section after the other, and else nothing. If memory runs out or the sink
+/// fails, the sink has taken a prefix of it.
 pub fn write_certificate<W: Sink>(
     alloc: Global,
     decision: &Decision,

@@ -10,7 +10,7 @@ pub(crate) struct Decided {
     pub(crate) verdict: Verdict,
 }
 
-/// How a search goes on after a round.
+/// The next thing that a search does after a round.
 #[derive(Drop)]
 pub(crate) enum Next {
     /// It has ended here, since there are no new leaves.

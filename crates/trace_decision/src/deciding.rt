@@ -96,7 +96,7 @@ fn decision_of(
     }
 }
 
-/// Decides whether the whole trace has a legal schedule, as far as the options let the search go.
+/// Decides whether the whole trace has a legal schedule, within the limits of the options.
 pub fn decide<R: Threads + Wait + Sync, G: Gate + Sync>(
     alloc: Global,
     rt: &R,

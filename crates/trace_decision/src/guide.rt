@@ -11,7 +11,7 @@ fn element_of(operation: usize) -> u32 {
     u32::try_from(operation).unwrap_or(u32::MAX)
 }
 
-/// How many of the list there are.
+/// The number of entries of the list.
 fn count_of(operations: &[usize]) -> u32 {
     u32::try_from(operations.len()).unwrap_or(u32::MAX)
 }

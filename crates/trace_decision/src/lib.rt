@@ -1,4 +1,5 @@
-//! What is decided of a trace: whether it has a legal schedule, as far as a search goes, and the report and the certificate of it.
+//! What is decided of a trace: whether it has a legal schedule, if a search within its limits finds that out, and the report and the
+//! certificate of it.
 #![tactic(auto)]
 
 mod certifying;

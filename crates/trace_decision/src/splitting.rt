@@ -13,14 +13,14 @@ use result_ledger::Ledger;
 use std::alloc::{AllocError, Global};
 use text_lines::fault::PlacedFault;
 
-/// Whether one of the literals is of the variable.
+/// Returns whether one of the literals is of the variable.
 fn has_variable(cube: &[Lit], variable: u32) -> bool
     ensures { result ≡ rounds.has_variable cube.now variable }
 {
     cube.iter().any(|literal| literal.variable() == variable)
 }
 
-/// Whether the cube can be split on the variable.
+/// Returns whether the cube can be split on the variable.
 fn is_free(cube: &[Lit], variable: u32) -> bool
     ensures { result ≡ (is_variable variable && not (rounds.has_variable cube.now variable)) }
 {
@@ -66,8 +66,7 @@ fn split_one(
     }
 }
 
-/// The tree and its ledger with these leaves split, rising, as far as they can be. A leaf's number is that before the first
-/// split.
+/// The tree and its ledger with these leaves split, rising, except those that cannot be. A leaf's number is that before the first split.
 pub(crate) fn split_all(
     alloc: Global,
     variables: &[u32],

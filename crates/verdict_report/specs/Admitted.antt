@@ -17,7 +17,7 @@ pub record Admits (text : List ℕ) (value : TraceValue) : Type 0 where
   pub spelled : SpellsTrace text value
   pub few : operation_count (kept_trace value) ≤ 160
 
--- the text spells a trace, of which so many operations are kept, and these are too many
+-- the text spells a trace, of which this number of operations is kept, which is too many
 pub record IsTooLarge (text : List ℕ) (left : ℕ) : Type 0 where
   pub value : TraceValue
   pub is_trace : IsTrace value

@@ -85,7 +85,7 @@ StopsWriting Stops sinks texts = ⊥
 
 -- ---- engines
 
--- what is said of one text, of two or of three, where an engine has so many sources
+-- what is said of one text, of two or of three, by the number of an engine's sources
 abbrev pub of_one : {A : Type 0} → (List ℕ → Result A Fault → Type 0) → List (List ℕ) → Result A Fault → Type 0
 of_one said (text ∷ []) answer = said text answer
 of_one said texts answer = ⊥

@@ -10,13 +10,13 @@ CountsFailures (Err OutOfMemory) old new = new ≡ old
 CountsFailures (Err TooLong) old new = new ≡ old
 CountsFailures (Ok _) old new = new ≡ old
 
--- the new list is the old one and then more than so many bytes
+-- the new list is the old one and then more bytes than this number
 pub record AppendsMoreThan (limit : ℕ) (old new : List ℕ) : Type 0 where
   pub more : List ℕ
   pub past : limit < length more
   pub appended : new ≡ old ++ more
 
--- the new list is the old one and then at most so many bytes
+-- the new list is the old one and then at most this number of bytes
 pub record AppendsAtMost (limit : ℕ) (old new : List ℕ) : Type 0 where
   pub more : List ℕ
   pub within : length more ≤ limit

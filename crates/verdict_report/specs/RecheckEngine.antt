@@ -26,7 +26,7 @@ use Rattle.verdict_report.specs.Runs.{SourceRun, SinkRun, HandsOut}
 abbrev pub HasNoSchedule : TraceValue → Type 0
 HasNoSchedule value = (names : List OpName) → IsLegal value names → ⊥
 
--- The certificate, of so many cubes, is accepted for the clause list of what is kept of the trace. So the whole trace has no legal
+-- The certificate, of this number of cubes, is accepted for the clause list of what is kept of the trace. So the whole trace has no legal
 -- schedule.
 pub record Refutes (certificate : Certificate) (value : TraceValue) (count : ℕ) : Type 0 where
   pub rechecked : IsRechecked (clauses_of (kept_trace value)) certificate count

@@ -61,7 +61,7 @@ pub enum Fault {
     /// number, counted from 0.
     #[error("cert {number} {name} at {1}", number = .0.number(), name = .0.name())]
     Cert(CertCause, usize),
-    /// Why the search has no results. Want of memory is `OutOfMemory`, as everywhere.
+    /// Why the search has no results. If memory ran out, it is `OutOfMemory`, as everywhere.
     #[error("search {number} {name}", number = .0.number(), name = .0.name())]
     Search(SearchCause),
 }

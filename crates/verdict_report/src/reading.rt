@@ -26,7 +26,7 @@ const CHUNK: usize = 16_384;
 /// fills is asked of the system and never touched.
 const ROOM: usize = 262_144;
 
-// A buffer of so many bytes.
+// A buffer of this number of bytes.
 fn blank(alloc: Global, size: usize) -> Result<Vec<u8>, AllocError>
     ensures { IfOk result (λ buffer. vec_len buffer ≡ size) }
 {

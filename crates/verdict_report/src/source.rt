@@ -11,7 +11,7 @@ pub trait Source {
     /// Whether it has said its end, with no byte since.
     ghost is_at_end: { Self → Bool };
 
-    /// How often it has failed so far.
+    /// The number of times that it has failed so far.
     ghost failures: { Self → ℕ };
 
     /// Hands out the next bytes in the first places of the buffer, and says how many. No byte for a buffer that

@@ -33,7 +33,7 @@ impl<'a> Progress<'a> {
         }
     }
 
-    /// Reports what became of a cube. Where standard error fails, nothing is reported.
+    /// Reports what became of a cube. If standard error fails, nothing is reported.
     fn tell(&self, what: &str, worker: u32, ticket: u32, settled: u64) {
         let seconds = self.seconds();
         let _ = eprintln!(self.rt;

@@ -1,4 +1,4 @@
--- Where `clap` finds no fault, the words name a command and give it what it needs.
+-- If `clap` finds no fault, the words name a command and give it what it needs.
 use Rattle.std.proofs.Common.{◌≡◌, ◌∙◌, Some, ap, codes, inl, inr, option_map, refl, sym, true≢false}
 use Rattle.clap.proofs.TakesLemmas.{passed_up}
 use Rattle.clap.specs.Matches.{subcommand_name_of}
