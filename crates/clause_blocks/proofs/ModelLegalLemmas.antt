@@ -8,7 +8,7 @@ use Rattle.dimacs.specs.Models.{IsModel}
 use Rattle.trace_semantics.specs.declared.operation.OpName.{OpName}
 use Rattle.trace_semantics.specs.declared.trace.Process.{Process}
 use Rattle.trace_semantics.specs.Interleaving.{StandsBefore, IsInterleaving}
-use Rattle.reducer.proofs.StandsLemmas.{stands_in}
+use Rattle.restriction.proofs.StandLemmas.{stands_in}
 use Rattle.trace_semantics.specs.Trace.{TraceValue, IsTrace, operation_at}
 use Rattle.trace_semantics.proofs.ElementLemmas.{cases_in, same_from_key}
 use Rattle.trace_semantics.proofs.NameLemmas.{bytes_same, known_named}

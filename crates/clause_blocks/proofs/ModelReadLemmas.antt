@@ -20,7 +20,7 @@ use Rattle.trace_semantics.proofs.ElementLemmas.{placed, none_in, tail_in, from_
 use Rattle.trace_semantics.proofs.NameLemmas.{same_name}
 use Rattle.trace_semantics.proofs.OrderLemmas.{stands_behind, stands_ahead, given_entry}
 use Rattle.trace_semantics.proofs.CauseLemmas.{held_same}
-use Rattle.reducer.proofs.StandsLemmas.{stands_left}
+use Rattle.restriction.proofs.StandLemmas.{stands_left}
 use Rattle.var_layout.specs.declared.candidate.Candidate.{Candidate}
 use Rattle.var_layout.specs.declared.candidate.Candidate.TheVariants.{InitialValue, Writer}
 use Rattle.var_layout.specs.Candidates.{sources, value_from, is_read, is_allowed, is_candidate}

@@ -12,7 +12,8 @@ use Rattle.trace_semantics.specs.Operation.{same_op}
 use Rattle.trace_semantics.specs.Trace.{TraceValue, IsTrace, operation_at, first_names, operation_names, operation_count}
 use Rattle.trace_semantics.proofs.ElementLemmas.{cases_in, none_in, tail_in, from_flat_map}
 use Rattle.trace_semantics.proofs.NameLemmas.{same_name, name_same, from_first, listed_known, known_listed}
-use Rattle.reducer.proofs.StandsLemmas.{none_stands, stands_here, stands_there, Left, Right, Across, stands_joined, rising_places}
+use Rattle.restriction.proofs.StandLemmas.{none_stands, stands_here, stands_there, Left, Right, Across, stands_joined}
+use Rattle.reducer.proofs.PartsLemmas.{rising_places}
 use Rattle.var_layout.specs.Numbers.{name_at, number_of}
 use Rattle.var_layout.proofs.NumberLemmas.{names_counted}
 use Rattle.clause_blocks.proofs.StandLemmas.{IsOnce, once_rest}

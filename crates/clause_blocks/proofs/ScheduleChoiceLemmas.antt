@@ -19,7 +19,7 @@ use Rattle.trace_semantics.proofs.ElementLemmas.{placed, in_middle, head_in, tai
 use Rattle.trace_semantics.proofs.NameLemmas.{name_same, some_value}
 use Rattle.trace_semantics.proofs.OrderLemmas.{stands_behind, entry_given}
 use Rattle.trace_semantics.proofs.CauseLemmas.{same_held}
-use Rattle.reducer.proofs.StandsLemmas.{stands_in, stands_left}
+use Rattle.restriction.proofs.StandLemmas.{stands_in, stands_left}
 use Rattle.var_layout.specs.declared.candidate.Candidate.{Candidate}
 use Rattle.var_layout.specs.declared.candidate.Candidate.TheVariants.{InitialValue, Writer}
 use Rattle.var_layout.specs.Candidates.{sources, value_from, is_read, is_allowed, is_candidate, candidates}

@@ -7,7 +7,7 @@ use Rattle.trace_semantics.specs.Judgement.{has_come}
 use Rattle.trace_semantics.specs.Operation.{same_op}
 use Rattle.trace_semantics.proofs.ElementLemmas.{cases_in, none_in}
 use Rattle.trace_semantics.proofs.NameLemmas.{same_name, name_same, come_in, in_come}
-use Rattle.reducer.proofs.StandsLemmas.{none_stands, stands_here, stands_there, stands_cases, stands_in}
+use Rattle.restriction.proofs.StandLemmas.{none_stands, stands_here, stands_there, stands_cases, stands_in}
 
 -- no name stands before itself
 abbrev pub IsOnce : List OpName → Type 0

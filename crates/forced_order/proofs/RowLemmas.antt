@@ -21,7 +21,7 @@ use Rattle.forced_order.specs.Raised.{IsRaised}
 use Rattle.forced_order.specs.Rows.{OrderValue, last_before, numbered, IsSoundOrder}
 use Rattle.forced_order.proofs.ForcedLemmas.{forced_over, forced_lower}
 
--- where none passes, the place is the length
+-- if none passes, the place is the length
 pub none_at : {A : Type 0} (p : A → Bool) (xs : List A) → None ≡ position p xs → length xs ≡ position_or_len p xs
 none_at p xs e =
     let most : position_or_len p xs ≤ length xs = prefix_len-le-length (λ x. not (p x)) xs in

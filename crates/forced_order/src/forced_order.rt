@@ -28,7 +28,7 @@ impl ForcedOrder {
     ghost use Rattle.forced_order.specs.Order.{IsClosedForward};
     ghost use Rattle.forced_order.specs.Rows.{last_before, stands_by, ordered_by, IsSoundOrder};
 
-    /// The order that says nothing.
+    /// Returns the order that says nothing.
     pub fn none(alloc: Global) -> ForcedOrder
         ensures sound { (t : TraceValue) → IsSoundOrder t result }
         ensures forward { (t : TraceValue) → IsClosedForward t (ordered_by t result) }
@@ -38,7 +38,7 @@ impl ForcedOrder {
         }
     }
 
-    /// The forced order of a trace. All of it is found unless before pairs are cyclic, when there is no legal schedule.
+    /// Returns the forced order of a trace. All of it is found unless before pairs are cyclic, when there is no legal schedule.
     pub fn of_trace(alloc: Global, trace: &Trace) -> Result<ForcedOrder, AllocError>
         ensures sound { IfOk result (λ order. IsSoundOrder trace.now order) }
         ensures forward { IfOk result (λ order. IsClosedForward trace.now (ordered_by trace.now order)) }
@@ -52,14 +52,14 @@ impl ForcedOrder {
         }
     }
 
-    /// The last place of the process that stands before the operation; 0 if none does.
+    /// Returns the last place of the process that stands before the operation; 0 if none does.
     pub fn last_before(&self, n: OperationNumber, process: u16) -> u16
         ensures { result ≡ last_before self.now n process }
     {
         self.rows.last_before(n, process)
     }
 
-    /// Whether the first is known to stand before the second.
+    /// Returns whether the first is known to stand before the second.
     pub fn stands(&self, first: OperationNumber, second: OperationNumber) -> bool
         ensures { result ≡ stands_by self.now first second }
     {

@@ -18,7 +18,7 @@ fn find_process(processes: &[Process], name: &[u8]) -> Option<usize>
     processes.iter().position(|p| p.name.as_bytes() == name)
 }
 
-/// How many processes stand before the one of this name.
+/// Returns the number of processes before the one of this name.
 fn order_of_name(processes: &[Process], name: &[u8]) -> usize
     ensures { result ≡ order_of processes.now name.now }
 {
@@ -28,7 +28,7 @@ fn order_of_name(processes: &[Process], name: &[u8]) -> usize
     }
 }
 
-/// The operation by numbers.
+/// Returns the operation by numbers.
 fn number(processes: &[Process], name: &OpName) -> OperationNumber
     requires few { length processes.now ≤ 64 }
     ensures { result ≡ numbered processes.now name.now }
@@ -39,7 +39,7 @@ fn number(processes: &[Process], name: &OpName) -> OperationNumber
     }
 }
 
-/// The pairs, by numbers and in their order.
+/// Returns the pairs, by numbers and in their order.
 fn numbered_of(
     alloc: Global,
     processes: &[Process],
@@ -55,7 +55,7 @@ fn numbered_of(
     Ok(numbers)
 }
 
-/// The before pairs of a trace, by numbers and in their order.
+/// Returns the before pairs of a trace, by numbers and in their order.
 pub fn pairs_of(
     alloc: Global,
     trace: &Trace,

@@ -11,10 +11,10 @@ use crate::walk::{OrderStep, steps_of};
 use std::alloc::{AllocError, Global};
 use trace_semantics::trace::Trace;
 
-/// Rows are raised along all steps at most so often. Once is enough unless pairs are cyclic; the second time finds nothing to raise.
+/// Bound on how often rows are raised along all steps. Once is enough unless pairs are cyclic; the second time finds nothing to raise.
 const ROUNDS: usize = 16;
 
-/// How many rows each process has: one more than operations.
+/// Returns the number of rows of each process: one more than its operations.
 fn row_counts(alloc: Global, trace: &Trace) -> Result<Vec<usize>, AllocError> {
     let processes = trace.processes();
     let mut counts = Vec::with_capacity(alloc, processes.len())?;
@@ -75,7 +75,7 @@ fn raise_step(
     }
 }
 
-/// Raises rows along all steps, and says whether one was lower.
+/// Raises rows along all steps, and returns whether one was lower.
 fn raise_all(
     rows: &mut OrderRows,
     trace: &Trace,
@@ -120,7 +120,7 @@ fn raise_fully(
     }
 }
 
-/// The rows of a trace.
+/// Returns the rows of a trace.
 pub fn rows_of(alloc: Global, trace: &Trace) -> Result<OrderRows, AllocError>
     ensures { IfOk result (λ rows. AreForced trace.now rows) }
 {

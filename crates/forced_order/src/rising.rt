@@ -9,7 +9,7 @@ use crate::numbered::OperationNumber;
 use crate::rows::OrderRows;
 use trace_semantics::trace::{Process, Trace};
 
-/// Whether no place in the row of the first operation is above that in the row of the second.
+/// Returns whether no place in the row of the first operation is above that in the row of the second.
 fn is_row_within(rows: &OrderRows, first: OperationNumber, second: OperationNumber) -> bool
     ensures { result ≡ true → IsRowWithin rows.now 64 first second }
 {
@@ -23,7 +23,7 @@ fn is_row_within(rows: &OrderRows, first: OperationNumber, second: OperationNumb
     true
 }
 
-/// Whether the rows of the process, which has so many operations, rise.
+/// Returns whether the rows of the process, which has `operations` operations, rise.
 fn are_rows_rising(rows: &OrderRows, process: u16, count: usize) -> bool
     ensures { result ≡ true → AreRowsRising rows.now process count }
 {
@@ -47,7 +47,7 @@ fn are_rows_rising(rows: &OrderRows, process: u16, count: usize) -> bool
     true
 }
 
-/// How many operations the process under this number has.
+/// Returns the number of operations of the process under this number.
 fn count_of(processes: &[Process], k: usize) -> usize
     ensures { (p : Listed) → slice_get processes.now k ≡ Some p → result ≡ length p.operations }
 {
@@ -57,7 +57,7 @@ fn count_of(processes: &[Process], k: usize) -> usize
     }
 }
 
-/// Whether the rows of each process rise.
+/// Returns whether the rows of each process rise.
 fn are_all_rising(rows: &OrderRows, processes: &[Process]) -> bool
     requires few { length processes.now ≤ 64 }
     ensures { result ≡ true → AreAllRising processes.now rows.now }
@@ -72,7 +72,7 @@ fn are_all_rising(rows: &OrderRows, processes: &[Process]) -> bool
     true
 }
 
-/// Whether what stands before an operation stands before those after it in its process.
+/// Returns whether what stands before an operation stands before those after it in its process.
 pub fn is_rising(rows: &OrderRows, trace: &Trace) -> bool
     ensures { result ≡ true → AreAllRising trace.now.processes rows.now }
 {

@@ -22,7 +22,7 @@ impl OperationRow {
     ghost use Rattle.std.specs.Prelude.{◌≡◌, ℕ, IfOk, slice_index_or};
     ghost use Rattle.forced_order.specs.Raised.{IsRowRaised};
 
-    /// A row of so many zeros.
+    /// Returns a row of zeros, one for each process.
     fn zeros(alloc: Global, width: usize) -> Result<OperationRow, AllocError>
         ensures { IfOk result (λ row. (q : ℕ) → slice_index_or row q 0 ≡ 0) }
     {
@@ -33,7 +33,7 @@ impl OperationRow {
         Ok(OperationRow { places })
     }
 
-    /// The last place of the process, or 0.
+    /// Returns the last place of the process, or 0.
     fn last(&self, process: u16) -> u16
         ensures { result ≡ slice_index_or self.now process 0 }
     {
@@ -45,7 +45,7 @@ impl OperationRow {
         }
     }
 
-    /// Raises the place of the process to this one, and says whether it was lower.
+    /// Raises the place of the process to this one, and returns whether it was lower.
     fn raise(&mut self, process: u16, place: u16) -> bool
         ensures { IsRowRaised self.old self.new process place }
     {
@@ -77,7 +77,7 @@ impl ProcessRows {
     ghost use Rattle.std.specs.Prelude.{◌≡◌, ℕ, [], IfOk, slice_index_or};
     ghost use Rattle.forced_order.specs.Raised.{AreRowsRaised};
 
-    /// So many rows of so many zeros.
+    /// Returns rows of zeros.
     fn zeros(alloc: Global, count: usize, width: usize) -> Result<ProcessRows, AllocError>
         ensures { IfOk result (λ rows. (k q : ℕ) → slice_index_or (slice_index_or rows k []) q 0 ≡ 0) }
     {
@@ -88,7 +88,7 @@ impl ProcessRows {
         Ok(ProcessRows { rows })
     }
 
-    /// The last place of the process before the operation at this place, or 0.
+    /// Returns the last place of the process before the operation at this place, or 0.
     fn last(&self, at: u16, process: u16) -> u16
         ensures { result ≡ slice_index_or (slice_index_or self.now at []) process 0 }
     {
@@ -135,7 +135,7 @@ impl OrderRows {
     ghost use Rattle.forced_order.specs.Rows.{last_before};
     ghost use Rattle.forced_order.specs.declared.numbered.OperationNumber.{OperationNumber as Named};
 
-    /// No rows.
+    /// Returns rows of no process.
     pub fn none(alloc: Global) -> OrderRows
         ensures { (n : Named) (q : ℕ) → last_before result n q ≡ 0 }
     {
@@ -144,7 +144,7 @@ impl OrderRows {
         }
     }
 
-    /// For each process so many rows, of zeros.
+    /// Returns rows of zeros: for each process the number that is given.
     pub fn zeros(alloc: Global, counts: &[usize]) -> Result<OrderRows, AllocError>
         ensures { IfOk result (λ rows. (n : Named) (q : ℕ) → last_before rows n q ≡ 0) }
     {
@@ -155,7 +155,7 @@ impl OrderRows {
         Ok(OrderRows { processes })
     }
 
-    /// The last place of the process that stands before the operation; 0 if none does.
+    /// Returns the last place of the process that stands before the operation; 0 if none does.
     pub fn last_before(&self, n: OperationNumber, process: u16) -> u16
         ensures { result ≡ last_before self.now n process }
     {
@@ -167,7 +167,7 @@ impl OrderRows {
         }
     }
 
-    /// Raises the place of the process in the row of the operation, and says whether it was lower.
+    /// Raises the place of the process in the row of the operation, and returns whether it was lower.
     fn raise(&mut self, n: OperationNumber, process: u16, place: u16) -> bool
         ensures { IsRaised self.old self.new n process place }
     {
@@ -179,7 +179,7 @@ impl OrderRows {
         }
     }
 
-    /// Raises the row of the second operation to what follows if the first stands before it, and says whether it was lower.
+    /// Raises the row of the second operation to what follows if the first stands before it, and returns whether it was lower.
     pub fn raise_from(&mut self, first: OperationNumber, second: OperationNumber) -> bool
         ensures { (t : TraceValue) → IsForcedByNumber t first second → AreForced t self.old → AreForced t self.new }
     {

@@ -1,6 +1,6 @@
-//! A walk over the operations of a trace, each after those that are forced to stand before it, as far as pairs are not cyclic.
+//! A walk over the operations of a trace, each after those that are forced to stand before it, unless pairs are cyclic.
 //!
-//! Nothing rests on it but how soon the rows are complete.
+//! The order of its steps decides how soon the rows are complete. No property of the rows rests on it.
 
 use crate::numbered::OperationNumber;
 use std::alloc::{AllocError, Global};
@@ -14,10 +14,10 @@ pub enum OrderStep {
     Pair(usize),
 }
 
-/// How far the walk has come in one process.
+/// The state of the walk in one process.
 #[derive(Drop)]
 struct Front {
-    /// For each place, how many pairs put an operation before it from which the walk has not yet gone on.
+    /// For each place, the number of pairs that put an operation before it from which the walk has not yet gone on.
     waits: Vec<u16>,
     /// The last place that was visited, or 0.
     visited: u16,
@@ -26,7 +26,7 @@ struct Front {
 }
 
 impl Front {
-    /// Whether an operation is left that waits for no other, or for others too where `forced`.
+    /// Returns whether an operation is left that waits for no other, or, if `forced`, any operation.
     fn may_visit(&self, forced: bool) -> bool {
         let next = self.visited as usize + 1;
         next < self.waits.len() && (forced || self.waits[next] == 0)
@@ -55,7 +55,7 @@ struct FrontWalk<'a> {
     steps: Vec<OrderStep>,
 }
 
-/// The number of the first pair whose first operation is of this process, or of no pair.
+/// Returns the number of the first pair whose first operation is of this process, or of no pair.
 fn first_pair_of(pairs: &[(OperationNumber, OperationNumber)], process: usize) -> usize {
     pairs
         .iter()
@@ -64,7 +64,7 @@ fn first_pair_of(pairs: &[(OperationNumber, OperationNumber)], process: usize) -
 }
 
 impl<'a> FrontWalk<'a> {
-    /// A walk before its first step, over so many places of each process.
+    /// Returns a walk before its first step, over the given number of places of each process.
     fn new(
         alloc: Global,
         counts: &[usize],
@@ -120,7 +120,7 @@ impl<'a> FrontWalk<'a> {
         }
     }
 
-    /// The next pair, if it is one from this operation.
+    /// Returns the next pair, if it is one from this operation.
     fn take_pair(&mut self, n: OperationNumber) -> Option<usize> {
         let pairs = self.pairs;
         let process = n.process as usize;
@@ -151,7 +151,7 @@ impl<'a> FrontWalk<'a> {
         Ok(())
     }
 
-    /// Visits operations of each process as long as they wait for no other, and says whether there was one.
+    /// Visits operations of each process as long as they wait for no other, and returns whether there was one.
     fn go_on(&mut self) -> Result<bool, AllocError> {
         let before = self.steps.len();
         for process in 0..self.fronts.len() {
@@ -165,7 +165,7 @@ impl<'a> FrontWalk<'a> {
         Ok(self.steps.len() > before)
     }
 
-    /// Visits an operation that waits for others, as all that are left do, and says whether there is one.
+    /// Visits an operation that waits for others, as all that are left do, and returns whether there is one.
     fn break_cycle(&mut self) -> Result<bool, AllocError> {
         for process in 0..self.fronts.len() {
             if self.may_visit(process, true) {
@@ -177,7 +177,7 @@ impl<'a> FrontWalk<'a> {
     }
 }
 
-/// The steps of a walk over all operations.
+/// Returns the steps of a walk over all operations.
 pub fn steps_of(
     alloc: Global,
     counts: &[usize],

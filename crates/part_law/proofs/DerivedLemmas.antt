@@ -14,15 +14,15 @@ use Rattle.trace_semantics.proofs.OrderLemmas.{stands_behind, stands_ahead}
 use Rattle.part_law.specs.Derived.{IsOnlySource, IsDerived, Source, After, Before}
 use Rattle.forced_order.specs.Order.{Obeys}
 use Rattle.part_law.specs.Part.{writes_at}
-use Rattle.part_law.proofs.PartLemmas.{source_may_be, writer_known, not_silent}
+use Rattle.part_law.proofs.PartLemmas.{source_may_be, not_silent}
 use Rattle.restriction.proofs.StandLemmas.{stands_back, stands_either, never_both}
 use Rattle.restriction.specs.LastWriter.{IsLast}
-use Rattle.restriction.proofs.WriterLemmas.{last_of, silent_value, last_leaves}
+use Rattle.restriction.proofs.WriterLemmas.{writer_known, last_of, silent_value, last_leaves}
 
 module _ (t : TraceValue) (ok : IsTrace t) (ordered : OpName → OpName → Bool) (names : List OpName) (legal : IsLegal t names) (obeyed : Obeys t names ordered) where
   known_writes : (location : List ℕ) (x : OpName) (o : Option ℕ) → value_left_at t location x ≡ o → is_some o ≡ true → IsSome (operation_at t x)
   known_writes location x None e h = absurd (cc)
-  known_writes location x (Some d) e h = writer_known t ok ordered (λ m. true) names legal obeyed location x d e
+  known_writes location x (Some d) e h = writer_known t location x d e
 
   -- where the reading operation stands, with its source as the last writer before it
   record Read (location : List ℕ) (w n : OpName) : Type 0 where
@@ -49,7 +49,7 @@ module _ (t : TraceValue) (ok : IsTrace t) (ordered : OpName → OpName → Bool
   source_stands location w n r = stands_behind names r.front n r.back w r.parts (subst (λ l. Contains l w) (sym r.last.parts) (in_middle r.last.front w r.last.back))
 
   source_known : (location : List ℕ) (w n : OpName) → Read location w n → IsSome (operation_at t w)
-  source_known location w n r = writer_known t ok ordered (λ m. true) names legal obeyed location w r.value r.last.leaves
+  source_known location w n r = writer_known t location w r.value r.last.leaves
 
   whole : (location : List ℕ) (w n : OpName) (r : Read location w n) → names ≡ r.last.front ++ w ∷ (r.last.back ++ n ∷ r.back)
   whole location w n r = r.parts ∙ ap (λ l. l ++ n ∷ r.back) r.last.parts ∙ append_assoc r.last.front (w ∷ r.last.back) (n ∷ r.back)
@@ -67,7 +67,7 @@ module _ (t : TraceValue) (ok : IsTrace t) (ordered : OpName → OpName → Bool
 
   before_stands : (location : List ℕ) (w n x : OpName) → Read location w n → writes_at t location x ≡ true → x ≢ w → x ≢ n → StandsBefore names x n → StandsBefore names x w
   before_stands location w n x r writes other apart s =
-      elim (stands_either names x w (legal.interleaving.each x (known_writes location x (value_left_at t location x) refl writes)) (legal.interleaving.each w (writer_known t ok ordered (λ m. true) names legal obeyed location w r.value r.last.leaves))) [
+      elim (stands_either names x w (legal.interleaving.each x (known_writes location x (value_left_at t location x) refl writes)) (legal.interleaving.each w (writer_known t location w r.value r.last.leaves))) [
         | inl same ↦ absurd (other same)
         | inr (inl first) ↦ first
         | inr (inr second) ↦ absurd (never_both names legal.interleaving.once x n s (after_stands location w n x r writes apart second))

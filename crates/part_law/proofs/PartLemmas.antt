@@ -27,11 +27,12 @@ use Rattle.forced_order.specs.Order.{Obeys}
 use Rattle.part_law.specs.Part.{writes_at, writers_of, is_overwritten, may_be_source, sources, may_be_last, last_writers, keeps_read, stays_of, stays, stays_final, left_names, left_pairs, is_told, part}
 use Rattle.restriction.proofs.LeftLemmas.{known_old, old_operation}
 use Rattle.restriction.proofs.PlaceLemmas.{in_front}
+use Rattle.restriction.proofs.ReadLemmas.{reads_left}
 use Rattle.restriction.proofs.RestrictLemmas.{placed_in, restriction_interleaves}
 use Rattle.restriction.proofs.StandLemmas.{stands_back, never_both}
 use Rattle.restriction.specs.LastWriter.{IsLast}
 use Rattle.restriction.specs.Restriction.{StaysAlike, left_by, ArePairsLeft}
-use Rattle.restriction.proofs.WriterLemmas.{last_leaves, last_writes, same_after}
+use Rattle.restriction.proofs.WriterLemmas.{last_leaves, last_writes, writer_known, same_after}
 
 refuted : (b : Bool) → (b ≡ true → ⊥) → not b ≡ true
 refuted b h = not_from_false b (false_from_ne_true b h)
@@ -118,18 +119,11 @@ module _ (t : TraceValue) (ok : IsTrace t) (ordered : OpName → OpName → Bool
   abbrev left : OpName → Option Op
   left = stays t ordered chosen
 
-  pub writer_known : (location : List ℕ) (w : OpName) (d : ℕ) → value_left_at t location w ≡ Some d → IsSome (operation_at t w)
-  writer_known location w d h = at (operation_at t w) h
-    where
-      at : (o : Option Op) → option_and_then (left_by location) o ≡ Some d → IsSome o
-      at None k = absurd (cc)
-      at (Some op) k = refl
-
   pub not_silent : (location : List ℕ) (x : OpName) → writes_at t location x ≡ true → value_left_at t location x ≡ None → ⊥
   not_silent location x h e = let clash : true ≡ false = sym h ∙ ap is_some e in cc
 
   written_here : (location : List ℕ) (w : OpName) (d : ℕ) → value_left_at t location w ≡ Some d → Contains (writers_of t location) w
-  written_here location w d h = to_filter (writes_at t location) (operation_names t) w (ap is_some h) (known_listed t w (writer_known location w d h))
+  written_here location w d h = to_filter (writes_at t location) (operation_names t) w (ap is_some h) (known_listed t w (writer_known t location w d h))
 
   pub writer_in : (location : List ℕ) (x : OpName) → Contains (writers_of t location) x → IsSome (operation_at t x) × (writes_at t location x ≡ true)
   writer_in location x c = let at = from_filter (writes_at t location) (operation_names t) x c in (listed_known t ok x at.0, at.1)
@@ -151,7 +145,7 @@ module _ (t : TraceValue) (ok : IsTrace t) (ordered : OpName → OpName → Bool
       known = legal.interleaving.only n (subst (λ l. Contains l n) (sym e) (in_middle front n back))
 
       w_known : IsSome (operation_at t w)
-      w_known = writer_known location w d last.leaves
+      w_known = writer_known t location w d last.leaves
 
       before : StandsBefore names w n
       before = stands_behind names front n back w e (subst (λ l. Contains l w) (sym last.parts) (in_middle last.front w last.back))
@@ -188,7 +182,7 @@ module _ (t : TraceValue) (ok : IsTrace t) (ordered : OpName → OpName → Bool
       (refuted (list_any (ordered w) (writers_of t location)) (λ h.
       let at = some_passes (ordered w) (writers_of t location) h in
       let writer = writer_in location at.0 at.1 in
-      not_silent location at.0 writer.1 (last.silent at.0 (stands_back names legal.interleaving.once last.front w last.back at.0 last.parts (obeyed w at.0 (writer_known location w d last.leaves) writer.0 at.2)))))
+      not_silent location at.0 writer.1 (last.silent at.0 (stands_back names legal.interleaving.once last.front w last.back at.0 last.parts (obeyed w at.0 (writer_known t location w d last.leaves) writer.0 at.2)))))
 
   -- what a kept read reads, and from where
   writer_left : (front : List OpName) (n : OpName) (back : List OpName) (location : List ℕ) (d : ℕ) (origin : Origin) → names ≡ front ++ n ∷ back → keeps_read t ordered chosen n location d origin ≡ true →
@@ -203,21 +197,15 @@ module _ (t : TraceValue) (ok : IsTrace t) (ordered : OpName → OpName → Bool
       let same : w ≡ u = same_Some w u (sym (last_writes t location front w v last) ∙ source) in
       writer_stays t ordered chosen location w v (ap chosen same ∙ (and_parts (chosen u) (is_some (option_and_then written_value (operation_at t u))) keeps).0) last.leaves
 
-  comes_from : (front : List OpName) (location : List ℕ) (origin : Origin) → last_writer (part t ordered chosen) location (restricted left front) ≡ option_map (new_name left) (last_writer t location front) →
-      ComesFrom t front location origin → ComesFrom (part t ordered chosen) (restricted left front) location (new_origin left origin)
-  comes_from front location Any e h = tt
-  comes_from front location Initial e h = e ∙ ap (option_map (new_name left)) h
-  comes_from front location (Operation n) e h = e ∙ ap (option_map (new_name left)) h
-
   reads_whole : (front : List OpName) (n : OpName) (back : List OpName) (op : Op) → names ≡ front ++ n ∷ back → ((d : ℕ) → value_read op ≡ Some d → keeps_read t ordered chosen n (location_of op) d (origin_of op) ≡ true) →
       ReadsRight t front op → ReadsRight (part t ordered chosen) (restricted left front) (new_op left op)
   reads_whole front n back (Read location value origin) e keeps right =
       let same = same_after t (part t ordered chosen) ok left refl refl (part_alike t ordered chosen) location front (writer_left front n back location value origin e (keeps value refl) (right.value value refl) right.source) in
-      record { value = λ d f. same.0 ∙ right.value d f; source = comes_from front location origin same.1 right.source }
+      reads_left t (part t ordered chosen) left front (restricted left front) (Read location value origin) same.0 same.1 right
   reads_whole front n back (Write location value) e keeps right = record { value = λ d f. absurd (cc); source = tt }
   reads_whole front n back (Update location read left_there origin) e keeps right =
       let same = same_after t (part t ordered chosen) ok left refl refl (part_alike t ordered chosen) location front (writer_left front n back location read origin e (keeps read refl) (right.value read refl) right.source) in
-      record { value = λ d f. same.0 ∙ right.value d f; source = comes_from front location origin same.1 right.source }
+      reads_left t (part t ordered chosen) left front (restricted left front) (Update location read left_there origin) same.0 same.1 right
 
   reads_by : (front : List OpName) (n : OpName) (back : List OpName) (op new : Op) → names ≡ front ++ n ∷ back → ReadsRight t front op → HowItStays t ordered chosen n op new → ReadsRight (part t ordered chosen) (restricted left front) (new_op left new)
   reads_by front n back op new e right (Whole same keeps) = subst (λ o. ReadsRight (part t ordered chosen) (restricted left front) (new_op left o)) same (reads_whole front n back op e keeps right)
@@ -228,8 +216,8 @@ module _ (t : TraceValue) (ok : IsTrace t) (ordered : OpName → OpName → Bool
   mapped_some None new e = absurd (cc)
   mapped_some (Some old) new e = (old, refl, same_Some (new_op left old) new e)
 
-  reads_left : (before : List OpName) (x : OpName) (after : List OpName) (new : Op) → restricted left names ≡ before ++ x ∷ after → operation_at (part t ordered chosen) x ≡ Some new → ReadsRight (part t ordered chosen) before new
-  reads_left before x after new e f =
+  part_reads : (before : List OpName) (x : OpName) (after : List OpName) (new : Op) → restricted left names ≡ before ++ x ∷ after → operation_at (part t ordered chosen) x ≡ Some new → ReadsRight (part t ordered chosen) before new
+  part_reads before x after new e f =
       let at = placed_in left names before x after e in
       let from = comes t ordered chosen at.name at.left in
       let old = known_old t ok left at.name (ap is_some from.known) at.left in
@@ -275,6 +263,6 @@ pub restriction_legal : (t : TraceValue) → IsTrace t → (ordered : OpName →
     IsLegal (part t ordered chosen) (restricted (stays t ordered chosen) names)
 restriction_legal t ok ordered chosen names legal obeyed = record {
   interleaving = restriction_interleaves t (part t ordered chosen) ok (stays t ordered chosen) refl names legal.interleaving (pairs_left t ok ordered chosen names legal obeyed);
-  reads = reads_left t ok ordered chosen names legal obeyed;
+  reads = part_reads t ok ordered chosen names legal obeyed;
   finals = finals_left t ok ordered chosen names legal obeyed;
 }

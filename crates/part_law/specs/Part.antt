@@ -1,7 +1,7 @@
 -- The part of a trace that some chosen operations make up.
 --
 -- In each definition `ordered` says which operations are known to stand before which, and `chosen` which are chosen. An order that a
--- legal schedule obeys puts no operation before itself, so a writer that stands between two operations need not be said to be neither.
+-- legal schedule obeys puts no operation before itself, so the definitions need not say that a writer between two operations is neither of them.
 use Rattle.std.specs.Prelude.{ℕ, List, length, map, take, Option, Some, None, Bool, true, is_some, not, nat_lt, ◌==◌, ◌&&◌, ◌||◌, if◌then◌else◌}
 use Rattle.std.specs.List.{filter, flat_map, list_all, list_any}
 use Rattle.std.specs.Option.{option_and_then}
@@ -45,14 +45,14 @@ may_be_last t ordered location d w = is_held (value_left_at t location w) d && n
 abbrev pub last_writers : TraceValue → (OpName → OpName → Bool) → List ℕ → ℕ → List OpName
 last_writers t ordered location d = filter (may_be_last t ordered location d) (writers_of t location)
 
--- the part says what n reads: all possible sources are chosen; or, where the trace says where the value is from, this is the initial
--- value or a chosen operation that writes
+-- the part says what n reads: all possible sources are chosen; or, if the trace says from where the value is, this is the initial value
+-- or a chosen operation that writes
 abbrev pub keeps_read : TraceValue → (OpName → OpName → Bool) → (OpName → Bool) → OpName → List ℕ → ℕ → Origin → Bool
 keeps_read t ordered chosen n location d Any = list_all chosen (sources t ordered n location d)
 keeps_read t ordered chosen n location d Initial = true
 keeps_read t ordered chosen n location d (Operation w) = chosen w && is_some (option_and_then written_value (operation_at t w))
 
--- what stays of a chosen operation: where the part does not say what it reads, a read is left out, and an update becomes a write
+-- what stays of a chosen operation: if the part does not say what it reads, a read is left out, and an update becomes a write
 abbrev pub stays_of : TraceValue → (OpName → OpName → Bool) → (OpName → Bool) → OpName → Op → Option Op
 stays_of t ordered chosen n (Read location value origin) = if keeps_read t ordered chosen n location value origin then Some (Read location value origin) else None
 stays_of t ordered chosen n (Write location value) = Some (Write location value)
@@ -80,12 +80,12 @@ abbrev pub is_nearer : (OpName → OpName → Bool) → OpName × OpName → OpN
 is_nearer ordered pair x = (bytes_eq x.process pair.0.process && (nat_lt pair.0.place x.place && ordered x pair.1))
     || (bytes_eq x.process pair.1.process && (nat_lt x.place pair.1.place && ordered pair.0 x))
 
--- the part tells this pair: the first stands before the second, they are of two processes, and no pair of operations that remain says more
+-- a pair of the part: the first stands before the second, they are of two processes, and no pair of operations that remain says more
 abbrev pub is_told : TraceValue → (OpName → OpName → Bool) → (OpName → Option Op) → OpName × OpName → Bool
 is_told t ordered left pair = ordered pair.0 pair.1 && (not (bytes_eq pair.0.process pair.1.process) && not (list_any (is_nearer ordered pair) (left_names t left)))
 
--- the part: what remains of each process, all initial values, the final values that stay, and the pairs that it tells, as many as a trace
--- may have, all under the new names
+-- the part: what remains of each process, all initial values, the final values that stay, and the first 4,096 of its pairs, the largest
+-- number that a trace may have, all under the new names
 abbrev pub part : TraceValue → (OpName → OpName → Bool) → (OpName → Bool) → TraceValue
 part t ordered chosen = record {
   processes = map (left_process (stays t ordered chosen)) t.processes;

@@ -19,8 +19,7 @@ use Rattle.trace_semantics.specs.declared.trace.Process.{Process}
 use Rattle.trace_semantics.specs.Judgement.{has_come}
 use Rattle.trace_semantics.specs.Names.{is_name}
 use Rattle.trace_semantics.specs.Trace.{TraceValue, IsTrace, is_written_process}
-use Rattle.restriction.specs.Left.{is_left}
-use Rattle.restriction.proofs.PlaceLemmas.{names_from}
+use Rattle.restriction.specs.Left.{is_left, names_from}
 use Rattle.part_law.specs.Part.{stays}
 use Rattle.part_law.proofs.TraceLemmas.{part_is_trace}
 use Rattle.trace_text.specs.TraceText.{SpellsTrace, header_line, init_line, final_line, op_line, proc_line, process_lines, before_line, needs_version_2}

@@ -11,12 +11,14 @@ use Rattle.trace_semantics.specs.declared.trace.Process.{Process}
 use Rattle.trace_semantics.specs.Trace.{TraceValue, IsTrace, at_place, process_named, operation_at, first_names}
 use Rattle.trace_semantics.proofs.ElementLemmas.{head_in, tail_in}
 use Rattle.trace_semantics.proofs.NameLemmas.{from_first}
+use Rattle.restriction.specs.Left.{names_of}
+use Rattle.restriction.proofs.LeftLemmas.{process_of, listed_name}
+use Rattle.restriction.proofs.PlaceLemmas.{one_more_name}
 use Rattle.reducer.specs.declared.named_ops.NamedOps.{NamedOps}
 use Rattle.reducer.specs.Named.{HasNamed}
-use Rattle.reducer.specs.Reduction.{repeats, previous, is_kept, names_of}
+use Rattle.reducer.specs.Reduction.{repeats, previous, is_kept}
 use Rattle.reducer.specs.Runs.{bounds_by, bounds_of, keeps}
-use Rattle.reducer.proofs.KeptLemmas.{process_of}
-use Rattle.reducer.proofs.PlaceLemmas.{one_more_name}
+use Rattle.reducer.proofs.KeptLemmas.{known_kept}
 
 -- one more operation
 one_filtered : (passes : OpName → Bool) (n : OpName) (b : Bool) → passes n ≡ b → map (λ (m : OpName). m.place) (filter passes (n ∷ [])) ≡ cond b (n.place ∷ []) []
@@ -32,12 +34,12 @@ one_more_bound passes process k b e =
     ∙ ap (λ l. map (λ (n : OpName). n.place) (filter passes (first_names process k)) ++ l) (one_filtered passes (record { process = process; place = k + 1 }) b e)
 
 -- what the code keeps is what the reduction keeps
-keeps_kept : (t : TraceValue) → IsTrace t → (set : NamedOps) → HasNamed t set → (p : Process) → Contains t.processes p → (n : OpName) → n.process ≡ p.name → keeps set p n ≡ is_kept t n
-keeps_kept t ok set named p c n e =
-    let found : process_named t n.process ≡ Some p = ap (process_named t) e ∙ process_of t ok p c in
+keeps_kept : (t : TraceValue) → IsTrace t → (set : NamedOps) → HasNamed t set → (p : Process) → Contains t.processes p → (n : OpName) → Contains (names_of p) n → keeps set p n ≡ is_kept t n
+keeps_kept t ok set named p c n d =
+    let found : process_named t n.process ≡ Some p = ap (process_named t) (from_first p.name (length p.operations) n d).0 ∙ process_of t ok p c in
     let here : operation_at t n ≡ at_place p.operations n.place = ap (option_and_then (λ (q : Process). at_place q.operations n.place)) found in
     let before : operation_at t (previous n) ≡ at_place p.operations (n.place - 1) = ap (option_and_then (λ (q : Process). at_place q.operations (n.place - 1))) found in
-    λ i. not (repeats (sym before i) (sym here i) && not (named n i))
+    (λ i. not (repeats (sym before i) (sym here i) && not (named n i))) ∙ sym (known_kept t n (listed_name t ok p c n d))
 
 same_filter : {A : Type 0} (p q : A → Bool) (xs : List A) → ((x : A) → Contains xs x → p x ≡ q x) → filter p xs ≡ filter q xs
 same_filter p q [] h = refl
@@ -46,7 +48,7 @@ same_filter p q (x ∷ xs) h = λ i. cond (h x (head_in x xs) i) (x ∷ same_fil
 same_bounds : (t : TraceValue) → IsTrace t → (set : NamedOps) → HasNamed t set → (p : Process) → Contains t.processes p → bounds_by (keeps set p) p ≡ bounds_of t p
 same_bounds t ok set named p c =
     ap (λ l. map (λ (n : OpName). n.place) l ++ (length p.operations + 1) ∷ [])
-    (same_filter (keeps set p) (is_kept t) (names_of p) (λ n d. keeps_kept t ok set named p c n (from_first p.name (length p.operations) n d).0))
+    (same_filter (keeps set p) (is_kept t) (names_of p) (λ n d. keeps_kept t ok set named p c n d))
 
 -- one more process
 pub bounds_more : (t : TraceValue) → IsTrace t → (set : NamedOps) → HasNamed t set → (ps : List Process) → ps ≡ t.processes → (i : ℕ) (p : Process) (all : List (List ℕ)) (bounds : List ℕ) → i < length ps → p ≡ get_or ps i p →

@@ -3,13 +3,11 @@ pub mod CopyLemmas
 pub mod ExpandLemmas
 pub mod InterleavingLemmas
 pub mod KeptLemmas
-pub mod NamedLemmas
 pub mod PairLemmas
-pub mod PlaceLemmas
+pub mod PartsLemmas
 pub mod ReadLemmas
 pub mod RenamedLemmas
 pub mod RunLemmas
 pub mod ScheduleLemmas
-pub mod StandsLemmas
 pub mod TraceLemmas
 pub mod ValueLemmas

@@ -15,12 +15,12 @@ use Rattle.trace_semantics.specs.declared.trace.Process.{Process}
 use Rattle.trace_semantics.specs.Trace.{TraceValue, IsTrace, process_named, operation_at, first_names}
 use Rattle.trace_semantics.proofs.ElementLemmas.{none_in, cases_in, from_map, from_filter}
 use Rattle.trace_semantics.proofs.NameLemmas.{known_named}
-use Rattle.reducer.specs.Reduction.{is_kept, names_of, new_name}
-use Rattle.reducer.specs.Runs.{names_from, bounds_of, AreBounds}
+use Rattle.restriction.specs.Left.{new_name, names_of, names_from}
+use Rattle.restriction.proofs.LeftLemmas.{found_process, process_of}
+use Rattle.restriction.proofs.PlaceLemmas.{joined_names, length_names, in_names}
+use Rattle.reducer.specs.Reduction.{kept_op, is_kept}
+use Rattle.reducer.specs.Runs.{bounds_of, AreBounds}
 use Rattle.reducer.proofs.BoundsLemmas.{few_listed}
-use Rattle.reducer.proofs.KeptLemmas.{found_process, process_of}
-use Rattle.reducer.proofs.PlaceLemmas.{joined_names, length_names}
-use Rattle.reducer.proofs.RunLemmas.{in_names}
 
 -- what stands at the place of the first that passes
 found_there : {A : Type 0} (p : A → Bool) (xs : List A) → slice_get xs (position_or_len p xs) ≡ find p xs
@@ -149,7 +149,7 @@ no_bounds t ok n known e =
 pub here_parted : (t : TraceValue) (n : OpName) (bounds : List ℕ) → BoundsHere t n bounds → Parted bounds n.place
 here_parted t n bounds at = subst (λ l. Parted l n.place) (sym at.is) (bounds_parted t at.process n.place at.within)
 
-pub new_place_is : (t : TraceValue) (n : OpName) (bounds : List ℕ) (at : BoundsHere t n bounds) (r : ℕ) → r ≤ length bounds → IsPartitionPoint (λ other. leb other n.place ≡ true) (λ other. leb other n.place ≡ false) bounds r → r ≡ (new_name t n).place
+pub new_place_is : (t : TraceValue) (n : OpName) (bounds : List ℕ) (at : BoundsHere t n bounds) (r : ℕ) → r ≤ length bounds → IsPartitionPoint (λ other. leb other n.place ≡ true) (λ other. leb other n.place ≡ false) bounds r → r ≡ (new_name (kept_op t) n).place
 unfolding bounds_parted
 new_place_is t n bounds at r within point =
     let parted = bounds_parted t at.process n.place at.within in

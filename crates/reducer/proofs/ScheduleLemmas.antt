@@ -1,6 +1,6 @@
 -- A legal schedule of the kept trace with the dropped reads put back, and one of the whole trace without them.
-use Rattle.std.proofs.Common.{◌≡◌, ◌⊎◌, ◌+◌, ◌-◌, ℕ, zero, suc, List, [], ◌∷◌, ◌++◌, length, map, Bool, true, false, cond, not, arith, refl, ap, sym, ◌∙◌, inl, inr, subst, append-nil, append_assoc}
-use Rattle.std.specs.Prelude.{⊤, Option, Some, None}
+use Rattle.std.proofs.Common.{◌≡◌, ◌⊎◌, ◌+◌, ◌-◌, ℕ, zero, suc, List, [], ◌∷◌, ◌++◌, length, map, Bool, true, false, cond, arith, refl, ap, sym, ◌∙◌, inl, inr, subst, append-nil, append_assoc}
+use Rattle.std.specs.Prelude.{⊤, Option, Some, None, IsSome}
 use Rattle.std.specs.List.{Contains, filter, take_while}
 use Rattle.std.specs.Option.{option_map}
 use Rattle.std.proofs.lemmas.List.{map-append}
@@ -12,84 +12,38 @@ use Rattle.trace_semantics.specs.declared.operation.OpName.{OpName}
 use Rattle.trace_semantics.specs.Legal.{ReadsRight, IsLegal}
 use Rattle.trace_semantics.specs.Trace.{TraceValue, IsTrace, operation_at, value_of}
 use Rattle.trace_semantics.specs.ValueAfter.{value_after}
-use Rattle.trace_semantics.proofs.ElementLemmas.{in_middle, head_in, tail_in, from_flat_map}
+use Rattle.trace_semantics.proofs.ElementLemmas.{in_middle, head_in, tail_in}
 use Rattle.trace_semantics.proofs.NameLemmas.{some_value}
+use Rattle.restriction.specs.Left.{new_name, new_op, names_from}
+use Rattle.restriction.proofs.LeftLemmas.{IsOld, old_known, known_old}
+use Rattle.restriction.proofs.RestrictLemmas.{placed_in}
+use Rattle.restriction.proofs.TraceLeftLemmas.{op_listed}
 use Rattle.reducer.specs.Expansion.{expanded, expansion}
-use Rattle.reducer.specs.Reduction.{previous, is_dropped, is_kept, new_name, new_op, kept_trace}
+use Rattle.reducer.specs.Reduction.{previous, is_dropped, kept_op, is_kept, kept_trace}
 use Rattle.reducer.proofs.InterleavingLemmas.{reduced, expansion_interleaves, reduction_interleaves}
-use Rattle.reducer.proofs.KeptLemmas.{IsFirst, first_known, known_first, kept_first, first_operation}
-use Rattle.reducer.specs.Runs.{names_from}
-use Rattle.reducer.proofs.ReadLemmas.{op_listed, reads_without, reads_with, repeat_reads}
-use Rattle.reducer.proofs.RunLemmas.{expanded_member, expanded_first, standing, behind_it}
-use Rattle.reducer.proofs.ValueLemmas.{AreKnown, dropped_repeats, values_alike}
+use Rattle.reducer.proofs.KeptLemmas.{kept_known, dropped_goes, first_operation, kept_first}
+use Rattle.reducer.proofs.ReadLemmas.{reads_without, reads_with, repeat_reads}
+use Rattle.reducer.proofs.RunLemmas.{expanded_first, standing, behind_it}
+use Rattle.reducer.proofs.ValueLemmas.{dropped_repeats, values_alike}
 
--- a place in what is left of a list is a place in the list
-pub record Left (t : TraceValue) (names before : List OpName) (x : OpName) : Type 0 where
-  pub front : List OpName
-  pub name : OpName
-  pub back : List OpName
-  pub parts : names ≡ front ++ name ∷ back
-  pub kept : is_kept t name ≡ true
-  pub renamed : new_name t name ≡ x
-  pub before_is : reduced t front ≡ before
-
-left_at : (t : TraceValue) (n : OpName) (names before : List OpName) (x : OpName) (after : List OpName) (b : Bool) → is_kept t n ≡ b → ((front back : List OpName) → reduced t names ≡ front ++ x ∷ back → Left t names front x) →
-    map (new_name t) (cond b (n ∷ filter (is_kept t) names) (filter (is_kept t) names)) ≡ before ++ x ∷ after → Left t (n ∷ names) before x
-left_at t n names [] x after true h more e =
-    let same : new_name t n ≡ x = cc in
-    record { front = []; name = n; back = names; parts = refl; kept = h; renamed = same; before_is = refl }
-left_at t n names (y ∷ before) x after true h more e =
-    let first : new_name t n ≡ y = cc in
-    let rest : reduced t names ≡ before ++ x ∷ after = cc in
-    let at = more before after rest in
-    record {
-      front = n ∷ at.front;
-      name = at.name;
-      back = at.back;
-      parts = ap (λ l. n ∷ l) at.parts;
-      kept = at.kept;
-      renamed = at.renamed;
-      before_is = ap (λ b. map (new_name t) (cond b (n ∷ filter (is_kept t) at.front) (filter (is_kept t) at.front))) h ∙ (λ i. first i ∷ at.before_is i);
-    }
-left_at t n names before x after false h more e =
-    let at = more before after e in
-    record {
-      front = n ∷ at.front;
-      name = at.name;
-      back = at.back;
-      parts = ap (λ l. n ∷ l) at.parts;
-      kept = at.kept;
-      renamed = at.renamed;
-      before_is = ap (λ b. map (new_name t) (cond b (n ∷ filter (is_kept t) at.front) (filter (is_kept t) at.front))) h ∙ at.before_is;
-    }
-
-left : (t : TraceValue) (names before : List OpName) (x : OpName) (after : List OpName) → reduced t names ≡ before ++ x ∷ after → Left t names before x
-left t [] [] x after e = absurd (cc)
-left t [] (y ∷ before) x after e = absurd (cc)
-left t (n ∷ names) before x after e = left_at t n names before x after (is_kept t n) refl (λ front back f. left t names front x back f) e
-
-mapped_some : (t : TraceValue) (o : Option Op) (op : Op) (new : Op) → o ≡ Some op → option_map (new_op t) o ≡ Some new → new_op t op ≡ new
+mapped_some : (t : TraceValue) (o : Option Op) (op : Op) (new : Op) → o ≡ Some op → option_map (new_op (kept_op t)) o ≡ Some new → new_op (kept_op t) op ≡ new
 mapped_some t None op new e f = absurd (cc)
-mapped_some t (Some other) op new e f = let same : other ≡ op = cc in ap (new_op t) (sym same) ∙ same_Some (new_op t other) new f
+mapped_some t (Some other) op new e f = let same : other ≡ op = cc in ap (new_op (kept_op t)) (sym same) ∙ same_Some (new_op (kept_op t) other) new f
 
 -- without the dropped reads
 module _ (t : TraceValue) (ok : IsTrace t) (names : List OpName) (legal : IsLegal t names) where
-  known_before : (front : List OpName) (n : OpName) (back : List OpName) → names ≡ front ++ n ∷ back → AreKnown t front
-  known_before front n back e m c = legal.interleaving.only m (subst (λ l. Contains l m) (sym e) (Contains-append_left front (n ∷ back) m c))
-
   reads_left : (before : List OpName) (x : OpName) (after : List OpName) (op : Op) → reduced t names ≡ before ++ x ∷ after → operation_at (kept_trace t) x ≡ Some op → ReadsRight (kept_trace t) before op
   reads_left before x after op e f =
-      let at = left t names before x after e in
-      let known = legal.interleaving.only at.name (subst (λ l. Contains l at.name) (sym at.parts) (in_middle at.front at.name at.back)) in
+      let at = placed_in (kept_op t) names before x after e in
+      let known = kept_known t at.name at.left in
       let whole = some_value (operation_at t at.name) known in
-      let first = known_first t ok at.name known at.kept in
-      let here : option_map (new_op t) (operation_at t at.name) ≡ Some op = sym (first_operation t ok (new_name t at.name) at.name first) ∙ ap (operation_at (kept_trace t)) at.renamed ∙ f in
+      let here : option_map (new_op (kept_op t)) (operation_at t at.name) ≡ Some op = sym (first_operation t ok (new_name (kept_op t) at.name) at.name (known_old t ok (kept_op t) at.name known at.left)) ∙ ap (operation_at (kept_trace t)) at.renamed ∙ f in
       let same = mapped_some t (operation_at t at.name) whole.0 op whole.1 here in
-      let right = reads_without t ok at.front whole.0 (known_before at.front at.name at.back at.parts) (legal.reads at.front at.name at.back whole.0 at.parts whole.1) in
+      let right = reads_without t ok at.front whole.0 (legal.reads at.front at.name at.back whole.0 at.parts whole.1) in
       subst (λ l. ReadsRight (kept_trace t) l op) at.before_is (subst (λ o. ReadsRight (kept_trace t) (reduced t at.front) o) same right)
 
   ends_left : (location : List ℕ) (d : ℕ) → value_of t.final_values location ≡ Some d → value_after (kept_trace t) location (reduced t names) ≡ Some d
-  ends_left location d e = values_alike t ok location names legal.interleaving.only ∙ legal.finals location d e
+  ends_left location d e = values_alike t ok location names ∙ legal.finals location d e
 
 pub reduction_legal : (t : TraceValue) (names : List OpName) → IsTrace t → IsLegal t names → IsLegal (kept_trace t) (reduced t names)
 reduction_legal t names ok legal = record {
@@ -97,6 +51,10 @@ reduction_legal t names ok legal = record {
   reads = reads_left t ok names legal;
   finals = ends_left t ok names legal;
 }
+
+-- all of these names are known
+abbrev pub AreKnown : TraceValue → List OpName → Type 0
+AreKnown t names = (n : OpName) → Contains names n → IsSome (operation_at t n)
 
 -- a run: each name is dropped, and stands directly after the one before it
 abbrev IsRun : TraceValue → OpName → List OpName → Type 0
@@ -122,7 +80,7 @@ pub record FirstAndRun (t : TraceValue) (x n : OpName) : Type 0 where
   pub parts : expanded t x ≡ n ∷ rest
   pub run : IsRun t n rest
 
-first_and_run : (t : TraceValue) → IsTrace t → (x n : OpName) → IsFirst t x n → FirstAndRun t x n
+first_and_run : (t : TraceValue) → IsTrace t → (x n : OpName) → IsOld t (kept_op t) x n → FirstAndRun t x n
 first_and_run t ok x n first =
     let p = first.process in
     let s = standing t ok x n first in
@@ -136,21 +94,21 @@ first_and_run t ok x n first =
 -- of what a name expands to its first name alone is left
 run_left : (t : TraceValue) (m : OpName) (names : List OpName) → IsRun t m names → filter (is_kept t) names ≡ []
 run_left t m [] run = refl
-run_left t m (n ∷ names) run = ap (λ b. cond (not b) (n ∷ filter (is_kept t) names) (filter (is_kept t) names)) run.1 ∙ run_left t n names run.2
+run_left t m (n ∷ names) run = ap (λ b. cond b (n ∷ filter (is_kept t) names) (filter (is_kept t) names)) (dropped_goes t n run.1) ∙ run_left t n names run.2
 
-expanded_left : (t : TraceValue) → IsTrace t → (x n : OpName) → IsFirst t x n → reduced t (expanded t x) ≡ x ∷ []
+expanded_left : (t : TraceValue) → IsTrace t → (x n : OpName) → IsOld t (kept_op t) x n → reduced t (expanded t x) ≡ x ∷ []
 expanded_left t ok x n first =
     let at = first_and_run t ok x n first in
-    let known = first_known t ok x n first in
-    ap (reduced t) at.parts ∙ ap (λ b. map (new_name t) (cond b (n ∷ filter (is_kept t) at.rest) (filter (is_kept t) at.rest))) known.kept
-    ∙ ap (λ l. new_name t n ∷ map (new_name t) l) (run_left t n at.rest at.run) ∙ ap (λ y. y ∷ []) known.renamed
+    let known = old_known t ok (kept_op t) x n first in
+    ap (reduced t) at.parts ∙ ap (λ b. map (new_name (kept_op t)) (cond b (n ∷ filter (is_kept t) at.rest) (filter (is_kept t) at.rest))) known.left
+    ∙ ap (λ l. new_name (kept_op t) n ∷ map (new_name (kept_op t)) l) (run_left t n at.rest at.run) ∙ ap (λ y. y ∷ []) known.renamed
 
 pub expansion_left : (t : TraceValue) → IsTrace t → (names : List OpName) → AreKnown (kept_trace t) names → reduced t (expansion t names) ≡ names
 expansion_left t ok [] known = refl
 expansion_left t ok (x ∷ names) known =
     let first = kept_first t ok x (known x (head_in x names)) in
-    ap (map (new_name t)) (filter-append (is_kept t) (expanded t x) (expansion t names))
-    ∙ map-append (new_name t) (filter (is_kept t) (expanded t x)) (filter (is_kept t) (expansion t names))
+    ap (map (new_name (kept_op t))) (filter-append (is_kept t) (expanded t x) (expansion t names))
+    ∙ map-append (new_name (kept_op t)) (filter (is_kept t) (expanded t x)) (filter (is_kept t) (expansion t names))
     ∙ (λ i. expanded_left t ok x first.0 first.1 i ++ expansion_left t ok names (λ m c. known m (tail_in x names m c)) i)
 
 -- a place in a joined list
@@ -214,32 +172,23 @@ along t done m op (d ∷ rest) (y ∷ earlier) n later wanted known right run e 
 
 -- with the dropped reads
 module _ (t : TraceValue) (ok : IsTrace t) (names : List OpName) (legal : IsLegal (kept_trace t) names) where
-  all_known : AreKnown t (expansion t names)
-  all_known = (expansion_interleaves t names ok legal.interleaving).only
-
   known_front : (front : List OpName) (x : OpName) (back : List OpName) → names ≡ front ++ x ∷ back → AreKnown (kept_trace t) front
   known_front front x back e m c = legal.interleaving.only m (subst (λ l. Contains l m) (sym e) (Contains-append_left front (x ∷ back) m c))
 
-  known_expanded : (front : List OpName) → AreKnown (kept_trace t) front → AreKnown t (expansion t front)
-  known_expanded front known m c =
-      let at = from_flat_map (expanded t) front m c in
-      let first = kept_first t ok at.0 (known at.0 at.1) in
-      (expanded_member t ok at.0 first.0 m first.1 at.2).known
-
   -- the first name of each name reads right
-  first_reads : (front : List OpName) (x : OpName) (back : List OpName) (n : OpName) (op : Op) → names ≡ front ++ x ∷ back → IsFirst t x n → operation_at t n ≡ Some op → ReadsRight t (expansion t front) op
+  first_reads : (front : List OpName) (x : OpName) (back : List OpName) (n : OpName) (op : Op) → names ≡ front ++ x ∷ back → IsOld t (kept_op t) x n → operation_at t n ≡ Some op → ReadsRight t (expansion t front) op
   first_reads front x back n op e first f =
       let known = known_front front x back e in
-      let here : operation_at (kept_trace t) x ≡ Some (new_op t op) = first_operation t ok x n first ∙ ap (option_map (new_op t)) f in
-      let right = legal.reads front x back (new_op t op) e here in
-      reads_with t ok (expansion t front) op (known_expanded front known) (op_listed t n op f)
-      (subst (λ l. ReadsRight (kept_trace t) l (new_op t op)) (sym (expansion_left t ok front known)) right)
+      let here : operation_at (kept_trace t) x ≡ Some (new_op (kept_op t) op) = first_operation t ok x n first ∙ ap (option_map (new_op (kept_op t))) f in
+      let right = legal.reads front x back (new_op (kept_op t) op) e here in
+      reads_with t ok (expansion t front) op (op_listed t n op f)
+      (subst (λ l. ReadsRight (kept_trace t) l (new_op (kept_op t) op)) (sym (expansion_left t ok front known)) right)
 
   reads_put_back : (before : List OpName) (n : OpName) (after : List OpName) (op : Op) → expansion t names ≡ before ++ n ∷ after → operation_at t n ≡ Some op → ReadsRight t before op
   reads_put_back before n after op e f =
       let at = within t names before n after e in
       let first = kept_first t ok at.name (legal.interleaving.only at.name (subst (λ l. Contains l at.name) (sym at.parts) (in_middle at.front at.name at.back))) in
-      let head = some_value (operation_at t first.0) (first_known t ok at.name first.0 first.1).known in
+      let head = some_value (operation_at t first.0) (old_known t ok (kept_op t) at.name first.0 first.1).known in
       let shape = first_and_run t ok at.name first.0 first.1 in
       let right = first_reads at.front at.name at.back first.0 head.0 at.parts first.1 head.1 in
       subst (λ l. ReadsRight t l op) (sym at.before_is)
@@ -247,8 +196,7 @@ module _ (t : TraceValue) (ok : IsTrace t) (names : List OpName) (legal : IsLega
 
   ends_put_back : (location : List ℕ) (d : ℕ) → value_of t.final_values location ≡ Some d → value_after t location (expansion t names) ≡ Some d
   ends_put_back location d e =
-      sym (values_alike t ok location (expansion t names) all_known)
-      ∙ ap (value_after (kept_trace t) location) (expansion_left t ok names legal.interleaving.only) ∙ legal.finals location d e
+      sym (values_alike t ok location (expansion t names)) ∙ ap (value_after (kept_trace t) location) (expansion_left t ok names legal.interleaving.only) ∙ legal.finals location d e
 
 pub expansion_legal : (t : TraceValue) (names : List OpName) → IsTrace t → IsLegal (kept_trace t) names → IsLegal t (expansion t names)
 expansion_legal t names ok legal = record {

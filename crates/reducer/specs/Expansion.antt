@@ -4,7 +4,8 @@ use Rattle.std.specs.List.{flat_map, take_while}
 use Rattle.trace_semantics.specs.declared.operation.OpName.{OpName}
 use Rattle.trace_semantics.specs.declared.trace.Process.{Process}
 use Rattle.trace_semantics.specs.Trace.{TraceValue, at_place, process_named}
-use Rattle.reducer.specs.Reduction.{is_dropped, names_of, kept_names}
+use Rattle.restriction.specs.Left.{names_of}
+use Rattle.reducer.specs.Reduction.{is_dropped, kept_names}
 
 -- a name of the whole trace, and after it the names of the run of dropped reads that stands directly after it in its process
 abbrev pub with_run : TraceValue → Process → Option OpName → List OpName

@@ -10,7 +10,7 @@ pub record ReducedValue : Type 0 where
   pub whole : TraceValue
   pub kept : TraceValue
 
--- what each reduced trace keeps: it is the reduction of the whole one, and has 160 operations at most
+-- what holds of each reduced trace: it is the reduction of the whole one, and has at most 160 operations
 pub record IsReduced (r : ReducedValue) : Type 0 where
   pub is_trace : IsTrace r.whole
   pub reduction : r.kept ≡ kept_trace r.whole

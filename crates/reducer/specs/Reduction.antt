@@ -1,6 +1,6 @@
 -- The reduction of a trace: the trace without repeated local reads.
-use Rattle.std.specs.Prelude.{ℕ, List, length, map, Option, Some, None, Bool, false, not, ◌==◌, ◌&&◌, ◌||◌, ◌-◌}
-use Rattle.std.specs.List.{filter, filter_map, list_any}
+use Rattle.std.specs.Prelude.{ℕ, List, map, Option, Some, None, Bool, false, not, ◌==◌, ◌&&◌, ◌||◌, ◌-◌, if◌then◌else◌}
+use Rattle.std.specs.List.{filter, list_any}
 use Rattle.std.specs.Str.{bytes_eq}
 use Rattle.trace_semantics.specs.declared.operation.Op.{Op}
 use Rattle.trace_semantics.specs.declared.operation.Op.TheVariants.{Read, Write, Update}
@@ -9,7 +9,8 @@ use Rattle.trace_semantics.specs.declared.operation.Origin.{Origin}
 use Rattle.trace_semantics.specs.declared.operation.Origin.TheVariants.{Any, Initial, Operation}
 use Rattle.trace_semantics.specs.declared.trace.Process.{Process}
 use Rattle.trace_semantics.specs.Operation.{location_of, origin_of, same_op}
-use Rattle.trace_semantics.specs.Trace.{TraceValue, operation_at, first_names}
+use Rattle.trace_semantics.specs.Trace.{TraceValue, operation_at}
+use Rattle.restriction.specs.Left.{is_left, new_pair, names_of, left_process}
 
 -- what its location holds directly after an operation: what it leaves, or else what it reads
 abbrev pub value_behind : Op → ℕ
@@ -17,7 +18,7 @@ value_behind (Read location value origin) = value
 value_behind (Write location value) = value
 value_behind (Update location read left origin) = left
 
--- a plain read of what its location holds directly after the earlier operation on it, where nothing is said of its source
+-- a plain read of what its location holds directly after the earlier operation on it, if nothing is said of its source
 abbrev pub is_repeat : Op → Op → Bool
 is_repeat earlier (Read location value Any) = bytes_eq (location_of earlier) location && (value_behind earlier == value)
 is_repeat earlier op = false
@@ -50,44 +51,23 @@ is_an_origin t n = list_any (λ (p : Process). list_any (λ (op : Op). is_from n
 abbrev pub is_dropped : TraceValue → OpName → Bool
 is_dropped t n = repeats (operation_at t (previous n)) (operation_at t n) && not (is_in_pair t n || is_an_origin t n)
 
+-- what stays of an operation: of a dropped one nothing, of each other one the whole
+abbrev pub kept_op : TraceValue → OpName → Option Op
+kept_op t n = if is_dropped t n then None else operation_at t n
+
+-- the trace has the operation, and it is not dropped
 abbrev pub is_kept : TraceValue → OpName → Bool
-is_kept t n = not (is_dropped t n)
+is_kept t n = is_left (kept_op t) n
 
--- the names of the operations of a process, in program order
-abbrev pub names_of : Process → List OpName
-names_of p = first_names p.name (length p.operations)
-
--- those of them that are kept
+-- the names of the operations of a process that are kept
 abbrev pub kept_names : TraceValue → Process → List OpName
 kept_names t p = filter (is_kept t) (names_of p)
-
--- the name in the kept trace: its place is how many operations are kept of its process up to it
-abbrev pub new_name : TraceValue → OpName → OpName
-new_name t n = record { process = n.process; place = length (filter (is_kept t) (first_names n.process n.place)) }
-
-abbrev pub new_origin : TraceValue → Origin → Origin
-new_origin t Any = Any
-new_origin t Initial = Initial
-new_origin t (Operation n) = Operation (new_name t n)
-
--- the operation as it stands in the kept trace
-abbrev pub new_op : TraceValue → Op → Op
-new_op t (Read location value origin) = Read location value (new_origin t origin)
-new_op t (Write location value) = Write location value
-new_op t (Update location read left origin) = Update location read left (new_origin t origin)
-
--- the process with its kept operations
-abbrev pub kept_process : TraceValue → Process → Process
-kept_process t p = record { name = p.name; operations = map (new_op t) (filter_map (operation_at t) (kept_names t p)) }
-
-abbrev pub new_pair : TraceValue → OpName × OpName → OpName × OpName
-new_pair t pair = (new_name t pair.0, new_name t pair.1)
 
 -- the reduction of a trace: the kept operations, by their new names
 abbrev pub kept_trace : TraceValue → TraceValue
 kept_trace t = record {
-  processes = map (kept_process t) t.processes;
+  processes = map (left_process (kept_op t)) t.processes;
   initial = t.initial;
   final_values = t.final_values;
-  before = map (new_pair t) t.before;
+  before = map (new_pair (kept_op t)) t.before;
 }

@@ -3,8 +3,8 @@
 ghost use Rattle.std.specs.Prelude.{◌≡◌, ◌++◌, ◌-◌, IfOk, IsSome, OnOk};
 ghost use Rattle.trace_semantics.specs.Interleaving.{IsInterleaving};
 ghost use Rattle.trace_semantics.specs.Trace.{operation_at};
+ghost use Rattle.restriction.specs.Left.{names_from};
 ghost use Rattle.reducer.specs.Expansion.{expanded, expansion};
-ghost use Rattle.reducer.specs.Runs.{names_from};
 
 use crate::reduced::Reduced;
 use crate::renamed::bounds_at;
@@ -54,7 +54,7 @@ fn push_run(
     }
 }
 
-/// The schedule with the dropped reads put back: each name becomes its name in the whole trace, followed by the names of the
+/// Returns the schedule with the dropped reads put back: each name becomes its name in the whole trace, followed by the names of the
 /// run of dropped reads that stands directly after it.
 pub fn expand(alloc: Global, reduced: &Reduced, schedule: &Schedule) -> Result<Schedule, AllocError>
     requires { IsInterleaving reduced.now.kept schedule.now }

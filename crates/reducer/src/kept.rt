@@ -3,6 +3,7 @@
 ghost use Rattle.std.specs.Prelude.{◌≡◌, ◌≤◌, List, ℕ, map, IfOk};
 ghost use Rattle.std.specs.List.{Contains};
 ghost use Rattle.trace_semantics.specs.Trace.{operation_count};
+ghost use Rattle.restriction.specs.Left.{left_process, new_pair};
 ghost use Rattle.reducer.specs.Reduction as reduction;
 ghost use Rattle.reducer.specs.Runs.{bounds_of, AreBounds};
 
@@ -13,7 +14,7 @@ use trace_semantics::name::Name;
 use trace_semantics::operation::{Op, OpName};
 use trace_semantics::trace::{Operations, Process, Trace};
 
-/// How many operations are kept.
+/// Returns the number of kept operations.
 pub fn count_kept(trace: &Trace, all: &[KeptPlaces]) -> usize
     requires { AreBounds trace.now all.now }
     ensures { result ≡ operation_count (reduction.kept_trace trace.now) }
@@ -26,7 +27,7 @@ pub fn count_kept(trace: &Trace, all: &[KeptPlaces]) -> usize
     count
 }
 
-/// The kept operations of a process.
+/// Returns the kept operations of a process.
 fn kept_operations(
     alloc: Global,
     trace: &Trace,
@@ -37,7 +38,7 @@ fn kept_operations(
     requires bounds { AreBounds trace.now all.now }
     requires listed { Contains trace.now.processes process.now }
     requires places { places.now ≡ bounds_of trace.now process.now }
-    ensures { IfOk result (λ ops. ops.items ≡ (reduction.kept_process trace.now process.now).operations) }
+    ensures { IfOk result (λ ops. ops.items ≡ (left_process (reduction.kept_op trace.now) process.now).operations) }
 {
     trace.is_trace();
     let old = process.operations.as_slice();
@@ -50,7 +51,7 @@ fn kept_operations(
     Ok(ops)
 }
 
-/// The process with its kept operations.
+/// Returns the process with its kept operations.
 fn kept_process(
     alloc: Global,
     trace: &Trace,
@@ -61,7 +62,7 @@ fn kept_process(
     requires bounds { AreBounds trace.now all.now }
     requires listed { Contains trace.now.processes process.now }
     requires places { bounds.now ≡ bounds_of trace.now process.now }
-    ensures { IfOk result (λ new. new ≡ reduction.kept_process trace.now process.now) }
+    ensures { IfOk result (λ new. new ≡ left_process (reduction.kept_op trace.now) process.now) }
 {
     let name = Name::copy_of(alloc, process.name.as_bytes())?;
     let ops = kept_operations(alloc, trace, all, process, bounds.as_slice())?;
@@ -77,7 +78,7 @@ fn kept_processes(
     all: &[KeptPlaces],
 ) -> Result<Vec<Process>, AllocError>
     requires { AreBounds trace.now all.now }
-    ensures { IfOk result (λ new. new.items ≡ map (reduction.kept_process trace.now) trace.now.processes) }
+    ensures { IfOk result (λ new. new.items ≡ map (left_process (reduction.kept_op trace.now)) trace.now.processes) }
 {
     let processes = trace.processes();
     let mut new = Vec::with_capacity(alloc, processes.len())?;
@@ -87,14 +88,14 @@ fn kept_processes(
     Ok(new)
 }
 
-/// The before pairs, by the new names.
+/// Returns the before pairs, by the new names.
 fn new_pairs(
     alloc: Global,
     trace: &Trace,
     all: &[KeptPlaces],
 ) -> Result<Vec<(OpName, OpName)>, AllocError>
     requires { AreBounds trace.now all.now }
-    ensures { IfOk result (λ new. new.items ≡ map (reduction.new_pair trace.now) trace.now.before) }
+    ensures { IfOk result (λ new. new.items ≡ map (new_pair (reduction.kept_op trace.now)) trace.now.before) }
 {
     trace.is_trace();
     let pairs = trace.before();
@@ -118,7 +119,7 @@ fn copy_of(alloc: Global, values: &[(Name, u64)]) -> Result<Vec<(Name, u64)>, Al
     Ok(new)
 }
 
-/// The kept trace, by the bounds of the runs.
+/// Returns the kept trace, by the bounds of the runs.
 pub fn kept_trace(alloc: Global, trace: &Trace, all: &[KeptPlaces]) -> Result<Trace, AllocError>
     requires { AreBounds trace.now all.now }
     ensures { IfOk result (λ kept. kept ≡ reduction.kept_trace trace.now) }

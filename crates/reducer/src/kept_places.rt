@@ -1,4 +1,4 @@
-//! Where the runs of dropped reads lie in the processes.
+//! The places of the runs of dropped reads in the processes.
 
 ghost use Rattle.std.specs.Prelude.{◌≡◌, ◌<◌, ◌≤◌, ◌+◌, length, IfOk};
 ghost use Rattle.trace_semantics.specs.Trace.{at_place};
@@ -27,7 +27,7 @@ impl Model for KeptPlaces {
 }
 
 impl KeptPlaces {
-    /// The bounds as a slice.
+    /// Returns the bounds as a slice.
     pub fn as_slice(&self) -> &[u16]
         ensures { result.now ≡ self.now }
     {
@@ -35,7 +35,7 @@ impl KeptPlaces {
     }
 }
 
-/// What its location holds directly after the operation.
+/// Returns what the operation's location holds directly after it.
 fn value_behind(op: &Op) -> u64
     ensures { result ≡ reduction.value_behind op.now }
 {
@@ -46,7 +46,8 @@ fn value_behind(op: &Op) -> u64
     }
 }
 
-/// Whether the second is a plain read of what its location holds directly after the first, and nothing is said of its source.
+/// Returns whether the second is a plain read of what its location holds directly after the first, and nothing is said of its
+/// source.
 fn is_repeat(earlier: &Op, op: &Op) -> bool
     ensures { result ≡ reduction.is_repeat earlier.now op.now }
 {
@@ -62,7 +63,7 @@ fn is_repeat(earlier: &Op, op: &Op) -> bool
     }
 }
 
-/// Whether the operation repeats the one directly before it.
+/// Returns whether the operation repeats the one directly before it.
 fn repeats_previous(operations: &[Op], k: usize) -> bool
     requires { k < length operations.now }
     ensures { result ≡ reduction.repeats (at_place operations.now k) (at_place operations.now (k + 1)) }
@@ -70,7 +71,7 @@ fn repeats_previous(operations: &[Op], k: usize) -> bool
     0 < k && is_repeat(&operations[k - 1], &operations[k])
 }
 
-/// Whether the operation is kept.
+/// Returns whether the operation is kept.
 fn is_kept<'a>(set: &NamedOps<'a>, process: &'a Process, k: usize) -> bool
     requires { k < length process.now.operations }
     ensures { result ≡ keeps set.now process.now (record { process = process.now.name; place = k + 1 }) }
@@ -79,7 +80,7 @@ fn is_kept<'a>(set: &NamedOps<'a>, process: &'a Process, k: usize) -> bool
         || set.contains(process.name.as_bytes(), k + 1)
 }
 
-/// The bounds of the runs of a process.
+/// Returns the bounds of the runs of a process.
 fn bounds_in<'a>(
     alloc: Global,
     set: &NamedOps<'a>,
@@ -99,7 +100,7 @@ fn bounds_in<'a>(
     Ok(KeptPlaces { places })
 }
 
-/// The bounds of the runs of each process, where the set has the operations that are named.
+/// Returns the bounds of the runs of each process, if the set has the operations that are named.
 pub fn all_bounds<'a>(
     alloc: Global,
     set: &NamedOps<'a>,

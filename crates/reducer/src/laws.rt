@@ -7,8 +7,9 @@ ghost use Rattle.trace_semantics.specs.declared.operation.OpName.{OpName};
 ghost use Rattle.trace_semantics.specs.Interleaving.{IsInterleaving};
 ghost use Rattle.trace_semantics.specs.Legal.{IsLegal};
 ghost use Rattle.trace_semantics.specs.Trace.{TraceValue, IsTrace, operation_at};
+ghost use Rattle.restriction.specs.Left.{new_name, new_op};
 ghost use Rattle.reducer.specs.Expansion.{expanded, expansion};
-ghost use Rattle.reducer.specs.Reduction.{is_kept, new_name, new_op, kept_trace};
+ghost use Rattle.reducer.specs.Reduction.{kept_op, is_kept, kept_trace};
 
 /// What is kept of a trace is a trace.
 pub fn kept_is_a_trace()
@@ -17,12 +18,12 @@ pub fn kept_is_a_trace()
 
 /// The kept trace has each kept operation under its new name.
 pub fn kept_has_its_new_name()
-    ensures { (t : TraceValue) (n : OpName) → IsTrace t → IsSome (operation_at t n) → is_kept t n ≡ true → operation_at (kept_trace t) (new_name t n) ≡ option_map (new_op t) (operation_at t n) }
+    ensures { (t : TraceValue) (n : OpName) → IsTrace t → IsSome (operation_at t n) → is_kept t n ≡ true → operation_at (kept_trace t) (new_name (kept_op t) n) ≡ option_map (new_op (kept_op t)) (operation_at t n) }
 {}
 
 /// A name of the kept trace expands to the operations of the whole one that have it as their new name, dropped ones included.
 pub fn expands_to_those_of_its_new_name()
-    ensures { (t : TraceValue) (x m : OpName) → IsTrace t → IsSome (operation_at (kept_trace t) x) → Contains (expanded t x) m ↔ (IsSome (operation_at t m) × (new_name t m ≡ x)) }
+    ensures { (t : TraceValue) (x m : OpName) → IsTrace t → IsSome (operation_at (kept_trace t) x) → Contains (expanded t x) m ↔ (IsSome (operation_at t m) × (new_name (kept_op t) m ≡ x)) }
 {}
 
 /// With the dropped reads put back, an interleaving of the kept trace is one of the whole trace.

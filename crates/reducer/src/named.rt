@@ -61,7 +61,7 @@ fn note_all_origins<'a>(set: &mut NamedOps<'a>, processes: &'a [Process]) -> Res
     Ok(())
 }
 
-/// The operations that the trace's before pairs and origins name.
+/// Returns the operations that the trace's before pairs and origins name.
 pub fn named_ops<'a>(alloc: Global, trace: &'a Trace) -> Result<NamedOps<'a>, AllocError>
     ensures { IfOk result (HasNamed trace.now) }
 {

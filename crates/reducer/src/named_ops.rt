@@ -16,7 +16,7 @@ impl<'a> NamedOps<'a> {
     ghost use Rattle.trace_semantics.specs.Operation.{same_op};
     ghost use Rattle.reducer.specs.Named.{has};
 
-    /// The set of no operations.
+    /// Returns the set of no operations.
     pub fn new(alloc: Global) -> NamedOps<'a>
         ensures { (n : OpName) → has result n ≡ false }
     {
@@ -25,7 +25,7 @@ impl<'a> NamedOps<'a> {
         }
     }
 
-    /// Whether the operation at this place of this process is in the set.
+    /// Returns whether the operation at this place of this process is in the set.
     pub fn contains(&self, process: &'a [u8], place: usize) -> bool
         ensures { result ≡ has self.now (record { process = process.now; place = place }) }
     {

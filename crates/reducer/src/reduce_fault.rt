@@ -5,7 +5,7 @@ use text_lines::fault::{FaultCause, PlacedFault};
 /// What is wrong with a trace that is not reduced.
 #[derive(Clone, Copy, Debug, PartialEq, Eq)]
 pub enum ReduceCause {
-    /// So many operations are left, and these are more than 160.
+    /// This number of operations is left, which is more than 160.
     StillTooLarge,
 }
 

@@ -17,10 +17,10 @@ use std::snapshot::Snapshot;
 use text_lines::fault::PlacedFault;
 use trace_semantics::trace::Trace;
 
-/// As many operations are kept at most.
+/// Largest number of operations of a kept trace.
 const MAX_KEPT: usize = 160;
 
-/// A trace without its repeated local reads, and where these belong. The whole trace is seen by clauses alone.
+/// A trace without its repeated local reads, and the places of these. The whole trace is seen by clauses alone.
 #[derive(Drop)]
 pub struct Reduced {
     whole: Snapshot<Trace>,
@@ -44,7 +44,7 @@ impl Reduced {
     ghost use Rattle.reducer.specs.Reduced.{IsReduced};
     ghost use Rattle.reducer.specs.Runs.{AreBounds};
 
-    /// The kept trace.
+    /// Returns the kept trace.
     pub fn kept(&self) -> &Trace
         ensures trace { result.now ≡ self.now.kept }
         ensures reduced { IsReduced self.now }
@@ -52,7 +52,7 @@ impl Reduced {
         &self.kept
     }
 
-    /// The bounds of the runs of dropped reads, for each process.
+    /// Returns the bounds of the runs of dropped reads, for each process.
     pub(crate) fn bounds(&self) -> &[KeptPlaces]
         ensures { AreBounds self.now.whole result.now }
     {
@@ -60,9 +60,9 @@ impl Reduced {
     }
 }
 
-/// The trace without its repeated local reads. A plain read is dropped where the operation directly before it in its process
-/// leaves its value at its location or is a plain read of it there, where nothing is said of its source, and where no before
-/// pair and no origin names it.
+/// Returns the trace without its repeated local reads. A plain read is dropped if the operation directly before it in its process
+/// leaves its value at its location or is a plain read of it there, if nothing is said of its source, and if no before pair and no
+/// origin names it.
 pub fn reduce(alloc: Global, trace: &Trace) -> Result<Reduced, ReduceFault>
     ensures whole { IfOk result (λ reduced. reduced.whole ≡ trace.now) }
     ensures reduced { IfOk result IsReduced }

@@ -8,7 +8,8 @@ ghost use Rattle.std.specs.Str.{bytes_eq};
 ghost use Rattle.trace_semantics.specs.declared.trace.Process.{Process as Listed};
 ghost use Rattle.trace_semantics.specs.Operation.{origin_of};
 ghost use Rattle.trace_semantics.specs.Trace as value;
-ghost use Rattle.reducer.specs.Reduction as reduction;
+ghost use Rattle.restriction.specs.Left as left;
+ghost use Rattle.reducer.specs.Reduction.{kept_op};
 ghost use Rattle.reducer.specs.Runs.{AreBounds};
 
 use crate::kept_places::KeptPlaces;
@@ -23,7 +24,7 @@ fn place_of_process(processes: &[Process], name: &[u8]) -> Option<usize>
     processes.iter().position(|p| p.name.as_bytes() == name)
 }
 
-/// The bounds of the process of this name.
+/// Returns the bounds of the process of this name.
 pub fn bounds_at<'a>(
     processes: &[Process],
     all: &'a [KeptPlaces],
@@ -37,7 +38,7 @@ pub fn bounds_at<'a>(
     }
 }
 
-/// How many of the places are no higher than this one.
+/// Returns the number of places that are no higher than this one.
 fn count_up_to(places: &[u16], place: u16) -> usize
     requires { IsPartitionedBy (λ other. nat_le other place) places.now }
     ensures within { result ≤ length places.now }
@@ -46,11 +47,11 @@ fn count_up_to(places: &[u16], place: u16) -> usize
     places.partition_point(|other| *other <= place)
 }
 
-/// The operation's place in the kept trace.
+/// Returns the operation's place in the kept trace.
 fn new_place(trace: &Trace, all: &[KeptPlaces], name: &OpName) -> u16
     requires bounds { AreBounds trace.now all.now }
     requires known { IsSome (value.operation_at trace.now name.now) }
-    ensures { result ≡ (reduction.new_name trace.now name.now).place }
+    ensures { result ≡ (left.new_name (kept_op trace.now) name.now).place }
 {
     trace.is_trace();
     match bounds_at(trace.processes(), all, name.process.as_bytes()) {
@@ -59,7 +60,7 @@ fn new_place(trace: &Trace, all: &[KeptPlaces], name: &OpName) -> u16
     }
 }
 
-/// The name in the kept trace.
+/// Returns the name in the kept trace.
 pub fn new_name(
     alloc: Global,
     trace: &Trace,
@@ -68,7 +69,7 @@ pub fn new_name(
 ) -> Result<OpName, AllocError>
     requires bounds { AreBounds trace.now all.now }
     requires known { IsSome (value.operation_at trace.now name.now) }
-    ensures { IfOk result (λ new. new ≡ reduction.new_name trace.now name.now) }
+    ensures { IfOk result (λ new. new ≡ left.new_name (kept_op trace.now) name.now) }
 {
     Ok(OpName {
         process: Name::copy_of(alloc, name.process.as_bytes())?,
@@ -84,7 +85,7 @@ fn new_origin(
 ) -> Result<Origin, AllocError>
     requires bounds { AreBounds trace.now all.now }
     requires known { value.IsKnownOrigin trace.now origin.now }
-    ensures { IfOk result (λ new. new ≡ reduction.new_origin trace.now origin.now) }
+    ensures { IfOk result (λ new. new ≡ left.new_origin (kept_op trace.now) origin.now) }
 {
     match origin {
         Origin::Any => Ok(Origin::Any),
@@ -93,11 +94,11 @@ fn new_origin(
     }
 }
 
-/// The operation as it stands in the kept trace.
+/// Returns the operation as it stands in the kept trace.
 pub fn new_op(alloc: Global, trace: &Trace, all: &[KeptPlaces], op: &Op) -> Result<Op, AllocError>
     requires bounds { AreBounds trace.now all.now }
     requires known { value.IsKnownOrigin trace.now (origin_of op.now) }
-    ensures { IfOk result (λ new. new ≡ reduction.new_op trace.now op.now) }
+    ensures { IfOk result (λ new. new ≡ left.new_op (kept_op trace.now) op.now) }
 {
     match op {
         Op::Read {

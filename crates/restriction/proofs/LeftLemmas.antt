@@ -13,8 +13,8 @@ use Rattle.trace_semantics.specs.declared.trace.Process.{Process}
 use Rattle.trace_semantics.specs.Trace.{TraceValue, IsTrace, at_place, process_named, operation_at, first_names}
 use Rattle.trace_semantics.proofs.ElementLemmas.{found, finds, same_from_key, from_filter}
 use Rattle.trace_semantics.proofs.NameLemmas.{same_bytes, bytes_same, from_first, known_named, named_known}
-use Rattle.restriction.specs.Left.{is_left, new_name, new_op, names_of, left_process}
-use Rattle.restriction.proofs.PlaceLemmas.{names_from, joined_names, one_more_name, cut_names, chosen, choose, place_more, value_left, in_list}
+use Rattle.restriction.specs.Left.{is_left, new_name, new_op, names_of, names_from, left_process}
+use Rattle.restriction.proofs.PlaceLemmas.{joined_names, one_more_name, cut_names, chosen, choose, place_more, value_left, in_list}
 
 pub found_process : (t : TraceValue) (name : List ℕ) (p : Process) → process_named t name ≡ Some p → Contains t.processes p × (p.name ≡ name)
 found_process t name p e = let at = found (λ (q : Process). bytes_eq q.name name) t.processes p e in (at.0, same_bytes p.name name at.1)
@@ -163,11 +163,11 @@ module _ (t q : TraceValue) (ok : IsTrace t) (stays : OpName → Option Op) (mad
   pub new_operation : (n : OpName) → IsSome (operation_at t n) → is_left stays n ≡ true → operation_at q (new_name stays n) ≡ option_map (new_op stays) (stays n)
   new_operation n known left = old_operation (new_name stays n) n (known_old t ok stays n known left)
 
--- a later place is higher
+-- how many of the first operations of a process remain
 abbrev pub left_among : (OpName → Option Op) → List ℕ → ℕ → ℕ
 left_among stays process k = length (filter (is_left stays) (first_names process k))
 
-more_left : (stays : OpName → Option Op) (process : List ℕ) (k d : ℕ) → left_among stays process k ≤ left_among stays process (k + d)
+pub more_left : (stays : OpName → Option Op) (process : List ℕ) (k d : ℕ) → left_among stays process k ≤ left_among stays process (k + d)
 more_left stays process k d =
     let all =
     ap (λ l. length (filter (is_left stays) l)) (joined_names process 1 k d)
@@ -175,6 +175,7 @@ more_left stays process k d =
     ∙ length-append (filter (is_left stays) (first_names process k)) (filter (is_left stays) (names_from process (1 + k) d)) in
     omega (arith, all)
 
+-- the new place of what remains is higher than those of all earlier operations of its process
 pub higher : (stays : OpName → Option Op) (m n : OpName) → m.process ≡ n.process → m.place < n.place → is_left stays n ≡ true → (new_name stays m).place < (new_name stays n).place
 higher stays m n same l left =
     let e : m.place + (n.place - 1 - m.place) ≡ n.place - 1 = omega (arith, l) in

@@ -17,9 +17,9 @@ use Rattle.trace_semantics.specs.declared.trace.Process.{Process}
 use Rattle.trace_semantics.specs.PairOrder.{order_of, pair_order}
 use Rattle.trace_semantics.proofs.ElementLemmas.{head_in, tail_in, from_map, from_flat_map}
 use Rattle.trace_semantics.proofs.NameLemmas.{same_bytes, bytes_same}
-use Rattle.restriction.specs.Left.{is_left, new_name, new_pair, left_process}
+use Rattle.restriction.specs.Left.{is_left, new_name, new_pair, names_from, left_process}
 use Rattle.restriction.proofs.LeftLemmas.{higher}
-use Rattle.restriction.proofs.PlaceLemmas.{names_from, in_names, in_front}
+use Rattle.restriction.proofs.PlaceLemmas.{in_names, in_front}
 
 pub all_from : {A : Type 0} (P : A → Type 0) (xs : List A) → ((x : A) → Contains xs x → P x) → All P xs
 all_from P xs h k d l = h (get_or xs k d) (Contains-get_or xs k d l)

@@ -1,4 +1,4 @@
--- What remains of a trace is a trace, as far as its processes and their operations go.
+-- What remains of a trace is a trace: its processes and their operations.
 use Rattle.std.proofs.Common.{◌≡◌, ◌≢◌, ◌≤◌, ◌^◌, ℕ, List, [], ◌∷◌, length, map, true, ◌&&◌, refl, ap, sym, ◌∙◌, arith, inl, inr, subst}
 use Rattle.std.specs.Prelude.{Option, Some, None, IsSome, nat_le, nat_lt}
 use Rattle.std.specs.List.{All, AllPairs, Contains, filter_map, cons_option, flat_map, list_all, sum_by}
@@ -82,7 +82,7 @@ pub record StaysWell (t : TraceValue) (stays : OpName → Option Op) : Type 0 wh
   pub origin : (n : OpName) (new : Op) (w : OpName) → stays n ≡ Some new → origin_of new ≡ Operation w → is_left stays w ≡ true
 
 module _ (t q : TraceValue) (ok : IsTrace t) (stays : OpName → Option Op) (made : q.processes ≡ map (left_process stays) t.processes) (well : StaysWell t stays) where
-  -- where an operation that remains comes from
+  -- the operation of which an operation of q is what remains
   record From (r : Process) (op : Op) : Type 0 where
     name : OpName
     whole : Op

@@ -1,6 +1,6 @@
--- Who wrote a location last, and that this stays where the last writer does.
+-- The last writer of a location, and that it is the same after a restriction in which it remains.
 use Rattle.std.proofs.Common.{◌≡◌, ◌⊎◌, ℕ, List, [], ◌∷◌, ◌++◌, map, Bool, true, false, cond, refl, ap, sym, ◌∙◌, inl, inr}
-use Rattle.std.specs.Prelude.{Option, Some, None, is_some}
+use Rattle.std.specs.Prelude.{Option, Some, None, IsSome, is_some}
 use Rattle.std.specs.List.{Contains, filter, filter_map, cons_option, last_or}
 use Rattle.std.specs.Option.{option_and_then, option_map}
 use Rattle.std.specs.Str.{bytes_eq}
@@ -8,7 +8,7 @@ use Rattle.trace_semantics.specs.declared.operation.Op.{Op}
 use Rattle.trace_semantics.specs.declared.operation.Op.TheVariants.{Read, Write, Update}
 use Rattle.trace_semantics.specs.declared.operation.OpName.{OpName}
 use Rattle.trace_semantics.specs.Operation.{location_of, written_value}
-use Rattle.trace_semantics.specs.Trace.{TraceValue, IsTrace, value_of}
+use Rattle.trace_semantics.specs.Trace.{TraceValue, IsTrace, operation_at, value_of}
 use Rattle.trace_semantics.specs.ValueAfter.{value_left_at, value_after, last_writer}
 use Rattle.trace_semantics.proofs.ElementLemmas.{head_in, tail_in, cases_in, none_in}
 use Rattle.restriction.specs.Left.{is_left, new_name, new_op, left_process, restricted}
@@ -66,6 +66,14 @@ pub last_writes : (t : TraceValue) (location : List ℕ) (names : List OpName) (
 last_writes t location names w d last =
     ap (last_writer t location) last.parts ∙ last_item (value_left_at t location) last.front w last.back d None last.leaves last.silent
 
+-- what writes is an operation of the trace
+pub writer_known : (t : TraceValue) (location : List ℕ) (w : OpName) (d : ℕ) → value_left_at t location w ≡ Some d → IsSome (operation_at t w)
+writer_known t location w d e = at (operation_at t w) e
+  where
+    at : (o : Option Op) → option_and_then (left_by location) o ≡ Some d → IsSome o
+    at None e = absurd (cc)
+    at (Some op) e = refl
+
 -- none writes the location, or there is a last that does
 last_at : (t : TraceValue) (location : List ℕ) (n : OpName) (names : List OpName) (o : Option ℕ) → value_left_at t location n ≡ o → AreSilent t location names → AreSilent t location (n ∷ names) ⊎ ((w : OpName) × (d : ℕ) × IsLast t location (n ∷ names) w d)
 last_at t location n names None e silent =
@@ -117,7 +125,7 @@ module _ (t q : TraceValue) (ok : IsTrace t) (stays : OpName → Option Op) (mad
     silent = silent_stays location last.back last.silent;
   }
 
-  -- where the last writer remains, if there is one, value and writer are the same
+  -- if the last writer remains, or there is none, value and writer are the same
   pub same_after : (location : List ℕ) (names : List OpName) → ((w : OpName) (d : ℕ) → IsLast t location names w d → is_left stays w ≡ true) →
       (value_after q location (restricted stays names) ≡ value_after t location names) × (last_writer q location (restricted stays names) ≡ option_map (new_name stays) (last_writer t location names))
   same_after location names left =

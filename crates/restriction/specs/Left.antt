@@ -1,6 +1,6 @@
--- What remains of processes and schedules where a function says what stays of each operation, and the new names of what remains.
-use Rattle.std.specs.Prelude.{List, length, map, Option, Bool, is_some}
-use Rattle.std.specs.List.{filter, filter_map}
+-- What remains of processes and schedules if a function says what stays of each operation, and the new names of what remains.
+use Rattle.std.specs.Prelude.{ℕ, List, length, map, Option, Bool, is_some}
+use Rattle.std.specs.List.{filter, filter_map, range_with_len}
 use Rattle.trace_semantics.specs.declared.operation.Op.{Op}
 use Rattle.trace_semantics.specs.declared.operation.Op.TheVariants.{Read, Write, Update}
 use Rattle.trace_semantics.specs.declared.operation.OpName.{OpName}
@@ -34,6 +34,10 @@ new_pair stays pair = (new_name stays pair.0, new_name stays pair.1)
 -- the names of the operations of a process, in program order
 abbrev pub names_of : Process → List OpName
 names_of p = first_names p.name (length p.operations)
+
+-- names of a process, from one place on
+abbrev pub names_from : List ℕ → ℕ → ℕ → List OpName
+names_from process low n = map (λ k. record { process = process; place = k }) (range_with_len low n)
 
 -- the process with what remains of it
 abbrev pub left_process : (OpName → Option Op) → Process → Process

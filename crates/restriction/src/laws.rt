@@ -26,8 +26,8 @@ pub fn restriction_is_interleaved()
     ensures { (t q : TraceValue) (stays : OpName → Option Op) (names : List OpName) → IsTrace t → AreProcessesLeft t stays q → ArePairsLeft q stays names → IsInterleaving t names → IsInterleaving q (restricted stays names) }
 {}
 
-/// Where the last operation that writes a location remains, if there is one, the location holds the same after the restriction,
-/// written by the same operation.
+/// If the last operation that writes a location remains, or none writes it, the location holds the same after the restriction, written
+/// by the same operation.
 pub fn same_after_restriction()
     ensures value { (t q : TraceValue) (stays : OpName → Option Op) (location : List ℕ) (names : List OpName) → IsTrace t → AreProcessesLeft t stays q → q.initial ≡ t.initial → StaysAlike t stays → ((w : OpName) (d : ℕ) → IsLast t location names w d → is_left stays w ≡ true) → value_after q location (restricted stays names) ≡ value_after t location names }
     ensures writer { (t q : TraceValue) (stays : OpName → Option Op) (location : List ℕ) (names : List OpName) → IsTrace t → AreProcessesLeft t stays q → q.initial ≡ t.initial → StaysAlike t stays → ((w : OpName) (d : ℕ) → IsLast t location names w d → is_left stays w ≡ true) → last_writer q location (restricted stays names) ≡ option_map (new_name stays) (last_writer t location names) }

@@ -1,8 +1,8 @@
-//! What remains of a trace where a function says what stays of each of its operations.
+//! What remains of a trace if a function says what stays of each of its operations.
 //!
 //! What remains of a process keeps its order and gets new places. A schedule is restricted to what remains, under the new names.
-//! Here stands what holds whatever the function is; which operations stay, and why the restriction of a legal schedule is
-//! legal, is said by the crates above.
+//! Its laws hold for every such function. Which operations stay, and why the restriction of a legal schedule is legal, is for the
+//! crates above: `reducer`, and `part_law`.
 #![tactic(auto)]
 
 pub mod laws;

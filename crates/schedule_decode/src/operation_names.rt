@@ -3,7 +3,7 @@
 ghost use Rattle.std.specs.Prelude.{◌≡◌, ◌≤◌, ◌++◌, length, IfOk, OnOk};
 ghost use Rattle.std.specs.List.{filter_map, slice_get};
 ghost use Rattle.trace_semantics.specs.Trace.{operation_names};
-ghost use Rattle.reducer.specs.Reduction.{names_of};
+ghost use Rattle.restriction.specs.Left.{names_of};
 
 use std::alloc::{AllocError, Global};
 use std::marker::Model;

@@ -13,10 +13,10 @@ use Rattle.trace_semantics.specs.declared.trace.Process.{Process}
 use Rattle.trace_semantics.specs.Trace.{TraceValue, at_place, process_named, operation_at, first_names}
 use Rattle.trace_semantics.proofs.ElementLemmas.{head_in, tail_in}
 use Rattle.trace_semantics.proofs.NameLemmas.{from_first}
-use Rattle.restriction.specs.Left.{is_left, names_of}
+use Rattle.restriction.specs.Left.{is_left, names_of, names_from}
 use Rattle.trace_part.specs.Rows.{LeftValue, left_value, Leaves}
 use Rattle.restriction.proofs.LeftLemmas.{found_process}
-use Rattle.restriction.proofs.PlaceLemmas.{names_from, joined_names, in_names}
+use Rattle.restriction.proofs.PlaceLemmas.{joined_names, in_names}
 
 -- all pass, or none
 all_in : {X : Type 0} (p : X → Bool) (xs : List X) → ((x : X) → Contains xs x → p x ≡ true) → filter p xs ≡ xs

@@ -18,14 +18,14 @@ use Rattle.trace_semantics.proofs.ElementLemmas.{head_in, tail_in, from_filter, 
 use Rattle.trace_semantics.proofs.NameLemmas.{from_first, known_named}
 use Rattle.trace_part.specs.declared.left_names.LeftName.{LeftName}
 use Rattle.trace_part.specs.Told.{groups_of, told_pairs}
-use Rattle.restriction.specs.Left.{is_left, new_name, new_pair, names_of}
+use Rattle.restriction.specs.Left.{is_left, new_name, new_pair, names_of, names_from}
 use Rattle.part_law.specs.Part.{left_names, left_pairs, is_nearer, is_told}
 use Rattle.forced_order.specs.Rows.{OrderValue, stands_by, numbered, ordered_by}
 use Rattle.trace_part.specs.Rows.{LeftValue, left_value, Leaves, left_row, row_is_nearer, row_is_told, told_rows, row_at_place}
 use Rattle.trace_part.proofs.CountLemmas.{counted}
 use Rattle.restriction.proofs.LeftLemmas.{process_of}
 use Rattle.restriction.proofs.OrderedPairLemmas.{all_from, pairs_nil, pairs_mapped}
-use Rattle.restriction.proofs.PlaceLemmas.{names_from, in_names}
+use Rattle.restriction.proofs.PlaceLemmas.{in_names}
 use Rattle.trace_part.proofs.RowLemmas.{order_is, same_number}
 use Rattle.trace_part.proofs.ToldLemmas.{IsGroup, AreGroupsFrom, joined, told_are_rows}
 

@@ -61,9 +61,6 @@ order_is (p ∷ ps) apart (suc k) d l =
 
 -- the rows of a process are those of its names
 module _ (t : TraceValue) (chosen : OpName → Bool) (location : List ℕ) (p : Process) (number : ℕ) (order : order_of t.processes p.name ≡ number) (found : process_named t p.name ≡ Some p) where
-  row_for : OpName → ℕ → ChosenWriter
-  row_for n d = record { name = record { process = number; place = n.place }; value = Some d; chosen = chosen n }
-
   value_there : (n : OpName) → n.process ≡ p.name → value_left_at t location n ≡ option_and_then (left_there location) (at_place p.operations n.place)
   value_there n e = ap (λ o. option_and_then (left_there location) (option_and_then (λ (q : Process). at_place q.operations n.place) o)) (ap (process_named t) e ∙ found)
 
@@ -198,16 +195,9 @@ pub more_left : (stays : OpName → Option Op) (ps : List Process) (k : ℕ) (p 
 more_left stays ps k p old new left l at e f g =
     f ∙ (λ i. e i ++ (g ∙ ap (λ (q : Process). left_value stays (names_of q)) at) i ∷ []) ∙ sym (map_more (λ (q : Process). left_value stays (names_of q)) ps k p l)
 
-pub listed_at : (t : TraceValue) (ps : List Process) → ps ≡ t.processes → (k : ℕ) (p : Process) → k < length ps → p ≡ get_or ps k p → slice_get t.processes k ≡ Some p
-listed_at t ps same k p l at = ap (λ (qs : List Process). slice_get qs k) (sym same) ∙ slice_get_read ps (length ps) k p refl l at
-
 pub few_operations : (t : TraceValue) → IsTrace t → (ps : List Process) → ps ≡ t.processes → (k : ℕ) (p : Process) → k < length ps → p ≡ get_or ps k p → length p.operations ≤ 4096
 few_operations t ok ps same k p l at =
     let one = get_or-le-sum_by (λ (q : Process). length q.operations) ps k p l in
     let here : length p.operations ≡ length (get_or ps k p).operations = ap (λ (q : Process). length q.operations) at in
     let all : sum_by (λ (q : Process). length q.operations) ps ≡ sum_by (λ (q : Process). length q.operations) t.processes = ap (sum_by (λ (q : Process). length q.operations)) same in
     omega (arith, one, here, all, ok.few_operations)
-
-pub one_more_passes : {X : Type 0} (p : X → Bool) (xs : List X) (k : ℕ) (x : X) (b : Bool) → k < length xs → x ≡ get_or xs k x → p x ≡ b → filter p (take (k + 1) xs) ≡ filter p (take k xs) ++ cond b (x ∷ []) []
-one_more_passes p xs k x b l at e =
-    ap (filter p) (take_more xs k x l) ∙ filter-append p (take k xs) (get_or xs k x ∷ []) ∙ ap (λ y. filter p (take k xs) ++ filter p (y ∷ [])) (sym at) ∙ ap (λ c. filter p (take k xs) ++ cond c (x ∷ []) []) e

@@ -1,4 +1,4 @@
--- Of the names of a process a name stands before, it tells the first alone.
+-- Of the names of a process that a name stands before, the first alone makes a pair with it.
 use Rattle.std.proofs.Common.{◌≡◌, ◌⊎◌, ◌<◌, ◌≤◌, ◌+◌, ℕ, suc, List, [], ◌∷◌, ◌++◌, map, Bool, true, false, cond, not, ◌==◌, ◌&&◌, ◌||◌, refl, ap, sym, ◌∙◌, arith, inl, inr, subst, append_assoc}
 use Rattle.std.specs.Prelude.{⊤, Some, None, nat_lt}
 use Rattle.std.specs.List.{AllPairs, Contains, filter, find, flat_map, list_any}
@@ -155,7 +155,7 @@ module _ (order : OrderValue) (names : List LeftName) (m : LeftName) (front : Li
   or_second true b h = refl
   or_second false b h = h
 
-  -- what is behind a name that m stands before is not told
+  -- what is behind a name that m stands before makes no pair with m
   not_after : (n y : LeftName) → Contains names n → n.name.process ≡ y.name.process → n.name.place < y.name.place → stands_by order m.name n.name ≡ true → told_here y ≡ false
   not_after n y c p l h =
       let near : row_is_nearer order m y n ≡ true = or_second _ _ (and_from (n.name.process == y.name.process) (nat_lt n.name.place y.name.place && stands_by order m.name n.name) (eq-eqb n.name.process y.name.process p) (and_from (nat_lt n.name.place y.name.place) (stands_by order m.name n.name) (le-leb (suc n.name.place) y.name.place (omega (arith, l))) h)) in

@@ -57,22 +57,7 @@ module _ (t : TraceValue) (chosen : OpName → Bool) (location : List ℕ) (old 
           same_some a c g = cc
       at false h f = ap (λ l. slice_get l k) listed ∙ get_first old.lists.items rows k (rows_of t chosen q) (sound q k f)
 
-  pub added_location : (q : List ℕ) → has_location new q ≡ (bytes_eq location q || has_location old q)
-  added_location q = ap is_some (updated q) ∙ at (bytes_eq location q)
-    where
-      at : (b : Bool) → is_some (cond b (Some number) (number_of old.numbers q)) ≡ (b || is_some (number_of old.numbers q))
-      at true = refl
-      at false = refl
-
--- a location that has a number already
-pub noted_location : (table : WriterTable) (location q : List ℕ) → has_location table location ≡ true → has_location table q ≡ (bytes_eq location q || has_location table q)
-noted_location table location q h =
-    elim (cases_Bool (bytes_eq location q)) [
-      | inl same ↦ ap (has_location table) (sym (same_bytes location q same)) ∙ h ∙ sym (ap (λ b. b || has_location table q) same)
-      | inr other ↦ sym (ap (λ b. b || has_location table q) other)
-    ]
-
--- where all locations of operations have numbers, all writers are listed
+-- if all locations of operations have numbers, all writers are listed
 module _ (t : TraceValue) (ok : IsTrace t) (chosen : OpName → Bool) (table : WriterTable) (sound : IsSoundTable t chosen table) (all : (q : List ℕ) → has_location table q ≡ list_any (has_on q) t.processes) where
   works : (q : List ℕ) (n : OpName) (o : Option Op) → operation_at t n ≡ o → is_some (option_and_then (left_by q) o) ≡ true → has_location table q ≡ true
   works q n None e h = absurd (cc)

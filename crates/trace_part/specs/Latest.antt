@@ -20,7 +20,7 @@ pub record AreLatest (order : OrderValue) (writers : List ChosenWriter) (reader 
   pub among : (y : OperationNumber) → Contains latest y → (x : ChosenWriter) × Contains writers x × (x.name ≡ y) × (stands_by order y reader ≡ true)
   pub cover : (x : ChosenWriter) → Contains writers x → stands_by order x.name reader ≡ true → IsCovered latest x
 
--- the reader may read the value from w, as far as the latest say
+-- by the latest writers, the reader may read the value from w
 abbrev pub is_source_by : OrderValue → List OperationNumber → OperationNumber → ℕ → ChosenWriter → Bool
 is_source_by order latest reader d w = is_held w.value d && (not (is_same w.name reader) && (not (stands_by order reader w.name) && not (list_any (stands_by order w.name) latest)))
 
@@ -33,6 +33,6 @@ follows_by order reader x (Some next) = (next.name.process == x.name.process) &&
 abbrev pub is_latest : OrderValue → OperationNumber → ChosenWriter → Option ChosenWriter → Bool
 is_latest order reader x next = stands_by order x.name reader && not (follows_by order reader x next)
 
--- the writer's name, where it is one of the latest
+-- the writer's name, if it is one of the latest
 abbrev pub latest_of : OrderValue → OperationNumber → ChosenWriter → Option ChosenWriter → List OperationNumber
 latest_of order reader x next = if is_latest order reader x next then x.name ∷ [] else []

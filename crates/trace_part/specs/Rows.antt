@@ -77,7 +77,7 @@ row_is_nearer order m n x = ((x.name.process == m.name.process) && (nat_lt m.nam
 abbrev pub row_is_told : OrderValue → List LeftName → LeftName → LeftName → Bool
 row_is_told order rows m n = stands_by order m.name n.name && (not (m.name.process == n.name.process) && not (list_any (row_is_nearer order m n) rows))
 
--- the pairs of rows that are told
+-- the rows of the pairs of the part
 abbrev pub told_rows : OrderValue → List LeftName → List (LeftName × LeftName)
 told_rows order rows = filter (λ (pair : LeftName × LeftName). row_is_told order rows pair.0 pair.1) (flat_map (λ (m : LeftName). map (λ (n : LeftName). (m, n)) rows) rows)
 

@@ -1,4 +1,4 @@
--- The before pairs that a part tells, by numbers, where the names that remain are grouped by process.
+-- The before pairs of a part, by numbers. The names that remain are grouped by process.
 use Rattle.std.specs.Prelude.{◌&&◌, not, false, ◌==◌, List, [], ◌∷◌, ◌++◌, map, Option, Some, None, Bool, if◌then◌else◌}
 use Rattle.std.specs.List.{filter, find, flat_map}
 use Rattle.trace_semantics.specs.declared.operation.Op.{Op}

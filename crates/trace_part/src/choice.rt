@@ -17,14 +17,14 @@ use text_lines::fault::PlacedFault;
 use trace_semantics::operation::OpName;
 use trace_semantics::trace::{Process, Trace};
 
-/// Whether the process has an operation at this place.
+/// Returns whether the process has an operation at this place.
 fn has_place(process: &Process, place: usize) -> bool
     ensures { result ≡ is_some (at_place process.now.operations place) }
 {
     1 <= place && place <= process.operations.as_slice().len()
 }
 
-/// Whether the trace has an operation of this name.
+/// Returns whether the trace has an operation of this name.
 fn is_known(trace: &Trace, name: &OpName) -> bool
     ensures { result ≡ is_some (operation_at trace.now name.now) }
 {
@@ -34,7 +34,7 @@ fn is_known(trace: &Trace, name: &OpName) -> bool
     }
 }
 
-/// What is wrong with a name after the names that the set has.
+/// Returns the fault of a name after the names that the set has.
 fn fault_of_name(trace: &Trace, set: &ChosenOps, name: &OpName) -> Option<PartCause>
     ensures { (before : List Named) → ((n : Named) → has set.now n ≡ has_come before n) → result ≡ fault_of_choice trace.now before name.now }
 {
@@ -47,7 +47,7 @@ fn fault_of_name(trace: &Trace, set: &ChosenOps, name: &OpName) -> Option<PartCa
     }
 }
 
-/// The set of these operations of the trace.
+/// Returns the set of these operations of the trace.
 pub fn chosen_ops<'a>(
     alloc: Global,
     trace: &Trace,

@@ -23,14 +23,14 @@ fn copy_of(alloc: Global, entry: &(Name, u64)) -> Result<(Name, u64), AllocError
     Ok((Name::copy_of(alloc, entry.0.as_bytes())?, entry.1))
 }
 
-/// Whether a writer stands after this one.
+/// Returns whether a writer stands after this one.
 fn is_followed(order: &ForcedOrder, writers: &[ChosenWriter], first: OperationNumber) -> bool
     ensures { result ≡ list_any (λ (x : Row). stands_by order.now first x.name) writers.now }
 {
     writers.iter().any(|x| order.stands(first, x.name))
 }
 
-/// Whether the final value of the location may be what this writer has left.
+/// Returns whether the final value of the location may be what this writer has left.
 fn may_be_last(
     order: &ForcedOrder,
     writers: &[ChosenWriter],
@@ -42,7 +42,7 @@ fn may_be_last(
     leaves(writer, value) && !is_followed(order, writers, writer.name)
 }
 
-/// Whether all writers are chosen that may have left this final value.
+/// Returns whether all writers are chosen that may have left this final value.
 fn are_last_chosen(order: &ForcedOrder, writers: &[ChosenWriter], value: u64) -> bool
     ensures { result ≡ list_all (λ (w : Row). w.chosen || not (row_is_last order.now writers.now value w)) writers.now }
 {
@@ -57,14 +57,14 @@ fn is_some_chosen(writers: &[ChosenWriter]) -> bool
     writers.iter().any(|w| w.chosen)
 }
 
-/// Whether a final value stays, by the writers of its location.
+/// Returns whether a final value stays, by the writers of its location.
 fn stays_by(order: &ForcedOrder, writers: &[ChosenWriter], value: u64) -> bool
     ensures { result ≡ (list_all (λ (w : Row). w.chosen || not (row_is_last order.now writers.now value w)) writers.now && (list_any (λ (w : Row). w.chosen) writers.now || (length writers.now == 0))) }
 {
     are_last_chosen(order, writers, value) && (is_some_chosen(writers) || writers.len() == 0)
 }
 
-/// Whether this final value stays.
+/// Returns whether this final value stays.
 fn final_stays<'a>(selection: &Selection<'a>, entry: &'a (Name, u64)) -> bool
     requires selection { IsSelection selection.now }
     ensures { result ≡ part.stays_final selection.now.trace.now (ordered_in selection.now) (chosen_in selection.now) entry.now }
@@ -73,7 +73,7 @@ fn final_stays<'a>(selection: &Selection<'a>, entry: &'a (Name, u64)) -> bool
     stays_by(&selection.order, writers, entry.1)
 }
 
-/// The final values that stay.
+/// Returns the final values that stay.
 pub fn finals_left<'a>(
     alloc: Global,
     selection: &Selection<'a>,
@@ -92,7 +92,7 @@ pub fn finals_left<'a>(
     Ok(left)
 }
 
-/// The initial values: all of them.
+/// Returns the initial values: all of them.
 pub fn initial_copied(alloc: Global, trace: &Trace) -> Result<Vec<(Name, u64)>, AllocError>
     ensures { IfOk result (λ all. all.items ≡ trace.now.initial) }
 {

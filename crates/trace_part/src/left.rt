@@ -35,7 +35,7 @@ impl Model for Left {
 impl Left {
     ghost use Rattle.std.specs.Prelude.{◌≡◌, ◌≤◌, length};
 
-    /// The old places of what remains.
+    /// Returns the old places of what remains.
     pub fn places(&self) -> &[u16]
         ensures places { result.now ≡ self.now.places }
         ensures few { length result.now ≤ 4096 }
@@ -43,7 +43,7 @@ impl Left {
         self.places.as_slice()
     }
 
-    /// The operations.
+    /// Returns the operations.
     pub fn ops(&self) -> &[Op]
         ensures { result.now ≡ self.now.ops }
     {
@@ -51,7 +51,7 @@ impl Left {
     }
 }
 
-/// What remains of a process.
+/// Returns what remains of a process.
 fn left_of<'a>(
     alloc: Global,
     selection: &Selection<'a>,
@@ -74,7 +74,7 @@ fn left_of<'a>(
     Ok(Left { places, ops })
 }
 
-/// What remains of each process.
+/// Returns what remains of each process.
 pub fn all_left<'a>(alloc: Global, selection: &Selection<'a>) -> Result<Vec<Left>, AllocError>
     requires selection { IsSelection selection.now }
     ensures { IfOk result (λ all. AreLeft selection.now.trace.now (stays_in selection.now) all.items) }

@@ -38,7 +38,7 @@ impl Model for LeftNames {
 impl LeftNames {
     ghost use Rattle.std.specs.Prelude.{◌≡◌};
 
-    /// The names as a slice.
+    /// Returns the names as a slice.
     pub fn as_slice(&self) -> &[LeftName]
         ensures { result.now ≡ self.now }
     {
@@ -46,7 +46,7 @@ impl LeftNames {
     }
 }
 
-/// The names that remain of the process of this number.
+/// Returns the names that remain of the process of this number.
 fn names_in(alloc: Global, left: &Left, number: u16) -> Result<LeftNames, AllocError>
     ensures { IfOk result (λ names. names ≡ map (row_at_place number left.now.places) left.now.places) }
 {
@@ -64,7 +64,7 @@ fn names_in(alloc: Global, left: &Left, number: u16) -> Result<LeftNames, AllocE
     Ok(LeftNames { names })
 }
 
-/// The names that remain of each process.
+/// Returns the names that remain of each process.
 pub fn left_groups(alloc: Global, trace: &Trace, all: &[Left]) -> Result<Vec<LeftNames>, AllocError>
     requires { length all.now ≡ length trace.now.processes }
     ensures { IfOk result (λ groups. (stays : Named → Option Old) → Leaves trace.now stays all.now → groups.items ≡ groups_of trace.now stays) }

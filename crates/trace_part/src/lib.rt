@@ -1,7 +1,6 @@
 //! Makes the part of a trace that some chosen operations make up.
 //!
-//! Whatever is chosen: if the part has no legal schedule, the trace has none. A choice need not be trusted, so anything may have
-//! found it.
+//! If the part has no legal schedule, the trace has none, whichever operations are chosen. So the choice need not be trusted.
 #![tactic(auto)]
 
 pub mod choice;

@@ -27,14 +27,14 @@ fn find_after<'a>(order: &ForcedOrder, m: LeftName, group: &'a [LeftName]) -> Op
     group.iter().find(|n| order.stands(m.name, n.name))
 }
 
-/// The first of the names that the order puts after m.
+/// Returns the first of the names that the order puts after m.
 fn first_after(order: &ForcedOrder, m: LeftName, group: &[LeftName]) -> Option<LeftName>
     ensures { result ≡ find (λ (n : Row). stands_by order.now m.name n.name) group.now }
 {
     find_after(order, m, group).copied()
 }
 
-/// Whether the order puts this name, if there is one, before n.
+/// Returns whether the order puts this name, if there is one, before n.
 fn is_before(order: &ForcedOrder, next: Option<LeftName>, n: LeftName) -> bool
     ensures { result ≡ told.is_before order.now next n }
 {
@@ -44,14 +44,14 @@ fn is_before(order: &ForcedOrder, next: Option<LeftName>, n: LeftName) -> bool
     }
 }
 
-/// Whether the pair of m and n is told, where n is the first of its process that the order puts after m.
+/// Returns whether m and n make a before pair of the part, if n is the first of its process that the order puts after m.
 fn is_told(order: &ForcedOrder, m: LeftName, next: Option<LeftName>, n: LeftName) -> bool
     ensures { result ≡ told.is_told_first order.now m next n }
 {
     m.name.process != n.name.process && !is_before(order, next, n)
 }
 
-/// Appends the told pair of m and one of the names of a process, if there is one. The name after m in its process is `next`.
+/// Appends the pair of m and one of the names of a process, if there is one. The name after m in its process is `next`.
 fn push_told_in(
     pairs: &mut Vec<(LeftName, LeftName)>,
     order: &ForcedOrder,
@@ -72,7 +72,7 @@ fn push_told_in(
     }
 }
 
-/// Appends the told pairs of which m is the first.
+/// Appends the pairs of which m is the first.
 fn push_told_of(
     pairs: &mut Vec<(LeftName, LeftName)>,
     order: &ForcedOrder,
@@ -88,7 +88,7 @@ fn push_told_of(
     Ok(())
 }
 
-/// The name after this one in the list.
+/// Returns the name after this one in the list.
 fn next_name(group: &[LeftName], k: usize) -> Option<LeftName>
     requires within { k < length group.now }
     ensures { result ≡ slice_get group.now (k + 1) }
@@ -96,7 +96,7 @@ fn next_name(group: &[LeftName], k: usize) -> Option<LeftName>
     group.get(k + 1).copied()
 }
 
-/// Appends the told pairs of which a name of this process is the first.
+/// Appends the pairs of which a name of this process is the first.
 fn push_told_from(
     pairs: &mut Vec<(LeftName, LeftName)>,
     order: &ForcedOrder,
@@ -111,7 +111,7 @@ fn push_told_from(
     Ok(())
 }
 
-/// The told pairs of these names, which are grouped by process.
+/// Returns the pairs of these names, which are grouped by process.
 fn told_pairs(
     alloc: Global,
     order: &ForcedOrder,
@@ -126,7 +126,7 @@ fn told_pairs(
     Ok(pairs)
 }
 
-/// The name of a row in the part.
+/// Returns the name of a row in the part.
 fn new_name(alloc: Global, trace: &Trace, row: LeftName) -> Result<OpName, AllocError>
     ensures { IfOk result (λ new. (p : Listed) → slice_get trace.now.processes row.name.process ≡ Some p → new ≡ record { process = p.name; place = row.new }) }
 {
@@ -141,7 +141,7 @@ fn new_name(alloc: Global, trace: &Trace, row: LeftName) -> Result<OpName, Alloc
     }
 }
 
-/// The names of a pair of rows in the part.
+/// Returns the names of a pair of rows in the part.
 fn new_names(
     alloc: Global,
     trace: &Trace,
@@ -155,7 +155,7 @@ fn new_names(
     Ok((first, second))
 }
 
-/// The pairs that are told, 4,096 at most.
+/// Returns the first 4,096 pairs, the largest number that a trace may have.
 pub fn pairs_left(
     alloc: Global,
     trace: &Trace,

@@ -24,7 +24,7 @@ use std::marker::Model;
 use trace_semantics::operation::OpName;
 use trace_semantics::trace::Trace;
 
-/// A part of a trace, and where its operations stand in the whole.
+/// A part of a trace, and the places of its operations in the whole.
 #[derive(Drop)]
 pub struct TracePart {
     trace: Trace,
@@ -44,14 +44,14 @@ impl Model for TracePart {
 impl TracePart {
     ghost use Rattle.std.specs.Prelude.{◌≡◌, [], slice_index_or};
 
-    /// The part.
+    /// Returns the part.
     pub fn trace(&self) -> &Trace
         ensures { result.now ≡ self.now.trace }
     {
         &self.trace
     }
 
-    /// The place in the whole of each operation that remains of the process of this number; none if there is no such process.
+    /// Returns the place in the whole of each operation that remains of the process of this number; none if there is no such process.
     pub fn places(&self, process: usize) -> &[u16]
         ensures { result.now ≡ slice_index_or self.now.places process [] }
     {
@@ -62,7 +62,7 @@ impl TracePart {
     }
 }
 
-/// The part that the selected operations make up.
+/// Returns the part that the selected operations make up.
 fn selected_part<'a>(alloc: Global, selection: &Selection<'a>) -> Result<TracePart, AllocError>
     requires selection { IsSelection selection.now }
     ensures trace { IfOk result (λ made. made.trace ≡ value.part selection.now.trace.now (ordered_in selection.now) (chosen_in selection.now)) }
@@ -79,8 +79,8 @@ fn selected_part<'a>(alloc: Global, selection: &Selection<'a>) -> Result<TracePa
     Ok(TracePart { trace, left })
 }
 
-/// The part of the trace that these operations make up, by an order that says no more than the forced one. Each name must be that of
-/// an operation of the trace, and none may stand twice; how the names are ordered says nothing.
+/// Returns the part of the trace that these operations make up, by an order that says no more than the forced one. Each name must be
+/// that of an operation of the trace, and none may stand twice; their order does not matter.
 pub fn part_by(
     alloc: Global,
     trace: &Trace,
@@ -104,8 +104,8 @@ pub fn part_by(
     Ok(selected_part(alloc, &selection)?)
 }
 
-/// The part of the trace that these operations make up, by its forced order. Each name must be that of an operation of the trace, and
-/// none may stand twice; how the names are ordered says nothing.
+/// Returns the part of the trace that these operations make up, by its forced order. Each name must be that of an operation of the
+/// trace, and none may stand twice; their order does not matter.
 pub fn part_of(alloc: Global, trace: &Trace, names: &[OpName]) -> Result<TracePart, PartFault>
     ensures part { IfOk result (IsPart trace.now names.now) }
     ensures refused { IfErr result (IsRefusal (λ cause place. IsFirstFault (fault_of_choice trace.now) names.now place cause)) }

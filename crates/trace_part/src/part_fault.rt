@@ -1,8 +1,8 @@
-//! Why no part is made.
+//! Faults of a choice of operations, for which no part is made.
 
 use text_lines::fault::{FaultCause, PlacedFault};
 
-/// What is wrong with the names of a choice.
+/// Faults of the names of a choice.
 #[derive(Clone, Copy, Debug, PartialEq, Eq)]
 pub enum PartCause {
     /// The trace has no operation of this name.
@@ -11,7 +11,7 @@ pub enum PartCause {
     RepeatedOp,
 }
 
-/// Why no part is made: a cause and the place of the name among the names, or that memory ran out.
+/// The fault for which no part is made: a cause and the place of the name among the names, or out of memory.
 pub type PartFault = PlacedFault<PartCause>;
 
 impl FaultCause for PartCause {

@@ -31,7 +31,7 @@ fn left_at<'a>(processes: &[Process], all: &'a [Left], name: &[u8]) -> Option<&'
     }
 }
 
-/// How many of the places are no higher than this one.
+/// Returns the number of places that are no higher than this one.
 pub fn count_up_to(places: &[u16], place: u16) -> u16
     requires few { length places.now ≤ 4096 }
     ensures { result ≡ length (filter (λ other. nat_le other place) places.now) }
@@ -39,7 +39,7 @@ pub fn count_up_to(places: &[u16], place: u16) -> u16
     places.iter().filter(|other| **other <= place).count() as u16
 }
 
-/// The operation's place in the part.
+/// Returns the operation's place in the part.
 fn new_place(trace: &Trace, all: &[Left], name: &OpName) -> u16
     ensures { (stays : Named → Option Old) → Leaves trace.now stays all.now → result ≡ (naming.new_name stays name.now).place }
 {
@@ -49,7 +49,7 @@ fn new_place(trace: &Trace, all: &[Left], name: &OpName) -> u16
     }
 }
 
-/// The name in the part.
+/// Returns the name in the part.
 fn new_name(alloc: Global, trace: &Trace, all: &[Left], name: &OpName) -> Result<OpName, AllocError>
     ensures { IfOk result (λ new. (stays : Named → Option Old) → Leaves trace.now stays all.now → new ≡ naming.new_name stays name.now) }
 {
@@ -74,7 +74,7 @@ fn new_origin(
     }
 }
 
-/// The operation as it stands in the part.
+/// Returns the operation as it stands in the part.
 fn new_op(alloc: Global, trace: &Trace, all: &[Left], op: &Op) -> Result<Op, AllocError>
     ensures { IfOk result (λ new. (stays : Named → Option Old) → Leaves trace.now stays all.now → new ≡ naming.new_op stays op.now) }
 {
@@ -134,7 +134,7 @@ fn new_process(
     })
 }
 
-/// The processes of the part.
+/// Returns the processes of the part.
 pub fn new_processes(alloc: Global, trace: &Trace, all: &[Left]) -> Result<Vec<Process>, AllocError>
     requires { length all.now ≡ length trace.now.processes }
     ensures { IfOk result (λ new. (stays : Named → Option Old) → Leaves trace.now stays all.now → new.items ≡ map (naming.left_process stays) trace.now.processes) }

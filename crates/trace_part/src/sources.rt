@@ -15,7 +15,7 @@ use forced_order::forced_order::ForcedOrder;
 use forced_order::numbered::OperationNumber;
 use std::alloc::{AllocError, Global};
 
-/// Whether the writer leaves this value.
+/// Returns whether the writer leaves this value.
 pub fn leaves(writer: &ChosenWriter, value: u64) -> bool
     ensures { result ≡ is_held writer.now.value value }
 {
@@ -25,14 +25,14 @@ pub fn leaves(writer: &ChosenWriter, value: u64) -> bool
     }
 }
 
-/// Whether both are the same operation.
+/// Returns whether both are the same operation.
 fn is_same(first: OperationNumber, second: OperationNumber) -> bool
     ensures { result ≡ rows.is_same first second }
 {
     first.process == second.process && first.place == second.place
 }
 
-/// The writer after this one in the list.
+/// Returns the writer after this one in the list.
 fn next_writer(writers: &[ChosenWriter], k: usize) -> Option<&ChosenWriter>
     requires within { k < length writers.now }
     ensures { option_copied result ≡ slice_get writers.now (k + 1) }
@@ -40,7 +40,7 @@ fn next_writer(writers: &[ChosenWriter], k: usize) -> Option<&ChosenWriter>
     writers.get(k + 1)
 }
 
-/// Whether the next writer takes the writer's place: it is of the same process, no earlier, and stands before the reader too.
+/// Returns whether the next writer takes the writer's place: it is of the same process, no earlier, and stands before the reader too.
 fn follows(
     order: &ForcedOrder,
     writer: &ChosenWriter,
@@ -59,7 +59,7 @@ fn follows(
     }
 }
 
-/// Whether the writer stands before the reader, and the next one does not take its place.
+/// Returns whether the writer stands before the reader, and the next one does not take its place.
 fn is_latest(
     order: &ForcedOrder,
     writer: &ChosenWriter,
@@ -87,7 +87,7 @@ fn push_latest(
     Ok(())
 }
 
-/// The last writers of the processes that stand before the reader.
+/// Returns the last writers of the processes that stand before the reader.
 fn latest_before(
     alloc: Global,
     order: &ForcedOrder,
@@ -109,14 +109,14 @@ fn latest_before(
     Ok(names)
 }
 
-/// Whether the writer stands before one of these.
+/// Returns whether the writer stands before one of these.
 fn is_overwritten(order: &ForcedOrder, names: &[OperationNumber], first: OperationNumber) -> bool
     ensures { result ≡ list_any (stands_by order.now first) names.now }
 {
     names.iter().any(|x| order.stands(first, *x))
 }
 
-/// Whether the reader may read this value from the writer.
+/// Returns whether the reader may read this value from the writer.
 fn may_be_source(
     order: &ForcedOrder,
     names: &[OperationNumber],
@@ -132,7 +132,7 @@ fn may_be_source(
         && !is_overwritten(order, names, writer.name)
 }
 
-/// Whether all writers are chosen from which the reader may read this value.
+/// Returns whether all writers are chosen from which the reader may read this value.
 fn are_sources_chosen(
     order: &ForcedOrder,
     writers: &[ChosenWriter],
@@ -145,7 +145,7 @@ fn are_sources_chosen(
     writers.iter().all(|w| w.chosen || !may_be_source(order, names, w, reader, value))
 }
 
-/// Whether all writers of a location are chosen from which the reader may read this value there.
+/// Returns whether all writers of a location are chosen from which the reader may read this value there.
 pub fn sources_chosen(
     alloc: Global,
     order: &ForcedOrder,

@@ -21,14 +21,14 @@ use trace_semantics::name::Name;
 use trace_semantics::operation::{Op, OpName, Origin};
 use trace_semantics::trace::{Process, Trace};
 
-/// The process of this name.
+/// Returns the process of this name.
 pub(crate) fn process_of<'a>(trace: &'a Trace, name: &[u8]) -> Option<&'a Process>
     ensures { option_copied result ≡ process_named trace.now name.now }
 {
     trace.processes().iter().find(|p| p.name.as_bytes() == name)
 }
 
-/// Whether the operation at this place writes.
+/// Returns whether the operation at this place writes.
 fn writes_here(process: &Process, place: usize) -> bool
     ensures { result ≡ is_some (option_and_then written_value (at_place process.now.operations place)) }
 {
@@ -36,7 +36,7 @@ fn writes_here(process: &Process, place: usize) -> bool
     1 <= place && place <= ops.len() && ops[place - 1].written_value().is_some()
 }
 
-/// Whether the operation of this name writes.
+/// Returns whether the operation of this name writes.
 fn is_writer(trace: &Trace, name: &OpName) -> bool
     ensures { result ≡ is_some (option_and_then written_value (operation_at trace.now name.now)) }
 {
@@ -52,14 +52,14 @@ fn is_chosen(set: &ChosenOps, name: &OpName) -> bool
     set.contains(name.process.as_bytes(), name.place as usize)
 }
 
-/// Whether the operation of this name is chosen and writes.
+/// Returns whether the operation of this name is chosen and writes.
 fn is_chosen_writer(trace: &Trace, set: &ChosenOps, name: &OpName) -> bool
     ensures { result ≡ (has set.now name.now && is_some (option_and_then written_value (operation_at trace.now name.now))) }
 {
     is_chosen(set, name) && is_writer(trace, name)
 }
 
-/// Whether all possible sources are selected of an operation that reads this value at the location.
+/// Returns whether all possible sources are selected of an operation that reads this value at the location.
 fn are_sources_selected<'a>(
     alloc: Global,
     selection: &Selection<'a>,
@@ -75,7 +75,7 @@ fn are_sources_selected<'a>(
     sources_chosen(alloc, &selection.order, writers, reader, value)
 }
 
-/// Whether the part says what the operation reads.
+/// Returns whether the part says what the operation reads.
 fn keeps_read<'a>(
     alloc: Global,
     selection: &Selection<'a>,
@@ -149,7 +149,7 @@ fn new_update(
     })
 }
 
-/// What stays of a chosen read.
+/// Returns what stays of a chosen read.
 fn read_stays(
     alloc: Global,
     keeps: bool,
@@ -166,7 +166,7 @@ fn read_stays(
     }
 }
 
-/// What stays of a chosen update.
+/// Returns what stays of a chosen update.
 fn update_stays(
     alloc: Global,
     keeps: bool,
@@ -184,7 +184,7 @@ fn update_stays(
     }
 }
 
-/// What stays of a chosen operation.
+/// Returns what stays of a chosen operation.
 fn stays_of<'a>(
     alloc: Global,
     selection: &Selection<'a>,
@@ -218,7 +218,7 @@ fn stays_of<'a>(
     }
 }
 
-/// What stays of the operation at this place.
+/// Returns what stays of the operation at this place.
 pub fn stays_at<'a>(
     alloc: Global,
     selection: &Selection<'a>,

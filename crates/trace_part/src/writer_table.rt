@@ -56,7 +56,7 @@ impl<'a> WriterTable<'a> {
     ghost use Rattle.trace_semantics.specs.NameNumbers.{number_of};
     ghost use Rattle.trace_part.specs.WriterTables.{IsSoundTable, has_location, writers_at};
 
-    /// A table of no locations.
+    /// Returns a table of no locations.
     fn new(alloc: Global) -> WriterTable<'a>
         ensures none { (location : List ℕ) → has_location result location ≡ false }
         ensures sound { (t : TraceValue) (chosen : OpName → Bool) → IsSoundTable t chosen result }
@@ -105,14 +105,14 @@ impl<'a> WriterTable<'a> {
         }
     }
 
-    /// The list under a number, if there is one.
+    /// Returns the list under a number, if there is one.
     fn list(&self, number: u64) -> Option<&Writers>
         ensures { option_copied result ≡ slice_get self.now.lists.items number }
     {
         self.lists.get(number as usize)
     }
 
-    /// The writers of the location, if there are any.
+    /// Returns the writers of the location, if there are any.
     fn listed(&self, location: &'a [u8]) -> Option<&Writers>
         ensures { option_copied result ≡ option_and_then (slice_get self.now.lists.items) (number_of self.now.numbers location.now) }
     {
@@ -122,7 +122,7 @@ impl<'a> WriterTable<'a> {
         }
     }
 
-    /// The writers of the location.
+    /// Returns the writers of the location.
     pub fn writers_at(&self, location: &'a [u8]) -> &[ChosenWriter]
         ensures { result.now ≡ writers_at self.now location.now }
     {
@@ -151,7 +151,7 @@ fn note_ops<'a>(
     Ok(())
 }
 
-/// The writers of each location on which the trace's operations work.
+/// Returns the writers of each location on which the trace's operations work.
 pub fn writer_table<'a>(
     alloc: Global,
     trace: &'a Trace,

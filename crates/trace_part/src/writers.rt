@@ -18,7 +18,7 @@ pub struct ChosenWriter {
     pub chosen: bool,
 }
 
-/// What the operation leaves at the location, if it writes there.
+/// Returns what the operation leaves at the location, if it writes there.
 fn left_at(op: &Op, location: &[u8]) -> Option<u64>
     ensures { result ≡ left_there location.now op.now }
 {
@@ -29,7 +29,7 @@ fn left_at(op: &Op, location: &[u8]) -> Option<u64>
     }
 }
 
-/// The operation at a place as a row, if it writes the location.
+/// Returns the operation at a place as a row, if it writes the location.
 fn row_at<'a>(
     set: &ChosenOps<'a>,
     process: &'a Process,
@@ -73,7 +73,7 @@ fn push_rows<'a>(
     Ok(())
 }
 
-/// The writers of the location.
+/// Returns the writers of the location.
 pub fn writers_of<'a>(
     alloc: Global,
     trace: &'a Trace,

@@ -12,8 +12,8 @@ use Rattle.trace_semantics.specs.declared.operation.Op.{Op}
 use Rattle.trace_semantics.specs.declared.trace.Process.{Process}
 use Rattle.trace_semantics.specs.Trace.{TraceValue, IsTrace, at_place, operation_at, first_names, operation_count}
 use Rattle.trace_semantics.proofs.ElementLemmas.{none_in, cases_in, from_map, from_flat_map}
-use Rattle.reducer.proofs.KeptLemmas.{process_of}
-use Rattle.reducer.proofs.PlaceLemmas.{in_list}
+use Rattle.restriction.proofs.LeftLemmas.{process_of}
+use Rattle.restriction.proofs.PlaceLemmas.{in_list}
 use Rattle.var_layout.specs.Numbered.{NumberedOp, numbered_op, numbered_in, numbered}
 use Rattle.var_layout.specs.Numbers.{name_at, op_at}
 

@@ -8,7 +8,7 @@ use Rattle.trace_semantics.specs.declared.trace.Process.{Process}
 use Rattle.trace_semantics.specs.Trace.{TraceValue, IsTrace, operation_at, operation_names, first_names, operation_count}
 use Rattle.trace_semantics.proofs.ElementLemmas.{from_flat_map}
 use Rattle.trace_semantics.proofs.NameLemmas.{from_first, listed_known}
-use Rattle.reducer.proofs.PlaceLemmas.{in_list}
+use Rattle.restriction.proofs.PlaceLemmas.{in_list}
 use Rattle.var_layout.specs.Numbers.{name_at, number_of}
 use Rattle.var_layout.proofs.NumberLemmas.{known_number, names_counted}
 

@@ -12,7 +12,7 @@ use Rattle.trace_semantics.specs.Judgement.{is_held}
 use Rattle.trace_semantics.specs.Operation.{location_of, value_read, origin_of}
 use Rattle.trace_semantics.specs.Trace.{TraceValue, value_of, operation_count}
 use Rattle.trace_semantics.proofs.ElementLemmas.{none_in, cases_in, from_map, from_filter}
-use Rattle.reducer.proofs.PlaceLemmas.{in_list}
+use Rattle.restriction.proofs.PlaceLemmas.{in_list}
 use Rattle.var_layout.specs.declared.candidate.Candidate.{Candidate}
 use Rattle.var_layout.specs.declared.candidate.Candidate.TheVariants.{InitialValue, Writer}
 use Rattle.var_layout.specs.declared.candidate.ReadsFromChoice.{ReadsFromChoice}

@@ -1,5 +1,5 @@
 use Rattle.std.proofs.Common.{◌≡◌, ◌<◌, ◌++◌, ◌-◌}
-use Rattle.reducer.specs.Runs.{names_from}
+use Rattle.restriction.specs.Left.{names_from}
 use Rattle.reducer.proofs.expand.push_names.Given as goal
 
 abbrev pub invariant-loop-place : goal.invariant-loop-place

@@ -1,6 +1,6 @@
 use Rattle.std.proofs.Common.{◌++◌, ◌-◌, get_or, arith, ap, ◌∙◌}
 use Rattle.std.proofs.lemmas.Result.{on_ok_weaker}
-use Rattle.reducer.specs.Runs.{names_from}
+use Rattle.restriction.specs.Left.{names_from}
 use Rattle.reducer.proofs.ExpandLemmas.{kept_bounds, run_of, some_run}
 use Rattle.reducer.proofs.expand.push_run.Goals as goal
 

@@ -13,4 +13,4 @@ overflow_add-count c =
     omega (arith, few, ap length c.as_slice.ensures)
 
 pub returns : goal.returns
-returns c = sum_all c.args.trace.now c.is_trace.ensures c.args.all.now c.requires c.loop-bounds.bounds-index c.loop-bounds.count (omega arith) c.loop-bounds.invariant
+returns c = sum_all c.args.trace.now c.args.all.now c.requires c.loop-bounds.bounds-index c.loop-bounds.count (omega arith) c.loop-bounds.invariant

@@ -1,5 +1,5 @@
 use Rattle.std.proofs.Common.{◌++◌, ◌∷◌, [], length, arith, ap, sym, ◌∙◌}
-use Rattle.reducer.proofs.CopyLemmas.{op_here, op_is, origin_here, one_more_op}
+use Rattle.reducer.proofs.CopyLemmas.{op_here, op_is, origin_here, one_more_op, all_ops}
 use Rattle.reducer.proofs.kept.kept_operations.Goals as goal
 
 pub overflow_sub-op : goal.overflow_sub-op
@@ -27,3 +27,6 @@ loop-k-preserved c =
     ∙ (λ i. c.loop-k.invariant i ++ c.in_ok-new_op.ensures i ∷ [])
     ∙ sym (one_more_op t c.args.process.now c.args.places.now c.loop-k.k at c.index-old-places.result
     (op_is t c.is_trace.ensures c.args.process.now c.requires.listed c.args.places.now c.loop-k.k at c.as_slice-old.result.now c.index-old-places.result c.as_slice-old.ensures c.index-old-places.is))
+
+pub returns : goal.returns
+returns c = c.loop-k.invariant ∙ all_ops c.args.trace.now c.args.process.now c.args.places.now c.loop-k.k c.requires.places c.loop-k-test.false

@@ -1,6 +1,6 @@
 use Rattle.std.proofs.Common.{◌≡◌, take}
 use Rattle.std.specs.List.{flat_map}
-use Rattle.reducer.specs.Reduction.{names_of}
+use Rattle.restriction.specs.Left.{names_of}
 use Rattle.schedule_decode.proofs.operation_names.names_by_number.Given as goal
 
 abbrev pub invariant-loop-process : goal.invariant-loop-process
