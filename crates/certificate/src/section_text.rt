@@ -1,18 +1,11 @@
 //! The end of a section's lines.
 
-ghost use Rattle.std.specs.Prelude.{◌≡◌, ◌+◌, ◌≤◌, min, length};
+ghost use Rattle.std.specs.Prelude.{◌≡◌, ◌+◌, ◌≤◌, length};
 ghost use Rattle.text_lines.specs.Lines.{lines_of};
 ghost use Rattle.certificate.specs.CertRead.{IsSectionCut};
 
 use crate::cert_line::is_end_line;
 use text_lines::lines::cut_line;
-
-/// The lesser of the two.
-fn at_most(bytes: usize, most: usize) -> usize
-    ensures { result ≡ min most bytes }
-{
-    if bytes < most { bytes } else { most }
-}
 
 /// The lines before the first one that ends a section, the text from that line on, and the number of lines before it. If no line
 /// ends a section, these are all lines and the empty text.
@@ -26,7 +19,7 @@ pub(crate) fn cut_section(text: &[u8]) -> (&[u8], &[u8], usize)
     let mut rest = text;
     while let Some((line, after)) = cut_line(rest) {
         if is_end_line(line) {
-            return (&text[..at_most(bytes, text.len())], rest, count);
+            return (&text[..text.len().min(bytes)], rest, count);
         }
         bytes += line.len() + 1;
         count += 1;

@@ -1,6 +1,6 @@
 //! The clause list of a reduced trace, piece by piece. The order of the families stands here and nowhere else.
 
-ghost use Rattle.std.specs.Prelude.{◌≡◌, ◌<◌, ◌≤◌, [], length, slice_index_or, IfOk};
+ghost use Rattle.std.specs.Prelude.{◌≡◌, ◌<◌, ◌≤◌, ◌+◌, [], length, slice_index_or, IfOk};
 ghost use Rattle.trace_semantics.specs.Trace.{IsTrace, operation_count};
 ghost use Rattle.clause_blocks.specs.Clauses as list;
 ghost use Rattle.clause_blocks.specs.Pieces.{clauses_in};
@@ -83,6 +83,32 @@ impl Pieces {
         ensures { result.now ≡ self.now }
     {
         &self.layout
+    }
+
+    /// Returns the number of the first piece of transitivity. There is one for each operation, and program order stands before them.
+    pub(crate) fn piece_of_transitivity(&self) -> usize
+        ensures number { result ≡ 1 }
+        ensures within { result < length (list.pieces self.now) }
+    {
+        1
+    }
+
+    /// Returns the number of the piece of what is read, which stands after transitivity.
+    pub(crate) fn piece_of_reads(&self) -> usize
+        ensures number { result ≡ operation_count self.now + 1 }
+        ensures within { result < length (list.pieces self.now) }
+    {
+        self.are_of_trace();
+        self.layout().operations() + 1
+    }
+
+    /// Returns the number of the piece of final values, which stands after what is read.
+    pub(crate) fn piece_of_final_values(&self) -> usize
+        ensures number { result ≡ operation_count self.now + 2 }
+        ensures within { result < length (list.pieces self.now) }
+    {
+        self.are_of_trace();
+        self.layout().operations() + 2
     }
 
     /// The number of pieces.

@@ -115,6 +115,27 @@ impl TraceClauses {
         starts[k] as usize
     }
 
+    /// Returns how many clauses stand before those of transitivity.
+    pub fn transitivity_start(&self) -> usize
+        ensures { result ≡ clauses_before self.now 1 }
+    {
+        self.start(self.pieces.piece_of_transitivity())
+    }
+
+    /// Returns how many clauses stand before those of what is read.
+    pub fn reads_start(&self) -> usize
+        ensures { result ≡ clauses_before self.now (operation_count self.now + 1) }
+    {
+        self.start(self.pieces.piece_of_reads())
+    }
+
+    /// Returns how many clauses stand before those of the final values.
+    pub fn final_values_start(&self) -> usize
+        ensures { result ≡ clauses_before self.now (operation_count self.now + 2) }
+    {
+        self.start(self.pieces.piece_of_final_values())
+    }
+
     /// The number of the piece in which the clause at this place stands.
     pub(crate) fn piece_at(&self, place: usize) -> usize
         requires { place < length (list.clauses_of self.now) }

@@ -1,8 +1,8 @@
 //! Hints about the structure of an encoding.
 
 use crate::reads_from::{ReadsFromTable, ReadsFromVariable};
-use order_sets::MAX_ELEMENTS;
 use order_sets::tables::size;
+use order_sets::{MAX_ELEMENTS, pair_count, transitivity_count, variable_of_pair};
 
 /// Hints of the caller of `solve` about the formula: which of its clauses are the transitivity of an order.
 ///
@@ -19,14 +19,6 @@ pub struct EncodingHints<'a> {
     elements: u32,
     first: u32,
     reads_from: Option<&'a ReadsFromTable>,
-}
-
-/// Returns the number of transitivity clauses of an order of this many events.
-fn transitivity_of(elements: u32) -> u32 {
-    let triples = elements
-        .wrapping_mul(elements.wrapping_sub(1))
-        .wrapping_mul(elements.wrapping_sub(2));
-    triples / 3
 }
 
 impl<'a> EncodingHints<'a> {
@@ -65,7 +57,7 @@ impl<'a> EncodingHints<'a> {
 
     /// Returns those hints that fit a formula of this many variables and clauses.
     pub fn fitting(self, variables: u32, clauses: usize) -> EncodingHints<'a> {
-        let pairs = self.elements.wrapping_mul(self.elements.wrapping_sub(1)) / 2;
+        let pairs = pair_count(self.elements);
         if pairs > variables
             || self.first == 0
             || self.end_id() as usize > clauses.saturating_add(1)
@@ -102,14 +94,7 @@ impl<'a> EncodingHints<'a> {
 
     /// Returns the order variable of these two events.
     pub fn variable_of_pair(self, a: u32, b: u32) -> u32 {
-        let i = a.min(b);
-        let j = a.max(b);
-        let before = self
-            .elements
-            .wrapping_mul(2)
-            .wrapping_sub(i)
-            .wrapping_sub(1);
-        (i.wrapping_mul(before) / 2).wrapping_add(j).wrapping_sub(i)
+        variable_of_pair(self.elements, a, b)
     }
 
     /// Returns the id of the first transitivity clause.
@@ -119,6 +104,6 @@ impl<'a> EncodingHints<'a> {
 
     /// Returns the id after the last transitivity clause.
     pub fn end_id(self) -> u32 {
-        self.first.wrapping_add(transitivity_of(self.elements))
+        self.first.wrapping_add(transitivity_count(self.elements))
     }
 }

@@ -1,7 +1,8 @@
 //! Jobs and settled jobs.
 ghost use Rattle.std.specs.Prelude.{◌≡◌, ◌≤◌, length};
 
-use crate::job_cube::{JobCube, MAX_LITERALS};
+use crate::job_cube::JobCube;
+use crate::limits::MAX_LITERALS;
 use crate::outcome::Outcome;
 use dimacs::Lit;
 use std::alloc::Global;

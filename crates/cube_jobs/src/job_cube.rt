@@ -1,14 +1,12 @@
 //! The cube of a job.
-ghost use Rattle.std.specs.Prelude.{◌≡◌, ◌≤◌, length, IsTrue};
+ghost use Rattle.std.specs.Prelude.{◌≡◌, ◌≤◌, ◌↔◌, length, IsTrue};
 ghost use Rattle.dimacs.specs.Literal.{is_clause};
 
+use crate::limits::MAX_LITERALS;
 use dimacs::{Lit, are_literals};
 use smallvec::SmallVec;
 use std::alloc::Global;
 use std::marker::Model;
-
-/// The most literals of a cube, which is how deep a tree may be.
-pub const MAX_LITERALS: usize = 20;
 
 /// The literals of a job, which are all assumed to be true: at most 20, which need no memory of their own.
 #[derive(Drop)]
@@ -25,6 +23,13 @@ impl Model for JobCube {
     ghost view = { λ cube. cube.literals.items };
 
     ghost invariant = { λ cube. (length cube.literals.items ≤ 20) × IsTrue (is_clause cube.literals.items) };
+}
+
+/// Returns whether these are the same literals in the same order.
+pub fn are_same(first: &[Lit], second: &[Lit]) -> bool
+    ensures { IsTrue result ↔ (first.now ≡ second.now) }
+{
+    first == second
 }
 
 impl JobCube {

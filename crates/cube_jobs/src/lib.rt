@@ -5,6 +5,7 @@
 mod gate;
 mod job;
 mod job_cube;
+pub mod limits;
 mod models;
 pub mod options;
 mod outcome;
@@ -12,7 +13,8 @@ mod search_fault;
 
 pub use gate::{Gate, OpenGate};
 pub use job::{Job, Settled};
-pub use job_cube::{JobCube, MAX_LITERALS};
+pub use job_cube::{JobCube, are_same};
+pub use limits::{MAX_CUBES, MAX_LITERALS, MAX_WORKERS};
 pub use models::is_model_in;
 pub use options::{BadOption, Options};
 pub use outcome::Outcome;

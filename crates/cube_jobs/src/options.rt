@@ -2,6 +2,7 @@
 ghost use Rattle.std.specs.Prelude.{◌≡◌, ◌≤◌, ◌↔◌, IsOk, IfOk, IfErr, MatchResult, Some, None, Err};
 ghost use Rattle.cube_jobs.specs.Options.{OptionsValue, bad_option};
 
+use crate::limits::{MAX_BUDGET, MAX_ROUNDS, MAX_SPLIT, MAX_WORKERS};
 use std::marker::Model;
 use text_lines::fault::FaultCause;
 
@@ -74,16 +75,16 @@ impl Options {
             (λ options. (options ≡ record { workers = workers; split = split; budget = budget; rounds = rounds }) × (bad_option options ≡ None))
             (λ bad. bad_option (record { workers = workers; split = split; budget = budget; rounds = rounds }) ≡ Some bad) }
     {
-        if workers < 1 || workers > 8 {
+        if workers < 1 || workers > MAX_WORKERS {
             return Err(BadOption::Workers);
         }
-        if split > 10 {
+        if split > MAX_SPLIT {
             return Err(BadOption::Split);
         }
-        if budget > 1_000_000_000 {
+        if budget > MAX_BUDGET {
             return Err(BadOption::Budget);
         }
-        if rounds < 1 || rounds > 4 {
+        if rounds < 1 || rounds > MAX_ROUNDS {
             return Err(BadOption::Rounds);
         }
         Ok(Options {
@@ -125,5 +126,17 @@ impl Options {
         ensures few { result ≤ 4 }
     {
         self.rounds
+    }
+}
+
+/// Returns the number of workers, at most one for each leaf.
+pub fn needed(workers: u32, leaves: usize) -> u32
+    ensures few { result ≤ workers }
+    ensures used { result ≤ leaves }
+{
+    if leaves < workers as usize {
+        leaves as u32
+    } else {
+        workers
     }
 }

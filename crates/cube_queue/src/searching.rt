@@ -10,37 +10,14 @@ use crate::leaf_jobs::jobs_of;
 use crate::opening::open;
 use crate::running::run;
 use crate::settling::CubeSettler;
+use cube_jobs::options::needed;
 use cube_jobs::{Gate, Options, SearchFault, Settled};
-use cube_tree::laws::a_cube_for_each_leaf;
-use cube_tree::{Cube, Tree, cubes};
+use cube_tree::{Tree, bounded_cubes};
 use dimacs::ClauseList;
 use solver::PreparedFormula;
 use std::alloc::{AllocError, Global};
 use std::sync::Wait;
 use std::thread::Threads;
-
-/// The cubes of the tree's leaves, of which there are few.
-fn leaf_cubes(alloc: Global, tree: &Tree) -> Result<Vec<Cube>, AllocError>
-    ensures cubes { IfOk result (λ cubes. cubes.items ≡ cubes_of tree.now) }
-    ensures few { IfOk result (λ cubes. length cubes.items ≤ 1024) }
-{
-    tree.covers();
-    a_cube_for_each_leaf();
-    let cubes = cubes(alloc, tree)?;
-    Ok(cubes)
-}
-
-/// The number of workers, at most one for each leaf.
-fn needed(workers: u32, leaves: usize) -> u32
-    ensures few { result ≤ workers }
-    ensures used { result ≤ leaves }
-{
-    if leaves < workers as usize {
-        leaves as u32
-    } else {
-        workers
-    }
-}
 
 /// Searches the cubes of these leaves of the tree by several workers in threads of their own, no more of them than leaves.
 fn search_in_threads<R: Threads + Wait + Sync, L: ClauseList + Sync, G: Gate + Sync>(
@@ -58,7 +35,7 @@ fn search_in_threads<R: Threads + Wait + Sync, L: ClauseList + Sync, G: Gate + S
     ensures results { IfOk result (λ results. AreResultsOf (L.formula settler.now.formula.now).clauses (cubes_of tree.now) which.now results.items) }
     ensures fault { IfErr result (λ fault. IsFaultOf workers (cubes_of tree.now) which.now fault) }
 {
-    let cubes = leaf_cubes(alloc, tree)?;
+    let cubes = bounded_cubes(alloc, tree)?;
     let jobs = jobs_of(alloc, cubes.as_slice(), which)?;
     let (site, crew) = open(alloc, workers, cubes.len() as u32, jobs)?;
     let returned = run(alloc, rt, &site, settler, gate, crew)?;

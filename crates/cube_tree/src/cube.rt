@@ -4,16 +4,14 @@ ghost use Rattle.std.specs.Prelude.{◌≡◌, ◌≤◌, ◌<◌, ◌==◌, [],
 ghost use Rattle.std.specs.List.{list_any};
 ghost use Rattle.dimacs.specs.Literal.{is_clause};
 
+use crate::limits::MAX_DEPTH;
 use dimacs::{Lit, are_literals};
 use std::marker::Model;
-
-/// The most literals of a cube: no tree is deeper.
-const MAX_LITERALS: usize = 20;
 
 /// Literals that are assumed together: those of the splits from the root of a tree to a leaf. It takes no memory.
 #[derive(Drop)]
 pub struct Cube {
-    places: [Lit; MAX_LITERALS],
+    places: [Lit; MAX_DEPTH],
     length: usize,
 }
 
@@ -33,7 +31,7 @@ impl Cube {
         ensures { result ≡ [] }
     {
         Cube {
-            places: [Lit::default(); MAX_LITERALS],
+            places: [Lit::default(); MAX_DEPTH],
             length: 0,
         }
     }

@@ -1,9 +1,10 @@
 //! The cubes of a tree's leaves.
 
-ghost use Rattle.std.specs.Prelude.{◌≡◌, IfOk};
+ghost use Rattle.std.specs.Prelude.{◌≡◌, ◌≤◌, length, IfOk};
 ghost use Rattle.cube_tree.specs.CubeTree.{cubes_of};
 
 use crate::cube::Cube;
+use crate::laws::a_cube_for_each_leaf;
 use crate::node::Node;
 use crate::tree::Tree;
 use dimacs::Lit;
@@ -32,5 +33,16 @@ pub fn cubes(alloc: Global, tree: &Tree) -> Result<Vec<Cube>, AllocError>
         }
         rest = after;
     }
+    Ok(cubes)
+}
+
+/// Returns the cube of each leaf, by the leaves' numbers, and says that they are at most 1,024.
+pub fn bounded_cubes(alloc: Global, tree: &Tree) -> Result<Vec<Cube>, AllocError>
+    ensures cubes { IfOk result (λ cubes. cubes.items ≡ cubes_of tree.now) }
+    ensures few { IfOk result (λ cubes. length cubes.items ≤ 1024) }
+{
+    tree.covers();
+    a_cube_for_each_leaf();
+    let cubes = cubes(alloc, tree)?;
     Ok(cubes)
 }

@@ -8,18 +8,13 @@ ghost use Rattle.cube_tree.specs.SplitFault.{split_fault};
 
 use crate::leaf_cubes::cubes;
 use crate::leaf_place::leaf_place;
+use crate::limits::{MAX_DEPTH, MAX_LEAVES};
 use crate::node::Node;
 use crate::split_fault::SplitCause;
 use crate::tree::Tree;
 use dimacs::MAX_VARIABLE;
 use std::alloc::{AllocError, Global};
 use text_lines::fault::PlacedFault;
-
-/// The most leaves of a tree.
-const MAX_LEAVES: usize = 1024;
-
-/// The most splits above a leaf.
-const MAX_DEPTH: usize = 20;
 
 /// Why the leaf is not split, if it is not.
 fn fault_of_split(alloc: Global, tree: &Tree, k: u32) -> Result<Option<SplitCause>, AllocError>

@@ -8,6 +8,7 @@ pub mod laws;
 mod leaf_cubes;
 mod leaf_place;
 mod leaf_split;
+mod limits;
 mod node;
 mod node_line;
 mod split_fault;
@@ -19,8 +20,9 @@ mod tree_writer;
 
 pub use cube::Cube;
 pub use grown::grow;
-pub use leaf_cubes::cubes;
+pub use leaf_cubes::{bounded_cubes, cubes};
 pub use leaf_split::split_leaf;
+pub use limits::{MAX_DEPTH, MAX_LEAVES};
 pub use split_fault::SplitCause;
 pub use tree::Tree;
 pub use tree_fault::TreeCause;

@@ -1,11 +1,12 @@
 //! The reader of a tree's text.
 
-ghost use Rattle.std.specs.Prelude.{◌≡◌, None, Some, min, reverse, IfOk, IfErr, MatchResult, OnOk};
+ghost use Rattle.std.specs.Prelude.{◌≡◌, None, Some, reverse, IfOk, IfErr, MatchResult, OnOk};
 ghost use Rattle.text_lines.specs.Fault.{IsRefusal};
 ghost use Rattle.text_lines.specs.Words.{words_of};
 ghost use Rattle.cube_tree.specs.TreeFault.{HasTreeFault, node_of, node_fault, due_below};
 ghost use Rattle.cube_tree.specs.TreeText.{SpellsTree};
 
+use crate::limits::{MAX_DEPTH, MAX_LEAVES};
 use crate::node::Node;
 use crate::node_line::read_node;
 use crate::tree::Tree;
@@ -13,12 +14,6 @@ use crate::tree_fault::TreeCause;
 use std::alloc::{AllocError, Global};
 use text_lines::fault::PlacedFault;
 use text_lines::lines::cut_line;
-
-/// The most splits above a leaf.
-const MAX_DEPTH: u32 = 20;
-
-/// The most leaves of a tree.
-const MAX_LEAVES: usize = 1024;
 
 /// The node on the line, which is due at this depth after this number of leaves.
 fn take_line(line: &[u8], depth: u32, leaves: usize) -> Result<Node, TreeCause>
@@ -29,7 +24,7 @@ fn take_line(line: &[u8], depth: u32, leaves: usize) -> Result<Node, TreeCause>
     match read_node(line) {
         None => Err(TreeCause::BadLine),
         Some(Node::Split(variable)) => {
-            if depth >= MAX_DEPTH {
+            if depth as usize >= MAX_DEPTH {
                 return Err(TreeCause::TooDeep);
             }
             Ok(Node::Split(variable))
@@ -53,13 +48,6 @@ fn push_due(due: &mut Vec<u32>, node: Node, depth: u32) -> Result<(), AllocError
         due.push(depth + 1)?;
     }
     Ok(())
-}
-
-/// The lesser of the two.
-fn at_most(bytes: usize, most: usize) -> usize
-    ensures { result ≡ min most bytes }
-{
-    if bytes < most { bytes } else { most }
 }
 
 /// The tree that the text spells at its beginning, and the number of bytes that its lines take. What stands after them is not read.
@@ -95,5 +83,5 @@ pub fn read_tree(alloc: Global, text: &[u8]) -> Result<(Tree, usize), PlacedFaul
         bytes += line.len() + 1;
         rest = after;
     }
-    Ok((Tree::of_nodes(nodes), at_most(bytes, text.len())))
+    Ok((Tree::of_nodes(nodes), text.len().min(bytes)))
 }

@@ -3,15 +3,16 @@ ghost use Rattle.std.specs.Prelude.{◌≡◌, ◌<◌, ◌≤◌, ℕ, Option, 
 ghost use Rattle.std.specs.List.{list_any};
 ghost use Rattle.dealing.specs.Machine.{is_in_hand};
 
+use cube_jobs::MAX_WORKERS;
 use std::marker::Model;
 
 /// The most workers of a machine.
-pub(crate) const MAX_WORKERS: usize = 8;
+const PLACES: usize = MAX_WORKERS as usize;
 
 /// For each worker what it has in flight: a ticket, or nothing. Of the eight places those of the machine's workers count.
 #[derive(Drop)]
 pub(crate) struct Hands {
-    places: [Option<u32>; MAX_WORKERS],
+    places: [Option<u32>; PLACES],
     workers: usize,
 }
 
@@ -42,7 +43,7 @@ impl Hands {
         ensures { result ≡ replicate workers None }
     {
         Hands {
-            places: [None; MAX_WORKERS],
+            places: [None; PLACES],
             workers: workers as usize,
         }
     }

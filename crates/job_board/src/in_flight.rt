@@ -5,8 +5,7 @@ ghost use Rattle.job_board.specs.Pairs.{of_result};
 ghost use Rattle.job_board.specs.declared.in_flight.InFlight.TheVariants.{Holds};
 ghost use Rattle.job_board.specs.declared.in_flight.HeldJob.{HeldJob};
 
-use cube_jobs::{Job, JobCube, Settled};
-use dimacs::Lit;
+use cube_jobs::{Job, JobCube, Settled, are_same};
 use std::alloc::Global;
 
 /// The ticket and the cube of a job that a worker has taken and not yet settled.
@@ -27,13 +26,6 @@ pub enum InFlight {
     Stopped(Job),
     /// Nothing, and its channel ended.
     Cut,
-}
-
-/// Returns whether these are the same literals in the same order.
-fn are_same(first: &[Lit], second: &[Lit]) -> bool
-    ensures { IsTrue result ↔ (first.now ≡ second.now) }
-{
-    first == second
 }
 
 impl HeldJob {

@@ -17,7 +17,7 @@ mod seats;
 
 pub use account::Account;
 pub use board::Board;
+pub use cube_jobs::{MAX_CUBES, MAX_WORKERS};
 pub use ended::Ended;
 pub use in_flight::{HeldJob, InFlight};
-pub use opening::{MAX_CUBES, MAX_WORKERS};
 pub use seats::{CollectorSeat, DealerSeat, WorkerSeat};

@@ -11,13 +11,8 @@ use crate::channel_rules::NewWorker;
 use crate::in_flight::InFlight;
 use crate::seats::{CollectorSeat, DealerSeat, JobPass, ResultPass, WorkerSeat};
 use crossbeam_channel::bounded_with;
+use cube_jobs::{MAX_CUBES, MAX_WORKERS};
 use std::alloc::{AllocError, Global};
-
-/// The most workers at a board.
-pub const MAX_WORKERS: u32 = 8;
-
-/// The most cubes of a board, and the most jobs that wait at one.
-pub const MAX_CUBES: u32 = 1024;
 
 impl Board {
     /// Opens a board for 1 to 8 workers and 1 to 1,024 cubes, at which 1 to 1,024 jobs may wait, and returns it with all seats at it. The

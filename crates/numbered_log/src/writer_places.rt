@@ -1,7 +1,7 @@
 //! The next and the previous writer of a location in a process.
 
 use crate::numbered_log::NumberedLog;
-use order_sets::tables::{at, put, size};
+use order_sets::tables::{at, put, sum_up};
 use std::alloc::{AllocError, Global};
 
 /// For each location and each process the places of the writers, rising.
@@ -32,7 +32,8 @@ impl WriterPlaces {
         for number in 0..log.count() {
             places.count_one(log, number);
         }
-        places.sum();
+        // The counts become places: those of a number begin, for now, one place after its own.
+        sum_up(places.begins.as_mut_slice());
         for number in 0..log.count() {
             places.enter(log, number);
         }
@@ -54,15 +55,6 @@ impl WriterPlaces {
                 .wrapping_add(2);
             let count = at(self.begins.as_slice(), place, 0).wrapping_add(1);
             put(self.begins.as_mut_slice(), place, count);
-        }
-    }
-
-    /// Makes the counts to places: those of a pair begin, for now, one place behind its own.
-    fn sum(&mut self) {
-        let mut sum: u32 = 0;
-        for place in 0..size(self.begins.as_slice()) {
-            sum = sum.wrapping_add(at(self.begins.as_slice(), place, 0));
-            put(self.begins.as_mut_slice(), place, sum);
         }
     }
 

@@ -6,9 +6,11 @@
 
 mod element_sets;
 mod order_matrix;
+mod order_numbers;
 pub mod tables;
 mod triple_ids;
 
 pub use element_sets::{ElementSets, MAX_ELEMENTS, next_element};
 pub use order_matrix::{Implied, OrderMatrix};
+pub use order_numbers::{pair_count, transitivity_count, variable_of_pair};
 pub use triple_ids::TripleIds;

@@ -1,6 +1,7 @@
 //! A transitively closed strict order as sets of bits.
 
 use crate::element_sets::{ElementSets, MAX_ELEMENTS, next_element};
+use crate::order_numbers::{pair_count, pairs_below, variable_of_pair};
 use crate::tables::{at, piece, put};
 use std::alloc::{AllocError, Global};
 
@@ -36,7 +37,7 @@ impl OrderMatrix {
     /// Makes the order of at most 192 elements in which no two are in order yet.
     pub fn new(alloc: Global, elements: u32) -> Result<OrderMatrix, AllocError> {
         let elements = elements.min(MAX_ELEMENTS);
-        let variables = elements.wrapping_mul(elements.wrapping_sub(1)) / 2;
+        let variables = pair_count(elements);
         let nothing = Implied {
             literal: 0,
             over: 0,
@@ -58,11 +59,11 @@ impl OrderMatrix {
     /// Gives each pair its variable.
     fn number_variables(&mut self) {
         let elements = self.elements;
-        let mut variable: u32 = 0;
         for i in 0..elements {
-            put(self.bases.as_mut_slice(), i, variable.wrapping_sub(i));
+            let base = pairs_below(elements, i).wrapping_sub(i);
+            put(self.bases.as_mut_slice(), i, base);
             for j in i + 1..elements {
-                variable = variable.wrapping_add(1);
+                let variable = variable_of_pair(elements, i, j);
                 put(self.pairs.as_mut_slice(), variable, (i << 16) | j);
             }
         }

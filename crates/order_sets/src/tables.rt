@@ -44,3 +44,12 @@ pub fn size<T>(table: &[T]) -> u32 {
         0xffff_ffff
     }
 }
+
+/// Replaces each entry by the sum of those up to it.
+pub fn sum_up(table: &mut [u32]) {
+    let mut sum: u32 = 0;
+    for place in 0..size(table) {
+        sum = sum.wrapping_add(at(table, place, 0));
+        put(table, place, sum);
+    }
+}

@@ -12,7 +12,7 @@ use trace_semantics::name::Name;
 use trace_semantics::operation::Op;
 use trace_semantics::trace::Process;
 use trace_text::trace_writer::{
-    push_entries, push_header, push_op, push_pairs, wants_version_2, write_trace,
+    push_entries, push_header, push_op, push_pairs, wanted_version, write_trace,
 };
 
 /// Appends the comment with the name of an operation.
@@ -103,7 +103,7 @@ fn write_named(alloc: Global, part: &TracePart) -> Result<Vec<u8>, AllocError>
 {
     let trace = part.trace();
     let mut text = Vec::new(alloc);
-    push_header(&mut text, wants_version_2(trace))?;
+    push_header(&mut text, wanted_version(trace))?;
     push_entries(&mut text, b"init", trace.initial())?;
     push_entries(&mut text, b"final", trace.final_values())?;
     push_named_processes(&mut text, part)?;

@@ -14,9 +14,8 @@ use crate::leaves::Leaves;
 use crate::slot::Slot;
 use crate::unproved::without_proof;
 use crate::verdict::Verdict;
-use cube_jobs::{JobCube, MAX_LITERALS, Settled};
-use cube_tree::laws::a_cube_for_each_leaf;
-use cube_tree::{Cube, Tree, cubes};
+use cube_jobs::{JobCube, MAX_LITERALS, Settled, are_same};
+use cube_tree::{Cube, Tree, bounded_cubes};
 use dimacs::{ClauseList, Lit};
 use std::alloc::{AllocError, Global};
 use std::marker::Model;
@@ -37,24 +36,6 @@ impl Model for Ledger {
     ghost view = { λ ledger. ledger.slots.items };
 
     ghost invariant = { λ ledger. length ledger.slots.items ≤ 1024 };
-}
-
-/// Returns whether these are the same literals in the same order.
-fn are_same(first: &[Lit], second: &[Lit]) -> bool
-    ensures { IsTrue result ↔ (first.now ≡ second.now) }
-{
-    first == second
-}
-
-/// The cubes of the tree's leaves, of which there are few.
-fn leaf_cubes(alloc: Global, tree: &Tree) -> Result<Vec<Cube>, AllocError>
-    ensures cubes { IfOk result (λ cubes. cubes.items ≡ cubes_of tree.now) }
-    ensures few { IfOk result (λ cubes. length cubes.items ≤ 1024) }
-{
-    tree.covers();
-    a_cube_for_each_leaf();
-    let cubes = cubes(alloc, tree)?;
-    Ok(cubes)
 }
 
 /// A slot without an answer for each of these cubes.
@@ -168,7 +149,7 @@ impl Ledger {
         ensures slots { IfOk result (λ ledger. ledger ≡ map empty_slot (cubes_of tree.now)) }
         ensures cubes { IfOk result (λ ledger. cubes_in ledger ≡ cubes_of tree.now) }
     {
-        let cubes = leaf_cubes(alloc, tree)?;
+        let cubes = bounded_cubes(alloc, tree)?;
         let slots = empty_slots(alloc, cubes.as_slice())?;
         Ok(Ledger { slots })
     }
@@ -273,7 +254,7 @@ impl Ledger {
         ensures split { IfOk result (λ ledger. IsSplitAt leaf (cubes_of tree.now) self ledger) }
         ensures same { IfErr result (λ back. back.0 ≡ self) }
     {
-        let Ok(cubes) = leaf_cubes(alloc, tree) else {
+        let Ok(cubes) = bounded_cubes(alloc, tree) else {
             return Err((self, AllocError));
         };
         let place = leaf as usize;

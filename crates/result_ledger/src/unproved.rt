@@ -5,6 +5,7 @@ ghost use Rattle.result_ledger.specs.Pieces.{AreWithoutBetween, piece_start};
 
 use crate::confirming::is_proved;
 use crate::slot::Slot;
+use cube_jobs::options::needed;
 use dimacs::ClauseList;
 use std::alloc::{AllocError, Global};
 use std::thread::{Threads, map_indices};
@@ -97,17 +98,6 @@ fn without_proof_in_pieces<R: Threads + Sync, L: ClauseList + Sync>(
     { without_proof_in(alloc, formula, slots, size, piece) };
     let pieces = map_indices(rt, alloc, count, &in_piece)?;
     joined(alloc, formula, slots, size, pieces)
-}
-
-/// The number of workers, at most one for each leaf.
-fn needed(workers: u32, leaves: usize) -> u32
-    ensures { result ≤ workers }
-{
-    if leaves < workers as usize {
-        leaves as u32
-    } else {
-        workers
-    }
 }
 
 /// The leaves that are not proved, rising, looked for by at most `workers` workers.

@@ -11,6 +11,7 @@ ghost use Rattle.trace_semantics.specs.NameNumbers.{number_of};
 ghost use Rattle.trace_semantics.specs.Trace.{TraceValue};
 
 use std::alloc::{AllocError, Global};
+use trace_semantics::held_value::is_held;
 use trace_semantics::name::Name;
 use trace_semantics::name_table::NameTable;
 use trace_semantics::operation::{Op, OpName, Origin};
@@ -20,16 +21,6 @@ use trace_semantics::operation::{Op, OpName, Origin};
 pub struct Memory<'a> {
     pub values: NameTable<'a>,
     pub writers: NameTable<'a>,
-}
-
-/// Whether this value is held.
-fn is_held(held: Option<u64>, value: u64) -> bool
-    ensures { result ≡ judgement.is_held held value }
-{
-    match held {
-        None => false,
-        Some(other) => other == value,
-    }
 }
 
 /// Whether the location holds what is read, if anything is.

@@ -12,14 +12,12 @@ use std::alloc::{AllocError, Global};
 use text_lines::comments::begins_comment;
 use text_lines::fault::PlacedFault;
 use text_lines::lines::cut_line;
-use text_lines::numbers::read_plain;
 use text_lines::words::cut_word;
+use trace_semantics::limits::MAX_OPERATIONS;
 use trace_semantics::name::{Name, is_name_word};
 use trace_semantics::operation::OpName;
+use trace_semantics::place::read_place;
 use trace_semantics::schedule::Schedule;
-
-/// The most names of a schedule.
-const MAX_NAMES: usize = 4096;
 
 fn find_dot(word: &[u8]) -> Option<usize>
     ensures { result ≡ position is_dot word.now }
@@ -34,17 +32,6 @@ fn cut_at_dot(word: &[u8]) -> Option<(&[u8], &[u8])>
 {
     let dot = find_dot(word)?;
     Some((&word[..dot], &word[dot + 1..]))
-}
-
-/// The place that the word writes, from 1 to 65535.
-fn read_place(word: &[u8]) -> Option<u16>
-    ensures { result ≡ place_of word.now }
-{
-    let place = read_plain(word, 65535)?;
-    if place == 0 {
-        return None;
-    }
-    Some(place as u16)
 }
 
 /// The process and the place of a name, after that many names.
@@ -62,7 +49,7 @@ fn read_name(word: &[u8], earlier: usize) -> Result<(&[u8], u16), ScheduleCause>
     let Some(place) = read_place(place) else {
         return Err(ScheduleCause::BadNumber);
     };
-    if earlier >= MAX_NAMES {
+    if earlier >= MAX_OPERATIONS {
         return Err(ScheduleCause::TooMany);
     }
     Ok((process, place))

@@ -2,7 +2,7 @@
 
 use crate::sources::Sources;
 use numbered_log::NOBODY;
-use order_sets::tables::{at, put, size};
+use order_sets::tables::{at, put, sum_up};
 use std::alloc::{AllocError, Global};
 
 /// For each operation the readers that have it as a possible source, and for each location those that have its initial value. An
@@ -49,7 +49,8 @@ impl Concerned {
                 count = count.wrapping_add(1);
             }
         }
-        concerned.sum();
+        // The counts become places: those of a number begin, for now, one place after its own.
+        sum_up(concerned.begins.as_mut_slice());
         concerned.readers = vec![in alloc; 0; count as usize]?;
         for reader in 0..sources.readers() {
             let its_initial = at(initial, reader, 0);
@@ -66,15 +67,6 @@ impl Concerned {
         let place = number.wrapping_add(2);
         let count = at(self.begins.as_slice(), place, 0).wrapping_add(1);
         put(self.begins.as_mut_slice(), place, count);
-    }
-
-    /// Makes the counts to places: those of a number begin, for now, one place behind its own.
-    fn sum(&mut self) {
-        let mut sum: u32 = 0;
-        for place in 0..size(self.begins.as_slice()) {
-            sum = sum.wrapping_add(at(self.begins.as_slice(), place, 0));
-            put(self.begins.as_mut_slice(), place, sum);
-        }
     }
 
     /// Enters a reader. When all are entered, the readers of each number begin at its own place.

@@ -107,8 +107,8 @@ pub fn decide<R: Threads + Wait + Sync, G: Gate + Sync>(
     ensures { IfOk result (λ decision. IsDecided options.now reduced.now.whole decision) }
 {
     let clauses = TraceClauses::of(alloc, reduced)?;
-    let reads_from = reads_from_table(alloc, clauses.layout())?;
-    let encoding = guide_to_order(clauses.layout()).with_reads_from(&reads_from);
+    let reads_from = reads_from_table(alloc, &clauses)?;
+    let encoding = guide_to_order(&clauses).with_reads_from(&reads_from);
     let prepared = PreparedFormula::of(alloc, &clauses, encoding)?;
     let decided = search_in_rounds(alloc, rt, &clauses, &prepared, options, gate)?;
     Ok(decision_of(alloc, reduced, &clauses, options, decided)?)

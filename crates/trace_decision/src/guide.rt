@@ -1,6 +1,7 @@
 //! Hints for the solver about the structure of a trace's encoding. Untrusted: an error here can only slow the search down.
 ghost use Rattle.std.specs.Prelude.{◌<◌, length};
 
+use clause_blocks::trace_clauses::TraceClauses;
 use solver::{EncodingHints, LastWriter, ReadsFromTable, ReadsFromVariable};
 use std::alloc::{AllocError, Global};
 use var_layout::candidate::{Candidate, ReadsFromChoice as ChoiceOfRead};
@@ -16,16 +17,15 @@ fn count_of(operations: &[usize]) -> u32 {
     u32::try_from(operations.len()).unwrap_or(u32::MAX)
 }
 
-/// Where the clauses of transitivity stand: after those of program order.
-pub(crate) fn guide_to_order<'a>(layout: &Layout) -> EncodingHints<'a> {
-    let operations = layout.operations();
-    let mut first: u32 = 1;
-    for i in 1..operations {
-        if layout.in_one_process(i - 1, i) {
-            first = first.saturating_add(1);
-        }
-    }
-    EncodingHints::with_order(element_of(operations), first)
+/// Returns the id of the clause at this place, as the solver counts clauses: from 1.
+fn id_at(place: usize) -> u32 {
+    element_of(place).saturating_add(1)
+}
+
+/// Returns hints that name the clauses of transitivity.
+pub(crate) fn guide_to_order<'a>(clauses: &TraceClauses) -> EncodingHints<'a> {
+    let operations = clauses.layout().operations();
+    EncodingHints::with_order(element_of(operations), id_at(clauses.transitivity_start()))
 }
 
 /// Adds the other writers of the operation's location.
@@ -110,19 +110,20 @@ fn add_last_writers(
     Ok(next)
 }
 
-/// Who writes what others read, and where the clauses stand that say what is read: after those of transitivity, reader by reader. Then come
-/// those of the final values.
+/// Returns who writes what others read, and which clauses say what is read and which writers are the last ones.
 pub(crate) fn reads_from_table(
     alloc: Global,
-    layout: &Layout,
+    clauses: &TraceClauses,
 ) -> Result<ReadsFromTable, AllocError> {
+    let layout = clauses.layout();
     let operations = layout.operations();
     let mut reads_from = ReadsFromTable::new(alloc, element_of(operations))?;
-    let mut next = guide_to_order(layout).end_id();
+    let mut next = id_at(clauses.reads_start());
     for operation in 0..operations {
         add_writers(&mut reads_from, layout, operation);
         next = add_choices(&mut reads_from, layout, operation, next)?;
     }
+    next = id_at(clauses.final_values_start());
     for k in 0..layout.final_values() {
         next = add_last_writers(&mut reads_from, layout, k, next)?;
     }

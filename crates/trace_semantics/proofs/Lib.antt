@@ -9,3 +9,4 @@ pub mod NameLemmas
 pub mod OrderLemmas
 pub mod ProcessOrderLemmas
 pub mod ValueLemmas
+pub mod WrittenLemmas

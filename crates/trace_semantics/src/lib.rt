@@ -4,11 +4,15 @@
 //! ("Testing Shared Memories", 1997).
 #![tactic(auto)]
 
+pub mod held_value;
 pub mod judgement;
 pub mod laws;
+pub mod limits;
 pub mod name;
 pub mod name_key;
 pub mod name_table;
 pub mod operation;
+pub mod place;
+pub mod process_order;
 pub mod schedule;
 pub mod trace;

@@ -4,6 +4,7 @@ ghost use Rattle.std.specs.Prelude.{◌≡◌, IfOk};
 ghost use Rattle.std.specs.List.{list_all};
 ghost use Rattle.trace_semantics.specs.Names.{is_name, may_begin_name, may_be_in_name};
 
+use crate::limits::MAX_NAME;
 use smallvec::SmallVec;
 use std::alloc::{AllocError, Global};
 use std::marker::Model;
@@ -67,5 +68,5 @@ fn all_may_stand(word: &[u8]) -> bool
 pub fn is_name_word(word: &[u8]) -> bool
     ensures { result ≡ is_name word.now }
 {
-    1 <= word.len() && word.len() <= 32 && may_begin(word[0]) && all_may_stand(word)
+    1 <= word.len() && word.len() <= MAX_NAME && may_begin(word[0]) && all_may_stand(word)
 }

@@ -15,7 +15,7 @@ use Rattle.trace_text.specs.Entry.{source_of, statement_for, has_numbers, fits_v
 use Rattle.trace_text.specs.Statement.{ReadsFrom, Unsaid, FromInit, FromOp, Statement, Init, Final, Proc, Read, Write, Update, Before}
 use Rattle.trace_semantics.specs.Place.{place_of}
 use Rattle.trace_text.specs.TraceFault.{is_value, is_place, references_of_source}
-use Rattle.trace_text.proofs.WrittenLemmas.{number_written}
+use Rattle.trace_semantics.proofs.WrittenLemmas.{number_written}
 
 some_of : {X : Type 0} (o : Option X) → not (is_none o) ≡ true → (x : X) × (o ≡ Some x)
 some_of None h = absurd (cc)

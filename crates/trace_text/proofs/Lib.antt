@@ -31,4 +31,3 @@ pub mod TraceClearLemmas
 pub mod TraceReadLemmas
 pub mod TraceWrittenLemmas
 pub mod WritableLemmas
-pub mod WrittenLemmas

@@ -12,3 +12,4 @@ pub mod TraceFault
 pub mod TraceLines
 pub mod TraceText
 pub mod TraceWritten
+pub mod Version

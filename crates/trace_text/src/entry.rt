@@ -5,7 +5,6 @@ ghost use Rattle.trace_text.specs.Entry.{source_of, statement_for, op_statement,
 ghost use Rattle.text_lines.specs.PlainFault.{IsRefusedFor};
 ghost use Rattle.trace_text.specs.Said.{said, said_source};
 ghost use Rattle.trace_text.specs.Statement.{Read, Write, Update, Before};
-ghost use Rattle.trace_semantics.specs.Place.{place_of};
 ghost use Rattle.trace_text.specs.TraceFault.{is_value, is_place};
 
 use crate::statement::{ReadsFrom, Statement};
@@ -15,6 +14,7 @@ use text_lines::numbers::read_plain;
 use text_lines::plain_fault::PlainFault;
 use trace_semantics::name::Name;
 use trace_semantics::operation::{Op, OpName, Origin};
+use trace_semantics::place::read_place;
 
 /// What a line adds to the trace.
 #[derive(Drop)]
@@ -38,19 +38,6 @@ fn read_value(word: &[u8]) -> Option<u64>
     ensures fits { IfSome result (λ value. fits_value value ≡ true) }
 {
     read_plain(word, u64::MAX)
-}
-
-/// The place of an operation that a word writes.
-pub fn read_place(word: &[u8]) -> Option<u16>
-    ensures value { result ≡ place_of word.now }
-    ensures known { is_some result ≡ is_place word.now }
-    ensures written { IfSome result (λ place. word.now ≡ decimal place) }
-    ensures fits { IfSome result (λ place. fits_place place ≡ true) }
-{
-    match read_plain(word, 65535) {
-        Some(place) if place >= 1 => Some(place as u16),
-        _ => None,
-    }
 }
 
 /// A location and its value.

@@ -12,9 +12,11 @@ ghost use Rattle.trace_text.specs.Read.{HasHeader};
 ghost use Rattle.text_lines.specs.PlainFault.{IsRefusedFor};
 ghost use Rattle.trace_text.specs.TraceFault.{is_header, HasTraceFault};
 ghost use Rattle.trace_text.specs.TraceText.{header_line};
+ghost use Rattle.trace_text.specs.Version.{is_two};
 
 use crate::line::has_high_byte;
 use crate::trace_fault::{LineRefusal, TraceCause, TraceFault};
+use crate::version::Version;
 use std::alloc::Global;
 use text_lines::comments::is_skipped_line;
 use text_lines::fault::PlacedFault;
@@ -28,8 +30,8 @@ const MAX_WORDS: usize = 3;
 /// The header of a text, and what follows it.
 #[derive(Drop)]
 pub struct Header<'a> {
-    /// Whether the text is of version 2.
-    pub two: bool,
+    /// The version of the text.
+    pub version: Version,
     /// The text after the header.
     pub rest: &'a [u8],
     /// The number of the line after the header.
@@ -43,23 +45,23 @@ fn is_header_of(words: &[&[u8]], version: &str) -> bool
     words.len() == 2 && words[0] == b"vsc".as_slice() && words[1] == version.as_bytes()
 }
 
-/// Whether the header of these words is of version 2, if they are those of a header.
-fn version_of(words: &[&[u8]]) -> Option<bool>
-    ensures { MatchOption result (is_header (map (λ word. word.now) words.now) ≡ false) (λ two. map (λ word. word.now) words.now ≡ header_line two) }
+/// Returns the version whose header these words are, if they are those of a header.
+fn version_of(words: &[&[u8]]) -> Option<Version>
+    ensures { MatchOption result (is_header (map (λ word. word.now) words.now) ≡ false) (λ version. map (λ word. word.now) words.now ≡ header_line (is_two version)) }
 {
     if is_header_of(words, "1") {
-        Some(false)
+        Some(Version::One)
     } else if is_header_of(words, "2") {
-        Some(true)
+        Some(Version::Two)
     } else {
         None
     }
 }
 
-/// Whether the header on this line is of version 2; nothing if the line is skipped.
-fn read_header_line(alloc: Global, line: &[u8]) -> Result<Option<bool>, LineRefusal>
+/// Returns the version of the header on this line, or `None` if the line is skipped.
+fn read_header_line(alloc: Global, line: &[u8]) -> Result<Option<Version>, LineRefusal>
     ensures refused { IfErr result (IsRefusedFor (header_fault line.now)) }
-    ensures read { IfOk result (λ version. MatchOption version (is_skipped (words_of line.now) ≡ true) (IsHeaderLine line.now)) }
+    ensures read { IfOk result (λ version. MatchOption version (is_skipped (words_of line.now) ≡ true) (λ version. IsHeaderLine line.now (is_two version))) }
 {
     let words = first_words(alloc, line, MAX_WORDS)?;
     if is_skipped_line(words.as_slice()) {
@@ -69,7 +71,7 @@ fn read_header_line(alloc: Global, line: &[u8]) -> Result<Option<bool>, LineRefu
         return Err(PlainFault::For(TraceCause::NotAscii));
     }
     match version_of(words.as_slice()) {
-        Some(two) => Ok(Some(two)),
+        Some(version) => Ok(Some(version)),
         None => Err(PlainFault::For(TraceCause::Header)),
     }
 }
@@ -77,15 +79,15 @@ fn read_header_line(alloc: Global, line: &[u8]) -> Result<Option<bool>, LineRefu
 /// Reads the lines up to the header.
 pub fn read_header(alloc: Global, text: &[u8]) -> Result<Header<'_>, TraceFault>
     ensures refused { IfErr result (IsRefusal (HasTraceFault text.now)) }
-    ensures read { IfOk result (λ header. HasHeader text.now header.two header.rest.now header.next) }
+    ensures read { IfOk result (λ header. HasHeader text.now (is_two header.version) header.rest.now header.next) }
 {
     let mut rest = text;
     let mut next = 1usize;
     while let Some((line, after)) = cut_line(rest) {
         match read_header_line(alloc, line) {
-            Ok(Some(two)) => {
+            Ok(Some(version)) => {
                 return Ok(Header {
-                    two,
+                    version,
                     rest: after,
                     next: next + 1,
                 });

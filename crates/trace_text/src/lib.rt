@@ -14,3 +14,4 @@ pub mod trace_fault;
 pub mod trace_laws;
 pub mod trace_reader;
 pub mod trace_writer;
+pub mod version;

@@ -10,15 +10,17 @@ ghost use Rattle.trace_text.specs.References.{is_of, is_among, fault_of_referenc
 ghost use Rattle.trace_text.specs.Said.{said, said_source};
 ghost use Rattle.trace_semantics.specs.Place.{place_of};
 ghost use Rattle.trace_text.specs.TraceFault.{references_of, references_of_source, is_before_itself};
+ghost use Rattle.trace_text.specs.Version.{is_two};
 
-use crate::entry::read_place;
 use crate::statement::{ReadsFrom, Statement, read_statement};
 use crate::trace_fault::{LineRefusal, TraceCause, TraceFault};
+use crate::version::Version;
 use std::alloc::Global;
 use text_lines::comments::is_skipped_line;
 use text_lines::lines::cut_line;
 use text_lines::plain_fault::PlainFault;
 use text_lines::words::first_words;
+use trace_semantics::place::read_place;
 use trace_semantics::trace::Process;
 
 /// Words of a line that are read: more than a line of any form has.
@@ -102,18 +104,18 @@ fn fault_of_names(processes: &[Process], statement: Statement<'_>) -> Result<(),
 /// Checks the operations that a line names.
 fn check_line(
     alloc: Global,
-    two: bool,
+    version: Version,
     processes: &[Process],
     line: &[u8],
 ) -> Result<(), LineRefusal>
-    ensures refused { IfErr result (IsRefusedFor (fault_of_line two processes.now line.now)) }
-    ensures fine { OnOk result (fault_of_line two processes.now line.now ≡ None) }
+    ensures refused { IfErr result (IsRefusedFor (fault_of_line (is_two version) processes.now line.now)) }
+    ensures fine { OnOk result (fault_of_line (is_two version) processes.now line.now ≡ None) }
 {
     let words = first_words(alloc, line, MAX_WORDS)?;
     if is_skipped_line(words.as_slice()) {
         return Ok(());
     }
-    match read_statement(two, words.as_slice()) {
+    match read_statement(version, words.as_slice()) {
         Some(statement) => fault_of_names(processes, statement),
         None => Ok(()),
     }
@@ -122,17 +124,17 @@ fn check_line(
 /// Checks the operations that each line of a text names.
 fn check_lines(
     alloc: Global,
-    two: bool,
+    version: Version,
     processes: &[Process],
     text: &[u8],
 ) -> Result<(), TraceFault>
-    ensures refused { IfErr result (IsRefusedByReferences two processes.now text.now) }
-    ensures fine { OnOk result (IsFaultless (λ (before : List (List ℕ)) (here : List ℕ). fault_of_line two processes.now here) (lines_of text.now)) }
+    ensures refused { IfErr result (IsRefusedByReferences (is_two version) processes.now text.now) }
+    ensures fine { OnOk result (IsFaultless (λ (before : List (List ℕ)) (here : List ℕ). fault_of_line (is_two version) processes.now here) (lines_of text.now)) }
 {
     let mut rest = text;
     let mut next = 1usize;
     while let Some((line, after)) = cut_line(rest) {
-        if let Err(refusal) = check_line(alloc, two, processes, line) {
+        if let Err(refusal) = check_line(alloc, version, processes, line) {
             return Err(refusal.at(next));
         }
         rest = after;
@@ -145,15 +147,15 @@ fn check_lines(
 /// names none.
 pub fn check_references(
     alloc: Global,
-    two: bool,
+    version: Version,
     processes: &[Process],
     text: &[u8],
 ) -> Result<(), TraceFault>
-    ensures refused { IfErr result (IsRefusedByReferences two processes.now text.now) }
-    ensures fine { OnOk result (IsFaultless (λ (before : List (List ℕ)) (here : List ℕ). fault_of_line two processes.now here) (lines_of text.now)) }
+    ensures refused { IfErr result (IsRefusedByReferences (is_two version) processes.now text.now) }
+    ensures fine { OnOk result (IsFaultless (λ (before : List (List ℕ)) (here : List ℕ). fault_of_line (is_two version) processes.now here) (lines_of text.now)) }
 {
-    if !two {
+    if !version.is_two() {
         return Ok(());
     }
-    check_lines(alloc, two, processes, text)
+    check_lines(alloc, version, processes, text)
 }

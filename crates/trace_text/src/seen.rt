@@ -11,15 +11,8 @@ use crate::statement::Statement;
 use crate::trace_fault::{LineRefusal, TraceCause};
 use std::alloc::Global;
 use text_lines::plain_fault::PlainFault;
+use trace_semantics::limits::{MAX_LOCATIONS, MAX_OPERATIONS, MAX_PAIRS, MAX_PROCESSES};
 use trace_semantics::name_table::NameTable;
-
-const MAX_PROCESSES: usize = 64;
-
-const MAX_OPERATIONS: usize = 4096;
-
-const MAX_LOCATIONS: usize = 4096;
-
-const MAX_BEFORE_LINES: usize = 4096;
 
 /// What must be known of the earlier lines to judge the next one: the names that they name, and the number of each kind.
 #[derive(Drop)]
@@ -143,7 +136,7 @@ impl<'a> Seen<'a> {
         ensures refused { IfErr result (IsRefusedFor (fault_behind self.old (Before [] [] [] []))) }
         ensures noted { OnOk result (Notes self.old self.new (Before [] [] [] [])) }
     {
-        if self.before_count >= MAX_BEFORE_LINES {
+        if self.before_count >= MAX_PAIRS {
             return Err(PlainFault::For(TraceCause::TooManyBefore));
         }
         self.before_count += 1;

@@ -4,7 +4,9 @@ ghost use Rattle.std.specs.Prelude.{◌≡◌, ◌≤◌, ◌&&◌, codes, false
 ghost use Rattle.std.specs.Str.{bytes_eq};
 ghost use Rattle.trace_text.specs.Said.{said};
 ghost use Rattle.trace_text.specs.Statement.{statement_of};
+ghost use Rattle.trace_text.specs.Version.{is_two};
 
+use crate::version::Version;
 use text_lines::words::is_word;
 
 /// The origin that a line gives to a value.
@@ -38,9 +40,9 @@ pub enum Statement<'a> {
 }
 
 /// What three words say.
-fn of_three_words<'a>(two: bool, words: &[&'a [u8]]) -> Option<Statement<'a>>
+fn of_three_words<'a>(words: &[&'a [u8]]) -> Option<Statement<'a>>
     requires { length words.now ≡ 3 }
-    ensures { option_map said result ≡ statement_of two (map (λ word. word.now) words.now) }
+    ensures { option_map said result ≡ statement_of false (map (λ word. word.now) words.now) }
 {
     if is_word(words[0], "init") {
         Some(Statement::Init(words[1], words[2]))
@@ -125,7 +127,7 @@ fn read_plain_statement<'a>(words: &[&'a [u8]]) -> Option<Statement<'a>>
     if words.len() == 2 && is_word(words[0], "proc") {
         Some(Statement::Proc(words[1]))
     } else if words.len() == 3 {
-        of_three_words(false, words)
+        of_three_words(words)
     } else if words.len() == 4 && is_word(words[0], "U") {
         Some(Statement::Update(words[1], words[2], words[3], ReadsFrom::Unsaid))
     } else {
@@ -133,11 +135,11 @@ fn read_plain_statement<'a>(words: &[&'a [u8]]) -> Option<Statement<'a>>
     }
 }
 
-/// What the words of a line say, if they are of a form that there is; `two` says whether those of version 2 are among them.
-pub fn read_statement<'a>(two: bool, words: &[&'a [u8]]) -> Option<Statement<'a>>
-    ensures { option_map said result ≡ statement_of two (map (λ word. word.now) words.now) }
+/// Returns what the words of a line say, if they are of a form that the version has.
+pub fn read_statement<'a>(version: Version, words: &[&'a [u8]]) -> Option<Statement<'a>>
+    ensures { option_map said result ≡ statement_of (is_two version) (map (λ word. word.now) words.now) }
 {
-    if two && words.len() >= 5 {
+    if version.is_two() && words.len() >= 5 {
         read_long_statement(words)
     } else {
         read_plain_statement(words)

@@ -9,6 +9,7 @@ ghost use Rattle.trace_text.specs.Said.{said};
 ghost use Rattle.trace_text.specs.Statement.{Statement as Said, statement_of};
 ghost use Rattle.trace_text.specs.TraceFault.{statement_fault, said_fault, trace_line_fault, HasTraceFault};
 ghost use Rattle.trace_text.specs.TraceText.{SpellsTrace};
+ghost use Rattle.trace_text.specs.Version.{is_two};
 ghost use Rattle.trace_semantics.specs.Trace.{IsTrace};
 
 use crate::entry::read_entry;
@@ -20,6 +21,7 @@ use crate::seen::Seen;
 use crate::statement::{Statement, read_statement};
 use crate::trace_builder::TraceBuilder;
 use crate::trace_fault::{LineRefusal, TraceCause, TraceFault};
+use crate::version::Version;
 use std::alloc::Global;
 use text_lines::comments::is_skipped_line;
 use text_lines::lines::cut_line;
@@ -66,26 +68,31 @@ impl<'a> TraceReader<'a> {
     fn take_words(
         &mut self,
         alloc: Global,
-        two: bool,
+        version: Version,
         words: &[&'a [u8]],
     ) -> Result<(), LineRefusal>
         requires { self.old.seen.location_count ≤ 4096 }
         ensures refused { IfErr result (λ refusal. (ss : List Said) → IsProgress ss self.old →
-            IsRefusedFor (said_fault ss (statement_of two (map (λ word. word.now) words.now))) refusal) }
-        ensures taken { OnOk result ((ss : List Said) → IsProgress ss self.old → TakesWords two ss (map (λ word. word.now) words.now) self.new) }
+            IsRefusedFor (said_fault ss (statement_of (is_two version) (map (λ word. word.now) words.now))) refusal) }
+        ensures taken { OnOk result ((ss : List Said) → IsProgress ss self.old → TakesWords (is_two version) ss (map (λ word. word.now) words.now) self.new) }
     {
-        match read_statement(two, words) {
+        match read_statement(version, words) {
             Some(statement) => self.take_statement(alloc, statement),
             None => Err(PlainFault::For(TraceCause::UnknownLine)),
         }
     }
 
     /// Takes a line.
-    fn take_line(&mut self, alloc: Global, two: bool, line: &'a [u8]) -> Result<(), LineRefusal>
+    fn take_line(
+        &mut self,
+        alloc: Global,
+        version: Version,
+        line: &'a [u8],
+    ) -> Result<(), LineRefusal>
         requires { self.old.seen.location_count ≤ 4096 }
-        ensures refused { IfErr result (λ refusal. (before : List (List ℕ)) (ss : List Said) → AreSaid two before ss → IsProgress ss self.old →
+        ensures refused { IfErr result (λ refusal. (before : List (List ℕ)) (ss : List Said) → AreSaid (is_two version) before ss → IsProgress ss self.old →
             IsRefusedFor (trace_line_fault before line.now) refusal) }
-        ensures taken { OnOk result ((before : List (List ℕ)) (ss : List Said) → AreSaid two before ss → IsProgress ss self.old → TakesLine two before line.now self.new) }
+        ensures taken { OnOk result ((before : List (List ℕ)) (ss : List Said) → AreSaid (is_two version) before ss → IsProgress ss self.old → TakesLine (is_two version) before line.now self.new) }
     {
         let words = first_words(alloc, line, MAX_WORDS)?;
         if is_skipped_line(words.as_slice()) {
@@ -94,7 +101,7 @@ impl<'a> TraceReader<'a> {
         if has_high_byte(line) {
             return Err(PlainFault::For(TraceCause::NotAscii));
         }
-        self.take_words(alloc, two, words.as_slice())
+        self.take_words(alloc, version, words.as_slice())
     }
 }
 
@@ -104,15 +111,15 @@ fn read_body<'a>(
     text: &'a [u8],
     header: &Header<'a>,
 ) -> Result<TraceReader<'a>, TraceFault>
-    requires { HasHeader text.now header.now.two header.now.rest.now header.now.next }
+    requires { HasHeader text.now (is_two header.now.version) header.now.rest.now header.now.next }
     ensures refused { IfErr result (IsRefusal (HasTraceFault text.now)) }
-    ensures read { IfOk result (λ reader. IsAllRead text.now header.now.two reader) }
+    ensures read { IfOk result (λ reader. IsAllRead text.now (is_two header.now.version) reader) }
 {
     let mut reader = TraceReader::new(alloc);
     let mut rest = header.rest;
     let mut next = header.next;
     while let Some((line, after)) = cut_line(rest) {
-        if let Err(refusal) = reader.take_line(alloc, header.two, line) {
+        if let Err(refusal) = reader.take_line(alloc, header.version, line) {
             return Err(refusal.at(next));
         }
         rest = after;
@@ -125,16 +132,16 @@ fn read_body<'a>(
 fn finish(
     alloc: Global,
     text: &[u8],
-    two: bool,
+    version: Version,
     reader: TraceReader<'_>,
 ) -> Result<Trace, TraceFault>
-    requires { IsAllRead text.now two reader }
+    requires { IsAllRead text.now (is_two version) reader }
     ensures refused { IfErr result (IsRefusal (HasTraceFault text.now)) }
     ensures spelled { IfOk result (SpellsTrace text.now) }
 {
     let TraceReader { mut gathered, .. } = reader;
     gathered.close_process()?;
-    check_references(alloc, two, gathered.processes(), text)?;
+    check_references(alloc, version, gathered.processes(), text)?;
     gathered.arrange()?;
     Ok(gathered.into_trace())
 }
@@ -149,5 +156,5 @@ pub fn read_trace(alloc: Global, text: &[u8]) -> Result<Trace, TraceFault>
 {
     let header = read_header(alloc, text)?;
     let reader = read_body(alloc, text, &header)?;
-    finish(alloc, text, header.two, reader)
+    finish(alloc, text, header.version, reader)
 }

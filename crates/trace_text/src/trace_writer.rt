@@ -7,7 +7,9 @@ ghost use Rattle.trace_semantics.specs.declared.trace.Process.{Process};
 ghost use Rattle.trace_text.specs.TraceText as spelled;
 ghost use Rattle.trace_text.specs.TraceLines.{spaced, entry_line, joined};
 ghost use Rattle.trace_text.specs.TraceWritten.{line_text, canonical_trace};
+ghost use Rattle.trace_text.specs.Version.{is_two};
 
+use crate::version::Version;
 use itoa::Buffer;
 use std::alloc::{AllocError, Global};
 use trace_semantics::name::Name;
@@ -50,10 +52,21 @@ fn any_says_origin(processes: &[Process]) -> bool
 }
 
 /// Whether the trace says what version 1 has no line for.
-pub fn wants_version_2(trace: &Trace) -> bool
+fn wants_version_2(trace: &Trace) -> bool
     ensures { result ≡ spelled.needs_version_2 trace.now }
 {
     !trace.before().is_empty() || any_says_origin(trace.processes())
+}
+
+/// Returns the version of the trace's canonical text: version 2 only if the trace says what version 1 has no line for.
+pub fn wanted_version(trace: &Trace) -> Version
+    ensures { is_two result ≡ spelled.needs_version_2 trace.now }
+{
+    if wants_version_2(trace) {
+        Version::Two
+    } else {
+        Version::One
+    }
 }
 
 /// Appends a space and the word.
@@ -194,11 +207,15 @@ pub fn push_pairs(text: &mut Vec<u8>, pairs: &[(OpName, OpName)]) -> Result<(), 
     Ok(())
 }
 
-/// Appends the header of version 1 or 2.
-pub fn push_header(text: &mut Vec<u8>, two: bool) -> Result<(), AllocError>
-    ensures { OnOk result (text.new.items ≡ text.old.items ++ line_text (spelled.header_line two)) }
+/// Appends the header of this version.
+pub fn push_header(text: &mut Vec<u8>, version: Version) -> Result<(), AllocError>
+    ensures { OnOk result (text.new.items ≡ text.old.items ++ line_text (spelled.header_line (is_two version))) }
 {
-    text.extend_from_slice(if two { b"vsc 2\n" } else { b"vsc 1\n" })?;
+    text.extend_from_slice(if version.is_two() {
+        b"vsc 2\n"
+    } else {
+        b"vsc 1\n"
+    })?;
     Ok(())
 }
 
@@ -208,7 +225,7 @@ pub fn write_trace(alloc: Global, trace: &Trace) -> Result<Vec<u8>, AllocError>
     ensures { IfOk result (λ text. text.items ≡ canonical_trace trace.now) }
 {
     let mut text = Vec::new(alloc);
-    push_header(&mut text, wants_version_2(trace))?;
+    push_header(&mut text, wanted_version(trace))?;
     push_entries(&mut text, b"init", trace.initial())?;
     push_entries(&mut text, b"final", trace.final_values())?;
     push_processes(&mut text, trace.processes())?;

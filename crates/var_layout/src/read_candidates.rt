@@ -2,7 +2,6 @@
 
 ghost use Rattle.std.specs.Prelude.{◌≡◌, ◌∷◌, map, IfOk};
 ghost use Rattle.std.specs.List.{filter};
-ghost use Rattle.trace_semantics.specs.Judgement as judgement;
 ghost use Rattle.trace_semantics.specs.Operation.{origin_of};
 ghost use Rattle.trace_semantics.specs.Trace.{value_of};
 ghost use Rattle.var_layout.specs.Candidates as candidates;
@@ -11,6 +10,7 @@ ghost use Rattle.var_layout.specs.declared.candidate.Candidate.TheVariants.{Init
 use crate::candidate::Candidate;
 use crate::numbering::Numbering;
 use std::alloc::{AllocError, Global};
+use trace_semantics::held_value::is_held;
 use trace_semantics::name::Name;
 use trace_semantics::operation::{Op, Origin};
 use trace_semantics::trace::Trace;
@@ -23,16 +23,6 @@ fn value_at(values: &[(Name, u64)], location: &[u8]) -> Option<u64>
         .iter()
         .find(|entry| entry.0.as_bytes() == location)
         .map(|entry| entry.1)
-}
-
-/// Whether this value is held.
-pub(crate) fn is_held(held: Option<u64>, value: u64) -> bool
-    ensures { result ≡ judgement.is_held held value }
-{
-    match held {
-        None => false,
-        Some(other) => other == value,
-    }
 }
 
 /// The value that comes from there.

@@ -38,6 +38,6 @@ of_nodes-requires c =
 pub returns-clause-spelled : goal.returns-clause-spelled
 returns-clause-spelled c =
     let none = empty_stack c.loop-depth.due.items (λ h. let some : 0 < vec_len c.loop-depth.due = search rules in false≢true (c.in_default.ensures.variant.1 some)) in
-    rw (c.of_nodes.ensures, c.at_most.ensures)
+    rw (c.of_nodes.ensures, c.min.ensures)
     (spelled_whole c.args.text.now c.loop-depth.number c.loop-depth.bytes c.loop-depth.leaves c.loop-depth.rest.now c.loop-depth.nodes.items
     (subst (λ (ds : List ℕ). IsReadSoFar c.args.text.now c.loop-depth.number c.loop-depth.bytes c.loop-depth.leaves c.loop-depth.rest.now c.loop-depth.nodes.items ds) none c.loop-depth.invariant)).1

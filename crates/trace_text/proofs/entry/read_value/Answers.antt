@@ -1,4 +1,4 @@
-use Rattle.trace_text.proofs.WrittenLemmas.{value_written}
+use Rattle.trace_semantics.proofs.WrittenLemmas.{value_written}
 use Rattle.trace_text.proofs.entry.read_value.Goals as goal
 
 pub returns-clause-written : goal.returns-clause-written

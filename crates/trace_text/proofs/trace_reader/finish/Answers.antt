@@ -9,24 +9,25 @@ use Rattle.trace_semantics.specs.Trace.{TraceValue}
 use Rattle.trace_text.specs.TraceText.{SpellsTrace}
 use Rattle.trace_text.proofs.FinishLemmas.{is_trace, spells, same_trace}
 use Rattle.trace_text.proofs.KnownLemmas.{refused_by_references}
+use Rattle.trace_text.specs.Version.{is_two}
 use Rattle.trace_text.proofs.trace_reader.finish.Goals as goal
 
 pub returns-in_err-check_references-clause-refused : goal.returns-in_err-check_references-clause-refused
 returns-in_err-check_references-clause-refused c =
     let p = err_from_is_err_and c.from_residual-in_err-check_references.result c.from_residual-in_err-check_references.ensures.1 in
     let same : c.processes.result.now ≡ processes_of c.args.reader.gathered = c.processes.ensures ∙ c.in_ok-close_process.ensures.processes in
-    rw (p.1, p.2) (refused_by_references c.args.two c.args.text.now c.requires.ss (processes_of c.args.reader.gathered) c.in_err-check_references.field-0.0 c.requires.said c.requires.progress.gathered.processes c.requires.faultless
-    (subst (λ (ps : List Process). IsRefusedByReferences c.args.two ps c.args.text.now c.in_err-check_references.field-0.0) same c.in_err-check_references.ensures.refused))
+    rw (p.1, p.2) (refused_by_references (is_two c.args.version) c.args.text.now c.requires.ss (processes_of c.args.reader.gathered) c.in_err-check_references.field-0.0 c.requires.said c.requires.progress.gathered.processes c.requires.faultless
+    (subst (λ (ps : List Process). IsRefusedByReferences (is_two c.args.version) ps c.args.text.now c.in_err-check_references.field-0.0) same c.in_err-check_references.ensures.refused))
 
 pub into_trace-requires-clause-trace : goal.into_trace-requires-clause-trace
 into_trace-requires-clause-trace c =
     let all = same_trace c.args.reader.gathered c.close_process.new.self c.in_ok-close_process.ensures.processes c.close_process.ensures.initial c.close_process.ensures.final_values c.close_process.ensures.before in
-    is_trace c.args.text.now c.args.two c.args.reader (trace_of c.arrange.new.self) c.requires (subst (λ (u : TraceValue). IsArranged u (trace_of c.arrange.new.self)) all c.in_ok-arrange.ensures.arranged)
-    (subst (λ (ps : List Process). IsFaultless (λ (before : List (List ℕ)) (here : List ℕ). fault_of_line c.args.two ps here) (lines_of c.args.text.now)) (c.processes.ensures ∙ sym c.in_ok-arrange.ensures.arranged.processes) c.in_ok-check_references.ensures.fine)
+    is_trace c.args.text.now (is_two c.args.version) c.args.reader (trace_of c.arrange.new.self) c.requires (subst (λ (u : TraceValue). IsArranged u (trace_of c.arrange.new.self)) all c.in_ok-arrange.ensures.arranged)
+    (subst (λ (ps : List Process). IsFaultless (λ (before : List (List ℕ)) (here : List ℕ). fault_of_line (is_two c.args.version) ps here) (lines_of c.args.text.now)) (c.processes.ensures ∙ sym c.in_ok-arrange.ensures.arranged.processes) c.in_ok-check_references.ensures.fine)
 
 pub returns-clause-spelled : goal.returns-clause-spelled
 returns-clause-spelled c =
     let all = same_trace c.args.reader.gathered c.close_process.new.self c.in_ok-close_process.ensures.processes c.close_process.ensures.initial c.close_process.ensures.final_values c.close_process.ensures.before in
-    subst (λ (t : TraceValue). SpellsTrace c.args.text.now t) (sym c.into_trace.ensures) (spells c.args.text.now c.args.two c.args.reader (trace_of c.arrange.new.self) c.requires
+    subst (λ (t : TraceValue). SpellsTrace c.args.text.now t) (sym c.into_trace.ensures) (spells c.args.text.now (is_two c.args.version) c.args.reader (trace_of c.arrange.new.self) c.requires
     (subst (λ (u : TraceValue). IsArranged u (trace_of c.arrange.new.self)) all c.in_ok-arrange.ensures.arranged)
-    (subst (λ (ps : List Process). IsFaultless (λ (before : List (List ℕ)) (here : List ℕ). fault_of_line c.args.two ps here) (lines_of c.args.text.now)) (c.processes.ensures ∙ sym c.in_ok-arrange.ensures.arranged.processes) c.in_ok-check_references.ensures.fine))
+    (subst (λ (ps : List Process). IsFaultless (λ (before : List (List ℕ)) (here : List ℕ). fault_of_line (is_two c.args.version) ps here) (lines_of c.args.text.now)) (c.processes.ensures ∙ sym c.in_ok-arrange.ensures.arranged.processes) c.in_ok-check_references.ensures.fine))

@@ -1,6 +1,6 @@
 use Rattle.std.proofs.Common.{◌≤◌, length, ap, arith}
 use Rattle.cube_tree.specs.CubeTree.{leaves}
-use Rattle.result_ledger.proofs.ledger.leaf_cubes.Goals as goal
+use Rattle.cube_tree.proofs.leaf_cubes.bounded_cubes.Goals as goal
 
 pub returns-clause-few : goal.returns-clause-few
 returns-clause-few c =

@@ -1,0 +1,31 @@
+//! The numbers of an order's variables, and how many clauses say that it is transitive.
+
+/// Returns the number of pairs of elements, which is that of the order's variables.
+#[inline(always)]
+pub fn pair_count(elements: u32) -> u32 {
+    elements.wrapping_mul(elements.wrapping_sub(1)) / 2
+}
+
+/// Returns the number of pairs whose lower element is below i.
+#[inline(always)]
+pub(crate) fn pairs_below(elements: u32, i: u32) -> u32 {
+    let before = elements.wrapping_mul(2).wrapping_sub(i).wrapping_sub(1);
+    i.wrapping_mul(before) / 2
+}
+
+/// Returns the order variable of these two elements: `y(i,j) = i * (2n - i - 1) / 2 + (j - i)`, where i is the lower one and j the
+/// higher one of n elements. It says that i stands before j.
+#[inline(always)]
+pub fn variable_of_pair(elements: u32, a: u32, b: u32) -> u32 {
+    let i = a.min(b);
+    let j = a.max(b);
+    pairs_below(elements, i).wrapping_add(j.wrapping_sub(i))
+}
+
+/// Returns the number of transitivity clauses of an order of this many elements: two for each three of them.
+pub fn transitivity_count(elements: u32) -> u32 {
+    let triples = elements
+        .wrapping_mul(elements.wrapping_sub(1))
+        .wrapping_mul(elements.wrapping_sub(2));
+    triples / 3
+}
