@@ -1,0 +1,14 @@
+use Rattle.std.proofs.lemmas.Result.{err_from_is_err_and}
+use Rattle.survey_report.proofs.SurveyLemmas.{unsearched}
+use Rattle.survey_report.proofs.survey_engine.survey_text.Goals as goal
+
+pub returns-clause-said : goal.returns-clause-said
+returns-clause-said g c = (c.args.options.now, record { value = c.in_ok-trace.trace; is_trace = c.in_ok-trace.ensures.trace; spelled = c.in_ok-trace.ensures.spelled; decided = c.in_ok-decide_by_survey.ensures })
+
+pub returns-clause-surveyed : goal.returns-clause-surveyed
+returns-clause-surveyed g c = record { value = c.in_ok-trace.trace; is_trace = c.in_ok-trace.ensures.trace; spelled = c.in_ok-trace.ensures.spelled; decided = c.in_ok-decide_by_survey.ensures }
+
+pub returns-in_err-decide_by_survey-clause-said : goal.returns-in_err-decide_by_survey-clause-said
+returns-in_err-decide_by_survey-clause-said g c =
+    let p = err_from_is_err_and c.from_residual-in_err-decide_by_survey.result c.from_residual-in_err-decide_by_survey.ensures.1 in
+    rw (p.1, p.2) (unsearched c.args.text.now (record { value = c.in_ok-trace.trace; is_trace = c.in_ok-trace.ensures.trace; spelled = c.in_ok-trace.ensures.spelled }) c.in_err-decide_by_survey.field-0.0)

@@ -1,0 +1,118 @@
+-- What the engine that decides long traces answers and writes.
+use Rattle.std.specs.Prelude.{◌≡◌, ◌⊎◌, ⊤, ℕ, true, List, [], ◌∷◌, ◌++◌, Result, Ok, Err}
+use Rattle.cube_jobs.specs.Options.{OptionsValue}
+use Rattle.part_text.specs.PartText.{part_text}
+use Rattle.schedule_text.specs.ScheduleWritten.{canonical_schedule}
+use Rattle.survey_verdict.specs.declared.surveyed.Surveyed.{Surveyed}
+use Rattle.survey_verdict.specs.declared.surveyed.Surveyed.TheVariants.{Decided, Refuted, Undecided}
+use Rattle.survey_verdict.specs.Surveyed.{IsCertificateFor, IsLeftOpen, IsSurveyed, core_names, core_part, extent_line, survey_certificate, survey_report}
+use Rattle.surveyor.specs.declared.Extent.{Extent}
+use Rattle.trace_part.specs.TraceParts.{PartValue, IsPart}
+use Rattle.trace_semantics.specs.declared.operation.OpName.{OpName}
+use Rattle.trace_semantics.specs.Trace.{TraceValue, IsTrace}
+use Rattle.trace_text.specs.TraceFault.{HasTraceFault}
+use Rattle.trace_text.specs.TraceText.{SpellsTrace}
+use Rattle.verdict_report.specs.declared.fault.Fault.{Fault}
+use Rattle.verdict_report.specs.declared.fault.Fault.TheVariants.{OutOfMemory, Trace, Search}
+use Rattle.verdict_report.specs.declared.status.Status.{Status}
+use Rattle.verdict_report.specs.declared.status.Status.TheVariants.{No, Unknown}
+use Rattle.verdict_report.specs.Engine.{AtOnce, InPieces, IsRunOfEngine, of_one}
+use Rattle.verdict_report.specs.RecheckEngine.{HasNoSchedule}
+use Rattle.verdict_report.specs.Runs.{SourceRun, SinkRun, HandsOut}
+use Rattle.verdict_report.specs.VerifyEngine.{status_of_decision}
+
+-- the text spells a trace
+pub record SpellsSome (text : List ℕ) : Type 0 where
+  pub value : TraceValue
+  pub is_trace : IsTrace value
+  pub spelled : SpellsTrace text value
+
+-- the text spells a trace, of which this is decided with the help of a survey and of searches with these options
+pub record IsSurveyedFrom (options : OptionsValue) (text : List ℕ) (surveyed : Surveyed) : Type 0 where
+  pub value : TraceValue
+  pub is_trace : IsTrace value
+  pub spelled : SpellsTrace text value
+  pub decided : IsSurveyed options value surveyed
+
+-- what is said of the text: what is decided of its trace, by some search, or why nothing is; a search that has no results refuses no other
+-- texts
+abbrev pub IsSaidOfSurvey : List ℕ → Result Surveyed Fault → Type 0
+IsSaidOfSurvey text (Ok surveyed) = (options : OptionsValue) × IsSurveyedFrom options text surveyed
+IsSaidOfSurvey text (Err OutOfMemory) = ⊤
+IsSaidOfSurvey text (Err (Trace cause line)) = HasTraceFault text cause line
+IsSaidOfSurvey text (Err (Search cause)) = SpellsSome text
+IsSaidOfSurvey text (Err fault) = ⊥
+
+-- the status that goes with what is decided
+abbrev pub status_of_survey : Surveyed → Status
+status_of_survey (Decided decision) = status_of_decision decision
+status_of_survey (Refuted core) = No
+status_of_survey (Undecided extent) = Unknown
+
+-- the texts that are written: the report alone
+abbrev pub texts_of_survey : Surveyed → List (List ℕ)
+texts_of_survey surveyed = survey_report surveyed ∷ []
+
+-- the texts that are written if a certificate is asked for: first that, then the names of the core and its part, and then the report
+abbrev pub texts_with_core : Surveyed → List (List ℕ)
+texts_with_core surveyed = survey_certificate surveyed ∷ core_names surveyed ∷ core_part surveyed ∷ survey_report surveyed ∷ []
+
+-- what the engine answers, by what the source hands out and the sink takes
+abbrev pub IsRunOfSurvey : SourceRun → SinkRun → Result Status Fault → Type 0
+IsRunOfSurvey trace out = IsRunOfEngine AtOnce (of_one IsSaidOfSurvey) texts_of_survey status_of_survey (trace ∷ []) (out ∷ [])
+
+-- the same if a certificate is asked for, by what the source hands out and the sinks take: those of the certificate, of the names, of the
+-- part, and of the report
+abbrev pub IsRunOfCertifiedSurvey : SourceRun → SinkRun → SinkRun → SinkRun → SinkRun → Result Status Fault → Type 0
+IsRunOfCertifiedSurvey trace cert names part out =
+    IsRunOfEngine InPieces (of_one IsSaidOfSurvey) texts_with_core status_of_survey (trace ∷ []) (cert ∷ names ∷ part ∷ out ∷ [])
+
+-- the source handed out the text of a trace, and the sink took the line that says how far the survey came; a search of the whole trace with
+-- these options does not decide it
+pub record TellsExtent (options : OptionsValue) (trace : SourceRun) (out : SinkRun) : Type 0 where
+  pub text : List ℕ
+  pub handed : HandsOut trace text
+  pub value : TraceValue
+  pub is_trace : IsTrace value
+  pub spelled : SpellsTrace text value
+  pub extent : Extent
+  pub whole : out.now ≡ out.before ++ extent_line extent
+  pub left_open : IsLeftOpen options value
+
+-- The source handed out the text of a trace that has no legal schedule. One sink took the names of a core, one a line; one the text of the
+-- part that they make up, which spells that part, with the names of its operations in the whole; and one the text of a certificate,
+-- which is accepted for the clauses of what is kept of this part.
+pub record CertifiesCore (trace : SourceRun) (cert taken shown : SinkRun) : Type 0 where
+  pub text : List ℕ
+  pub handed : HandsOut trace text
+  pub value : TraceValue
+  pub is_trace : IsTrace value
+  pub spelled : SpellsTrace text value
+  pub names : List OpName
+  pub told : taken.now ≡ taken.before ++ canonical_schedule names
+  pub made : PartValue
+  pub is_part : IsPart value names made
+  pub part_told : shown.now ≡ shown.before ++ part_text true made
+  pub part_spelled : SpellsTrace (part_text true made) made.trace
+  pub written : List ℕ
+  pub whole : cert.now ≡ cert.before ++ written
+  pub certified : IsCertificateFor made.trace written
+  pub none_legal : HasNoSchedule value
+
+-- the source handed out the text of a trace that has no legal schedule, and the sink took the text of a certificate, which is accepted for
+-- the clauses of what is kept of the whole trace
+pub record CertifiesWhole (trace : SourceRun) (cert : SinkRun) : Type 0 where
+  pub text : List ℕ
+  pub handed : HandsOut trace text
+  pub value : TraceValue
+  pub is_trace : IsTrace value
+  pub spelled : SpellsTrace text value
+  pub written : List ℕ
+  pub whole : cert.now ≡ cert.before ++ written
+  pub certified : IsCertificateFor value written
+  pub none_legal : HasNoSchedule value
+
+-- the certificate is that of a core's part, whose names and text were taken, or that of the whole trace, and no name and no part was taken
+abbrev pub CertifiesSurvey : SourceRun → SinkRun → SinkRun → SinkRun → Type 0
+CertifiesSurvey trace cert names part =
+    CertifiesCore trace cert names part ⊎ (CertifiesWhole trace cert × (names.now ≡ names.before) × (part.now ≡ part.before))

@@ -1,0 +1,197 @@
+//! The engine that decides whether a long trace has a legal schedule, from bytes to bytes.
+
+ghost use Rattle.std.specs.Prelude.{◌≡◌, ◌+◌, [], ◌∷◌, ◌++◌, IfOk, IfErr, OnErr, OnOk, Ok};
+ghost use Rattle.dimacs.specs.Sink.{AppendsFront};
+ghost use Rattle.dimacs.specs.SinkFault.{failures_told};
+ghost use Rattle.survey_verdict.specs.Surveyed.{core_names, core_part, survey_report};
+ghost use Rattle.survey_report.specs.SurveyEngine.{CertifiesSurvey, IsRunOfCertifiedSurvey, IsRunOfSurvey, IsSaidOfSurvey, IsSurveyedFrom, TellsExtent, status_of_survey};
+ghost use Rattle.verdict_report.specs.Engine.{IsRunOfWriting, TakeNothing};
+ghost use Rattle.verdict_report.specs.RecheckEngine.{InputHasNoLegalSchedule};
+ghost use Rattle.verdict_report.specs.Runs.{source_run, sink_run};
+ghost use Rattle.verdict_report.specs.VerifyEngine.{ReportsLegalSchedule};
+ghost use Rattle.verdict_report.specs.declared.status.Status.{Status};
+ghost use Rattle.verdict_report.specs.declared.status.Status.TheVariants.{No, Unknown, Yes};
+
+use crate::reading_trace::read_text;
+use cube_jobs::{Gate, Options};
+use dimacs::{Sink, SinkFault, write_whole};
+use std::alloc::Global;
+use std::sync::Wait;
+use std::thread::Threads;
+use survey_verdict::laws::{core_certificate_is_accepted, core_part_spells};
+use survey_verdict::{
+    Surveyed, decide_by_survey, names_of_core, part_of_core, report_of_survey,
+    write_survey_certificate,
+};
+use surveyor::Surveyor;
+use trace_decision::Decision;
+use trace_decision::laws::certificate_is_accepted;
+use trace_text::trace_reader::read_trace;
+use verdict_report::laws::written_schedule_spells;
+use verdict_report::{Fault, Source, Status};
+
+/// Decides whether the trace that the source hands out, of whatever length a trace may have, has a legal schedule, and writes the report:
+/// CONSISTENT and a legal schedule of the whole trace, which was judged or is one by the search of the whole; INCONSISTENT and the names
+/// of a core, the part of which the search refutes, or INCONSISTENT alone if the search refutes the whole; or UNKNOWN and how far the
+/// survey came, if neither was shown. Nothing that the surveyor finds is taken on trust. If at most 160 operations are left of the whole
+/// trace, the search of the whole has the last word, so UNKNOWN is said of such a trace only if that search leaves cubes open.
+///
+/// The first refusal stands: of a source that fails, an input past the limit, the trace's text, the search, lack of memory, or the sink.
+/// Before the last a prefix of the report may have been written, and before the others nothing.
+pub fn run_survey<R: Threads + Wait + Sync, T: Source, S: Surveyor, G: Gate + Sync, W: Sink>(
+    alloc: Global,
+    rt: &R,
+    trace: &mut T,
+    surveyor: &S,
+    options: &Options,
+    gate: &G,
+    out: &mut W,
+) -> Result<Status, Fault>
+    ensures run { IsRunOfSurvey
+        (source_run T.handed_out T.is_at_end T.failures trace.old trace.new)
+        (sink_run W.written W.failures out.old out.new)
+        result }
+    ensures consistent { result ≡ Ok Yes → ReportsLegalSchedule
+        (source_run T.handed_out T.is_at_end T.failures trace.old trace.new)
+        (sink_run W.written W.failures out.old out.new) }
+    ensures inconsistent { result ≡ Ok No → InputHasNoLegalSchedule (source_run T.handed_out T.is_at_end T.failures trace.old trace.new) }
+    ensures unknown { result ≡ Ok Unknown → TellsExtent options.now
+        (source_run T.handed_out T.is_at_end T.failures trace.old trace.new)
+        (sink_run W.written W.failures out.old out.new) }
+{
+    written_schedule_spells();
+    let text = read_text(alloc, trace)?;
+    let surveyed = survey_text(alloc, rt, text.as_slice(), surveyor, options, gate)?;
+    write_report(alloc, &surveyed, out)
+}
+
+/// Does what [`run_survey`] does, and before the report writes three texts of an INCONSISTENT, each to a sink of its own: the certificate,
+/// the names of the core, and its part, as a trace's text with the names of its operations in the whole. The certificate is accepted for
+/// this part. If the search refutes the whole trace, there are no names and no part, and the certificate is that of the whole. With
+/// another report these sinks take nothing.
+///
+/// If memory runs out or a sink fails while something is written, a prefix of the four texts may have been written: the certificate,
+/// the names, the part, and the report. Before the other refusals, which are those of `run_survey`, nothing was.
+pub fn run_certified_survey<
+    R: Threads + Wait + Sync,
+    T: Source,
+    S: Surveyor,
+    G: Gate + Sync,
+    C: Sink,
+    N: Sink,
+    P: Sink,
+    W: Sink,
+>(
+    alloc: Global,
+    rt: &R,
+    trace: &mut T,
+    surveyor: &S,
+    options: &Options,
+    gate: &G,
+    cert: &mut C,
+    names: &mut N,
+    part: &mut P,
+    out: &mut W,
+) -> Result<Status, Fault>
+    ensures run { IsRunOfCertifiedSurvey
+        (source_run T.handed_out T.is_at_end T.failures trace.old trace.new)
+        (sink_run C.written C.failures cert.old cert.new)
+        (sink_run N.written N.failures names.old names.new)
+        (sink_run P.written P.failures part.old part.new)
+        (sink_run W.written W.failures out.old out.new)
+        result }
+    ensures consistent { result ≡ Ok Yes → ReportsLegalSchedule
+        (source_run T.handed_out T.is_at_end T.failures trace.old trace.new)
+        (sink_run W.written W.failures out.old out.new) }
+    ensures certified { result ≡ Ok No → CertifiesSurvey
+        (source_run T.handed_out T.is_at_end T.failures trace.old trace.new)
+        (sink_run C.written C.failures cert.old cert.new)
+        (sink_run N.written N.failures names.old names.new)
+        (sink_run P.written P.failures part.old part.new) }
+    ensures unknown { result ≡ Ok Unknown → TellsExtent options.now
+        (source_run T.handed_out T.is_at_end T.failures trace.old trace.new)
+        (sink_run W.written W.failures out.old out.new) }
+    ensures silent { (status : Status) → result ≡ Ok status → (status ≡ No → ⊥) → TakeNothing (
+        sink_run C.written C.failures cert.old cert.new
+        ∷ sink_run N.written N.failures names.old names.new
+        ∷ sink_run P.written P.failures part.old part.new ∷ []) }
+{
+    written_schedule_spells();
+    certificate_is_accepted();
+    core_certificate_is_accepted();
+    core_part_spells();
+    let text = read_text(alloc, trace)?;
+    let surveyed = survey_text(alloc, rt, text.as_slice(), surveyor, options, gate)?;
+    write_survey_certificate(alloc, &surveyed, cert)?;
+    write_names(alloc, &surveyed, names)?;
+    write_core_part(alloc, &surveyed, part)?;
+    write_report(alloc, &surveyed, out)
+}
+
+/// What is decided of the trace that the text spells.
+fn survey_text<R: Threads + Wait + Sync, S: Surveyor, G: Gate + Sync>(
+    alloc: Global,
+    rt: &R,
+    text: &[u8],
+    surveyor: &S,
+    options: &Options,
+    gate: &G,
+) -> Result<Surveyed, Fault>
+    ensures said { IsSaidOfSurvey text.now result }
+    ensures surveyed { IfOk result (λ surveyed. IsSurveyedFrom options.now text.now surveyed) }
+{
+    let trace = read_trace(alloc, text)?;
+    Ok(decide_by_survey(alloc, rt, &trace, surveyor, options, gate)?)
+}
+
+/// The status that goes with what is decided.
+fn status_of(surveyed: &Surveyed) -> Status
+    ensures { result ≡ status_of_survey surveyed.now }
+{
+    match surveyed {
+        Surveyed::Decided(Decision::Consistent(_)) => Status::Yes,
+        Surveyed::Decided(Decision::Inconsistent(_)) => Status::No,
+        Surveyed::Decided(Decision::Unknown(_)) => Status::Unknown,
+        Surveyed::Refuted(_) => Status::No,
+        Surveyed::Undecided(_) => Status::Unknown,
+    }
+}
+
+/// Writes the names of the core, if there is one.
+fn write_names<N: Sink>(alloc: Global, surveyed: &Surveyed, names: &mut N) -> Result<(), SinkFault>
+    ensures whole { OnOk result (N.written names.new ≡ N.written names.old ++ core_names surveyed.now) }
+    ensures well { OnOk result (N.failures names.new ≡ N.failures names.old) }
+    ensures front { OnErr result (AppendsFront (N.written names.old) (N.written names.new) (core_names surveyed.now)) }
+    ensures failed { IfErr result (λ fault. N.failures names.new ≡ N.failures names.old + failures_told fault) }
+{
+    let text = names_of_core(alloc, surveyed)?;
+    write_whole(names, text.as_slice())?;
+    Ok(())
+}
+
+/// Writes the part that the core makes up, if there is one.
+fn write_core_part<P: Sink>(
+    alloc: Global,
+    surveyed: &Surveyed,
+    part: &mut P,
+) -> Result<(), SinkFault>
+    ensures whole { OnOk result (P.written part.new ≡ P.written part.old ++ core_part surveyed.now) }
+    ensures well { OnOk result (P.failures part.new ≡ P.failures part.old) }
+    ensures front { OnErr result (AppendsFront (P.written part.old) (P.written part.new) (core_part surveyed.now)) }
+    ensures failed { IfErr result (λ fault. P.failures part.new ≡ P.failures part.old + failures_told fault) }
+{
+    let text = part_of_core(alloc, surveyed)?;
+    write_whole(part, text.as_slice())?;
+    Ok(())
+}
+
+/// Writes the report, and gives the status for it.
+fn write_report<W: Sink>(alloc: Global, surveyed: &Surveyed, out: &mut W) -> Result<Status, Fault>
+    ensures { IsRunOfWriting (survey_report surveyed.now) (status_of_survey surveyed.now)
+        (sink_run W.written W.failures out.old out.new)
+        result }
+{
+    let text = report_of_survey(alloc, surveyed)?;
+    write_whole(out, text.as_slice())?;
+    Ok(status_of(surveyed))
+}

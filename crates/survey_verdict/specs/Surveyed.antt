@@ -1,0 +1,95 @@
+-- What is decided of a trace with the help of a survey.
+use Rattle.std.specs.Prelude.{◌≡◌, ◌⊎◌, ℕ, ℤ, true, List, [], ◌++◌, Option, Some, None, length, codes, decimal}
+use Rattle.certificate.specs.CertText.{SpellsCertificate}
+use Rattle.certificate.specs.CertWritten.{canonical_certificate}
+use Rattle.certificate.specs.Rechecked.{IsRechecked}
+use Rattle.certificate.specs.declared.certificate.Certificate.{Certificate}
+use Rattle.clause_blocks.specs.Clauses.{clauses_of}
+use Rattle.cube_jobs.specs.Options.{OptionsValue}
+use Rattle.cube_tree.specs.CubeTree.{leaves}
+use Rattle.part_text.specs.PartText.{part_text}
+use Rattle.reducer.specs.Reduced.{HasReduceFault, IsReduced, ReducedValue}
+use Rattle.reducer.specs.Reduction.{kept_trace}
+use Rattle.reducer.specs.declared.reduce_fault.ReduceCause.{ReduceCause}
+use Rattle.schedule_text.specs.ScheduleWritten.{canonical_schedule}
+use Rattle.surveyor.specs.declared.Extent.{Extent}
+use Rattle.trace_semantics.specs.declared.operation.OpName.{OpName}
+use Rattle.trace_semantics.specs.Legal.{IsLegal}
+use Rattle.trace_semantics.specs.Trace.{TraceValue}
+use Rattle.trace_part.specs.TraceParts.{IsPart}
+use Rattle.trace_decision.specs.declared.decision.Decision.TheVariants.{Inconsistent, Unknown}
+use Rattle.trace_decision.specs.Decision.{IsDecided, certificate_in, certificate_text, report}
+use Rattle.survey_verdict.specs.declared.surveyed.RefutedCore.{RefutedCore}
+use Rattle.survey_verdict.specs.declared.surveyed.Surveyed.{Surveyed}
+use Rattle.survey_verdict.specs.declared.surveyed.Surveyed.TheVariants.{Decided, Refuted, Undecided}
+
+-- more operations are left of the trace than a search takes
+abbrev pub IsTooLong : TraceValue → Type 0
+IsTooLong t = (cause : ReduceCause) × (left : ℕ) × HasReduceFault t cause left
+
+-- the trace without its repeated local reads, or that too many operations are left
+abbrev pub IsReducedIfSmall : TraceValue → Option ReducedValue → Type 0
+IsReducedIfSmall t (Some reduced) = IsReduced reduced × (reduced.whole ≡ t)
+IsReducedIfSmall t None = IsTooLong t
+
+-- The part is the one that the names of the core make up, and a search with these options shows that it has no legal schedule. So the
+-- trace has none.
+pub record IsRefutedCore (options : OptionsValue) (t : TraceValue) (core : RefutedCore) : Type 0 where
+  pub is_part : IsPart t core.names core.part
+  pub refuted : IsDecided options core.part.trace (Inconsistent core.refutation)
+  pub none_legal : (schedule : List OpName) → IsLegal t schedule → ⊥
+
+-- a search of the whole trace does not decide it: too many operations are left, or a search with these options leaves cubes open
+abbrev pub IsLeftOpen : OptionsValue → TraceValue → Type 0
+IsLeftOpen options t = IsTooLong t ⊎ ((cubes : List (List ℤ)) × IsDecided options t (Unknown cubes))
+
+-- What is decided is so: it is a legal schedule, or what a search with these options refutes, of the whole trace; or the part of the core
+-- is refuted by such a search, and the trace has no legal schedule; or nothing is said, and a search of the whole trace says no more.
+abbrev pub IsSurveyed : OptionsValue → TraceValue → Surveyed → Type 0
+IsSurveyed options t (Decided (Unknown cubes)) = ⊥
+IsSurveyed options t (Decided decision) = IsDecided options t decision
+IsSurveyed options t (Refuted core) = IsRefutedCore options t core
+IsSurveyed options t (Undecided extent) = IsLeftOpen options t
+
+-- the line of a core of this many operations, of which a tree of this many cubes is refuted
+abbrev pub core_line : ℕ → ℕ → List ℕ
+core_line operations cubes = codes "INCONSISTENT operations=" ++ (decimal operations ++ (codes " cubes=" ++ (decimal cubes ++ codes "\n")))
+
+-- the report of a core: its line, and its names, one a line
+abbrev pub core_report : RefutedCore → List ℕ
+core_report core = core_line (length core.names) (leaves core.refutation.tree) ++ canonical_schedule core.names
+
+-- the line that says how far a survey came that shows nothing
+abbrev pub extent_line : Extent → List ℕ
+extent_line extent = codes "UNKNOWN placed=" ++ (decimal extent.placed ++ (codes " undecided=" ++ (decimal extent.undecided ++ codes "\n")))
+
+-- the report of what is decided
+abbrev pub survey_report : Surveyed → List ℕ
+survey_report (Decided decision) = report decision
+survey_report (Refuted core) = core_report core
+survey_report (Undecided extent) = extent_line extent
+
+-- the certificate: that of the whole trace, or of the core's part; and else nothing
+abbrev pub survey_certificate : Surveyed → List ℕ
+survey_certificate (Decided decision) = certificate_text decision
+survey_certificate (Refuted core) = canonical_certificate (certificate_in core.refutation)
+survey_certificate (Undecided extent) = []
+
+-- the names of the core, one a line, and else nothing
+abbrev pub core_names : Surveyed → List ℕ
+core_names (Decided decision) = []
+core_names (Refuted core) = canonical_schedule core.names
+core_names (Undecided extent) = []
+
+-- the part that the core makes up, as a trace's text with the names of its operations in the whole, and else nothing
+abbrev pub core_part : Surveyed → List ℕ
+core_part (Decided decision) = []
+core_part (Refuted core) = part_text true core.part
+core_part (Undecided extent) = []
+
+-- the text spells a certificate, which is accepted for the clauses of what is kept of the trace
+pub record IsCertificateFor (t : TraceValue) (text : List ℕ) : Type 0 where
+  pub certificate : Certificate
+  pub spelled : SpellsCertificate text certificate
+  pub count : ℕ
+  pub accepted : IsRechecked (clauses_of (kept_trace t)) certificate count

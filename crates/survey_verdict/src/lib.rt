@@ -1,0 +1,14 @@
+//! What is decided of a trace with the help of a survey. Nothing that the survey finds is taken on trust: a schedule is judged, and the
+//! part of a core is refuted, before anything is said.
+#![tactic(auto)]
+
+mod certifying;
+mod deciding;
+pub mod laws;
+mod reporting;
+mod surveyed;
+
+pub use certifying::write_survey_certificate;
+pub use deciding::decide_by_survey;
+pub use reporting::{names_of_core, part_of_core, report_of_survey};
+pub use surveyed::{RefutedCore, Surveyed};

@@ -1,0 +1,69 @@
+//! The report of what is decided with the help of a survey.
+ghost use Rattle.std.specs.Prelude.{◌≡◌, IfOk};
+ghost use Rattle.survey_verdict.specs.Surveyed.{core_names, core_part, core_report, extent_line, survey_report};
+
+use crate::surveyed::{RefutedCore, Surveyed};
+use part_text::part_writer::write_part;
+use schedule_text::schedule_writer::write_schedule;
+use std::alloc::{AllocError, Global};
+use surveyor::Extent;
+use trace_decision::report_of;
+
+/// The report of a core: how many operations it has, of how many cubes its refutation is, and the names.
+fn report_of_core(alloc: Global, core: &RefutedCore) -> Result<Vec<u8>, AllocError>
+    ensures { IfOk result (λ text. text.items ≡ core_report core.now) }
+{
+    let mut text = Vec::new(alloc);
+    let operations = core.names.names().len();
+    let cubes = core.refutation.tree.leaves();
+    let line = format!(in alloc; "INCONSISTENT operations={operations} cubes={cubes}\n")?;
+    text.extend_from_slice(line.as_bytes())?;
+    let names = write_schedule(alloc, &core.names)?;
+    text.extend_from_slice(names.as_slice())?;
+    Ok(text)
+}
+
+/// The line that says how far the survey came.
+fn line_of_extent(alloc: Global, extent: &Extent) -> Result<Vec<u8>, AllocError>
+    ensures { IfOk result (λ text. text.items ≡ extent_line extent.now) }
+{
+    let mut text = Vec::new(alloc);
+    let placed = extent.placed;
+    let undecided = extent.undecided;
+    let line = format!(in alloc; "UNKNOWN placed={placed} undecided={undecided}\n")?;
+    text.extend_from_slice(line.as_bytes())?;
+    Ok(text)
+}
+
+/// The report of what is decided.
+pub fn report_of_survey(alloc: Global, surveyed: &Surveyed) -> Result<Vec<u8>, AllocError>
+    ensures { IfOk result (λ text. text.items ≡ survey_report surveyed.now) }
+{
+    match surveyed {
+        Surveyed::Decided(decision) => report_of(alloc, decision),
+        Surveyed::Refuted(core) => report_of_core(alloc, core),
+        Surveyed::Undecided(extent) => line_of_extent(alloc, extent),
+    }
+}
+
+/// The names of the core, one a line, or nothing if there is none.
+pub fn names_of_core(alloc: Global, surveyed: &Surveyed) -> Result<Vec<u8>, AllocError>
+    ensures { IfOk result (λ text. text.items ≡ core_names surveyed.now) }
+{
+    match surveyed {
+        Surveyed::Refuted(core) => write_schedule(alloc, &core.names),
+        Surveyed::Decided(_) => Ok(Vec::new(alloc)),
+        Surveyed::Undecided(_) => Ok(Vec::new(alloc)),
+    }
+}
+
+/// The part that the core makes up, as a trace's text with the names of its operations in the whole, or nothing if there is no core.
+pub fn part_of_core(alloc: Global, surveyed: &Surveyed) -> Result<Vec<u8>, AllocError>
+    ensures { IfOk result (λ text. text.items ≡ core_part surveyed.now) }
+{
+    match surveyed {
+        Surveyed::Refuted(core) => write_part(alloc, &core.part, true),
+        Surveyed::Decided(_) => Ok(Vec::new(alloc)),
+        Surveyed::Undecided(_) => Ok(Vec::new(alloc)),
+    }
+}

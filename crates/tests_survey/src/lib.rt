@@ -1,0 +1,15 @@
+//! Tests of the engine that decides long traces: with the survey of this program, and with surveyors that lie.
+#![tactic(auto)]
+
+#[cfg(test)]
+mod certified_surveys;
+#[cfg(test)]
+mod expectations;
+#[cfg(test)]
+mod lying_surveyors;
+#[cfg(test)]
+mod refused_memory;
+#[cfg(test)]
+mod surveys;
+#[cfg(test)]
+mod traces;

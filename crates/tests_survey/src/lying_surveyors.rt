@@ -1,0 +1,57 @@
+//! Surveyors that lie.
+
+use std::alloc::{AllocError, Global};
+use surveyor::{Extent, Finding, Overview, Surveyor};
+use trace_semantics::name::Name;
+use trace_semantics::operation::OpName;
+use trace_semantics::trace::Trace;
+
+/// What a surveyor says of every trace.
+#[derive(Clone, Copy)]
+pub enum Lie {
+    /// The schedule of these places of the process P.
+    Schedule(u16, u16),
+    /// The core of these places of the process P.
+    Core(u16, u16),
+    /// Nothing.
+    Nothing,
+}
+
+/// A surveyor that says the same of every trace.
+#[derive(Clone, Copy)]
+pub struct Liar {
+    pub lie: Lie,
+}
+
+/// The operation of P at this place.
+fn name_at(alloc: Global, place: u16) -> Result<OpName, AllocError> {
+    Ok(OpName {
+        process: Name::copy_of(alloc, b"P")?,
+        place,
+    })
+}
+
+/// The operations of P at these places.
+fn names_at(alloc: Global, first: u16, second: u16) -> Result<Vec<OpName>, AllocError> {
+    let mut names = Vec::new(alloc);
+    names.push(name_at(alloc, first)?)?;
+    names.push(name_at(alloc, second)?)?;
+    Ok(names)
+}
+
+impl Surveyor for Liar {
+    fn survey(&self, alloc: Global, _trace: &Trace) -> Result<Overview, AllocError> {
+        let finding = match self.lie {
+            Lie::Schedule(first, second) => Finding::Schedule(names_at(alloc, first, second)?),
+            Lie::Core(first, second) => Finding::Core(names_at(alloc, first, second)?),
+            Lie::Nothing => Finding::Nothing,
+        };
+        Ok(Overview {
+            finding,
+            extent: Extent {
+                placed: 7,
+                undecided: 3,
+            },
+        })
+    }
+}

@@ -1,0 +1,173 @@
+//! What is reported of traces with the help of a survey, and of a surveyor that lies.
+
+use crate::expectations::{ample, expect};
+use crate::lying_surveyors::{Liar, Lie};
+use crate::traces::{HAND_OFF, STORE_BUFFERING, counted_lock, with_many_writes};
+use cube_jobs::{OpenGate, Options};
+use dimacs::MemorySink;
+use std::alloc::Global;
+use std::process::Abort;
+use std::sync::Wait;
+use std::thread::Threads;
+use survey::BySaturation;
+use survey_report::run_survey;
+use surveyor::Surveyor;
+use verdict_report::{ShortSource, Status, run_judge};
+
+/// Asserts what is reported of the trace, in the case of this number.
+fn assert_reports<R: Threads + Wait + Abort + Sync, S: Surveyor>(
+    alloc: Global,
+    rt: &R,
+    trace: &str,
+    surveyor: &S,
+    status: Status,
+    report: &[u8],
+    number: usize,
+) {
+    let options = ample(rt, Options::new(1, 0, 10_000, 1));
+    let mut source = ShortSource::new(trace.as_bytes(), 99);
+    let mut output = MemorySink::new(alloc);
+    let outcome = run_survey(
+        alloc,
+        rt,
+        &mut source,
+        surveyor,
+        &options,
+        &OpenGate,
+        &mut output,
+    );
+    expect(rt, outcome == Ok(status), number);
+    expect(rt, output.as_slice() == report, number);
+}
+
+// Nothing that a surveyor says turns a verdict.
+#[test]
+fn decides_whatever_a_surveyor_says(rt: HostRuntime) {
+    let lies = [
+        Lie::Schedule(1, 2),
+        Lie::Schedule(9, 9),
+        Lie::Core(1, 2),
+        Lie::Core(1, 1),
+        Lie::Core(9, 1),
+        Lie::Nothing,
+    ];
+    for lie in lies {
+        let liar = Liar { lie };
+        let report = b"INCONSISTENT cubes=1\n";
+        assert_reports(
+            rt.alloc(),
+            &rt,
+            STORE_BUFFERING,
+            &liar,
+            Status::No,
+            report,
+            1,
+        );
+        let report = b"CONSISTENT\nP.1\nQ.1\n";
+        assert_reports(rt.alloc(), &rt, HAND_OFF, &liar, Status::Yes, report, 2);
+        let long = ample(&rt, with_many_writes(rt.alloc(), STORE_BUFFERING));
+        let report = b"UNKNOWN placed=7 undecided=3\n";
+        assert_reports(
+            rt.alloc(),
+            &rt,
+            long.as_str(),
+            &liar,
+            Status::Unknown,
+            report,
+            3,
+        );
+    }
+}
+
+// The survey finds the four operations among two hundred.
+#[test]
+fn finds_the_core_of_a_long_trace(rt: HostRuntime) {
+    let survey = BySaturation { budget: 1_000_000 };
+    let long = ample(&rt, with_many_writes(rt.alloc(), STORE_BUFFERING));
+    let report = b"INCONSISTENT operations=4 cubes=1\nP.1\nP.2\nQ.1\nQ.2\n";
+    assert_reports(
+        rt.alloc(),
+        &rt,
+        long.as_str(),
+        &survey,
+        Status::No,
+        report,
+        4,
+    );
+    assert_reports(
+        rt.alloc(),
+        &rt,
+        STORE_BUFFERING,
+        &survey,
+        Status::No,
+        report,
+        5,
+    );
+}
+
+// A budget of no step finds nothing, and what is small is decided all the same.
+#[test]
+fn says_how_far_it_came(rt: HostRuntime) {
+    let survey = BySaturation { budget: 0 };
+    let long = ample(&rt, with_many_writes(rt.alloc(), STORE_BUFFERING));
+    let report = b"UNKNOWN placed=0 undecided=2\n";
+    assert_reports(
+        rt.alloc(),
+        &rt,
+        long.as_str(),
+        &survey,
+        Status::Unknown,
+        report,
+        6,
+    );
+    let report = b"CONSISTENT\nP.1\nQ.1\n";
+    assert_reports(rt.alloc(), &rt, HAND_OFF, &survey, Status::Yes, report, 7);
+}
+
+// The survey finds a schedule of a long trace, which a judge takes.
+#[test]
+fn finds_a_schedule_of_a_long_trace(rt: HostRuntime) {
+    let survey = BySaturation { budget: 1_000_000 };
+    let long = ample(&rt, with_many_writes(rt.alloc(), HAND_OFF));
+    let options = ample(&rt, Options::new(1, 0, 10_000, 1));
+    let mut source = ShortSource::new(long.as_bytes(), 99);
+    let mut output = MemorySink::new(rt.alloc());
+    let outcome = run_survey(
+        rt.alloc(),
+        &rt,
+        &mut source,
+        &survey,
+        &options,
+        &OpenGate,
+        &mut output,
+    );
+    expect(&rt, outcome == Ok(Status::Yes), 8);
+    let schedule = output.as_slice().strip_prefix(b"CONSISTENT\n");
+    expect(&rt, schedule.is_some(), 8);
+    let mut trace = ShortSource::new(long.as_bytes(), 99);
+    let mut names = ShortSource::new(schedule.unwrap_or(b""), 99);
+    let mut answer = MemorySink::new(rt.alloc());
+    let outcome = run_judge(rt.alloc(), &mut trace, &mut names, &mut answer);
+    expect(&rt, outcome == Ok(Status::Yes), 9);
+}
+
+// A lock of two values that is acquired once too often: no small part shows it, and the survey decides nothing.
+#[test]
+fn leaves_a_trace_of_few_values_undecided(rt: HostRuntime) {
+    let survey = BySaturation { budget: 1_000_000 };
+    let options = ample(&rt, Options::new(1, 0, 10_000, 1));
+    let lock = ample(&rt, counted_lock(rt.alloc()));
+    let mut source = ShortSource::new(lock.as_bytes(), 99);
+    let mut output = MemorySink::new(rt.alloc());
+    let outcome = run_survey(
+        rt.alloc(),
+        &rt,
+        &mut source,
+        &survey,
+        &options,
+        &OpenGate,
+        &mut output,
+    );
+    expect(&rt, outcome == Ok(Status::Unknown), 10);
+    expect(&rt, output.as_slice().starts_with(b"UNKNOWN placed="), 10);
+}
