@@ -1,0 +1,37 @@
+//! Numbers as words.
+
+/// The most digits that a number of 64 bits has.
+const MOST: usize = 20;
+
+/// A number in decimal.
+#[derive(Drop)]
+pub struct Digits {
+    digits: [u8; 20],
+    start: usize,
+}
+
+impl Digits {
+    /// The digits.
+    pub fn as_slice(&self) -> &[u8] {
+        match self.digits.get(self.start..) {
+            Some(digits) => digits,
+            None => &[],
+        }
+    }
+}
+
+/// Writes the number in decimal.
+pub fn decimal(number: u64) -> Digits {
+    let mut digits = [b'0'; 20];
+    let mut start = MOST;
+    let mut rest = number;
+    for place in (0..MOST).rev() {
+        digits[place] = b'0' + (rest % 10) as u8;
+        rest /= 10;
+        start = place;
+        if rest == 0 {
+            break;
+        }
+    }
+    Digits { digits, start }
+}

@@ -1,0 +1,282 @@
+//! Why an engine refused.
+
+use crate::certificate_notes::explain_certificate;
+use crate::earlier_lines::first_line_with;
+use crate::meanings::Explained;
+use crate::name_notes::note_unknown;
+use crate::proof_notes::explain_step;
+use crate::swapped::{bytes_of, note_swapped};
+use crate::text_kinds::TextKind;
+use crate::trace_notes::explain_trace;
+use cube_jobs::SearchCause;
+use model_text::ModelCause;
+use note_text::{AskedTexts, NamedText, Notes, count_words, decimal, line_of_text, word_at};
+use reducer::reduce_fault::ReduceCause;
+use schedule_decode::decode_fault::DecodeCause;
+use schedule_text::schedule_fault::ScheduleCause;
+use std::alloc::{AllocError, Global};
+use text_lines::words::is_word;
+use trace_part::part_fault::PartCause;
+use verdict_report::Fault;
+
+/// Adds the line of a text, if the command has the text, and what the cause means.
+fn explain_line<C: Explained>(
+    notes: &mut Notes,
+    cause: &C,
+    number: u64,
+    text: &Option<NamedText<'_>>,
+    kind: TextKind,
+    texts: &AskedTexts<'_>,
+) -> Result<(), AllocError> {
+    let Some(text) = text else {
+        return notes.note(&[cause.meaning().as_bytes()]);
+    };
+    notes.marked_line(text, number, Some(0))?;
+    notes.note(&[cause.meaning().as_bytes()])?;
+    note_swapped(notes, text, kind, texts)
+}
+
+/// The schedule, or the names of the operations of a part.
+fn names_of<'t>(texts: &AskedTexts<'t>) -> Option<NamedText<'t>> {
+    match texts.schedule {
+        Some(text) => Some(text),
+        None => texts.names,
+    }
+}
+
+/// The line of this number, or no bytes if there is none.
+fn line_of<'t>(text: &Option<NamedText<'t>>, number: u64) -> &'t [u8] {
+    match text {
+        Some(text) => line_of_text(bytes_of(text), number).unwrap_or(b""),
+        None => b"",
+    }
+}
+
+/// Adds why a schedule was refused at this line.
+fn explain_schedule(
+    notes: &mut Notes,
+    cause: ScheduleCause,
+    number: u64,
+    texts: &AskedTexts<'_>,
+) -> Result<(), AllocError> {
+    let text = names_of(texts);
+    explain_line(notes, &cause, number, &text, TextKind::Schedule, texts)?;
+    let line = line_of(&text, number);
+    if is_word(word_at(line, 0), "CONSISTENT") {
+        return notes.note(&[b"the first line of what verify prints is no part of the schedule"]);
+    }
+    if count_words(line) > 1 {
+        return notes.note(&[b"each name stands on a line of its own"]);
+    }
+    Ok(())
+}
+
+/// Adds why the names make up no part.
+fn explain_part(
+    alloc: Global,
+    notes: &mut Notes,
+    cause: PartCause,
+    number: u64,
+    texts: &AskedTexts<'_>,
+) -> Result<(), AllocError> {
+    let text = names_of(texts);
+    explain_line(notes, &cause, number, &text, TextKind::Schedule, texts)?;
+    let (Some(names), Some(trace)) = (text, texts.trace) else {
+        return Ok(());
+    };
+    let name = word_at(line_of(&text, number), 0);
+    match cause {
+        PartCause::UnknownOp => note_unknown(alloc, notes, bytes_of(&trace), name),
+        PartCause::RepeatedOp => note_first(notes, &names, name),
+    }
+}
+
+/// Adds the number of the first line that has this name.
+fn note_first(notes: &mut Notes, text: &NamedText<'_>, name: &[u8]) -> Result<(), AllocError> {
+    let Some(number) = first_line_with(bytes_of(text), name, None) else {
+        return Ok(());
+    };
+    let number = decimal(number);
+    notes.note(&[
+        b"the first one is at ",
+        text.name.as_bytes(),
+        b":",
+        number.as_slice(),
+    ])
+}
+
+/// What is said of a line of a solver's answer that no model has.
+fn says_of_answer(line: &[u8]) -> Option<&'static str> {
+    let first = word_at(line, 0);
+    if is_word(first, "SAT") {
+        Some(
+            "this is the form of minisat: `s SATISFIABLE` stands in place of SAT, and `v ` before the numbers",
+        )
+    } else if is_word(first, "UNSAT") {
+        Some(
+            "the solver says that there is no model, so the trace has no legal schedule if the solver is right",
+        )
+    } else if is_word(first, "INDET") || is_word(first, "UNKNOWN") {
+        Some("the solver gave up")
+    } else {
+        None
+    }
+}
+
+/// Adds why a model was refused at this line.
+fn explain_model(
+    notes: &mut Notes,
+    cause: ModelCause,
+    number: u64,
+    texts: &AskedTexts<'_>,
+) -> Result<(), AllocError> {
+    explain_line(notes, &cause, number, &texts.model, TextKind::Model, texts)?;
+    match says_of_answer(line_of(&texts.model, number)) {
+        Some(says) => notes.note(&[says.as_bytes()]),
+        None => Ok(()),
+    }
+}
+
+/// Adds why a trace was not reduced, and which commands take it.
+fn explain_reduction(notes: &mut Notes, cause: ReduceCause, left: u64) -> Result<(), AllocError> {
+    let left = decimal(left);
+    match cause {
+        ReduceCause::StillTooLarge => notes.note(&[
+            left.as_slice(),
+            b" operations are left after reduction, at most 160 can be decided; vsc survey and vsc part take larger traces",
+        ]),
+    }
+}
+
+/// Adds why a model was not decoded.
+fn explain_decoding(notes: &mut Notes, cause: DecodeCause, clause: u64) -> Result<(), AllocError> {
+    let clause = decimal(clause);
+    notes.note(&[
+        cause.meaning().as_bytes(),
+        b" (clause ",
+        clause.as_slice(),
+        b")",
+    ])
+}
+
+/// Adds why a search has no results, and what to try.
+fn explain_search(notes: &mut Notes, cause: SearchCause) -> Result<(), AllocError> {
+    notes.note(&[cause.meaning().as_bytes()])?;
+    notes.note(&[b"--workers 1 needs no thread"])
+}
+
+/// Adds that a file could not be read again, if that is so.
+fn note_unread(
+    notes: &mut Notes,
+    text: &Option<NamedText<'_>>,
+    says: &[u8],
+) -> Result<(), AllocError> {
+    match text {
+        Some(text) if text.bytes.is_none() => notes.note(&[text.name.as_bytes(), says]),
+        _ => Ok(()),
+    }
+}
+
+/// Adds for each file that could not be read again its name and these words.
+fn note_all_unread(
+    notes: &mut Notes,
+    texts: &AskedTexts<'_>,
+    says: &[u8],
+) -> Result<(), AllocError> {
+    note_unread(notes, &texts.trace, says)?;
+    note_unread(notes, &texts.schedule, says)?;
+    note_unread(notes, &texts.cnf, says)?;
+    note_unread(notes, &texts.model, says)?;
+    note_unread(notes, &texts.proof, says)?;
+    note_unread(notes, &texts.certificate, says)?;
+    note_unread(notes, &texts.names, says)
+}
+
+/// Adds which files cannot be read.
+fn explain_device(notes: &mut Notes, texts: &AskedTexts<'_>) -> Result<(), AllocError> {
+    let before = notes.as_slice().len();
+    note_all_unread(notes, texts, b": the file cannot be opened or read")?;
+    if notes.as_slice().len() > before {
+        return Ok(());
+    }
+    notes.note(&[
+        b"each file can be read now: standard output failed, or a file that was to be written",
+    ])
+}
+
+/// Adds which files are too long.
+fn explain_length(notes: &mut Notes, texts: &AskedTexts<'_>) -> Result<(), AllocError> {
+    notes.note(&[b"a file has at most 268435456 bytes"])?;
+    note_all_unread(notes, texts, b": the file is longer, or cannot be read")
+}
+
+/// Adds what may be done if memory ran out.
+fn explain_memory(notes: &mut Notes) -> Result<(), AllocError> {
+    notes.note(&[b"memory ran out; of verify, --workers 1 and a smaller --budget take less"])
+}
+
+/// Adds why a file of a command about clauses and proofs was refused.
+fn explain_proofs(
+    notes: &mut Notes,
+    fault: &Fault,
+    texts: &AskedTexts<'_>,
+) -> Result<(), AllocError> {
+    match fault {
+        Fault::Model(cause, line) => explain_model(notes, *cause, *line as u64, texts),
+        Fault::Cnf(cause, line) => {
+            explain_line(
+                notes,
+                cause,
+                *line as u64,
+                &texts.cnf,
+                TextKind::Formula,
+                texts,
+            )
+        }
+        Fault::Lrat(cause, line) => {
+            explain_line(
+                notes,
+                cause,
+                *line as u64,
+                &texts.proof,
+                TextKind::Derivation,
+                texts,
+            )
+        }
+        Fault::Check(cause, step) => explain_step(notes, *cause, *step as u64, texts),
+        Fault::Cert(cause, place) => explain_certificate(notes, *cause, *place as u64, texts),
+        _ => Ok(()),
+    }
+}
+
+/// Adds why an engine gave up for lack of something.
+fn explain_lack(
+    notes: &mut Notes,
+    fault: &Fault,
+    texts: &AskedTexts<'_>,
+) -> Result<(), AllocError> {
+    match fault {
+        Fault::OutOfMemory => explain_memory(notes),
+        Fault::Device => explain_device(notes, texts),
+        Fault::InputTooLong => explain_length(notes, texts),
+        Fault::Reduce(cause, left) => explain_reduction(notes, *cause, *left as u64),
+        Fault::Decode(cause, clause) => explain_decoding(notes, *cause, *clause as u64),
+        Fault::Search(cause) => explain_search(notes, *cause),
+        _ => explain_proofs(notes, fault, texts),
+    }
+}
+
+/// Adds notes on a refusal: the line as it stands in its file, what was expected there, and what was probably meant.
+pub fn explain_refusal(
+    alloc: Global,
+    notes: &mut Notes,
+    fault: &Fault,
+    texts: &AskedTexts<'_>,
+) -> Result<(), AllocError> {
+    match fault {
+        Fault::Trace(cause, line) => explain_trace(alloc, notes, *cause, *line as u64, texts),
+        Fault::Schedule(cause, line) => explain_schedule(notes, *cause, *line as u64, texts),
+        Fault::Part(cause, line) => explain_part(alloc, notes, *cause, *line as u64, texts),
+        _ => explain_lack(notes, fault, texts),
+    }
+}

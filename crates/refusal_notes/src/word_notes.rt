@@ -1,0 +1,150 @@
+//! Which word of a line is no name or no number.
+
+use crate::names::{is_value, place_of};
+use note_text::{Notes, quoted, word_at};
+use std::alloc::{AllocError, Global};
+use text_lines::words::is_word;
+use trace_semantics::name::is_name_word;
+
+/// What is wrong with a word.
+#[derive(Clone, Copy)]
+pub(crate) enum WordFault {
+    Name,
+    Value,
+    Place,
+}
+
+/// A word of a line, by its place, and what is wrong with it.
+#[derive(Clone, Copy)]
+pub(crate) struct BadWord {
+    pub word: usize,
+    pub fault: WordFault,
+}
+
+/// What is said of a word that is wrong so.
+fn says_of(fault: WordFault) -> &'static str {
+    match fault {
+        WordFault::Name =>
+            " is no name: a letter or _, then letters, digits and _, at most 32 bytes",
+        WordFault::Value => {
+            " is no value: decimal, 0 to 18446744073709551615, without a leading zero"
+        }
+        WordFault::Place => {
+            " is no place of an operation: decimal, 1 to 65535, without a leading zero"
+        }
+    }
+}
+
+/// Adds a word and what is said of it.
+fn note_said(notes: &mut Notes, word: &[u8], says: &str) -> Result<(), AllocError> {
+    notes.note(&[word, says.as_bytes()])
+}
+
+/// Adds why the word is wrong.
+pub(crate) fn note_word(
+    alloc: Global,
+    notes: &mut Notes,
+    word: &[u8],
+    fault: WordFault,
+) -> Result<(), AllocError> {
+    let quoted = quoted(alloc, word)?;
+    note_said(notes, quoted.as_slice(), says_of(fault))
+}
+
+/// The place of the word that names the process of the operation from which the line's value comes.
+pub(crate) fn source_place(line: &[u8]) -> Option<usize> {
+    let key = word_at(line, 0);
+    if is_word(key, "R") && is_word(word_at(line, 3), "from") && !word_at(line, 5).is_empty() {
+        Some(4)
+    } else if is_word(key, "U")
+        && is_word(word_at(line, 4), "from")
+        && !word_at(line, 6).is_empty()
+    {
+        Some(5)
+    } else {
+        None
+    }
+}
+
+fn is_before(line: &[u8]) -> bool {
+    is_word(word_at(line, 0), "before")
+}
+
+/// The first word in the place of a name that is none.
+fn bad_name_place(line: &[u8]) -> Option<usize> {
+    if !is_name_word(word_at(line, 1)) {
+        return Some(1);
+    }
+    if is_before(line) && !is_name_word(word_at(line, 3)) {
+        return Some(3);
+    }
+    match source_place(line) {
+        Some(place) if !is_name_word(word_at(line, place)) => Some(place),
+        _ => None,
+    }
+}
+
+/// The first word in the place of a name that is none.
+pub(crate) fn bad_name(line: &[u8]) -> Option<BadWord> {
+    match bad_name_place(line) {
+        Some(word) => Some(BadWord {
+            word,
+            fault: WordFault::Name,
+        }),
+        None => None,
+    }
+}
+
+/// The word at this place, if it should be an operation's place and is none.
+fn bad_place(line: &[u8], word: usize) -> Option<BadWord> {
+    if place_of(word_at(line, word)) > 0 {
+        return None;
+    }
+    Some(BadWord {
+        word,
+        fault: WordFault::Place,
+    })
+}
+
+/// The word at this place, if it should be a value and is none.
+fn bad_value(line: &[u8], word: usize) -> Option<BadWord> {
+    if is_value(word_at(line, word)) {
+        return None;
+    }
+    Some(BadWord {
+        word,
+        fault: WordFault::Value,
+    })
+}
+
+/// The place in the source of the line's value, if it is none.
+fn bad_source_place(line: &[u8]) -> Option<BadWord> {
+    match source_place(line) {
+        Some(4) => bad_place(line, 5),
+        Some(_) => bad_place(line, 6),
+        None => None,
+    }
+}
+
+/// The first of the line's values that is none.
+fn bad_value_of_line(line: &[u8]) -> Option<BadWord> {
+    match bad_value(line, 2) {
+        Some(bad) => Some(bad),
+        None if is_word(word_at(line, 0), "U") => bad_value(line, 3),
+        None => None,
+    }
+}
+
+/// The first word in the place of a number that is none.
+pub(crate) fn bad_number(line: &[u8]) -> Option<BadWord> {
+    if is_before(line) {
+        return match bad_place(line, 2) {
+            Some(bad) => Some(bad),
+            None => bad_place(line, 4),
+        };
+    }
+    match bad_value_of_line(line) {
+        Some(bad) => Some(bad),
+        None => bad_source_place(line),
+    }
+}

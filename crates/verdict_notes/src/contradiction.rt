@@ -1,0 +1,108 @@
+//! Why a trace has no legal schedule.
+
+use crate::named_operations::operation_of;
+use crate::sentence::Sentence;
+use crate::sourceless::explain_sourceless;
+use note_text::{Notes, decimal};
+use std::alloc::{AllocError, Global};
+use surveyor::{Finding, Surveyor};
+use trace_semantics::operation::OpName;
+use trace_semantics::trace::Trace;
+
+/// The most operations of a core that are shown.
+const MOST_SHOWN: u64 = 40;
+
+/// Notes why the trace has no legal schedule: reads and final values of values that nothing gives, or else a few operations by which a
+/// survey finds that there is none. The survey is not trusted, and its core is not refuted again.
+pub fn explain_inconsistent<S: Surveyor>(
+    alloc: Global,
+    notes: &mut Notes,
+    trace: &Trace,
+    surveyor: &S,
+) -> Result<(), AllocError> {
+    if explain_sourceless(alloc, notes, trace)? {
+        return Ok(());
+    }
+    let overview = surveyor.survey(alloc, trace)?;
+    match &overview.finding {
+        Finding::Core(names) => explain_core(alloc, notes, trace, names.as_slice()),
+        Finding::Schedule(_) => explain_no_core(notes),
+        Finding::Nothing => explain_no_core(notes),
+    }
+}
+
+/// Notes that a survey finds no core.
+fn explain_no_core(notes: &mut Notes) -> Result<(), AllocError> {
+    notes.note(&[b"a short survey finds no few operations that contradict each other"])
+}
+
+/// Whether one of these operations works on the location.
+fn is_used(trace: &Trace, names: &[OpName], location: &[u8]) -> bool {
+    for name in names {
+        if let Some(op) = operation_of(trace, name) {
+            if op.location().as_bytes() == location {
+                return true;
+            }
+        }
+    }
+    false
+}
+
+/// Notes the initial values of the locations on which these operations work.
+fn explain_initial(notes: &mut Notes, trace: &Trace, names: &[OpName]) -> Result<(), AllocError> {
+    for entry in trace.initial() {
+        let location = entry.0.as_bytes();
+        let value = decimal(entry.1);
+        if is_used(trace, names, location) {
+            notes.note(&[b"init ", location, b" ", value.as_slice()])?;
+        }
+    }
+    Ok(())
+}
+
+/// Notes the operation, with its name.
+fn explain_operation(
+    alloc: Global,
+    notes: &mut Notes,
+    trace: &Trace,
+    name: &OpName,
+) -> Result<(), AllocError> {
+    let Some(op) = operation_of(trace, name) else {
+        return Ok(());
+    };
+    let mut sentence = Sentence::new(alloc);
+    sentence.add_op_name(name)?;
+    sentence.add(&[b" "])?;
+    sentence.add_operation(op)?;
+    notes.note(&[sentence.as_slice()])
+}
+
+/// Notes the operations of a core.
+fn explain_core(
+    alloc: Global,
+    notes: &mut Notes,
+    trace: &Trace,
+    names: &[OpName],
+) -> Result<(), AllocError> {
+    let number = names.len() as u64;
+    let count = decimal(number);
+    if number > MOST_SHOWN {
+        return notes.note(&[
+            b"a survey finds ",
+            count.as_slice(),
+            b" operations that contradict each other: vsc survey names them",
+        ]);
+    }
+    notes.note(&[
+        b"a survey, which nothing checks here, finds these operations in contradiction: ",
+        count.as_slice(),
+    ])?;
+    explain_initial(notes, trace, names)?;
+    for name in names {
+        explain_operation(alloc, notes, trace, name)?;
+    }
+    notes.note(&[
+        b"fewer may suffice; vsc part writes them as a trace, if a file has their names",
+    ])?;
+    notes.note(&[b"vsc survey finds and refutes such operations"])
+}

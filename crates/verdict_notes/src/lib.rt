@@ -1,0 +1,25 @@
+//! Notes on verdicts: why a schedule is illegal, why a trace is inconsistent, and what to try if it is not decided.
+//!
+//! Nothing that is claimed rests on them, so nothing is proved of them but that they are safe and come to an end.
+#![tactic(auto)]
+
+mod certificate_length;
+mod contradiction;
+mod held_value;
+mod illegal;
+mod illegal_whole;
+mod initial_words;
+mod named_operations;
+mod open_cubes;
+mod open_orders;
+mod operation_words;
+mod sentence;
+mod sourceless;
+mod sourceless_finals;
+mod sourceless_reads;
+mod undecided;
+
+pub use certificate_length::explain_certificate_length;
+pub use contradiction::explain_inconsistent;
+pub use illegal::explain_illegal;
+pub use undecided::{SearchEffort, explain_undecided};

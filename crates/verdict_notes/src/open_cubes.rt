@@ -1,0 +1,108 @@
+//! The cubes that a report leaves open.
+
+use crate::open_orders::OpenOrders;
+use note_text::{Notes, decimal};
+use reducer::reduced::{Reduced, reduce};
+use std::alloc::{AllocError, Global};
+use text_lines::lines::cut_line;
+use text_lines::words::{cut_word, is_word};
+use trace_semantics::trace::Trace;
+use var_layout::layout::Layout;
+
+/// The most open cubes that are shown.
+const MOST_SHOWN: u64 = 5;
+
+/// The words after `open` of a line that begins so.
+fn literals_of(line: &[u8]) -> Option<&[u8]> {
+    match cut_word(line) {
+        Some((word, rest)) => {
+            if is_word(word, "open") {
+                Some(rest)
+            } else {
+                None
+            }
+        }
+        None => None,
+    }
+}
+
+/// How many lines of the report are open cubes.
+fn count_open(report: &[u8]) -> u64 {
+    let mut count: u64 = 0;
+    let mut rest = report;
+    for _ in 0..u64::MAX {
+        let Some((line, after)) = cut_line(rest) else {
+            break;
+        };
+        if literals_of(line).is_some() {
+            count = count.saturating_add(1);
+        }
+        rest = after;
+    }
+    count
+}
+
+/// How many operations the trace has.
+fn operations(trace: &Trace) -> u64 {
+    let mut count: u64 = 0;
+    for process in trace.processes() {
+        count = count.saturating_add(process.operations.as_slice().len() as u64);
+    }
+    count
+}
+
+/// Notes how many cubes are open, and the first ones as orders of operations.
+pub fn explain_open_cubes(
+    alloc: Global,
+    notes: &mut Notes,
+    trace: &Trace,
+    report: &[u8],
+) -> Result<(), AllocError> {
+    let open = count_open(report);
+    if open == 0 {
+        return Ok(());
+    }
+    let count = decimal(open);
+    notes.note(&[
+        b"cubes that are open: ",
+        count.as_slice(),
+        b"; a legal schedule can only be in one of them",
+    ])?;
+    match reduce(alloc, trace) {
+        Ok(reduced) => explain_of_reduced(alloc, notes, trace, &reduced, report),
+        Err(_) => Ok(()),
+    }
+}
+
+/// Notes the open cubes as orders of operations, if the reduced trace has all operations, and so all names.
+fn explain_of_reduced(
+    alloc: Global,
+    notes: &mut Notes,
+    trace: &Trace,
+    reduced: &Reduced,
+    report: &[u8],
+) -> Result<(), AllocError> {
+    let layout = Layout::of(alloc, reduced)?;
+    if layout.operations() as u64 != operations(trace) {
+        return Ok(());
+    }
+    let orders = OpenOrders {
+        trace,
+        layout: &layout,
+    };
+    let mut shown = 0;
+    let mut rest = report;
+    for _ in 0..u64::MAX {
+        let Some((line, after)) = cut_line(rest) else {
+            break;
+        };
+        if let Some(literals) = literals_of(line) {
+            if shown < MOST_SHOWN {
+                orders.explain(alloc, notes, literals)?;
+                shown += 1;
+            }
+        }
+        rest = after;
+    }
+    Ok(())
+}

@@ -1,0 +1,88 @@
+//! What to try if a trace is not decided.
+
+use crate::open_cubes::explain_open_cubes;
+use cube_jobs::limits::{MAX_BUDGET, MAX_ROUNDS, MAX_WORKERS};
+use note_text::{Notes, decimal};
+use std::alloc::{AllocError, Global};
+use trace_semantics::trace::Trace;
+
+/// A budget with which most searches end that end at all, in conflicts of a cube.
+const LARGE_BUDGET: u64 = 1_000_000;
+
+/// What a search was allowed.
+#[derive(Clone, Copy)]
+pub struct SearchEffort {
+    /// Threads that searched.
+    pub workers: u32,
+    /// Conflicts of a cube, after which its search was given up.
+    pub budget: u64,
+    /// Rounds of the search.
+    pub rounds: u32,
+}
+
+/// Notes what to try if the search of the trace was given up, and of the report, if it is at hand, which cubes are open.
+pub fn explain_undecided(
+    alloc: Global,
+    notes: &mut Notes,
+    trace: &Trace,
+    effort: SearchEffort,
+    report: Option<&[u8]>,
+) -> Result<(), AllocError> {
+    if let Some(report) = report {
+        explain_open_cubes(alloc, notes, trace, report)?;
+    }
+    advise_budget(notes, effort.budget)?;
+    advise_rounds(notes, effort.rounds)?;
+    advise_workers(notes, effort.workers)
+}
+
+/// The next budget to try.
+fn next_budget(budget: u64) -> u64 {
+    if budget < LARGE_BUDGET {
+        LARGE_BUDGET
+    } else {
+        budget.saturating_mul(10).min(MAX_BUDGET)
+    }
+}
+
+/// Notes which budget to try.
+fn advise_budget(notes: &mut Notes, budget: u64) -> Result<(), AllocError> {
+    if budget >= MAX_BUDGET {
+        return Ok(());
+    }
+    let next = decimal(next_budget(budget));
+    let now = decimal(budget);
+    notes.note(&[
+        b"try --budget ",
+        next.as_slice(),
+        b" in place of ",
+        now.as_slice(),
+        b": it bounds proofs by counting too",
+    ])
+}
+
+/// Notes how many rounds to try.
+fn advise_rounds(notes: &mut Notes, rounds: u32) -> Result<(), AllocError> {
+    if rounds >= MAX_ROUNDS {
+        return Ok(());
+    }
+    let most = decimal(MAX_ROUNDS as u64);
+    notes.note(&[
+        b"try --rounds ",
+        most.as_slice(),
+        b": each round splits the cubes that are open",
+    ])
+}
+
+/// Notes how many workers to try.
+fn advise_workers(notes: &mut Notes, workers: u32) -> Result<(), AllocError> {
+    if workers >= MAX_WORKERS {
+        return Ok(());
+    }
+    let most = decimal(MAX_WORKERS as u64);
+    notes.note(&[
+        b"try --workers ",
+        most.as_slice(),
+        b", if there are as many processors: it searches more cubes at once",
+    ])
+}
