@@ -59,7 +59,7 @@ class Contract:
 
     def traits(self):
         """The traits of those type parameters of which a clause names what they show."""
-        bounds = dict(re.findall(r"[<,] ?(\w): ([^,<>]+)", self.head))
+        bounds = dict(re.findall(r"[<,]\s*(\w): ([^,<>]+)", self.head))
         named = set(re.findall(r"\b([A-Z])\.\w", "".join(text for _, text in self.clauses)))
         return [trait.strip() for letter in sorted(named) for trait in bounds[letter].split("+")]
 

@@ -8,7 +8,7 @@ use Rattle.command_line.proofs.FoundLemmas.{EntersAs, reads}
 use Rattle.command_line.proofs.GivenLemmas.{AllFit}
 
 cnf_fits : AllFit (passes cnf_built.rules) cnf_built.rules
-cnf_fits = (fits cnf_built.rules _ refl refl refl refl, (fits cnf_built.rules _ refl refl refl refl, (fits cnf_built.rules _ refl refl refl refl, tt)))
+cnf_fits = (fits cnf_built.rules _ refl refl refl refl, (fits cnf_built.rules _ refl refl refl refl, (fits cnf_built.rules _ refl refl refl refl, (fits cnf_built.rules _ refl refl refl refl, tt))))
 
 pub cnf_reads : (words : List Text) (found : Found) → EntersAs words (codes "cnf") found → (id : Text) → is_sure cnf_built.rules id ≡ true
     → Reads cnf_built.rules id (rows_of found)

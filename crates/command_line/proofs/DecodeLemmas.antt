@@ -8,7 +8,7 @@ use Rattle.command_line.proofs.FoundLemmas.{EntersAs, reads}
 use Rattle.command_line.proofs.GivenLemmas.{AllFit}
 
 decode_fits : AllFit (passes decode_built.rules) decode_built.rules
-decode_fits = (fits decode_built.rules _ refl refl refl refl, (fits decode_built.rules _ refl refl refl refl, (fits decode_built.rules _ refl refl refl refl, tt)))
+decode_fits = (fits decode_built.rules _ refl refl refl refl, (fits decode_built.rules _ refl refl refl refl, (fits decode_built.rules _ refl refl refl refl, (fits decode_built.rules _ refl refl refl refl, tt))))
 
 pub decode_reads : (words : List Text) (found : Found) → EntersAs words (codes "decode") found → (id : Text) → is_sure decode_built.rules id ≡ true
     → Reads decode_built.rules id (rows_of found)

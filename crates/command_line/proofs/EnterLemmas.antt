@@ -155,11 +155,17 @@ recheck_built = built_at 5
 abbrev pub part_built : Shape
 part_built = built_at 6
 
+abbrev pub survey_built : Shape
+survey_built = built_at 7
+
+abbrev pub refusals_built : Shape
+refusals_built = built_at 8
+
 abbrev pub commands : List Shape
-commands = verify_built ∷ judge_built ∷ cnf_built ∷ decode_built ∷ lrat_built ∷ recheck_built ∷ part_built ∷ []
+commands = verify_built ∷ judge_built ∷ cnf_built ∷ decode_built ∷ lrat_built ∷ recheck_built ∷ part_built ∷ survey_built ∷ refusals_built ∷ []
 
 abbrev help_built : Shape
-help_built = built_at 7
+help_built = built_at 9
 
 -- a parse enters one of the commands, with words at which it finds no fault
 pub record Enters (met : Option (Text × List Row)) : Type 0 where

@@ -11,8 +11,8 @@ use Rattle.clap.specs.declared.parser.matches.ArgMatches.{ArgMatches}
 use Rattle.clap.specs.declared.parser.matches.ArgMatches.TheViews.{out-ArgMatches, out-SubCommand}
 use Rattle.clap.specs.declared.parser.matches.Found.{Found}
 use Rattle.clap.specs.declared.parser.matches.SubCommand.{SubCommand}
-use Rattle.command_line.specs.CommandLine.{Asks, AsksFor, command_in, given_in, vsc_app}
-use Rattle.command_line.specs.declared.line.Line.{Line}
+use Rattle.command_line.specs.CommandLine.{Asks, AsksWith, command_in, given_in, vsc_app}
+use Rattle.command_line.specs.declared.line.CommandLine.{CommandLine}
 use Rattle.command_line.proofs.CommandLemmas.{Reads, command_reads, is_sure, passes}
 use Rattle.command_line.proofs.EnterLemmas.{Among, Enters, commands, enters_by_name, enters_command, has_name, the_one}
 use Rattle.command_line.proofs.GivenLemmas.{AllFit}
@@ -58,10 +58,10 @@ module _ (words : List Text) (name : Text) (found : Found) (entered : EntersAs w
       subst (Reads s.rules id) (sym rows) (command_reads s entered.met.words all faultless id sure)
 
   -- what the matches say of the command, the words ask for
-  pub asks_as_read : (line : Line) → AsksFor (Some name) (first_value found) line → Asks words line
-  asks_as_read line said =
+  pub asks_as_read : (asked : CommandLine) → AsksWith (Some name) (first_value found) asked → Asks words asked
+  asks_as_read asked said =
       let values : first_value found ≡ given_in words = λ i id. value_is id i in
-      subst (λ f. AsksFor (command_in words) f line) values (subst (λ (c : Option Text). AsksFor c (first_value found) line) (sym entered.command) said)
+      subst (λ f. AsksWith (command_in words) f asked) values (subst (λ (c : Option Text). AsksWith c (first_value found) asked) (sym entered.command) said)
 
 -- an argument that has a text
 pub has_text : (found : Found) (rules : List Rule) (id : Text) → Reads rules id (rows_of found) → is_some (first_value found id) ≡ true

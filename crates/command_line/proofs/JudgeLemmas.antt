@@ -8,7 +8,7 @@ use Rattle.command_line.proofs.FoundLemmas.{EntersAs, reads}
 use Rattle.command_line.proofs.GivenLemmas.{AllFit}
 
 judge_fits : AllFit (passes judge_built.rules) judge_built.rules
-judge_fits = (fits judge_built.rules _ refl refl refl refl, (fits judge_built.rules _ refl refl refl refl, (fits judge_built.rules _ refl refl refl refl, tt)))
+judge_fits = (fits judge_built.rules _ refl refl refl refl, (fits judge_built.rules _ refl refl refl refl, (fits judge_built.rules _ refl refl refl refl, (fits judge_built.rules _ refl refl refl refl, tt))))
 
 pub judge_reads : (words : List Text) (found : Found) → EntersAs words (codes "judge") found → (id : Text) → is_sure judge_built.rules id ≡ true
     → Reads judge_built.rules id (rows_of found)

@@ -10,4 +10,6 @@ mod LratLemmas
 mod NumberLemmas
 mod PartLemmas
 mod RecheckLemmas
+mod RefusalsLemmas
+mod SurveyLemmas
 mod VerifyLemmas

@@ -8,7 +8,7 @@ use Rattle.command_line.proofs.FoundLemmas.{EntersAs, reads}
 use Rattle.command_line.proofs.GivenLemmas.{AllFit}
 
 lrat_fits : AllFit (passes lrat_built.rules) lrat_built.rules
-lrat_fits = (fits lrat_built.rules _ refl refl refl refl, (fits lrat_built.rules _ refl refl refl refl, (fits lrat_built.rules _ refl refl refl refl, tt)))
+lrat_fits = (fits lrat_built.rules _ refl refl refl refl, (fits lrat_built.rules _ refl refl refl refl, (fits lrat_built.rules _ refl refl refl refl, (fits lrat_built.rules _ refl refl refl refl, tt))))
 
 pub lrat_reads : (words : List Text) (found : Found) → EntersAs words (codes "lrat") found → (id : Text) → is_sure lrat_built.rules id ≡ true
     → Reads lrat_built.rules id (rows_of found)

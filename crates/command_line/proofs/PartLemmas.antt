@@ -8,7 +8,7 @@ use Rattle.command_line.proofs.FoundLemmas.{EntersAs, reads}
 use Rattle.command_line.proofs.GivenLemmas.{AllFit}
 
 part_fits : AllFit (passes part_built.rules) part_built.rules
-part_fits = (fits part_built.rules _ refl refl refl refl, (fits part_built.rules _ refl refl refl refl, (fits part_built.rules _ refl refl refl refl, (fits part_built.rules _ refl refl refl refl, tt))))
+part_fits = (fits part_built.rules _ refl refl refl refl, (fits part_built.rules _ refl refl refl refl, (fits part_built.rules _ refl refl refl refl, (fits part_built.rules _ refl refl refl refl, (fits part_built.rules _ refl refl refl refl, tt)))))
 
 pub part_reads : (words : List Text) (found : Found) → EntersAs words (codes "part") found → (id : Text) → is_sure part_built.rules id ≡ true
     → Reads part_built.rules id (rows_of found)

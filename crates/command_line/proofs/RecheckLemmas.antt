@@ -8,7 +8,7 @@ use Rattle.command_line.proofs.FoundLemmas.{EntersAs, reads}
 use Rattle.command_line.proofs.GivenLemmas.{AllFit}
 
 recheck_fits : AllFit (passes recheck_built.rules) recheck_built.rules
-recheck_fits = (fits recheck_built.rules _ refl refl refl refl, (fits recheck_built.rules _ refl refl refl refl, (fits recheck_built.rules _ refl refl refl refl, (fits recheck_built.rules _ refl refl refl refl, tt))))
+recheck_fits = (fits recheck_built.rules _ refl refl refl refl, (fits recheck_built.rules _ refl refl refl refl, (fits recheck_built.rules _ refl refl refl refl, (fits recheck_built.rules _ refl refl refl refl, (fits recheck_built.rules _ refl refl refl refl, tt)))))
 
 pub recheck_reads : (words : List Text) (found : Found) → EntersAs words (codes "recheck") found → (id : Text) → is_sure recheck_built.rules id ≡ true
     → Reads recheck_built.rules id (rows_of found)

@@ -9,8 +9,11 @@ use Rattle.clap.specs.declared.builder.value_parser.ValueParser.TheVariants.{Sig
 use Rattle.clap.specs.declared.error.kind.ErrorKind.{ErrorKind}
 use Rattle.clap.specs.declared.error.kind.ErrorKind.TheVariants.{OutOfMemory}
 use Rattle.command_line.specs.declared.line.Line.{Line}
-use Rattle.command_line.specs.declared.line.Line.TheVariants.{Cnf, Decode, Judge, Lrat, Part, Recheck, Verify}
+use Rattle.command_line.specs.declared.line.CommandLine.{CommandLine}
+use Rattle.command_line.specs.declared.line.Line.TheVariants.{Cnf, Decode, Judge, Lrat, Part, Recheck, Refusals, Survey, Verify}
 use Rattle.command_line.specs.declared.line.SearchNumbers.{SearchNumbers}
+use Rattle.command_line.specs.declared.line.SurveyFiles.{SurveyFiles}
+use Rattle.command_line.specs.declared.line.SurveyNumbers.{SurveyNumbers}
 
 -- ---- the commands
 
@@ -18,9 +21,24 @@ use Rattle.command_line.specs.declared.line.SearchNumbers.{SearchNumbers}
 abbrev pub required_path : Text → Rule
 required_path id = record (new_rule id) { value_names = 1; required = true }
 
--- --cert FILE, a path that may be left out
+-- an option with a path, which may be left out
+abbrev pub optional_path : Text → Rule
+optional_path id = record (new_rule id) { long = Some id; value_names = 1 }
+
+-- a flag that is given by this name
+abbrev pub flag_rule : (id name : Text) → Rule
+flag_rule id name = record (new_rule id) { long = Some name; action = Some SetTrue }
+
+-- --explain, a flag, which each command has after its own arguments
+abbrev pub explain_rule : Rule
+explain_rule = flag_rule (codes "explain") (codes "explain")
+
+abbrev pub explained : App → App
+explained app = with_rule app explain_rule
+
+-- --cert FILE
 abbrev pub cert_rule : Rule
-cert_rule = record (new_rule (codes "cert")) { long = Some (codes "cert"); value_names = 1 }
+cert_rule = optional_path (codes "cert")
 
 -- --workers N, a number from 1 to 8, and 4 where it is not given
 abbrev pub workers_rule : Rule
@@ -54,7 +72,7 @@ rounds_rule = number_rule (codes "rounds") (codes "1") 1 4
 
 -- --progress, a flag
 abbrev pub progress_rule : Rule
-progress_rule = record (new_rule (codes "progress")) { long = Some (codes "progress"); action = Some SetTrue }
+progress_rule = flag_rule (codes "progress") (codes "progress")
 
 -- verify TRACE [--cert FILE] [--workers N] [--split N] [--budget N] [--rounds N] [--progress]
 abbrev pub verify_app : App
@@ -79,9 +97,9 @@ decode_app =
 abbrev pub lrat_app : App
 lrat_app = with_rule (with_rule (new_app (codes "lrat")) (required_path (codes "cnf"))) (required_path (codes "proof"))
 
--- --part NAMES, a path that may be left out
+-- --part NAMES of recheck, --part FILE of survey
 abbrev pub part_rule : Rule
-part_rule = record (new_rule (codes "part")) { long = Some (codes "part"); value_names = 1 }
+part_rule = optional_path (codes "part")
 
 -- recheck TRACE CERT [--part NAMES]
 abbrev pub recheck_app : App
@@ -90,12 +108,29 @@ recheck_app =
 
 -- --names, a flag, beside the path NAMES
 abbrev pub show_names_rule : Rule
-show_names_rule = record (new_rule (codes "show-names")) { long = Some (codes "names"); action = Some SetTrue }
+show_names_rule = flag_rule (codes "show-names") (codes "names")
 
 -- part TRACE NAMES [--names]
 abbrev pub part_app : App
 part_app =
     with_rule (with_rule (with_rule (new_app (codes "part")) (required_path (codes "trace"))) (required_path (codes "names"))) show_names_rule
+
+-- --names FILE
+abbrev pub names_rule : Rule
+names_rule = optional_path (codes "names")
+
+-- --budget N of survey, a number from 0 to 1,000,000,000, and 1,000,000,000 where it is not given
+abbrev pub steps_rule : Rule
+steps_rule = number_rule (codes "budget") (codes "1000000000") 0 1000000000
+
+-- survey TRACE [--cert FILE] [--names FILE] [--part FILE] [--budget N] [--workers N] [--progress]
+abbrev pub survey_app : App
+survey_app =
+    with_rule (with_rule (with_rule (with_rule (with_rule (with_rule (with_rule (new_app (codes "survey")) (required_path (codes "trace"))) cert_rule) names_rule) part_rule) steps_rule) workers_rule) progress_rule
+
+-- refusals
+abbrev pub refusals_app : App
+refusals_app = new_app (codes "refusals")
 
 -- the program, which has a version and wants a command
 abbrev pub program_app : App
@@ -103,7 +138,7 @@ program_app = on_top (λ s. record s { has_version = true; subcommand_required =
 
 abbrev pub vsc_app : App
 vsc_app =
-    with_subcommand (with_subcommand (with_subcommand (with_subcommand (with_subcommand (with_subcommand (with_subcommand program_app verify_app.top) judge_app.top) cnf_app.top) decode_app.top) lrat_app.top) recheck_app.top) part_app.top
+    with_subcommand (with_subcommand (with_subcommand (with_subcommand (with_subcommand (with_subcommand (with_subcommand (with_subcommand (with_subcommand program_app (explained verify_app).top) (explained judge_app).top) (explained cnf_app).top) (explained decode_app).top) (explained lrat_app).top) (explained recheck_app).top) (explained part_app).top) (explained survey_app).top) (explained refusals_app).top
 
 -- ---- what the words ask for
 
@@ -174,6 +209,18 @@ pub record AsksToVerify (command : Option Text) (given : Text → Option Text) (
   pub rounds_text : IsSomeAnd (given (codes "rounds")) (λ text. IsNumberWithin 1 4 text numbers.rounds)
   pub progress_text : given (codes "progress") ≡ Some (bool_text progress)
 
+-- The command is to decide, with the help of a survey and by these numbers, whether the trace in a file has a legal schedule, with or
+-- without its progress, and with a file or none for the certificate, for the names of a core, and for its part.
+pub record AsksToSurvey (command : Option Text) (given : Text → Option Text) (trace : Text) (files : SurveyFiles) (numbers : SurveyNumbers) (progress : Bool) : Type 0 where
+  pub command_name : command ≡ Some (codes "survey")
+  pub trace_path : given (codes "trace") ≡ Some trace
+  pub cert_path : given (codes "cert") ≡ option_map (λ path. path.now) files.cert
+  pub names_path : given (codes "names") ≡ option_map (λ path. path.now) files.names
+  pub part_path : given (codes "part") ≡ option_map (λ path. path.now) files.part
+  pub budget_text : IsSomeAnd (given (codes "budget")) (λ text. IsNumberWithin 0 1000000000 text numbers.budget)
+  pub workers_text : IsSomeAnd (given (codes "workers")) (λ text. IsNumberWithin 1 8 text numbers.workers)
+  pub progress_text : given (codes "progress") ≡ Some (bool_text progress)
+
 -- a command with what is given for its arguments asks for the line
 abbrev pub AsksFor : (command : Option Text) (given : Text → Option Text) → Line → Type 0
 AsksFor command given (Judge trace schedule) = AsksToJudge command given trace.now schedule.now
@@ -183,10 +230,17 @@ AsksFor command given (Lrat cnf proof) = AsksToCheckProof command given cnf.now 
 AsksFor command given (Recheck trace cert part) = AsksToRecheck command given trace.now cert.now (option_map (λ path. path.now) part)
 AsksFor command given (Part trace names shows_names) = AsksForPart command given trace.now names.now shows_names
 AsksFor command given (Verify trace cert numbers progress) = AsksToVerify command given trace.now (option_map (λ path. path.now) cert) numbers progress
+AsksFor command given (Survey trace files numbers progress) = AsksToSurvey command given trace.now files numbers progress
+AsksFor command given Refusals = command ≡ Some (codes "refusals")
 
--- the words ask for the line
-abbrev pub Asks : List Text → Line → Type 0
-Asks words = AsksFor (command_in words) (given_in words)
+-- it asks for the line, and for an explanation of the answer or for none
+pub record AsksWith (command : Option Text) (given : Text → Option Text) (asked : CommandLine) : Type 0 where
+  pub line : AsksFor command given asked.line
+  pub explain_text : given (codes "explain") ≡ Some (bool_text asked.explains)
+
+-- the words ask for the line, with an explanation or without
+abbrev pub Asks : List Text → CommandLine → Type 0
+Asks words = AsksWith (command_in words) (given_in words)
 
 -- the numbers of a search are in their ranges
 pub record AreSearchNumbers (numbers : SearchNumbers) : Type 0 where
@@ -197,6 +251,12 @@ pub record AreSearchNumbers (numbers : SearchNumbers) : Type 0 where
   pub some_rounds : 1 ≤ numbers.rounds
   pub few_rounds : numbers.rounds ≤ 4
 
+-- the numbers of a survey are in their ranges
+pub record AreSurveyNumbers (numbers : SurveyNumbers) : Type 0 where
+  pub some_workers : 1 ≤ numbers.workers
+  pub few_workers : numbers.workers ≤ 8
+  pub small_budget : numbers.budget ≤ 1000000000
+
 -- the numbers that a line asks for are in their ranges
 abbrev pub IsWithinRanges : Line → Type 0
 IsWithinRanges (Judge trace schedule) = ⊤
@@ -206,6 +266,8 @@ IsWithinRanges (Lrat cnf proof) = ⊤
 IsWithinRanges (Recheck trace cert part) = ⊤
 IsWithinRanges (Part trace names shows_names) = ⊤
 IsWithinRanges (Verify trace cert numbers progress) = AreSearchNumbers numbers
+IsWithinRanges (Survey trace files numbers progress) = AreSurveyNumbers numbers
+IsWithinRanges Refusals = ⊤
 
 -- ---- what is wrong with the words
 

@@ -1,10 +1,12 @@
-//! What the commands share: arguments that are paths of files, and the text that was given for one.
+//! What the commands share: arguments that are paths of files, flags, and what was given for one.
 
 ghost use Rattle.std.specs.Prelude.{◌≡◌, IsSome, Some, codes, false, option_map};
+ghost use Rattle.clap.specs.Values.{bool_text};
 ghost use Rattle.clap.specs.Words.{first_value, found_of, rule_of};
-ghost use Rattle.command_line.specs.CommandLine.{required_path};
+ghost use Rattle.command_line.specs.Arguments.{HasFlag};
+ghost use Rattle.command_line.specs.CommandLine.{flag_rule, optional_path, progress_rule, required_path};
 
-use clap::{Arg, ArgMatches};
+use clap::{Arg, ArgAction, ArgMatches};
 use std::alloc::Global;
 
 /// An argument that is the path of a file. It stands at its place and has to be given.
@@ -15,6 +17,33 @@ pub fn path_argument<'a>(alloc: Global, id: &'a str, value_name: &'a str, help: 
     Arg::new(alloc, id)
         .required(true)
         .value_name(value_name)
+        .help(help)
+}
+
+/// An option that is the path of a file, and that may be left out.
+pub fn optional_path_argument<'a>(
+    alloc: Global,
+    id: &'a str,
+    value_name: &'a str,
+    help: &'a str,
+) -> Arg<'a>
+    ensures rule { rule_of result ≡ optional_path id.entry.now }
+    ensures local { result.global ≡ false }
+{
+    Arg::new(alloc, id)
+        .long(id)
+        .value_name(value_name)
+        .help(help)
+}
+
+/// A flag, which is given by this name.
+pub fn flag_argument<'a>(alloc: Global, id: &'a str, name: &'a str, help: &'a str) -> Arg<'a>
+    ensures rule { rule_of result ≡ flag_rule id.entry.now name.entry.now }
+    ensures local { result.global ≡ false }
+{
+    Arg::new(alloc, id)
+        .long(name)
+        .action(ArgAction::SetTrue)
         .help(help)
 }
 
@@ -31,6 +60,19 @@ pub fn trace_argument<'a>(alloc: Global) -> Arg<'a>
     )
 }
 
+/// `--progress`.
+pub fn progress_argument<'a>(alloc: Global) -> Arg<'a>
+    ensures rule { rule_of result ≡ progress_rule }
+    ensures local { result.global ≡ false }
+{
+    flag_argument(
+        alloc,
+        "progress",
+        "progress",
+        "Says on standard error how far the search is",
+    )
+}
+
 /// The text of an argument, where one was given.
 pub fn optional_text_of<'a>(matches: &ArgMatches<'a>, id: &str) -> Option<&'a str>
     ensures { first_value (found_of matches.now) id.now ≡ option_map (λ text. text.now) result }
@@ -44,4 +86,12 @@ pub fn text_of<'a>(matches: &ArgMatches<'a>, id: &str) -> &'a str
     ensures { first_value (found_of matches.now) id.now ≡ Some result.now }
 {
     matches.get_str(id).unwrap()
+}
+
+/// Returns whether a flag was given.
+pub fn flag_of(matches: &ArgMatches<'_>, id: &str) -> bool
+    requires { HasFlag id.now (found_of matches.now) }
+    ensures { first_value (found_of matches.now) id.now ≡ Some (bool_text result) }
+{
+    matches.get_flag(id)
 }

@@ -3,7 +3,9 @@
 ghost use Rattle.std.specs.Prelude.{◌≡◌, ◌||◌, IfOk, false};
 ghost use Rattle.clap.specs.Words.{app_of, new_app, rule_of, with_rule};
 ghost use Rattle.clap.specs.declared.builder.command.Command.TheViews.{out-Command};
+ghost use Rattle.command_line.specs.CommandLine.{explained};
 
+use crate::arguments::flag_argument;
 use clap::{Arg, Command};
 use std::alloc::{AllocError, Global};
 
@@ -59,4 +61,17 @@ pub fn command_of_three<'a>(
 {
     let command = command_of_two(alloc, name, about, example, first, second)?;
     command.arg(third)
+}
+
+/// The command with `--explain`, which each command has.
+pub fn with_explanation<'a>(alloc: Global, command: Command<'a>) -> Result<Command<'a>, AllocError>
+    ensures app { IfOk result (λ c. app_of c ≡ explained (app_of command.entry)) }
+    ensures globals { IfOk result (λ c. (out-Command c).has_globals ≡ (out-Command command.entry).has_globals) }
+{
+    command.arg(flag_argument(
+        alloc,
+        "explain",
+        "explain",
+        "Explains the answer or the refusal, on standard error",
+    ))
 }

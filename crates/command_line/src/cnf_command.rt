@@ -3,12 +3,12 @@
 ghost use Rattle.std.specs.Prelude.{◌≡◌, IfOk, IsSome, Some, codes, false};
 ghost use Rattle.clap.specs.Words.{app_of, first_value, found_of};
 ghost use Rattle.clap.specs.declared.builder.command.Command.TheViews.{out-Command};
-ghost use Rattle.command_line.specs.CommandLine.{AsksFor, cnf_app};
-ghost use Rattle.command_line.specs.Arguments.{HasWorkers};
+ghost use Rattle.command_line.specs.CommandLine.{AsksWith, cnf_app};
+ghost use Rattle.command_line.specs.Arguments.{HasFlag, HasWorkers};
 
-use crate::arguments::{text_of, trace_argument};
+use crate::arguments::{flag_of, text_of, trace_argument};
 use crate::building::command_of_two;
-use crate::line::Line;
+use crate::line::{CommandLine, Line};
 use crate::numbers::{workers_argument, workers_of};
 use clap::{ArgMatches, Command};
 use std::alloc::{AllocError, Global};
@@ -17,14 +17,10 @@ const ABOUT: &str = "Writes the formula of a trace as DIMACS text";
 
 const EXAMPLE: &str =
     "The DIMACS text of the trace's clause list goes to standard output. The trace alone fixes it: one thread
-makes it, whatever --workers says.
+makes it, whatever --workers says. If TRACE is '-', standard input is read.
 
-Example, a trace:
-    vsc 1
-    proc P
-    W x 1
-    proc Q
-    R x 1
+Example, which can be pasted:
+    printf 'vsc 1\\nproc P\\nW x 1\\nproc Q\\nR x 1\\n' | vsc cnf -
 Its text is:
     p cnf 2 2
     2 0
@@ -46,13 +42,18 @@ pub fn new_cnf_command<'a>(alloc: Global) -> Result<Command<'a>, AllocError>
 }
 
 /// What the matches of the command ask for.
-pub fn cnf_line<'a>(matches: &ArgMatches<'a>) -> Line<'a>
+pub fn cnf_line<'a>(matches: &ArgMatches<'a>) -> CommandLine<'a>
     requires trace { IsSome (first_value (found_of matches.now) (codes "trace")) }
     requires workers { HasWorkers (found_of matches.now) }
-    ensures { AsksFor (Some (codes "cnf")) (first_value (found_of matches.now)) result }
+    requires explain { HasFlag (codes "explain") (found_of matches.now) }
+    ensures { AsksWith (Some (codes "cnf")) (first_value (found_of matches.now)) result }
 {
-    Line::Cnf {
+    let line = Line::Cnf {
         trace: text_of(matches, "trace"),
         workers: workers_of(matches),
+    };
+    CommandLine {
+        line,
+        explains: flag_of(matches, "explain"),
     }
 }

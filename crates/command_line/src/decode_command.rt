@@ -3,27 +3,24 @@
 ghost use Rattle.std.specs.Prelude.{◌≡◌, IfOk, IsSome, Some, codes, false};
 ghost use Rattle.clap.specs.Words.{app_of, first_value, found_of};
 ghost use Rattle.clap.specs.declared.builder.command.Command.TheViews.{out-Command};
-ghost use Rattle.command_line.specs.CommandLine.{AsksFor, decode_app};
+ghost use Rattle.command_line.specs.Arguments.{HasFlag};
+ghost use Rattle.command_line.specs.CommandLine.{AsksWith, decode_app};
 
-use crate::arguments::{path_argument, text_of, trace_argument};
+use crate::arguments::{flag_of, path_argument, text_of, trace_argument};
 use crate::building::command_of_two;
-use crate::line::Line;
+use crate::line::{CommandLine, Line};
 use clap::{ArgMatches, Command};
 use std::alloc::{AllocError, Global};
 
 const ABOUT: &str = "Turns a model of a trace's clause list into a schedule of the trace";
 
 const EXAMPLE: &str =
-    "The schedule goes to standard output, the name of one operation a line, as 'vsc judge' reads it.
+    "The schedule goes to standard output, the name of one operation a line, as 'vsc judge' reads it. One of the two
+files may be '-', standard input.
 
-Example, a trace:
-    vsc 1
-    proc P
-    W x 1
-    proc Q
-    R x 1
-and a model of the formula that 'vsc cnf' writes of it:
-    v 1 2 0
+Example, which can be pasted, with a model of the formula that 'vsc cnf' writes of the trace:
+    printf 'vsc 1\\nproc P\\nW x 1\\nproc Q\\nR x 1\\n' > hand-off.trace
+    printf 'v 1 2 0\\n' | vsc decode hand-off.trace -
 The answer is:
     P.1
     Q.1
@@ -49,13 +46,18 @@ pub fn new_decode_command<'a>(alloc: Global) -> Result<Command<'a>, AllocError>
 }
 
 /// What the matches of the command ask for.
-pub fn decode_line<'a>(matches: &ArgMatches<'a>) -> Line<'a>
+pub fn decode_line<'a>(matches: &ArgMatches<'a>) -> CommandLine<'a>
     requires trace { IsSome (first_value (found_of matches.now) (codes "trace")) }
     requires model { IsSome (first_value (found_of matches.now) (codes "model")) }
-    ensures { AsksFor (Some (codes "decode")) (first_value (found_of matches.now)) result }
+    requires explain { HasFlag (codes "explain") (found_of matches.now) }
+    ensures { AsksWith (Some (codes "decode")) (first_value (found_of matches.now)) result }
 {
-    Line::Decode {
+    let line = Line::Decode {
         trace: text_of(matches, "trace"),
         model: text_of(matches, "model"),
+    };
+    CommandLine {
+        line,
+        explains: flag_of(matches, "explain"),
     }
 }

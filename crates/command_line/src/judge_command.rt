@@ -3,25 +3,22 @@
 ghost use Rattle.std.specs.Prelude.{◌≡◌, IfOk, IsSome, Some, codes, false};
 ghost use Rattle.clap.specs.Words.{app_of, first_value, found_of};
 ghost use Rattle.clap.specs.declared.builder.command.Command.TheViews.{out-Command};
-ghost use Rattle.command_line.specs.CommandLine.{AsksFor, judge_app};
+ghost use Rattle.command_line.specs.Arguments.{HasFlag};
+ghost use Rattle.command_line.specs.CommandLine.{AsksWith, judge_app};
 
-use crate::arguments::{path_argument, text_of, trace_argument};
+use crate::arguments::{flag_of, path_argument, text_of, trace_argument};
 use crate::building::command_of_two;
-use crate::line::Line;
+use crate::line::{CommandLine, Line};
 use clap::{ArgMatches, Command};
 use std::alloc::{AllocError, Global};
 
 const ABOUT: &str = "Judges whether a schedule explains a trace";
 
-const EXAMPLE: &str = "Example, a trace:
-    vsc 1
-    proc P
-    W x 1
-    proc Q
-    R x 1
-and a schedule:
-    P.1
-    Q.1
+const EXAMPLE: &str = "One of the two files may be '-', standard input.
+
+Example, which can be pasted:
+    printf 'vsc 1\\nproc P\\nW x 1\\nproc Q\\nR x 1\\n' > hand-off.trace
+    printf 'P.1\\nQ.1\\n' | vsc judge hand-off.trace -
 The answer is LEGAL: P writes 1 to x, and then Q reads it.
 
 Exit status:
@@ -46,13 +43,18 @@ pub fn new_judge_command<'a>(alloc: Global) -> Result<Command<'a>, AllocError>
 }
 
 /// What the matches of the command ask for.
-pub fn judge_line<'a>(matches: &ArgMatches<'a>) -> Line<'a>
+pub fn judge_line<'a>(matches: &ArgMatches<'a>) -> CommandLine<'a>
     requires trace { IsSome (first_value (found_of matches.now) (codes "trace")) }
     requires schedule { IsSome (first_value (found_of matches.now) (codes "schedule")) }
-    ensures { AsksFor (Some (codes "judge")) (first_value (found_of matches.now)) result }
+    requires explain { HasFlag (codes "explain") (found_of matches.now) }
+    ensures { AsksWith (Some (codes "judge")) (first_value (found_of matches.now)) result }
 {
-    Line::Judge {
+    let line = Line::Judge {
         trace: text_of(matches, "trace"),
         schedule: text_of(matches, "schedule"),
+    };
+    CommandLine {
+        line,
+        explains: flag_of(matches, "explain"),
     }
 }

@@ -13,7 +13,9 @@ mod numbers;
 mod part_command;
 mod program;
 mod recheck_command;
+mod refusals_command;
+mod survey_command;
 mod verify_command;
 
-pub use line::{Line, SearchNumbers, read_line};
+pub use line::{CommandLine, Line, SearchNumbers, SurveyFiles, SurveyNumbers, read_line};
 pub use line_fault::LineFault;

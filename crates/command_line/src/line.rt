@@ -13,6 +13,8 @@ use crate::lrat_command::lrat_line;
 use crate::part_command::part_line;
 use crate::program::new_program;
 use crate::recheck_command::recheck_line;
+use crate::refusals_command::refusals_line;
+use crate::survey_command::survey_line;
 use crate::verify_command::verify_line;
 use clap::error::ErrorKind;
 use clap::{ArgMatches, Error};
@@ -31,7 +33,27 @@ pub struct SearchNumbers {
     pub rounds: u32,
 }
 
-/// What a command line asks for. A path is that of a file, as it was given.
+/// How a survey goes about its work.
+#[derive(Clone, Copy)]
+pub struct SurveyNumbers {
+    /// The number of threads that may search, 1 to 8.
+    pub workers: u32,
+    /// After how many steps the survey is given up, 0 to 1,000,000,000.
+    pub budget: u64,
+}
+
+/// The paths that were given for the files which take what shows an INCONSISTENT.
+#[derive(Clone, Copy)]
+pub struct SurveyFiles<'a> {
+    /// The file for the certificate.
+    pub cert: Option<&'a str>,
+    /// The file for the names of the core.
+    pub names: Option<&'a str>,
+    /// The file for the core's part.
+    pub part: Option<&'a str>,
+}
+
+/// What a command is to do. A path is that of a file, as it was given.
 #[derive(Clone, Copy)]
 pub enum Line<'a> {
     /// To judge a schedule against a trace.
@@ -73,6 +95,24 @@ pub enum Line<'a> {
         numbers: SearchNumbers,
         progress: bool,
     },
+    /// To decide that with the help of a survey, which takes longer traces, and to write what shows an INCONSISTENT to files.
+    Survey {
+        trace: &'a str,
+        files: SurveyFiles<'a>,
+        numbers: SurveyNumbers,
+        progress: bool,
+    },
+    /// To list all refusals.
+    Refusals,
+}
+
+/// What a command line asks for.
+#[derive(Clone, Copy)]
+pub struct CommandLine<'a> {
+    /// What the command is to do.
+    pub line: Line<'a>,
+    /// Whether it asks for an explanation of its answer or its refusal.
+    pub explains: bool,
 }
 
 // What `clap` makes of the words.
@@ -89,9 +129,9 @@ fn matches_of<'a>(alloc: Global, words: &'a [&'a str]) -> Result<ArgMatches<'a>,
 /// Reads the words of a command line, of which the first is the program's name.
 ///
 /// A fault is what `clap` finds wrong with the words, a request for help or for the version, or that memory ran out.
-pub fn read_line<'a>(alloc: Global, words: &'a [&'a str]) -> Result<Line<'a>, LineFault>
+pub fn read_line<'a>(alloc: Global, words: &'a [&'a str]) -> Result<CommandLine<'a>, LineFault>
     ensures line { IfOk result (Asks (texts words.now)) }
-    ensures ranges { IfOk result IsWithinRanges }
+    ensures ranges { IfOk result (λ asked. IsWithinRanges asked.line) }
     ensures faultless { OnOk result (IsFaultless (texts words.now)) }
     ensures fault { IfErr result (IsFaultOf (texts words.now)) }
     ensures memory { IfErr result (λ kind. takes vsc_app (texts words.now) ≡ true
@@ -118,6 +158,12 @@ pub fn read_line<'a>(alloc: Global, words: &'a [&'a str]) -> Result<Line<'a>, Li
     }
     if let Some(part) = matches.subcommand_matches("part") {
         return Ok(part_line(part));
+    }
+    if let Some(survey) = matches.subcommand_matches("survey") {
+        return Ok(survey_line(survey));
+    }
+    if let Some(refusals) = matches.subcommand_matches("refusals") {
+        return Ok(refusals_line(refusals));
     }
     unreachable!()
 }

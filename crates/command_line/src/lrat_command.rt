@@ -3,22 +3,22 @@
 ghost use Rattle.std.specs.Prelude.{◌≡◌, IfOk, IsSome, Some, codes, false};
 ghost use Rattle.clap.specs.Words.{app_of, first_value, found_of};
 ghost use Rattle.clap.specs.declared.builder.command.Command.TheViews.{out-Command};
-ghost use Rattle.command_line.specs.CommandLine.{AsksFor, lrat_app};
+ghost use Rattle.command_line.specs.Arguments.{HasFlag};
+ghost use Rattle.command_line.specs.CommandLine.{AsksWith, lrat_app};
 
-use crate::arguments::{path_argument, text_of};
+use crate::arguments::{flag_of, path_argument, text_of};
 use crate::building::command_of_two;
-use crate::line::Line;
+use crate::line::{CommandLine, Line};
 use clap::{ArgMatches, Command};
 use std::alloc::{AllocError, Global};
 
 const ABOUT: &str = "Checks an LRAT proof that a formula has no model";
 
-const EXAMPLE: &str = "Example, a formula:
-    p cnf 1 2
-    1 0
-    -1 0
-and a proof:
-    3 0 1 2 0
+const EXAMPLE: &str = "One of the two files may be '-', standard input.
+
+Example, which can be pasted:
+    printf 'p cnf 1 2\\n1 0\\n-1 0\\n' > both.cnf
+    printf '3 0 1 2 0\\n' | vsc lrat both.cnf -
 The answer is ACCEPTED: clauses 1 and 2 together give clause 3, which is empty.
 
 Exit status:
@@ -37,13 +37,18 @@ pub fn new_lrat_command<'a>(alloc: Global) -> Result<Command<'a>, AllocError>
 }
 
 /// What the matches of the command ask for.
-pub fn lrat_line<'a>(matches: &ArgMatches<'a>) -> Line<'a>
+pub fn lrat_line<'a>(matches: &ArgMatches<'a>) -> CommandLine<'a>
     requires cnf { IsSome (first_value (found_of matches.now) (codes "cnf")) }
     requires proof { IsSome (first_value (found_of matches.now) (codes "proof")) }
-    ensures { AsksFor (Some (codes "lrat")) (first_value (found_of matches.now)) result }
+    requires explain { HasFlag (codes "explain") (found_of matches.now) }
+    ensures { AsksWith (Some (codes "lrat")) (first_value (found_of matches.now)) result }
 {
-    Line::Lrat {
+    let line = Line::Lrat {
         cnf: text_of(matches, "cnf"),
         proof: text_of(matches, "proof"),
+    };
+    CommandLine {
+        line,
+        explains: flag_of(matches, "explain"),
     }
 }

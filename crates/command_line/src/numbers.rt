@@ -3,7 +3,7 @@
 ghost use Rattle.std.specs.Prelude.{◌≡◌, IsSomeAnd, codes, false};
 ghost use Rattle.clap.specs.Words.{first_value, found_of, rule_of};
 ghost use Rattle.command_line.specs.Arguments.{HasNumber, HasWorkers};
-ghost use Rattle.command_line.specs.CommandLine.{IsNumberWithin, budget_rule, number_rule, rounds_rule, split_rule, workers_rule};
+ghost use Rattle.command_line.specs.CommandLine.{IsNumberWithin, budget_rule, number_rule, rounds_rule, split_rule, steps_rule, workers_rule};
 
 use clap::builder::ValueParser;
 use clap::{Arg, ArgMatches};
@@ -69,6 +69,21 @@ pub fn budget_argument<'a>(alloc: Global) -> Arg<'a>
         0,
         1_000_000_000,
         "After how many conflicts the search of a cube is given up, 0 to 1000000000",
+    )
+}
+
+/// `--budget N` of a survey.
+pub fn steps_argument<'a>(alloc: Global) -> Arg<'a>
+    ensures rule { rule_of result ≡ steps_rule }
+    ensures local { result.global ≡ false }
+{
+    number_argument(
+        alloc,
+        "budget",
+        "1000000000",
+        0,
+        1_000_000_000,
+        "After how many steps the survey is given up, 0 to 1000000000",
     )
 }
 

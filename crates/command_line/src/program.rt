@@ -3,14 +3,17 @@
 ghost use Rattle.std.specs.Prelude.{◌≡◌, IfOk, false};
 ghost use Rattle.clap.specs.Words.{App, app_of, with_subcommand};
 ghost use Rattle.clap.specs.declared.builder.command.Command.TheViews.{out-Command};
-ghost use Rattle.command_line.specs.CommandLine.{program_app, vsc_app};
+ghost use Rattle.command_line.specs.CommandLine.{explained, program_app, vsc_app};
 
+use crate::building::with_explanation;
 use crate::cnf_command::new_cnf_command;
 use crate::decode_command::new_decode_command;
 use crate::judge_command::new_judge_command;
 use crate::lrat_command::new_lrat_command;
 use crate::part_command::new_part_command;
 use crate::recheck_command::new_recheck_command;
+use crate::refusals_command::new_refusals_command;
+use crate::survey_command::new_survey_command;
 use crate::verify_command::new_verify_command;
 use clap::Command;
 use std::alloc::{AllocError, Global};
@@ -21,7 +24,8 @@ const ABOUT: &str =
     "Checks memory traces against sequential consistency: whether one order of all operations explains what each process read.";
 
 const AFTER_HELP: &str =
-    "'vsc <COMMAND> --help' says what the files of a command are, with an example.";
+    "'vsc <COMMAND> --help' says what the files of a command are, with an example. '-' in place of a file that is
+read is standard input. With --explain a command also says, on standard error, why it answers as it does.";
 
 // The program without its commands.
 fn bare_program<'a>(alloc: Global) -> Result<Command<'a>, AllocError>
@@ -37,28 +41,31 @@ fn bare_program<'a>(alloc: Global) -> Result<Command<'a>, AllocError>
     )
 }
 
-// The program with one more command, if both could be made. It takes Results, so that `new_program` has no exit of its own at which
-// a program would be dropped.
+// The program with one more command, to which `--explain` is added, if all could be made. It takes Results, so that `new_program` has no
+// exit of its own at which a program would be dropped.
 fn with_command<'a>(
+    alloc: Global,
     program: Result<Command<'a>, AllocError>,
     command: Result<Command<'a>, AllocError>,
 ) -> Result<Command<'a>, AllocError>
     requires { IfOk command (λ c. (out-Command c).has_globals ≡ false) }
     ensures { (before added : App) → IfOk program.entry (λ c. app_of c ≡ before) → IfOk command.entry (λ c. app_of c ≡ added) →
-        IfOk result (λ c. app_of c ≡ with_subcommand before added.top) }
+        IfOk result (λ c. app_of c ≡ with_subcommand before (explained added).top) }
 {
-    program?.subcommand(command?)
+    program?.subcommand(with_explanation(alloc, command?)?)
 }
 
 /// The program with its commands.
 pub fn new_program<'a>(alloc: Global) -> Result<Command<'a>, AllocError>
     ensures { IfOk result (λ c. app_of c ≡ vsc_app) }
 {
-    let program = with_command(bare_program(alloc), new_verify_command(alloc));
-    let program = with_command(program, new_judge_command(alloc));
-    let program = with_command(program, new_cnf_command(alloc));
-    let program = with_command(program, new_decode_command(alloc));
-    let program = with_command(program, new_lrat_command(alloc));
-    let program = with_command(program, new_recheck_command(alloc));
-    with_command(program, new_part_command(alloc))
+    let program = with_command(alloc, bare_program(alloc), new_verify_command(alloc));
+    let program = with_command(alloc, program, new_judge_command(alloc));
+    let program = with_command(alloc, program, new_cnf_command(alloc));
+    let program = with_command(alloc, program, new_decode_command(alloc));
+    let program = with_command(alloc, program, new_lrat_command(alloc));
+    let program = with_command(alloc, program, new_recheck_command(alloc));
+    let program = with_command(alloc, program, new_part_command(alloc));
+    let program = with_command(alloc, program, new_survey_command(alloc));
+    with_command(alloc, program, new_refusals_command(alloc))
 }

@@ -3,34 +3,32 @@
 ghost use Rattle.std.specs.Prelude.{◌≡◌, IfOk, IsSome, Some, codes, false};
 ghost use Rattle.clap.specs.Words.{app_of, first_value, found_of, rule_of};
 ghost use Rattle.clap.specs.declared.builder.command.Command.TheViews.{out-Command};
-ghost use Rattle.command_line.specs.CommandLine.{AsksFor, part_rule, recheck_app};
+ghost use Rattle.command_line.specs.Arguments.{HasFlag};
+ghost use Rattle.command_line.specs.CommandLine.{AsksWith, part_rule, recheck_app};
 
-use crate::arguments::{optional_text_of, path_argument, text_of, trace_argument};
+use crate::arguments::{
+    flag_of, optional_path_argument, optional_text_of, path_argument, text_of, trace_argument,
+};
 use crate::building::command_of_three;
-use crate::line::Line;
+use crate::line::{CommandLine, Line};
 use clap::{Arg, ArgMatches, Command};
 use std::alloc::{AllocError, Global};
 
 const ABOUT: &str = "Checks a certificate that a trace has no legal schedule";
 
-const EXAMPLE: &str = "The certificate is checked without a search: whoever wrote it is not trusted.
+const EXAMPLE: &str =
+    "The certificate is checked without a search: whoever wrote it is not trusted. One of the files may be '-', standard
+input.
 
-Example, a trace:
-    vsc 1
-    proc P
-    R x 1
-and a certificate:
-    vsc-cert 1
-    leaf
-    proof 0
-    3 0 1 2 0
-    end
+Example, which can be pasted:
+    printf 'vsc 1\\nproc P\\nR x 1\\n' > unread.trace
+    printf 'vsc-cert 1\\nleaf\\nproof 0\\n3 0 1 2 0\\nend\\n' | vsc recheck unread.trace -
 The answer is ACCEPTED cubes=1. The clauses that 'vsc cnf' writes of the trace are 1 and -1: nothing writes
 what P reads. There is one case, and its proof takes both.
 
 With --part the certificate is one of the part that 'vsc part TRACE NAMES' writes, as 'vsc verify --cert'
-writes it of that part. The part is made anew, and the answer ACCEPTED says that TRACE itself has no legal
-schedule. TRACE may be larger than 'vsc verify' takes.
+writes it of that part, or 'vsc survey --cert' with the names of its --names. The part is made anew, and the
+answer ACCEPTED says that TRACE itself has no legal schedule. TRACE may be larger than 'vsc verify' takes.
 
 Exit status:
     0  the answer is ACCEPTED
@@ -42,12 +40,12 @@ fn part_argument<'a>(alloc: Global) -> Arg<'a>
     ensures rule { rule_of result ≡ part_rule }
     ensures local { result.global ≡ false }
 {
-    Arg::new(alloc, "part")
-        .long("part")
-        .value_name("NAMES")
-        .help(
-            "Takes CERT as one of the part of TRACE that the operations make up which NAMES names",
-        )
+    optional_path_argument(
+        alloc,
+        "part",
+        "NAMES",
+        "Takes CERT as one of the part of TRACE that the operations make up which NAMES names",
+    )
 }
 
 /// The command, as `clap` takes it.
@@ -67,14 +65,19 @@ pub fn new_recheck_command<'a>(alloc: Global) -> Result<Command<'a>, AllocError>
 }
 
 /// What the matches of the command ask for.
-pub fn recheck_line<'a>(matches: &ArgMatches<'a>) -> Line<'a>
+pub fn recheck_line<'a>(matches: &ArgMatches<'a>) -> CommandLine<'a>
     requires trace { IsSome (first_value (found_of matches.now) (codes "trace")) }
     requires cert { IsSome (first_value (found_of matches.now) (codes "cert")) }
-    ensures { AsksFor (Some (codes "recheck")) (first_value (found_of matches.now)) result }
+    requires explain { HasFlag (codes "explain") (found_of matches.now) }
+    ensures { AsksWith (Some (codes "recheck")) (first_value (found_of matches.now)) result }
 {
-    Line::Recheck {
+    let line = Line::Recheck {
         trace: text_of(matches, "trace"),
         cert: text_of(matches, "cert"),
         part: optional_text_of(matches, "part"),
+    };
+    CommandLine {
+        line,
+        explains: flag_of(matches, "explain"),
     }
 }

@@ -1,20 +1,21 @@
 //! The command `verify TRACE [--cert FILE] [--workers N] [--split N] [--budget N] [--rounds N] [--progress]`.
 
 ghost use Rattle.std.specs.Prelude.{◌≡◌, IfOk, IsSome, Some, codes, false};
-ghost use Rattle.clap.specs.Values.{bool_text};
 ghost use Rattle.clap.specs.Words.{app_of, first_value, found_of, rule_of};
 ghost use Rattle.clap.specs.declared.builder.command.Command.TheViews.{out-Command};
 ghost use Rattle.command_line.specs.Arguments.{HasFlag, HasNumber, HasWorkers};
-ghost use Rattle.command_line.specs.CommandLine.{AsksFor, cert_rule, progress_rule, verify_app};
+ghost use Rattle.command_line.specs.CommandLine.{AsksWith, cert_rule, verify_app};
 
-use crate::arguments::{optional_text_of, text_of, trace_argument};
+use crate::arguments::{
+    flag_of, optional_path_argument, optional_text_of, progress_argument, text_of, trace_argument,
+};
 use crate::building::{command_of_two, with_two};
-use crate::line::{Line, SearchNumbers};
+use crate::line::{CommandLine, Line, SearchNumbers};
 use crate::numbers::{
     budget_argument, budget_of, rounds_argument, rounds_of, split_argument, split_of,
     workers_argument, workers_of,
 };
-use clap::{Arg, ArgAction, ArgMatches, Command};
+use clap::{Arg, ArgMatches, Command};
 use std::alloc::{AllocError, Global};
 
 const ABOUT: &str = "Decides whether a trace is sequentially consistent";
@@ -25,14 +26,10 @@ const EXAMPLE: &str = "The answer is
     UNKNOWN open=N: the search was given up. A legal schedule can only be in one of the N cubes below,
         which are literals of the clauses that 'vsc cnf' writes.
 With --cert the proofs of INCONSISTENT go to FILE, for 'vsc recheck'. FILE is made or emptied first, and
-stays empty after any other answer.
+stays empty after any other answer. If TRACE is '-', standard input is read.
 
-Example, a trace:
-    vsc 1
-    proc P
-    W x 1
-    proc Q
-    R x 1
+Example, which can be pasted:
+    printf 'vsc 1\\nproc P\\nW x 1\\nproc Q\\nR x 1\\n' | vsc verify -
 The answer is:
     CONSISTENT
     P.1
@@ -50,20 +47,12 @@ fn cert_argument<'a>(alloc: Global) -> Arg<'a>
     ensures rule { rule_of result ≡ cert_rule }
     ensures local { result.global ≡ false }
 {
-    Arg::new(alloc, "cert").long("cert").value_name("FILE").help(
+    optional_path_argument(
+        alloc,
+        "cert",
+        "FILE",
         "Writes the proofs to FILE where the answer is INCONSISTENT",
     )
-}
-
-// `--progress`.
-fn progress_argument<'a>(alloc: Global) -> Arg<'a>
-    ensures rule { rule_of result ≡ progress_rule }
-    ensures local { result.global ≡ false }
-{
-    Arg::new(alloc, "progress")
-        .long("progress")
-        .action(ArgAction::SetTrue)
-        .help("Writes a line to standard error when a cube is taken, and when it is settled")
 }
 
 /// The command, as `clap` takes it.
@@ -83,23 +72,16 @@ pub fn new_verify_command<'a>(alloc: Global) -> Result<Command<'a>, AllocError>
     command.arg(progress_argument(alloc))
 }
 
-// Whether the progress of the search is asked for.
-fn progress_of(matches: &ArgMatches<'_>) -> bool
-    requires { HasFlag (codes "progress") (found_of matches.now) }
-    ensures { first_value (found_of matches.now) (codes "progress") ≡ Some (bool_text result) }
-{
-    matches.get_flag("progress")
-}
-
 /// What the matches of the command ask for.
-pub fn verify_line<'a>(matches: &ArgMatches<'a>) -> Line<'a>
+pub fn verify_line<'a>(matches: &ArgMatches<'a>) -> CommandLine<'a>
     requires trace { IsSome (first_value (found_of matches.now) (codes "trace")) }
     requires workers { HasWorkers (found_of matches.now) }
     requires split { HasNumber (codes "split") 0 10 (found_of matches.now) }
     requires budget { HasNumber (codes "budget") 0 1000000000 (found_of matches.now) }
     requires rounds { HasNumber (codes "rounds") 1 4 (found_of matches.now) }
     requires progress { HasFlag (codes "progress") (found_of matches.now) }
-    ensures { AsksFor (Some (codes "verify")) (first_value (found_of matches.now)) result }
+    requires explain { HasFlag (codes "explain") (found_of matches.now) }
+    ensures { AsksWith (Some (codes "verify")) (first_value (found_of matches.now)) result }
 {
     let numbers = SearchNumbers {
         workers: workers_of(matches),
@@ -107,10 +89,14 @@ pub fn verify_line<'a>(matches: &ArgMatches<'a>) -> Line<'a>
         budget: budget_of(matches),
         rounds: rounds_of(matches),
     };
-    Line::Verify {
+    let line = Line::Verify {
         trace: text_of(matches, "trace"),
         cert: optional_text_of(matches, "cert"),
         numbers,
-        progress: progress_of(matches),
+        progress: flag_of(matches, "progress"),
+    };
+    CommandLine {
+        line,
+        explains: flag_of(matches, "explain"),
     }
 }

@@ -1,22 +1,25 @@
 -- What a command does: the engine that it runs, on which files and with which options, what its standard streams take, and its exit
 -- status.
 use Rattle.std.specs.Borrow.{Bor}
-use Rattle.std.specs.Prelude.{◌≡◌, ◌≢◌, ◌⊎◌, ℕ, Bool, false, true, List, [], Option, None, Some, Result, Ok, Err, IfSome, codes}
+use Rattle.std.specs.Prelude.{◌≡◌, ◌||◌, ◌⊎◌, ℕ, Bool, false, true, not, List, [], ◌∷◌, Option, None, Some, Result, Ok, Err, IfSome, is_some}
 use Rattle.clap.specs.Words.{takes}
 use Rattle.clap.specs.declared.error.kind.ErrorKind.{ErrorKind}
 use Rattle.clap.specs.declared.error.kind.ErrorKind.TheVariants.{OutOfMemory as NoMemoryToRead}
 use Rattle.command_line.specs.CommandLine.{Asks, IsFaultOf, IsFaultless, vsc_app}
 use Rattle.command_line.specs.LineFault.{is_answer, text_on_memory}
+use Rattle.command_line.specs.declared.line.CommandLine.{CommandLine}
 use Rattle.command_line.specs.declared.line.Line.{Line}
-use Rattle.command_line.specs.declared.line.Line.TheVariants.{Cnf, Decode, Judge, Lrat, Part, Recheck, Verify}
+use Rattle.command_line.specs.declared.line.Line.TheVariants.{Cnf, Decode, Judge, Lrat, Part, Recheck, Refusals, Survey, Verify}
 use Rattle.command_line.specs.declared.line.SearchNumbers.{SearchNumbers}
+use Rattle.command_line.specs.declared.line.SurveyFiles.{SurveyFiles}
+use Rattle.command_line.specs.declared.line.SurveyNumbers.{SurveyNumbers}
 use Rattle.verdict_report.specs.declared.fault.Fault.{Fault}
 use Rattle.verdict_report.specs.declared.fault.Fault.TheVariants.{Device, OutOfMemory}
 use Rattle.verdict_report.specs.declared.status.Status.{Status}
-use Rattle.verdict_report.specs.declared.status.Status.TheVariants.{Unknown}
+use Rattle.verdict_report.specs.declared.status.Status.TheVariants.{Unknown, Yes}
 use Rattle.verdict_report.specs.CnfEngine.{IsRunOfCnf}
 use Rattle.verdict_report.specs.DecodeEngine.{IsRunOfDecode}
-use Rattle.verdict_report.specs.Engine.{FailsBehindFront, TakesNothing, TakesWhole}
+use Rattle.verdict_report.specs.Engine.{FailsBehindFront, IsRunOfWriting, TakeNothing, TakesNothing, TakesWhole}
 use Rattle.verdict_report.specs.Fault.{exit_status_of, line_of}
 use Rattle.verdict_report.specs.JudgeEngine.{IsRunOfJudge}
 use Rattle.verdict_report.specs.LratEngine.{IsRunOfLrat}
@@ -25,8 +28,13 @@ use Rattle.part_report.specs.PartRecheckEngine.{IsRunOfPartRecheck}
 use Rattle.verdict_report.specs.RecheckEngine.{IsRunOfRecheck}
 use Rattle.verdict_report.specs.Runs.{SourceRun, SinkRun}
 use Rattle.verdict_report.specs.VerifyEngine.{IsRunOfCertifiedVerify, IsRunOfVerify, TellsOpen}
+use Rattle.survey_report.specs.SurveyEngine.{IsRunOfCertifiedSurvey, IsRunOfSurvey, TellsExtent}
+use Rattle.command_run.specs.declared.clash.Clash.{Clash}
+use Rattle.command_run.specs.declared.inputs.InputPaths.{InputPaths}
 use Rattle.command_run.specs.declared.search_request.SearchRequest.{SearchRequest}
+use Rattle.command_run.specs.Clashes.{ClashesBy, clash_line}
 use Rattle.command_run.specs.HostCalls.{HostCalls}
+use Rattle.command_run.specs.Inputs.{inputs_of, is_input}
 
 -- ---- engines on files
 
@@ -109,12 +117,93 @@ RunsVerify calls read wrote from trace None search out outcome to = RunsSearch c
 RunsVerify calls read wrote from trace (Some cert) search out outcome to =
     RunsCertified calls read wrote from trace cert.now search out outcome to
 
+-- ---- a survey on files
+
+-- This survey was reported to the host, and the engine that decides long traces was run on the file at this path. If nothing is decided, a
+-- search of the whole trace with these options does not decide it.
+pub record RunsSurveyed {H I O : Type 0} (calls : HostCalls H I O) (read : I → I → SourceRun) (from : H) (trace : List ℕ) (search : SearchRequest) (out : SinkRun) (outcome : Result Status Fault) (to : H) : Type 0 where
+  pub file : SourceRun
+  pub between : H
+  pub reads : ReadsFile calls read from trace file between
+  pub searches : calls.searches between search to
+  pub runs : IsRunOfSurvey file out outcome
+  pub left_open : outcome ≡ Ok Unknown → TellsExtent search.options file out
+
+-- the same, with what the sinks of the certificate, of the names and of the part did
+pub record CertifiesSurveyed {H I O : Type 0} (calls : HostCalls H I O) (read : I → I → SourceRun) (from : H) (trace : List ℕ) (search : SearchRequest) (cert names part out : SinkRun) (outcome : Result Status Fault) (to : H) : Type 0 where
+  pub file : SourceRun
+  pub between : H
+  pub reads : ReadsFile calls read from trace file between
+  pub searches : calls.searches between search to
+  pub runs : IsRunOfCertifiedSurvey file cert names part out outcome
+  pub left_open : outcome ≡ Ok Unknown → TellsExtent search.options file out
+
+-- the file at this path was made or emptied, this was done with it, and it was given back
+pub record MakesFile {H I O : Type 0} (calls : HostCalls H I O) (wrote : O → O → SinkRun) (from : H) (path : List ℕ) (Does : H → SinkRun → H → Type 0) (to : H) : Type 0 where
+  pub before : O
+  pub after : O
+  pub made : H
+  pub makes : calls.makes from path before made
+  pub no_byte_before : (wrote before after).before ≡ []
+  pub no_failure_before : (wrote before after).failures_before ≡ 0
+  pub done : H
+  pub does : Does made (wrote before after) done
+  pub closes : calls.closes done after to
+
+-- that, or it could not be made: then nothing else was done, and the other sinks took nothing; or there is no path, and this was done with
+-- a sink that keeps nothing
+abbrev pub WithFile : {H I O : Type 0} → HostCalls H I O → (O → O → SinkRun) → H → Option (Bor (List ℕ)) → (H → SinkRun → H → Type 0) → List SinkRun → Result Status Fault → H → Type 0
+WithFile calls wrote from (Some path) Does others outcome to =
+    ((outcome ≡ Err Device) × TakeNothing others × calls.fails_to_make from path.now to) ⊎ MakesFile calls wrote from path.now Does to
+WithFile calls wrote from None Does others outcome to = (nowhere : SinkRun) × (nowhere.before ≡ []) × (nowhere.failures_before ≡ 0) × Does from nowhere to
+
+-- with a file for the part; with one for the names before it; with one for the certificate before both, so all before the trace is opened
+abbrev pub TakesPart : {H I O : Type 0} → HostCalls H I O → (I → I → SourceRun) → (O → O → SinkRun) → H → List ℕ → Option (Bor (List ℕ)) → SearchRequest → (cert names out : SinkRun) → Result Status Fault → H → Type 0
+TakesPart calls read wrote from trace path search cert names out outcome to =
+    WithFile calls wrote from path (λ made part done. CertifiesSurveyed calls read made trace search cert names part out outcome done) (out ∷ cert ∷ names ∷ []) outcome to
+
+abbrev pub TakesNamesAndPart : {H I O : Type 0} → HostCalls H I O → (I → I → SourceRun) → (O → O → SinkRun) → H → List ℕ → (names part : Option (Bor (List ℕ))) → SearchRequest → (cert out : SinkRun) → Result Status Fault → H → Type 0
+TakesNamesAndPart calls read wrote from trace path part search cert out outcome to =
+    WithFile calls wrote from path (λ made names done. TakesPart calls read wrote made trace part search cert names out outcome done) (out ∷ cert ∷ []) outcome to
+
+abbrev pub TakesCore : {H I O : Type 0} → HostCalls H I O → (I → I → SourceRun) → (O → O → SinkRun) → H → List ℕ → (cert names part : Option (Bor (List ℕ))) → SearchRequest → SinkRun → Result Status Fault → H → Type 0
+TakesCore calls read wrote from trace path names part search out outcome to =
+    WithFile calls wrote from path (λ made cert done. TakesNamesAndPart calls read wrote made trace names part search cert out outcome done) (out ∷ []) outcome to
+
+-- no file is asked for
+abbrev pub takes_none : SurveyFiles → Bool
+takes_none files = not (is_some files.cert || (is_some files.names || is_some files.part))
+
+-- the engine that decides long traces was run, with the files that are asked for
+abbrev pub RunsSurveyIf : {H I O : Type 0} → Bool → HostCalls H I O → (I → I → SourceRun) → (O → O → SinkRun) → H → List ℕ → SurveyFiles → SearchRequest → SinkRun → Result Status Fault → H → Type 0
+RunsSurveyIf true calls read wrote from trace files search out outcome to = RunsSurveyed calls read from trace search out outcome to
+RunsSurveyIf false calls read wrote from trace files search out outcome to =
+    TakesCore calls read wrote from trace files.cert files.names files.part search out outcome to
+
+abbrev pub RunsSurvey : {H I O : Type 0} → HostCalls H I O → (I → I → SourceRun) → (O → O → SinkRun) → H → List ℕ → SurveyFiles → SearchRequest → SinkRun → Result Status Fault → H → Type 0
+RunsSurvey calls read wrote from trace files search out outcome to = RunsSurveyIf (takes_none files) calls read wrote from trace files search out outcome to
+
+-- ---- a line
+
 -- the search of these numbers, with its progress reported or not
 abbrev pub search_of : SearchNumbers → Bool → SearchRequest
 search_of numbers progress = record {
   options = record { workers = numbers.workers; split = numbers.split; budget = numbers.budget; rounds = numbers.rounds };
   tells_progress = progress;
+  steps = None;
 }
+
+-- the survey of these numbers, with searches as those of `verify` without options
+abbrev pub survey_of : SurveyNumbers → Bool → SearchRequest
+survey_of numbers progress = record {
+  options = record { workers = numbers.workers; split = 3; budget = 100000; rounds = 1 };
+  tells_progress = progress;
+  steps = Some numbers.budget;
+}
+
+-- a list was written whole, or standard output failed behind a prefix of it
+abbrev pub WritesList : SinkRun → Result Status Fault → Type 0
+WritesList out outcome = (text : List ℕ) × IsRunOfWriting text Yes out outcome
 
 -- the engine that the line asks for was run on the files of its paths and with its options: what standard output took, the outcome, and
 -- the host before and after
@@ -127,6 +216,9 @@ RunsLine calls read wrote from (Recheck trace cert part) out outcome to = RunsRe
 RunsLine calls read wrote from (Part trace names shows_names) out outcome to = RunsOnFiles calls read (IsRunOfPart shows_names) from trace.now names.now out outcome to
 RunsLine calls read wrote from (Verify trace cert numbers progress) out outcome to =
     RunsVerify calls read wrote from trace.now cert (search_of numbers progress) out outcome to
+RunsLine calls read wrote from (Survey trace files numbers progress) out outcome to =
+    RunsSurvey calls read wrote from trace.now files (survey_of numbers progress) out outcome to
+RunsLine calls read wrote from Refusals out outcome to = WritesList out outcome × (to ≡ from)
 
 -- ---- standard streams and exit statuses
 
@@ -150,35 +242,74 @@ pub record EndsRun {H I O : Type 0} (calls : HostCalls H I O) (read : I → I �
   pub tells : TellsOutcome err outcome
   pub status_is : status ≡ exit_status_of outcome
 
+-- the file at this path was handed out once more, or it is standard input, which was not
+abbrev pub ReopensIf : {H I O : Type 0} → Bool → HostCalls H I O → H → List ℕ → H → Type 0
+ReopensIf true calls from path to = to ≡ from
+ReopensIf {I = I} false calls from path to = (file : I) × calls.opens from path file to
+
+abbrev pub Reopens : {H I O : Type 0} → HostCalls H I O → H → List ℕ → H → Type 0
+Reopens calls from path to = ReopensIf (is_input path) calls from path to
+
+abbrev pub ReopensGiven : {H I O : Type 0} → HostCalls H I O → H → Option (Bor (List ℕ)) → H → Type 0
+ReopensGiven calls from None to = to ≡ from
+ReopensGiven calls from (Some path) to = Reopens calls from path.now to
+
+-- the files at these paths were handed out once more, and nothing else was asked of the host
+pub record ReopensAll {H I O : Type 0} (calls : HostCalls H I O) (from : H) (paths : InputPaths) (to : H) : Type 0 where
+  pub after_first : H
+  pub first : ReopensGiven calls from paths.first after_first
+  pub after_second : H
+  pub second : ReopensGiven calls after_first paths.second after_second
+  pub third : ReopensGiven calls after_second paths.third to
+
+-- the stream took some text, of which nothing is said
+abbrev pub Adds : SinkRun → Type 0
+Adds stream = (text : List ℕ) × Takes stream text
+
+-- what a stream did after a part of a run
+abbrev pub after_run : SinkRun → SinkRun → SinkRun
+after_run part whole = record {
+  before = part.now;
+  now = whole.now;
+  failures_before = part.failures_now;
+  failures_now = whole.failures_now;
+}
+
+-- a run of a stream begins with this part
+pub record BeginsWith (whole part : SinkRun) : Type 0 where
+  pub same_begin : whole.before ≡ part.before
+  pub same_failures : whole.failures_before ≡ part.failures_before
+
+-- The line was run as without an explanation, with the same status and the same text on standard output. Then standard error took an
+-- explanation after the line of a refusal, and the files that the line reads were handed out once more.
+pub record EndsExplained {H I O : Type 0} (calls : HostCalls H I O) (read : I → I → SourceRun) (wrote : O → O → SinkRun) (from : H) (line : Line) (out err : SinkRun) (status : ℕ) (to : H) : Type 0 where
+  pub ran : H
+  pub told : SinkRun
+  pub begins : BeginsWith err told
+  pub ends : EndsRun calls read wrote from line out told status ran
+  pub reopens : ReopensAll calls ran (inputs_of line) to
+  pub adds : Adds (after_run told err)
+
+-- the line was run, and its outcome was explained or not
+abbrev pub EndsAsked : {H I O : Type 0} → Bool → HostCalls H I O → (I → I → SourceRun) → (O → O → SinkRun) → H → Line → (out err : SinkRun) → ℕ → H → Type 0
+EndsAsked true calls read wrote from line out err status to = EndsExplained calls read wrote from line out err status to
+EndsAsked false calls read wrote from line out err status to = EndsRun calls read wrote from line out err status to
+
 -- the stream took this text whole, and the status is the given one, or it failed behind a prefix of it, and the status is 4
 abbrev pub Prints : SinkRun → List ℕ → ℕ → ℕ → Type 0
 Prints stream text status found = (TakesWhole stream text × (found ≡ status)) ⊎ (FailsBehindFront stream text × (found ≡ 4))
 
--- whether the files at two paths are one: the paths are the same, or else the host says that the files are
-abbrev pub IsOneFile : {H I O : Type 0} → HostCalls H I O → H → List ℕ → List ℕ → Bool → H → Type 0
-IsOneFile calls from first second one to =
-    ((first ≡ second) × (one ≡ true) × (to ≡ from)) ⊎ ((first ≢ second) × calls.compares from first second one to)
-
--- whether the line asks for a certificate in the file of its trace
-abbrev pub Overwrites : {H I O : Type 0} → HostCalls H I O → H → Line → Bool → H → Type 0
-Overwrites calls from (Verify trace (Some cert) numbers progress) overwrites to = IsOneFile calls from cert.now trace.now overwrites to
-Overwrites calls from line overwrites to = (overwrites ≡ false) × (to ≡ from)
-
--- what is printed if it does
-abbrev pub overwrites_line : List ℕ
-overwrites_line = codes "error: --cert names the file of TRACE\n"
-
--- the line was refused with that, or it was run
-abbrev pub EndsCompared : {H I O : Type 0} → HostCalls H I O → (I → I → SourceRun) → (O → O → SinkRun) → H → Line → Bool → (out err : SinkRun) → ℕ → H → Type 0
-EndsCompared calls read wrote from line true out err status to = TakesNothing out × Prints err overwrites_line 2 status × (to ≡ from)
-EndsCompared calls read wrote from line false out err status to = EndsRun calls read wrote from line out err status to
+-- the line was refused for a clash of its files, or it was run
+abbrev pub EndsCompared : {H I O : Type 0} → HostCalls H I O → (I → I → SourceRun) → (O → O → SinkRun) → H → CommandLine → Option Clash → (out err : SinkRun) → ℕ → H → Type 0
+EndsCompared calls read wrote from asked (Some clash) out err status to = TakesNothing out × Prints err (clash_line clash) 2 status × (to ≡ from)
+EndsCompared calls read wrote from asked None out err status to = EndsAsked asked.explains calls read wrote from asked.line out err status to
 
 -- what is done for a line
-pub record EndsLine {H I O : Type 0} (calls : HostCalls H I O) (read : I → I → SourceRun) (wrote : O → O → SinkRun) (from : H) (line : Line) (out err : SinkRun) (status : ℕ) (to : H) : Type 0 where
-  pub overwrites : Bool
+pub record EndsLine {H I O : Type 0} (calls : HostCalls H I O) (read : I → I → SourceRun) (wrote : O → O → SinkRun) (from : H) (asked : CommandLine) (out err : SinkRun) (status : ℕ) (to : H) : Type 0 where
+  pub clash : Option Clash
   pub compared : H
-  pub compares : Overwrites calls from line overwrites compared
-  pub ends : EndsCompared calls read wrote compared line overwrites out err status to
+  pub compares : ClashesBy calls from asked.line clash compared
+  pub ends : EndsCompared calls read wrote compared asked clash out err status to
 
 -- this is the text of a fault of the command line, or what is known of it
 abbrev pub IsTextOf : ErrorKind → List ℕ → Type 0
@@ -197,10 +328,10 @@ EndsFault kind out err status =
 
 -- the words ask for a line, which was run
 pub record RunsWords {H I O : Type 0} (calls : HostCalls H I O) (read : I → I → SourceRun) (wrote : O → O → SinkRun) (from : H) (words : List (List ℕ)) (out err : SinkRun) (status : ℕ) (to : H) : Type 0 where
-  pub line : Line
-  pub asks : Asks words line
+  pub asked : CommandLine
+  pub asks : Asks words asked
   pub faultless : IsFaultless words
-  pub ends : EndsLine calls read wrote from line out err status to
+  pub ends : EndsLine calls read wrote from asked out err status to
 
 -- `clap` finds a fault in the words, or there was no memory to read them: nothing was asked of the host
 pub record RefusesWords {H : Type 0} (from : H) (words : List (List ℕ)) (out err : SinkRun) (status : ℕ) (to : H) : Type 0 where

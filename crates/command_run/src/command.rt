@@ -1,54 +1,46 @@
 //! A command line, from its words to the exit status.
 ghost use Rattle.clap.specs.Walk.{texts};
 ghost use Rattle.command_line.specs.CommandLine.{IsWithinRanges};
-ghost use Rattle.command_run.specs.CommandRun.{EndsLine, EndsRun, EndsWords, IsOneFile, Overwrites};
+ghost use Rattle.command_run.specs.CommandRun.{EndsAsked, EndsExplained, EndsLine, EndsRun, EndsWords, RunsLine, TellsOutcome};
 ghost use Rattle.command_run.specs.ExitStatus.{IsExitStatus};
 ghost use Rattle.verdict_report.specs.Runs.{source_run, sink_run};
 
+use crate::clash::{clash_of, print_clash};
 use crate::engine_runs::run_engine;
+use crate::explaining::explain_outcome;
 use crate::host::Host;
-use crate::telling::{REFUSED, print_text, tell_line_fault, tell_outcome};
-use command_line::{Line, read_line};
+use crate::telling::{tell_line_fault, tell_outcome};
+use command_line::{CommandLine, Line, read_line};
 use cube_jobs::Gate;
 use dimacs::Sink;
 use std::alloc::Global;
 use std::sync::Wait;
 use std::thread::Threads;
-use verdict_report::exit_status;
+use verdict_report::{Fault, Status, exit_status};
 
-/// What is printed if the certificate would overwrite the trace.
-const OVERWRITES: &[u8] = b"error: --cert names the file of TRACE\n";
-
-/// Returns whether the files at these paths are one.
-fn is_one_file<'p, H: Host<'p>>(host: &mut H, first: &str, second: &str) -> bool
-    ensures { IsOneFile H.calls host.old first.now second.now result host.new }
+/// Runs the engine of the line, and reports a refusal.
+fn run_told<'p, R: Threads + Wait + Sync, G: Gate + Sync, H: Host<'p>, O: Sink, E: Sink>(
+    alloc: Global,
+    rt: &R,
+    progress: &G,
+    host: &mut H,
+    line: Line<'p>,
+    out: &mut O,
+    err: &mut E,
+) -> Result<Status, Fault>
+    requires { IsWithinRanges line }
+    ensures runs { RunsLine H.calls (source_run H.Input.handed_out H.Input.is_at_end H.Input.failures)
+        (sink_run H.Output.written H.Output.failures)
+        host.old line.entry (sink_run O.written O.failures out.old out.new) result host.new }
+    ensures tells { TellsOutcome (sink_run E.written E.failures err.old err.new) result }
 {
-    if first == second {
-        return true;
-    }
-    host.is_same_file(first, second)
-}
-
-/// Returns whether the line asks for a certificate in the file of its trace.
-fn overwrites_trace<'p, H: Host<'p>>(host: &mut H, line: Line<'p>) -> bool
-    ensures { Overwrites H.calls host.old line.entry result host.new }
-{
-    match line {
-        Line::Verify { trace, cert, .. } => match cert {
-            Some(cert) => is_one_file(host, cert, trace),
-            None => false,
-        },
-        Line::Judge { .. } => false,
-        Line::Cnf { .. } => false,
-        Line::Decode { .. } => false,
-        Line::Lrat { .. } => false,
-        Line::Recheck { .. } => false,
-        Line::Part { .. } => false,
-    }
+    let outcome = run_engine(alloc, rt, progress, host, line, out);
+    tell_outcome(alloc, &outcome, err);
+    outcome
 }
 
 /// Runs the engine of the line, reports a refusal, and gives the exit status.
-fn run_compared<'p, R: Threads + Wait + Sync, G: Gate + Sync, H: Host<'p>, O: Sink, E: Sink>(
+fn run_plain<'p, R: Threads + Wait + Sync, G: Gate + Sync, H: Host<'p>, O: Sink, E: Sink>(
     alloc: Global,
     rt: &R,
     progress: &G,
@@ -66,13 +58,12 @@ fn run_compared<'p, R: Threads + Wait + Sync, G: Gate + Sync, H: Host<'p>, O: Si
         result host.new }
     ensures known { IsExitStatus result }
 {
-    let outcome = run_engine(alloc, rt, progress, host, line, out);
-    tell_outcome(alloc, &outcome, err);
+    let outcome = run_told(alloc, rt, progress, host, line, out, err);
     exit_status(&outcome)
 }
 
-/// Does what the line asks for, and gives the exit status. A line that asks for a certificate in the file of its trace is refused.
-fn run_line<'p, R: Threads + Wait + Sync, G: Gate + Sync, H: Host<'p>, O: Sink, E: Sink>(
+/// Does the same, and then explains the outcome on standard error.
+fn run_explained<'p, R: Threads + Wait + Sync, G: Gate + Sync, H: Host<'p>, O: Sink, E: Sink>(
     alloc: Global,
     rt: &R,
     progress: &G,
@@ -82,7 +73,7 @@ fn run_line<'p, R: Threads + Wait + Sync, G: Gate + Sync, H: Host<'p>, O: Sink, 
     err: &mut E,
 ) -> u8
     requires { IsWithinRanges line }
-    ensures ends { EndsLine H.calls (source_run H.Input.handed_out H.Input.is_at_end H.Input.failures)
+    ensures ends { EndsExplained H.calls (source_run H.Input.handed_out H.Input.is_at_end H.Input.failures)
         (sink_run H.Output.written H.Output.failures)
         host.old line.entry
         (sink_run O.written O.failures out.old out.new)
@@ -90,18 +81,68 @@ fn run_line<'p, R: Threads + Wait + Sync, G: Gate + Sync, H: Host<'p>, O: Sink, 
         result host.new }
     ensures known { IsExitStatus result }
 {
-    if overwrites_trace(host, line) {
-        return print_text(OVERWRITES, REFUSED, err);
+    let answer = run_told(alloc, rt, progress, host, line, out, err);
+    explain_outcome(alloc, host, line, &answer, err);
+    exit_status(&answer)
+}
+
+/// Runs the engine of the line, with an explanation or without.
+fn run_asked<'p, R: Threads + Wait + Sync, G: Gate + Sync, H: Host<'p>, O: Sink, E: Sink>(
+    alloc: Global,
+    rt: &R,
+    progress: &G,
+    host: &mut H,
+    asked: CommandLine<'p>,
+    out: &mut O,
+    err: &mut E,
+) -> u8
+    requires { IsWithinRanges asked.line }
+    ensures ends { EndsAsked asked.entry.explains H.calls (source_run H.Input.handed_out H.Input.is_at_end H.Input.failures)
+        (sink_run H.Output.written H.Output.failures)
+        host.old asked.entry.line
+        (sink_run O.written O.failures out.old out.new)
+        (sink_run E.written E.failures err.old err.new)
+        result host.new }
+    ensures known { IsExitStatus result }
+{
+    if asked.explains {
+        run_explained(alloc, rt, progress, host, asked.line, out, err)
+    } else {
+        run_plain(alloc, rt, progress, host, asked.line, out, err)
     }
-    run_compared(alloc, rt, progress, host, line, out, err)
+}
+
+/// Does what the line asks for, and gives the exit status. A line of which two files are one that have to be apart is refused.
+fn run_line<'p, R: Threads + Wait + Sync, G: Gate + Sync, H: Host<'p>, O: Sink, E: Sink>(
+    alloc: Global,
+    rt: &R,
+    progress: &G,
+    host: &mut H,
+    asked: CommandLine<'p>,
+    out: &mut O,
+    err: &mut E,
+) -> u8
+    requires { IsWithinRanges asked.line }
+    ensures ends { EndsLine H.calls (source_run H.Input.handed_out H.Input.is_at_end H.Input.failures)
+        (sink_run H.Output.written H.Output.failures)
+        host.old asked.entry
+        (sink_run O.written O.failures out.old out.new)
+        (sink_run E.written E.failures err.old err.new)
+        result host.new }
+    ensures known { IsExitStatus result }
+{
+    match clash_of(host, asked.line) {
+        Some(clash) => print_clash(clash, err),
+        None => run_asked(alloc, rt, progress, host, asked, out, err),
+    }
 }
 
 /// Does what the words of a command line ask for, of which the first is the program's name, and gives the exit status.
 ///
 /// The engine that the words name is run on the files at their paths and with their options. Standard output takes what the engine
 /// writes, standard error the line of a refusal, and nothing else goes to either of them. With `--progress` the gate `progress` is
-/// called before and after each cube, and what it writes to standard error it writes by itself. Of words that ask for nothing, standard
-/// output takes the help or the version, or standard error what is wrong with them.
+/// called before and after each cube, and what it writes to standard error it writes by itself. With `--explain` standard error then takes
+/// an explanation. Of words that ask for nothing, standard output takes the help or the version, or standard error what is wrong with them.
 pub fn run<'p, R: Threads + Wait + Sync, G: Gate + Sync, H: Host<'p>, O: Sink, E: Sink>(
     alloc: Global,
     rt: &R,
@@ -120,7 +161,7 @@ pub fn run<'p, R: Threads + Wait + Sync, G: Gate + Sync, H: Host<'p>, O: Sink, E
     ensures known { IsExitStatus result }
 {
     match read_line(alloc, words) {
-        Ok(line) => run_line(alloc, rt, progress, host, line, out, err),
+        Ok(asked) => run_line(alloc, rt, progress, host, asked, out, err),
         Err(fault) => tell_line_fault(alloc, &fault, out, err),
     }
 }

@@ -11,7 +11,9 @@ ghost use Rattle.verdict_report.specs.RecheckEngine.{IsRunOfRecheck};
 ghost use Rattle.verdict_report.specs.Runs.{source_run, sink_run};
 
 use crate::host::Host;
+use crate::refusals::write_refusals;
 use crate::search_request::{SearchRequest, certify, decide};
+use crate::survey_runs::survey_file;
 use command_line::Line;
 use cube_jobs::Gate;
 use dimacs::Sink;
@@ -255,5 +257,15 @@ pub(crate) fn run_engine<'p, R: Threads + Wait + Sync, G: Gate + Sync, H: Host<'
             let search = SearchRequest::new(numbers, tells_progress);
             verify_file(alloc, rt, progress, host, trace, cert, &search, out)
         }
+        Line::Survey {
+            trace,
+            files,
+            numbers,
+            progress: tells_progress,
+        } => {
+            let search = SearchRequest::of_survey(numbers, tells_progress);
+            survey_file(alloc, rt, progress, host, trace, files, &search, out)
+        }
+        Line::Refusals => write_refusals(alloc, out),
     }
 }

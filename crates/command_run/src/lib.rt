@@ -2,15 +2,23 @@
 #![tactic(auto)]
 
 mod arguments;
+mod clash;
 mod command;
 mod engine_runs;
+mod explaining;
 mod host;
+mod inputs;
 mod memory_host;
+mod no_file;
+mod refusals;
 mod search_request;
+mod survey_runs;
 mod telling;
 
 pub use arguments::{ArgumentFault, refuse, words_of};
+pub use clash::Clash;
 pub use command::run;
 pub use host::Host;
+pub use inputs::InputPaths;
 pub use memory_host::MemoryHost;
 pub use search_request::SearchRequest;

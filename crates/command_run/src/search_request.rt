@@ -1,13 +1,13 @@
 //! How a trace is searched.
 ghost use Rattle.std.specs.Prelude.{◌≡◌, Ok};
-ghost use Rattle.command_line.specs.CommandLine.{AreSearchNumbers};
-ghost use Rattle.command_run.specs.CommandRun.{search_of};
+ghost use Rattle.command_line.specs.CommandLine.{AreSearchNumbers, AreSurveyNumbers};
+ghost use Rattle.command_run.specs.CommandRun.{search_of, survey_of};
 ghost use Rattle.verdict_report.specs.Runs.{source_run, sink_run};
 ghost use Rattle.verdict_report.specs.VerifyEngine.{IsRunOfCertifiedVerify, IsRunOfVerify, TellsOpen};
 ghost use Rattle.verdict_report.specs.declared.status.Status.TheVariants.{Unknown};
 
 use crate::host::Host;
-use command_line::SearchNumbers;
+use command_line::{SearchNumbers, SurveyNumbers};
 use cube_jobs::{Gate, OpenGate, Options};
 use dimacs::Sink;
 use std::alloc::Global;
@@ -22,7 +22,18 @@ pub struct SearchRequest {
     pub options: Options,
     /// Whether its progress is reported on standard error.
     pub tells_progress: bool,
+    /// The number of steps after which the survey before it is given up, if there is one.
+    pub steps: Option<u64>,
 }
+
+/// The split of a search after a survey.
+const SURVEY_SPLIT: u32 = 3;
+
+/// The budget of a search after a survey, for each cube.
+const SURVEY_CONFLICTS: u64 = 100_000;
+
+/// The rounds of a search after a survey.
+const SURVEY_ROUNDS: u32 = 1;
 
 impl SearchRequest {
     /// The search of these numbers.
@@ -40,6 +51,26 @@ impl SearchRequest {
         SearchRequest {
             options,
             tells_progress,
+            steps: None,
+        }
+    }
+
+    /// The survey of these numbers, and the searches after it, which go about their work as those of `verify` without options.
+    pub(crate) fn of_survey(survey: SurveyNumbers, tells_progress: bool) -> SearchRequest
+        requires { AreSurveyNumbers survey }
+        ensures { result ≡ survey_of survey tells_progress }
+    {
+        let options = Options::new(
+            survey.workers,
+            SURVEY_SPLIT,
+            SURVEY_CONFLICTS,
+            SURVEY_ROUNDS,
+        )
+        .unwrap();
+        SearchRequest {
+            options,
+            tells_progress,
+            steps: Some(survey.budget),
         }
     }
 }

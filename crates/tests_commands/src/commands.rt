@@ -9,85 +9,205 @@ use std::sync::Wait;
 use std::thread::Threads;
 
 /// The paths of files and what they hold: a process writes a value and another one reads it, a schedule that explains the read, one that
-/// does not, and a trace of which nothing explains the read.
-static FILES: [(&str, &[u8]); 4] = [
+/// does not, a trace of which nothing explains the read, and a schedule on standard input.
+static FILES: [(&str, &[u8]); 5] = [
     ("handed", b"vsc 1\nproc P\nW x 1\nproc Q\nR x 1\n"),
     ("right", b"P.1\nQ.1\n"),
     ("wrong", b"Q.1\nP.1\n"),
     ("unread", b"vsc 1\ninit x 0\nproc P\nR x 1\nproc Q\nW x 0\n"),
+    ("-", b"P.1\nQ.1\n"),
 ];
 
-/// A command line, its exit status, and what standard output and standard error take of it.
+/// A command line, whether it asks for an explanation, its exit status, and what standard output and standard error take of it.
 struct Case {
     words: &'static [&'static str],
+    explains: bool,
     status: u8,
     out: &'static str,
     err: &'static str,
 }
 
 /// Command lines whose texts are known.
-static CASES: [Case; 10] = [
+static CASES: [Case; 18] = [
     Case {
         words: &["vsc", "judge", "handed", "right"],
+        explains: false,
         status: 0,
         out: "LEGAL\n",
         err: "",
     },
     Case {
         words: &["vsc", "judge", "handed", "wrong"],
+        explains: false,
         status: 1,
         out: "ILLEGAL 4 WrongRead at 1\n",
         err: "",
     },
     Case {
         words: &["vsc", "judge", "handed", "absent"],
+        explains: false,
         status: 4,
         out: "",
         err: "refused: device\n",
     },
     Case {
         words: &["vsc", "judge", "right", "absent"],
+        explains: false,
         status: 4,
         out: "",
         err: "refused: device\n",
     },
     Case {
         words: &["vsc", "judge", "right", "handed"],
+        explains: false,
         status: 2,
         out: "",
         err: "refused: trace 3 Header at 1\n",
     },
     Case {
         words: &["vsc", "verify", "handed", "--workers", "1"],
+        explains: false,
         status: 0,
         out: "CONSISTENT\nP.1\nQ.1\n",
         err: "",
     },
     Case {
         words: &["vsc", "verify", "handed", "--cert", "handed"],
+        explains: false,
         status: 2,
         out: "",
         err: "error: --cert names the file of TRACE\n",
     },
     Case {
         words: &["vsc", "part", "handed", "wrong", "--names"],
+        explains: false,
         status: 0,
         out: "vsc 1\nproc P\n# P.1\nW x 1\nproc Q\n# Q.1\nR x 1\n",
         err: "",
     },
     Case {
         words: &["vsc", "decode", "handed", "absent"],
+        explains: false,
         status: 4,
         out: "",
         err: "refused: device\n",
     },
     Case {
         words: &["vsc", "lrat", "absent", "right"],
+        explains: false,
         status: 4,
         out: "",
         err: "refused: device\n",
     },
+    Case {
+        words: &["vsc", "judge", "handed", "-"],
+        explains: false,
+        status: 0,
+        out: "LEGAL\n",
+        err: "",
+    },
+    Case {
+        words: &["vsc", "judge", "-", "-"],
+        explains: false,
+        status: 2,
+        out: "",
+        err: "error: more than one file is '-', standard input\n",
+    },
+    Case {
+        words: &["vsc", "recheck", "-", "handed", "--part", "-"],
+        explains: false,
+        status: 2,
+        out: "",
+        err: "error: more than one file is '-', standard input\n",
+    },
+    Case {
+        words: &["vsc", "survey", "handed", "--workers", "1"],
+        explains: false,
+        status: 0,
+        out: "CONSISTENT\nP.1\nQ.1\n",
+        err: "",
+    },
+    Case {
+        words: &["vsc", "survey", "right"],
+        explains: false,
+        status: 2,
+        out: "",
+        err: "refused: trace 3 Header at 1\n",
+    },
+    Case {
+        words: &["vsc", "survey", "handed", "--part", "handed"],
+        explains: false,
+        status: 2,
+        out: "",
+        err: "error: --part names the file of TRACE\n",
+    },
+    Case {
+        words: &[
+            "vsc", "survey", "handed", "--cert", "one", "--part", "two", "--names", "two",
+        ],
+        explains: false,
+        status: 2,
+        out: "",
+        err: "error: --names and --part name one file\n",
+    },
+    Case {
+        words: &[
+            "vsc", "survey", "handed", "--part", "one", "--cert", "one", "--names", "one",
+        ],
+        explains: false,
+        status: 2,
+        out: "",
+        err: "error: --cert and --names name one file\n",
+    },
 ];
+
+/// Command lines that ask for an explanation: standard error begins with this text.
+static EXPLAINED: [Case; 5] = [
+    Case {
+        words: &["vsc", "judge", "handed", "right", "--explain"],
+        explains: true,
+        status: 0,
+        out: "LEGAL\n",
+        err: "",
+    },
+    Case {
+        words: &["vsc", "judge", "handed", "wrong", "--explain"],
+        explains: true,
+        status: 1,
+        out: "ILLEGAL 4 WrongRead at 1\n",
+        err: "",
+    },
+    Case {
+        words: &["vsc", "judge", "right", "handed", "--explain"],
+        explains: true,
+        status: 2,
+        out: "",
+        err: "refused: trace 3 Header at 1\n",
+    },
+    Case {
+        words: &["vsc", "decode", "--explain", "handed", "absent"],
+        explains: true,
+        status: 4,
+        out: "",
+        err: "refused: device\n",
+    },
+    Case {
+        words: &["vsc", "verify", "handed", "--workers", "1", "--explain"],
+        explains: true,
+        status: 0,
+        out: "CONSISTENT\nP.1\nQ.1\n",
+        err: "",
+    },
+];
+
+/// Returns whether the bytes are what standard error takes of the case, or of one with an explanation begin with it.
+fn is_error(bytes: &[u8], case: &Case) -> bool {
+    if case.explains {
+        bytes.starts_with(case.err.as_bytes())
+    } else {
+        bytes == case.err.as_bytes()
+    }
+}
 
 /// Asserts how the command line of the case ends, with files and streams that move a byte a call.
 fn assert_case<R: Threads + Wait + Abort + Sync>(
@@ -108,7 +228,7 @@ fn assert_case<R: Threads + Wait + Abort + Sync>(
         "standard output of case {number}"
     );
     assert!(rt;
-        err.as_slice() == case.err.as_bytes(),
+        is_error(err.as_slice(), case),
         "standard error of case {number}"
     );
 }
@@ -117,6 +237,9 @@ fn assert_case<R: Threads + Wait + Abort + Sync>(
 fn ends_as_the_words_ask(rt: HostRuntime) {
     for number in 0..CASES.len() {
         assert_case(rt.alloc(), &rt, number, &CASES[number]);
+    }
+    for number in 0..EXPLAINED.len() {
+        assert_case(rt.alloc(), &rt, number, &EXPLAINED[number]);
     }
 }
 
@@ -209,4 +332,78 @@ fn answers_device_if_no_file_can_be_made(rt: HostRuntime) {
         &rt,
         &["vsc", "verify", "unread", "--cert", "made"],
     );
+    assert_not_made(
+        rt.alloc(),
+        &rt,
+        &["vsc", "survey", "unread", "--part", "made"],
+    );
+}
+
+/// Asserts that the survey of the command line refutes its trace, and leaves a text that begins so in the last file that is given back.
+fn assert_surveys<R: Threads + Wait + Abort + Sync>(
+    alloc: Global,
+    rt: &R,
+    words: &[&str],
+    begin: &str,
+) {
+    let mut host = MemoryHost::new(alloc, &FILES, 100);
+    let mut out = ShortSink::new(alloc, 100);
+    let mut err = ShortSink::new(alloc, 100);
+    let status = run(alloc, rt, &OpenGate, &mut host, words, &mut out, &mut err);
+    assert!(rt; status == 1);
+    assert!(rt;
+        out.as_slice()
+            .starts_with("INCONSISTENT operations=1 cubes=".as_bytes())
+    );
+    assert!(rt; err.as_slice().is_empty());
+    let Some(search) = host.searched() else {
+        panic!(rt; "nothing was surveyed")
+    };
+    assert!(rt; search.options.workers() == 2);
+    assert!(rt; search.steps == Some(7000));
+    assert!(rt; !search.tells_progress);
+    let Some(made) = host.made() else {
+        panic!(rt; "no file was given back")
+    };
+    assert!(rt; made.starts_with(begin.as_bytes()));
+}
+
+#[test]
+fn surveys_and_writes_the_files(rt: HostRuntime) {
+    let words = [
+        "vsc",
+        "survey",
+        "unread",
+        "--budget",
+        "7000",
+        "--workers",
+        "2",
+        "--cert",
+        "made",
+    ];
+    assert_surveys(rt.alloc(), &rt, &words, "vsc-cert 1\n");
+    let words = [
+        "vsc",
+        "survey",
+        "unread",
+        "--budget",
+        "7000",
+        "--workers",
+        "2",
+        "--names",
+        "made",
+    ];
+    assert_surveys(rt.alloc(), &rt, &words, "P.1\n");
+    let words = [
+        "vsc",
+        "survey",
+        "unread",
+        "--budget",
+        "7000",
+        "--workers",
+        "2",
+        "--part",
+        "made",
+    ];
+    assert_surveys(rt.alloc(), &rt, &words, "vsc 1\n");
 }

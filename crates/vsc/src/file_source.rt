@@ -1,4 +1,4 @@
-//! A file as a source.
+//! A file, or standard input, as a source.
 ghost use Rattle.std.specs.Prelude.{◌≡◌, ◌≤◌, [], false, length, IfOk, IsSome, OnOk};
 ghost use Rattle.vsc.specs.FileSource.{path_of};
 
@@ -8,7 +8,10 @@ use std::io::{ErrorKind, Read};
 use std::rt::Files;
 use verdict_report::Source;
 
-/// A file of the system, read from its beginning. It is opened at the first read, so that inputs are opened and
+/// The path in whose place standard input is read.
+pub const STANDARD_INPUT: &str = "-";
+
+/// A file of the system, read from its beginning, or standard input. A file is opened at the first read, so that inputs are opened and
 /// read one after another; a file that cannot be opened fails that read.
 #[derive(Drop)]
 pub struct FileSource<'a> {
@@ -39,8 +42,8 @@ impl<'a> FileSource<'a> {
     }
 }
 
-/// Reads from the open file. A read that a signal interrupts is tried again.
-fn read_open(file: &mut File, buffer: &mut [u8]) -> Result<usize, Failed>
+/// Reads from the open file or from standard input. A read that a signal interrupts is tried again.
+fn read_open<F: Read>(file: &mut F, buffer: &mut [u8]) -> Result<usize, Failed>
     ensures { IfOk result (λ count. count ≤ length buffer.old) }
 {
     for _ in 0..u64::MAX {
@@ -76,6 +79,21 @@ fn read_file<R: Files<File = File>>(
     }
 }
 
+/// Reads from the file at this path, or from standard input in its place.
+fn read_path(
+    rt: &HostRuntime,
+    path: &str,
+    file: &mut Option<File>,
+    buffer: &mut [u8],
+) -> Result<usize, Failed>
+    ensures { IfOk result (λ count. count ≤ length buffer.old) }
+{
+    if path == STANDARD_INPUT {
+        return read_open(&mut rt.stdin(), buffer);
+    }
+    read_file(rt, path, file, buffer)
+}
+
 impl Source for FileSource<'_> {
     ghost handed_out = { λ s. s.handed_out.bytes };
 
@@ -84,7 +102,7 @@ impl Source for FileSource<'_> {
     ghost failures = { λ s. s.failures.count };
 
     fn read(&mut self, buffer: &mut [u8]) -> Result<usize, Failed> {
-        let Ok(count) = read_file(self.rt, self.path, &mut self.file, buffer) else {
+        let Ok(count) = read_path(self.rt, self.path, &mut self.file, buffer) else {
             self.failures.rise();
             return Err(Failed);
         };

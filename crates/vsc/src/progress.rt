@@ -1,14 +1,22 @@
 //! The progress of a search, reported on standard error.
 use cube_jobs::Gate;
+use std::io::IsTerminal;
 use std::sync::atomic::{AtomicU64, Ordering};
 use std::time::Instant;
 
+/// The blanks that clear the line of a terminal.
+const CLEARED: &str =
+    "                                                                              ";
+
 /// A gate that reports each cube that is taken or settled: its number, the worker, the seconds since the start, and how many are
-/// settled. Nothing depends on it.
+/// settled. If standard error is a terminal, there is one line, which is written anew each time, and cleared when no cube is in work.
+/// Nothing depends on it.
 #[derive(Drop)]
 pub struct Progress<'a> {
     rt: &'a HostRuntime,
     start: Option<Instant>,
+    is_terminal: bool,
+    taken: AtomicU64,
     settled: AtomicU64,
 }
 
@@ -18,6 +26,8 @@ impl<'a> Progress<'a> {
         Progress {
             rt,
             start: Instant::now(rt).ok(),
+            is_terminal: rt.stderr().is_terminal(),
+            taken: AtomicU64::new(0),
             settled: AtomicU64::new(0),
         }
     }
@@ -33,8 +43,25 @@ impl<'a> Progress<'a> {
         }
     }
 
+    /// Writes the one line of a terminal anew, or clears it if no cube is in work.
+    fn show(&self, what: &str, worker: u32, ticket: u32) {
+        let seconds = self.seconds();
+        let settled = self.settled.load(Ordering::SeqCst);
+        let taken = self.taken.load(Ordering::SeqCst);
+        let _ = eprint!(self.rt;
+            "\r{settled} of {taken} cubes settled after {seconds} s, cube {ticket} {what} by worker {worker}   \r"
+        );
+        // The last worker that comes here finds that all are settled, whatever the others wrote meanwhile.
+        if self.settled.load(Ordering::SeqCst) == self.taken.load(Ordering::SeqCst) {
+            let _ = eprint!(self.rt; "\r{CLEARED}\r");
+        }
+    }
+
     /// Reports what became of a cube. If standard error fails, nothing is reported.
     fn tell(&self, what: &str, worker: u32, ticket: u32, settled: u64) {
+        if self.is_terminal {
+            return self.show(what, worker, ticket);
+        }
         let seconds = self.seconds();
         let _ = eprintln!(self.rt;
             "cube {ticket} {what} by worker {worker} after {seconds} s, {settled} settled"
@@ -44,6 +71,7 @@ impl<'a> Progress<'a> {
 
 impl Gate for Progress<'_> {
     fn before(&self, worker: u32, ticket: u32) {
+        self.taken.fetch_add(1, Ordering::SeqCst);
         self.tell("taken", worker, ticket, self.settled.load(Ordering::SeqCst));
     }
 

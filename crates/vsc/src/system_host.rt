@@ -1,10 +1,21 @@
 //! The system as the host of a command.
 use crate::file_sink::FileSink;
-use crate::file_source::FileSource;
+use crate::file_source::{FileSource, STANDARD_INPUT};
 use command_run::{Host, SearchRequest};
 use dimacs::{Failed, FailureCount};
 use std::fs::metadata;
 use std::os::unix::fs::MetadataExt;
+
+/// The path at which the system shows what standard input is.
+const INPUT_DEVICE: &str = "/dev/stdin";
+
+/// Returns whether there is a file at both paths, and it is the same one.
+fn is_same(rt: &HostRuntime, first: &str, second: &str) -> bool {
+    match (metadata(rt, first), metadata(rt, second)) {
+        (Ok(first), Ok(second)) => first.dev() == second.dev() && first.ino() == second.ino(),
+        _ => false,
+    }
+}
 
 /// The files of the system.
 #[derive(Drop)]
@@ -43,10 +54,9 @@ impl<'a> Host<'a> for SystemHost<'a> {
     fn close(&mut self, _file: FileSink<'a>) {}
 
     fn is_same_file(&mut self, first: &str, second: &str) -> bool {
-        match (metadata(self.rt, first), metadata(self.rt, second)) {
-            (Ok(first), Ok(second)) => first.dev() == second.dev() && first.ino() == second.ino(),
-            _ => false,
-        }
+        // The path of standard input may also be that of a file that is written.
+        is_same(self.rt, first, second)
+            || (second == STANDARD_INPUT && is_same(self.rt, first, INPUT_DEVICE))
     }
 
     fn begin_search(&mut self, _search: &SearchRequest) {}

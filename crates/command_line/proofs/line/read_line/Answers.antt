@@ -6,16 +6,18 @@ use Rattle.clap.specs.Walk.{texts}
 use Rattle.clap.specs.Words.{found_of, kind_of}
 use Rattle.command_line.proofs.CnfLemmas.{cnf_reads}
 use Rattle.command_line.proofs.DecodeLemmas.{decode_reads}
-use Rattle.command_line.proofs.EnterLemmas.{cnf_built, decode_built, enters_command, judge_built, lrat_built, part_built, recheck_built, verify_built}
+use Rattle.command_line.proofs.EnterLemmas.{cnf_built, decode_built, enters_command, judge_built, lrat_built, part_built, recheck_built, refusals_built, survey_built, verify_built}
 use Rattle.command_line.proofs.FoundLemmas.{EntersAs, asks_as_read, enters_as, has_text, name-rows}
 use Rattle.command_line.proofs.JudgeLemmas.{judge_reads}
 use Rattle.command_line.proofs.LratLemmas.{lrat_reads}
 use Rattle.command_line.proofs.NumberLemmas.{has_flag, has_number, has_workers}
 use Rattle.command_line.proofs.PartLemmas.{part_reads}
 use Rattle.command_line.proofs.RecheckLemmas.{recheck_reads}
+use Rattle.command_line.proofs.RefusalsLemmas.{refusals_reads}
+use Rattle.command_line.proofs.SurveyLemmas.{survey_reads}
 use Rattle.command_line.proofs.VerifyLemmas.{verify_reads}
 use Rattle.command_line.proofs.line.read_line.Goals as goal
-use Rattle.command_line.proofs.line.read_line.Goals.{In-Some, In-Some-subcommand_matches, In-Some-subcommand_matches-2, In-Some-subcommand_matches-3, In-Some-subcommand_matches-4, In-Some-subcommand_matches-5, In-Some-subcommand_matches-6}
+use Rattle.command_line.proofs.line.read_line.Goals.{In-Some, In-Some-subcommand_matches, In-Some-subcommand_matches-2, In-Some-subcommand_matches-3, In-Some-subcommand_matches-4, In-Some-subcommand_matches-5, In-Some-subcommand_matches-6, In-Some-subcommand_matches-7, In-Some-subcommand_matches-8}
 
 -- ---- judge
 
@@ -29,6 +31,7 @@ judge_line-requires c =
     record {
       trace = has_text found judge_built.rules (codes "trace") (read (codes "trace") refl);
       schedule = has_text found judge_built.rules (codes "schedule") (read (codes "schedule") refl);
+      explain = has_flag judge_built.rules found (codes "explain") refl (read (codes "explain") refl);
     }
 
 pub returns-in-Some-clause-line : goal.returns-in-Some-clause-line
@@ -50,6 +53,7 @@ cnf_line-requires c =
     record {
       trace = has_text found cnf_built.rules (codes "trace") (read (codes "trace") refl);
       workers = has_workers cnf_built.rules found refl (read (codes "workers") refl);
+      explain = has_flag cnf_built.rules found (codes "explain") refl (read (codes "explain") refl);
     }
 
 pub returns-in-Some-subcommand_matches-clause-line : goal.returns-in-Some-subcommand_matches-clause-line
@@ -71,6 +75,7 @@ decode_line-requires c =
     record {
       trace = has_text found decode_built.rules (codes "trace") (read (codes "trace") refl);
       model = has_text found decode_built.rules (codes "model") (read (codes "model") refl);
+      explain = has_flag decode_built.rules found (codes "explain") refl (read (codes "explain") refl);
     }
 
 pub returns-in-Some-subcommand_matches-2-clause-line : goal.returns-in-Some-subcommand_matches-2-clause-line
@@ -92,6 +97,7 @@ lrat_line-requires c =
     record {
       cnf = has_text found lrat_built.rules (codes "cnf") (read (codes "cnf") refl);
       proof = has_text found lrat_built.rules (codes "proof") (read (codes "proof") refl);
+      explain = has_flag lrat_built.rules found (codes "explain") refl (read (codes "explain") refl);
     }
 
 pub returns-in-Some-subcommand_matches-3-clause-line : goal.returns-in-Some-subcommand_matches-3-clause-line
@@ -117,6 +123,7 @@ verify_line-requires c =
       budget = has_number verify_built.rules found (codes "budget") 0 1000000000 refl (read (codes "budget") refl);
       rounds = has_number verify_built.rules found (codes "rounds") 1 4 refl (read (codes "rounds") refl);
       progress = has_flag verify_built.rules found (codes "progress") refl (read (codes "progress") refl);
+      explain = has_flag verify_built.rules found (codes "explain") refl (read (codes "explain") refl);
     }
 
 pub returns-in-Some-subcommand_matches-4-clause-line : goal.returns-in-Some-subcommand_matches-4-clause-line
@@ -138,6 +145,7 @@ recheck_line-requires c =
     record {
       trace = has_text found recheck_built.rules (codes "trace") (read (codes "trace") refl);
       cert = has_text found recheck_built.rules (codes "cert") (read (codes "cert") refl);
+      explain = has_flag recheck_built.rules found (codes "explain") refl (read (codes "explain") refl);
     }
 
 pub returns-in-Some-subcommand_matches-5-clause-line : goal.returns-in-Some-subcommand_matches-5-clause-line
@@ -160,12 +168,57 @@ part_line-requires c =
       trace = has_text found part_built.rules (codes "trace") (read (codes "trace") refl);
       names = has_text found part_built.rules (codes "names") (read (codes "names") refl);
       names_flag = has_flag part_built.rules found (codes "show-names") refl (read (codes "show-names") refl);
+      explain = has_flag part_built.rules found (codes "explain") refl (read (codes "explain") refl);
     }
 
 pub returns-in-Some-subcommand_matches-6-clause-line : goal.returns-in-Some-subcommand_matches-6-clause-line
 returns-in-Some-subcommand_matches-6-clause-line c =
     let met = part_met (goal.at.returns-in-Some-subcommand_matches-6-clause-line c).In-Some-subcommand_matches-6 in
     asks_as_read (texts c.args.words.now) (codes "part") (found_of c.in-Some-subcommand_matches-6.part.now) met c.part_line.result c.part_line.ensures
+
+-- ---- survey
+
+survey_met : (c : In-Some-subcommand_matches-7) → EntersAs (texts c.args.words.now) (codes "survey") (found_of c.in-Some-subcommand_matches-7.survey.now)
+survey_met c =
+    let entered = c.in-Some-subcommand_matches-7.ensures in
+    enters_as _ _ _ c.in_ok-matches.matches c.in_ok-matches.ensures.ok c.in_ok-matches.ensures.kinds (entered.found.0 refl) entered.rows
+
+pub survey_line-requires : goal.survey_line-requires
+survey_line-requires c =
+    let found = found_of c.in-Some-subcommand_matches-7.survey.now in
+    let read = survey_reads (texts c.args.words.now) found (survey_met c) in
+    record {
+      trace = has_text found survey_built.rules (codes "trace") (read (codes "trace") refl);
+      budget = has_number survey_built.rules found (codes "budget") 0 1000000000 refl (read (codes "budget") refl);
+      workers = has_workers survey_built.rules found refl (read (codes "workers") refl);
+      progress = has_flag survey_built.rules found (codes "progress") refl (read (codes "progress") refl);
+      explain = has_flag survey_built.rules found (codes "explain") refl (read (codes "explain") refl);
+    }
+
+pub returns-in-Some-subcommand_matches-7-clause-line : goal.returns-in-Some-subcommand_matches-7-clause-line
+returns-in-Some-subcommand_matches-7-clause-line c =
+    let met = survey_met (goal.at.returns-in-Some-subcommand_matches-7-clause-line c).In-Some-subcommand_matches-7 in
+    asks_as_read (texts c.args.words.now) (codes "survey") (found_of c.in-Some-subcommand_matches-7.survey.now) met c.survey_line.result c.survey_line.ensures
+
+-- ---- refusals
+
+refusals_met : (c : In-Some-subcommand_matches-8) → EntersAs (texts c.args.words.now) (codes "refusals") (found_of c.in-Some-subcommand_matches-8.refusals.now)
+refusals_met c =
+    let entered = c.in-Some-subcommand_matches-8.ensures in
+    enters_as _ _ _ c.in_ok-matches.matches c.in_ok-matches.ensures.ok c.in_ok-matches.ensures.kinds (entered.found.0 refl) entered.rows
+
+pub refusals_line-requires : goal.refusals_line-requires
+refusals_line-requires c =
+    let found = found_of c.in-Some-subcommand_matches-8.refusals.now in
+    let read = refusals_reads (texts c.args.words.now) found (refusals_met c) in
+    record {
+      explain = has_flag refusals_built.rules found (codes "explain") refl (read (codes "explain") refl);
+    }
+
+pub returns-in-Some-subcommand_matches-8-clause-line : goal.returns-in-Some-subcommand_matches-8-clause-line
+returns-in-Some-subcommand_matches-8-clause-line c =
+    let met = refusals_met (goal.at.returns-in-Some-subcommand_matches-8-clause-line c).In-Some-subcommand_matches-8 in
+    asks_as_read (texts c.args.words.now) (codes "refusals") (found_of c.in-Some-subcommand_matches-8.refusals.now) met c.refusals_line.result c.refusals_line.ensures
 
 -- ---- no other command
 
@@ -182,7 +235,9 @@ unreachable-requires c =
       | inr (inr (inr (inr (inl is)))) ↦ true≢false (sym (c.in_default-subcommand_matches-3.ensures.found.1 (name ∙ ap (λ s. Some s.name) is)))
       | inr (inr (inr (inr (inr (inl is))))) ↦ true≢false (sym (c.in_default-subcommand_matches-5.ensures.found.1 (name ∙ ap (λ s. Some s.name) is)))
       | inr (inr (inr (inr (inr (inr (inl is)))))) ↦ true≢false (sym (c.in_default-subcommand_matches-6.ensures.found.1 (name ∙ ap (λ s. Some s.name) is)))
-      | inr (inr (inr (inr (inr (inr (inr none)))))) ↦ none
+      | inr (inr (inr (inr (inr (inr (inr (inl is))))))) ↦ true≢false (sym (c.in_default-subcommand_matches-7.ensures.found.1 (name ∙ ap (λ s. Some s.name) is)))
+      | inr (inr (inr (inr (inr (inr (inr (inr (inl is)))))))) ↦ true≢false (sym (c.in_default-subcommand_matches-8.ensures.found.1 (name ∙ ap (λ s. Some s.name) is)))
+      | inr (inr (inr (inr (inr (inr (inr (inr (inr none)))))))) ↦ none
     ]
 
 pub returns-in_err-matches-clause-memory : goal.returns-in_err-matches-clause-memory

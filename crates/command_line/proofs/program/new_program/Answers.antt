@@ -1,5 +1,5 @@
 -- Each step adds a command to what a parse reads of the program.
-use Rattle.command_line.specs.CommandLine.{cnf_app, decode_app, judge_app, lrat_app, part_app, program_app, recheck_app, verify_app}
+use Rattle.command_line.specs.CommandLine.{cnf_app, decode_app, judge_app, lrat_app, part_app, program_app, recheck_app, refusals_app, survey_app, verify_app}
 use Rattle.command_line.proofs.program.new_program.Goals as goal
 
 pub returns : goal.returns
@@ -10,4 +10,6 @@ returns c =
     let decoding = c.with_command-program-4.ensures _ decode_app writing c.new_decode_command.ensures.app in
     let checking = c.with_command-program-5.ensures _ lrat_app decoding c.new_lrat_command.ensures.app in
     let rechecking = c.with_command-program-6.ensures _ recheck_app checking c.new_recheck_command.ensures.app in
-    c.with_command.ensures _ part_app rechecking c.new_part_command.ensures.app
+    let parting = c.with_command-program-7.ensures _ part_app rechecking c.new_part_command.ensures.app in
+    let surveying = c.with_command-program-8.ensures _ survey_app parting c.new_survey_command.ensures.app in
+    c.with_command.ensures _ refusals_app surveying c.new_refusals_command.ensures.app

@@ -1,0 +1,48 @@
+//! The command `refusals`.
+
+ghost use Rattle.std.specs.Prelude.{◌≡◌, IfOk, Some, codes, false};
+ghost use Rattle.clap.specs.Words.{app_of, first_value, found_of};
+ghost use Rattle.clap.specs.declared.builder.command.Command.TheViews.{out-Command};
+ghost use Rattle.command_line.specs.Arguments.{HasFlag};
+ghost use Rattle.command_line.specs.CommandLine.{AsksWith, refusals_app};
+
+use crate::arguments::flag_of;
+use crate::line::{CommandLine, Line};
+use clap::{ArgMatches, Command};
+use std::alloc::{AllocError, Global};
+
+const ABOUT: &str = "Lists all refusals, with a sentence on each";
+
+const EXAMPLE: &str =
+    "A refusal is one line on standard error: 'refused: ', the file or the step that it concerns, a number, a name,
+and mostly 'at' and the number of a line. The list goes to standard output, and no file is read.
+
+Example, which can be pasted:
+    vsc refusals | grep 'trace 4'
+
+Exit status:
+    0  the list was written
+    2  the command line is refused
+    4  standard output failed";
+
+/// The command, as `clap` takes it.
+pub fn new_refusals_command<'a>(alloc: Global) -> Result<Command<'a>, AllocError>
+    ensures app { IfOk result (λ c. app_of c ≡ refusals_app) }
+    ensures local { IfOk result (λ c. (out-Command c).has_globals ≡ false) }
+{
+    let command = Command::new(alloc, "refusals")
+        .about(ABOUT)
+        .after_long_help(EXAMPLE);
+    Ok(command)
+}
+
+/// What the matches of the command ask for.
+pub fn refusals_line<'a>(matches: &ArgMatches<'a>) -> CommandLine<'a>
+    requires explain { HasFlag (codes "explain") (found_of matches.now) }
+    ensures { AsksWith (Some (codes "refusals")) (first_value (found_of matches.now)) result }
+{
+    CommandLine {
+        line: Line::Refusals,
+        explains: flag_of(matches, "explain"),
+    }
+}

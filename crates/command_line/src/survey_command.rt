@@ -1,0 +1,135 @@
+//! The command `survey TRACE [--cert FILE] [--names FILE] [--part FILE] [--budget N] [--workers N] [--progress]`.
+
+ghost use Rattle.std.specs.Prelude.{◌≡◌, IfOk, IsSome, Some, codes, false, option_map};
+ghost use Rattle.clap.specs.Words.{app_of, first_value, found_of, rule_of};
+ghost use Rattle.clap.specs.declared.builder.command.Command.TheViews.{out-Command};
+ghost use Rattle.command_line.specs.Arguments.{HasFlag, HasNumber, HasWorkers};
+ghost use Rattle.command_line.specs.CommandLine.{AsksWith, cert_rule, names_rule, part_rule, survey_app};
+
+use crate::arguments::{
+    flag_of, optional_path_argument, optional_text_of, progress_argument, text_of, trace_argument,
+};
+use crate::building::{command_of_three, with_two};
+use crate::line::{CommandLine, Line, SurveyFiles, SurveyNumbers};
+use crate::numbers::{budget_of, steps_argument, workers_argument, workers_of};
+use clap::{Arg, ArgMatches, Command};
+use std::alloc::{AllocError, Global};
+
+const ABOUT: &str =
+    "Decides whether a long trace is sequentially consistent, with the help of a survey";
+
+const EXAMPLE: &str =
+    "TRACE may have up to 4096 operations; if it is '-', standard input is read. The answer is
+    CONSISTENT, and a schedule of all operations that is legal, one name a line;
+    INCONSISTENT operations=N cubes=M, and the N names of a core: the part that they make up has no legal
+        schedule, so TRACE has none, and each of M cases has a checked proof of that;
+    INCONSISTENT or UNKNOWN open=N as of 'vsc verify', if the search of the whole trace had the last word;
+    UNKNOWN placed=N undecided=M: neither was shown, and this is how far the survey came.
+What the survey finds is not trusted: a schedule is judged, and a part refuted as 'vsc verify' does it. The
+files are made or emptied before TRACE is opened, and stay empty unless the answer is INCONSISTENT.
+
+Example, which can be pasted:
+    printf 'vsc 1\\nproc P\\nW x 1\\nW y 1\\nproc Q\\nR y 1\\nR x 2\\n' > whole.trace
+    vsc survey whole.trace --cert whole.cert --names whole.names
+    vsc recheck whole.trace whole.cert --part whole.names
+
+Exit status:
+    0  the answer is CONSISTENT
+    1  the answer is INCONSISTENT
+    2  the command line or the trace is refused
+    3  the answer is UNKNOWN
+    4  a file or a standard stream failed";
+
+// `--cert FILE`.
+fn cert_argument<'a>(alloc: Global) -> Arg<'a>
+    ensures rule { rule_of result ≡ cert_rule }
+    ensures local { result.global ≡ false }
+{
+    optional_path_argument(
+        alloc,
+        "cert",
+        "FILE",
+        "Writes the proofs of the core's part to FILE",
+    )
+}
+
+// `--names FILE`.
+fn names_argument<'a>(alloc: Global) -> Arg<'a>
+    ensures rule { rule_of result ≡ names_rule }
+    ensures local { result.global ≡ false }
+{
+    optional_path_argument(
+        alloc,
+        "names",
+        "FILE",
+        "Writes the names of the core to FILE, one a line",
+    )
+}
+
+// `--part FILE`.
+fn part_argument<'a>(alloc: Global) -> Arg<'a>
+    ensures rule { rule_of result ≡ part_rule }
+    ensures local { result.global ≡ false }
+{
+    optional_path_argument(
+        alloc,
+        "part",
+        "FILE",
+        "Writes the core's part to FILE, as a trace",
+    )
+}
+
+/// The command, as `clap` takes it.
+pub fn new_survey_command<'a>(alloc: Global) -> Result<Command<'a>, AllocError>
+    ensures app { IfOk result (λ c. app_of c ≡ survey_app) }
+    ensures local { IfOk result (λ c. (out-Command c).has_globals ≡ false) }
+{
+    let trace = trace_argument(alloc);
+    let cert = cert_argument(alloc);
+    let names = names_argument(alloc);
+    let command = command_of_three(alloc, "survey", ABOUT, EXAMPLE, trace, cert, names)?;
+    let part = part_argument(alloc);
+    let budget = steps_argument(alloc);
+    let command = with_two(command, part, budget)?;
+    let workers = workers_argument(alloc, "How many threads may search, 1 to 8");
+    let progress = progress_argument(alloc);
+    with_two(command, workers, progress)
+}
+
+// The files that were given.
+fn files_of<'a>(matches: &ArgMatches<'a>) -> SurveyFiles<'a>
+    ensures cert { first_value (found_of matches.now) (codes "cert") ≡ option_map (λ path. path.now) result.cert }
+    ensures names { first_value (found_of matches.now) (codes "names") ≡ option_map (λ path. path.now) result.names }
+    ensures part { first_value (found_of matches.now) (codes "part") ≡ option_map (λ path. path.now) result.part }
+{
+    SurveyFiles {
+        cert: optional_text_of(matches, "cert"),
+        names: optional_text_of(matches, "names"),
+        part: optional_text_of(matches, "part"),
+    }
+}
+
+/// What the matches of the command ask for.
+pub fn survey_line<'a>(matches: &ArgMatches<'a>) -> CommandLine<'a>
+    requires trace { IsSome (first_value (found_of matches.now) (codes "trace")) }
+    requires budget { HasNumber (codes "budget") 0 1000000000 (found_of matches.now) }
+    requires workers { HasWorkers (found_of matches.now) }
+    requires progress { HasFlag (codes "progress") (found_of matches.now) }
+    requires explain { HasFlag (codes "explain") (found_of matches.now) }
+    ensures { AsksWith (Some (codes "survey")) (first_value (found_of matches.now)) result }
+{
+    let numbers = SurveyNumbers {
+        workers: workers_of(matches),
+        budget: budget_of(matches),
+    };
+    let line = Line::Survey {
+        trace: text_of(matches, "trace"),
+        files: files_of(matches),
+        numbers,
+        progress: flag_of(matches, "progress"),
+    };
+    CommandLine {
+        line,
+        explains: flag_of(matches, "explain"),
+    }
+}

@@ -1,0 +1,81 @@
+-- Why a line is refused before anything is opened.
+use Rattle.std.specs.Borrow.{Bor}
+use Rattle.std.specs.Prelude.{◌≡◌, ◌≢◌, ◌⊎◌, ℕ, Bool, false, true, List, [], ◌∷◌, Option, None, Some, codes, if◌then◌else◌}
+use Rattle.command_line.specs.declared.line.Line.{Line}
+use Rattle.command_line.specs.declared.line.Line.TheVariants.{Survey, Verify}
+use Rattle.command_line.specs.declared.line.SurveyFiles.{SurveyFiles}
+use Rattle.command_run.specs.declared.clash.Clash.{Clash}
+use Rattle.command_run.specs.declared.clash.Clash.TheVariants.{CertIsNames, CertIsPart, CertIsTrace, InputTwice, NamesIsPart, NamesIsTrace, PartIsTrace}
+use Rattle.command_run.specs.HostCalls.{HostCalls}
+use Rattle.command_run.specs.Inputs.{inputs_of, repeats_input}
+
+-- what is printed
+abbrev pub clash_line : Clash → List ℕ
+clash_line InputTwice = codes "error: more than one file is '-', standard input\n"
+clash_line CertIsTrace = codes "error: --cert names the file of TRACE\n"
+clash_line NamesIsTrace = codes "error: --names names the file of TRACE\n"
+clash_line PartIsTrace = codes "error: --part names the file of TRACE\n"
+clash_line CertIsNames = codes "error: --cert and --names name one file\n"
+clash_line CertIsPart = codes "error: --cert and --part name one file\n"
+clash_line NamesIsPart = codes "error: --names and --part name one file\n"
+
+-- whether the files at two paths are one: the paths are the same, or else the host says that the files are
+abbrev pub IsOneFile : {H I O : Type 0} → HostCalls H I O → H → List ℕ → List ℕ → Bool → H → Type 0
+IsOneFile calls from first second one to =
+    ((first ≡ second) × (one ≡ true) × (to ≡ from)) ⊎ ((first ≢ second) × calls.compares from first second one to)
+
+-- the same of paths that may be missing: then they are not one
+abbrev pub AreOneFile : {H I O : Type 0} → HostCalls H I O → H → Option (Bor (List ℕ)) → Option (Bor (List ℕ)) → Bool → H → Type 0
+AreOneFile calls from (Some first) (Some second) one to = IsOneFile calls from first.now second.now one to
+AreOneFile calls from first second one to = (one ≡ false) × (to ≡ from)
+
+-- two paths that may be missing, and what it is if the files at them are one
+pub record Pairing : Type 0 where
+  pub first : Option (Bor (List ℕ))
+  pub second : Option (Bor (List ℕ))
+  pub clash : Clash
+
+-- the files of a survey: none that is written is the trace's, and no two of them are one
+abbrev pub pairings_of_survey : Bor (List ℕ) → SurveyFiles → List Pairing
+pairings_of_survey trace files =
+    record { first = files.cert; second = Some trace; clash = CertIsTrace }
+    ∷ record { first = files.names; second = Some trace; clash = NamesIsTrace }
+    ∷ record { first = files.part; second = Some trace; clash = PartIsTrace }
+    ∷ record { first = files.cert; second = files.names; clash = CertIsNames }
+    ∷ record { first = files.cert; second = files.part; clash = CertIsPart }
+    ∷ record { first = files.names; second = files.part; clash = NamesIsPart }
+    ∷ []
+
+-- the files of a search with a certificate: that is not the trace's
+abbrev pub pairings_of_verify : Bor (List ℕ) → Option (Bor (List ℕ)) → List Pairing
+pairings_of_verify trace cert = record { first = cert; second = Some trace; clash = CertIsTrace } ∷ []
+
+-- the files of a line that have to be apart, in the order in which they are compared
+abbrev pub pairings_of : Line → List Pairing
+pairings_of (Verify trace cert numbers progress) = pairings_of_verify trace cert
+pairings_of (Survey trace files numbers progress) = pairings_of_survey trace files
+pairings_of line = []
+
+-- what is found is this clash if the files at the two paths are one, and else nothing
+abbrev pub ClashesIfOne : {H I O : Type 0} → HostCalls H I O → H → Option (Bor (List ℕ)) → Option (Bor (List ℕ)) → Clash → Option Clash → H → Type 0
+ClashesIfOne calls from first second clash found to =
+    (one : Bool) × AreOneFile calls from first second one to × (found ≡ (if one then Some clash else None))
+
+-- what is found is the clash that was found before, or, if there was none, this one if the files at the two paths are one
+abbrev pub Compares : {H I O : Type 0} → HostCalls H I O → H → Option Clash → Option (Bor (List ℕ)) → Option (Bor (List ℕ)) → Clash → Option Clash → H → Type 0
+Compares calls from (Some before) first second clash found to = (found ≡ Some before) × (to ≡ from)
+Compares calls from None first second clash found to = ClashesIfOne calls from first second clash found to
+
+-- what is found of all pairings, one after the other, after this was found before
+abbrev pub FindsClash : {H I O : Type 0} → HostCalls H I O → H → Option Clash → List Pairing → Option Clash → H → Type 0
+FindsClash calls from before [] found to = (found ≡ before) × (to ≡ from)
+FindsClash {H} calls from before (p ∷ rest) found to =
+    (next : Option Clash) × (between : H) × Compares calls from before p.first p.second p.clash next between × FindsClash calls between next rest found to
+
+-- why the line is refused, or nothing: first whether standard input would be read twice, and then the files that it writes
+abbrev pub ClashesIf : {H I O : Type 0} → Bool → HostCalls H I O → H → Line → Option Clash → H → Type 0
+ClashesIf true calls from line found to = (found ≡ Some InputTwice) × (to ≡ from)
+ClashesIf false calls from line found to = FindsClash calls from None (pairings_of line) found to
+
+abbrev pub ClashesBy : {H I O : Type 0} → HostCalls H I O → H → Line → Option Clash → H → Type 0
+ClashesBy calls from line found to = ClashesIf (repeats_input (inputs_of line)) calls from line found to

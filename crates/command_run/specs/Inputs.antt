@@ -1,0 +1,40 @@
+-- The files that a line reads.
+use Rattle.std.specs.Borrow.{Bor}
+use Rattle.std.specs.Prelude.{◌&&◌, ◌||◌, ℕ, Bool, false, List, Option, None, Some, codes}
+use Rattle.std.specs.Str.{bytes_eq}
+use Rattle.command_line.specs.declared.line.Line.{Line}
+use Rattle.command_line.specs.declared.line.Line.TheVariants.{Cnf, Decode, Judge, Lrat, Part, Recheck, Refusals, Survey, Verify}
+use Rattle.command_run.specs.declared.inputs.InputPaths.{InputPaths}
+
+-- one path; two, and a third one if it is given
+abbrev pub one_input : Bor (List ℕ) → InputPaths
+one_input first = record { first = Some first; second = None; third = None }
+
+abbrev pub several_inputs : (first second : Bor (List ℕ)) → Option (Bor (List ℕ)) → InputPaths
+several_inputs first second third = record { first = Some first; second = Some second; third = third }
+
+-- the paths of the files that a line reads, in the order in which they are handed out
+abbrev pub inputs_of : Line → InputPaths
+inputs_of (Judge trace schedule) = several_inputs trace schedule None
+inputs_of (Cnf trace workers) = one_input trace
+inputs_of (Decode trace model) = several_inputs trace model None
+inputs_of (Lrat cnf proof) = several_inputs cnf proof None
+inputs_of (Recheck trace cert part) = several_inputs trace cert part
+inputs_of (Part trace names shows_names) = several_inputs trace names None
+inputs_of (Verify trace cert numbers progress) = one_input trace
+inputs_of (Survey trace files numbers progress) = one_input trace
+inputs_of Refusals = record { first = None; second = None; third = None }
+
+-- the path is that of standard input
+abbrev pub is_input : List ℕ → Bool
+is_input path = bytes_eq path (codes "-")
+
+abbrev pub is_given_input : Option (Bor (List ℕ)) → Bool
+is_given_input None = false
+is_given_input (Some path) = is_input path.now
+
+-- more than one of the paths is that of standard input
+abbrev pub repeats_input : InputPaths → Bool
+repeats_input paths =
+    (is_given_input paths.first && is_given_input paths.second)
+    || ((is_given_input paths.first || is_given_input paths.second) && is_given_input paths.third)

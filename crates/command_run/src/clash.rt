@@ -1,0 +1,177 @@
+//! Why a line is refused before anything is opened.
+ghost use Rattle.std.specs.Prelude.{◌≡◌, None, Some, if◌then◌else◌};
+ghost use Rattle.command_run.specs.Clashes.{AreOneFile, ClashesBy, ClashesIfOne, Compares, FindsClash, IsOneFile, clash_line, pairings_of, pairings_of_survey, pairings_of_verify};
+ghost use Rattle.command_run.specs.CommandRun.{Prints};
+ghost use Rattle.command_run.specs.Inputs.{inputs_of, repeats_input};
+ghost use Rattle.verdict_report.specs.Runs.{sink_run};
+
+use crate::host::Host;
+use crate::inputs::{inputs_of, repeats_input};
+use crate::telling::{REFUSED, print_text};
+use command_line::{Line, SurveyFiles};
+use dimacs::Sink;
+
+/// Why a line is refused before anything is opened: two of its files are one.
+#[derive(Clone, Copy)]
+pub enum Clash {
+    /// Two files that are read are standard input.
+    InputTwice,
+    /// The certificate would overwrite the trace.
+    CertIsTrace,
+    /// The names would.
+    NamesIsTrace,
+    /// The part would.
+    PartIsTrace,
+    /// Certificate and names have one file.
+    CertIsNames,
+    /// Certificate and part have one file.
+    CertIsPart,
+    /// Names and part have one file.
+    NamesIsPart,
+}
+
+/// The line that reports the clash.
+fn text_of_clash(clash: Clash) -> &'static [u8]
+    ensures { result.now ≡ clash_line clash }
+{
+    match clash {
+        Clash::InputTwice => b"error: more than one file is '-', standard input\n",
+        Clash::CertIsTrace => b"error: --cert names the file of TRACE\n",
+        Clash::NamesIsTrace => b"error: --names names the file of TRACE\n",
+        Clash::PartIsTrace => b"error: --part names the file of TRACE\n",
+        Clash::CertIsNames => b"error: --cert and --names name one file\n",
+        Clash::CertIsPart => b"error: --cert and --part name one file\n",
+        Clash::NamesIsPart => b"error: --names and --part name one file\n",
+    }
+}
+
+/// Reports the clash on standard error, and gives the exit status.
+pub(crate) fn print_clash<E: Sink>(clash: Clash, err: &mut E) -> u8
+    ensures { Prints (sink_run E.written E.failures err.old err.new) (clash_line clash) 2 result }
+{
+    let text = text_of_clash(clash);
+    print_text(text, REFUSED, err)
+}
+
+/// Returns whether the files at these paths are one.
+fn is_one_file<'p, H: Host<'p>>(host: &mut H, first: &str, second: &str) -> bool
+    ensures { IsOneFile H.calls host.old first.now second.now result host.new }
+{
+    if first == second {
+        return true;
+    }
+    host.is_same_file(first, second)
+}
+
+/// Returns whether there are both paths, and the files at them are one.
+fn are_one_file<'p, H: Host<'p>>(host: &mut H, first: Option<&str>, second: Option<&str>) -> bool
+    ensures { AreOneFile H.calls host.old first.entry second.entry result host.new }
+{
+    match first {
+        Some(first) => match second {
+            Some(second) => is_one_file(host, first, second),
+            None => false,
+        },
+        None => false,
+    }
+}
+
+/// The clash, if two files are one.
+fn clash_if_one(is_one: bool, clash: Clash) -> Option<Clash>
+    ensures { result ≡ (if is_one then Some clash else None) }
+{
+    if is_one { Some(clash) } else { None }
+}
+
+/// The clash, if there are both paths and the files at them are one.
+fn clash_of_two<'p, H: Host<'p>>(
+    host: &mut H,
+    first: Option<&str>,
+    second: Option<&str>,
+    clash: Clash,
+) -> Option<Clash>
+    ensures { ClashesIfOne H.calls host.old first.entry second.entry clash result host.new }
+{
+    let is_one = are_one_file(host, first, second);
+    clash_if_one(is_one, clash)
+}
+
+/// The clash that was found before, or else this one if there are both paths and the files at them are one.
+fn or_clash<'p, H: Host<'p>>(
+    host: &mut H,
+    found: Option<Clash>,
+    first: Option<&str>,
+    second: Option<&str>,
+    clash: Clash,
+) -> Option<Clash>
+    ensures { Compares H.calls host.old found first.entry second.entry clash result host.new }
+{
+    match found {
+        Some(found) => Some(found),
+        None => clash_of_two(host, first, second, clash),
+    }
+}
+
+/// The clash of the files of a search: its certificate would overwrite its trace.
+fn clash_of_verify<'p, H: Host<'p>>(
+    host: &mut H,
+    trace: &'p str,
+    cert: Option<&'p str>,
+) -> Option<Clash>
+    ensures { FindsClash H.calls host.old None (pairings_of_verify trace.entry cert.entry) result host.new }
+{
+    or_clash(host, None, cert, Some(trace), Clash::CertIsTrace)
+}
+
+/// The first clash of the files of a survey.
+fn clash_of_survey<'p, H: Host<'p>>(
+    host: &mut H,
+    trace: &'p str,
+    files: SurveyFiles<'p>,
+) -> Option<Clash>
+    ensures { FindsClash H.calls host.old None (pairings_of_survey trace.entry files.entry) result host.new }
+{
+    let whole = Some(trace);
+    let found = or_clash(host, None, files.cert, whole, Clash::CertIsTrace);
+    let found = or_clash(host, found, files.names, whole, Clash::NamesIsTrace);
+    let found = or_clash(host, found, files.part, whole, Clash::PartIsTrace);
+    let found = or_clash(host, found, files.cert, files.names, Clash::CertIsNames);
+    let found = or_clash(host, found, files.cert, files.part, Clash::CertIsPart);
+    or_clash(host, found, files.names, files.part, Clash::NamesIsPart)
+}
+
+/// The first clash of a file that is written.
+fn clash_of_files<'p, H: Host<'p>>(host: &mut H, line: Line<'p>) -> Option<Clash>
+    ensures { FindsClash H.calls host.old None (pairings_of line.entry) result host.new }
+{
+    match line {
+        Line::Verify { trace, cert, .. } => clash_of_verify(host, trace, cert),
+        Line::Survey { trace, files, .. } => clash_of_survey(host, trace, files),
+        Line::Judge { .. } => None,
+        Line::Cnf { .. } => None,
+        Line::Decode { .. } => None,
+        Line::Lrat { .. } => None,
+        Line::Recheck { .. } => None,
+        Line::Part { .. } => None,
+        Line::Refusals => None,
+    }
+}
+
+/// Returns whether the line would read standard input twice.
+fn reads_input_twice(line: Line<'_>) -> bool
+    ensures { result ≡ repeats_input (inputs_of line.entry) }
+{
+    let paths = inputs_of(line);
+    repeats_input(&paths)
+}
+
+/// Why the line is refused before anything is opened, or nothing.
+pub(crate) fn clash_of<'p, H: Host<'p>>(host: &mut H, line: Line<'p>) -> Option<Clash>
+    ensures { ClashesBy H.calls host.old line.entry result host.new }
+{
+    if reads_input_twice(line) {
+        Some(Clash::InputTwice)
+    } else {
+        clash_of_files(host, line)
+    }
+}

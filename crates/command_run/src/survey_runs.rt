@@ -1,0 +1,464 @@
+//! The engine that decides long traces, on the files of a line.
+ghost use Rattle.std.specs.Prelude.{◌≡◌, None, Ok, Some};
+ghost use Rattle.command_run.specs.CommandRun.{CertifiesSurveyed, RunsSurvey, RunsSurveyed, TakesCore, TakesNamesAndPart, TakesPart, takes_none};
+ghost use Rattle.survey_report.specs.SurveyEngine.{IsRunOfCertifiedSurvey, IsRunOfSurvey, TellsExtent};
+ghost use Rattle.verdict_report.specs.Runs.{source_run, sink_run};
+ghost use Rattle.verdict_report.specs.declared.status.Status.TheVariants.{Unknown};
+
+use crate::host::Host;
+use crate::no_file::NoFile;
+use crate::search_request::SearchRequest;
+use command_line::SurveyFiles;
+use cube_jobs::{Gate, OpenGate};
+use dimacs::Sink;
+use std::alloc::Global;
+use std::sync::Wait;
+use std::thread::Threads;
+use survey::BySaturation;
+use survey_report::{run_certified_survey, run_survey};
+use verdict_report::{Fault, Status};
+
+/// The survey of the request.
+fn surveyor_of(search: &SearchRequest) -> BySaturation {
+    BySaturation {
+        budget: search.steps.unwrap_or(0),
+    }
+}
+
+/// Reports the survey to the host, and runs the engine that decides long traces with it: with the gate `progress` if the progress is
+/// wanted, and with one that does nothing if not.
+fn survey<'p, R: Threads + Wait + Sync, G: Gate + Sync, H: Host<'p>, W: Sink>(
+    alloc: Global,
+    rt: &R,
+    progress: &G,
+    host: &mut H,
+    trace: &mut H::Input,
+    search: &SearchRequest,
+    out: &mut W,
+) -> Result<Status, Fault>
+    ensures searches { H.calls.searches host.old search.now host.new }
+    ensures run { IsRunOfSurvey
+        (source_run H.Input.handed_out H.Input.is_at_end H.Input.failures trace.old trace.new)
+        (sink_run W.written W.failures out.old out.new)
+        result }
+    ensures unknown { result ≡ Ok Unknown → TellsExtent search.now.options
+        (source_run H.Input.handed_out H.Input.is_at_end H.Input.failures trace.old trace.new)
+        (sink_run W.written W.failures out.old out.new) }
+{
+    host.begin_search(search);
+    let surveyor = surveyor_of(search);
+    if search.tells_progress {
+        run_survey(alloc, rt, trace, &surveyor, &search.options, progress, out)
+    } else {
+        run_survey(alloc, rt, trace, &surveyor, &search.options, &OpenGate, out)
+    }
+}
+
+/// Does the same, with a certificate, the names of a core, and its part.
+fn certify<
+    'p,
+    R: Threads + Wait + Sync,
+    G: Gate + Sync,
+    H: Host<'p>,
+    C: Sink,
+    N: Sink,
+    P: Sink,
+    W: Sink,
+>(
+    alloc: Global,
+    rt: &R,
+    progress: &G,
+    host: &mut H,
+    trace: &mut H::Input,
+    search: &SearchRequest,
+    cert: &mut C,
+    names: &mut N,
+    part: &mut P,
+    out: &mut W,
+) -> Result<Status, Fault>
+    ensures searches { H.calls.searches host.old search.now host.new }
+    ensures run { IsRunOfCertifiedSurvey
+        (source_run H.Input.handed_out H.Input.is_at_end H.Input.failures trace.old trace.new)
+        (sink_run C.written C.failures cert.old cert.new)
+        (sink_run N.written N.failures names.old names.new)
+        (sink_run P.written P.failures part.old part.new)
+        (sink_run W.written W.failures out.old out.new)
+        result }
+    ensures unknown { result ≡ Ok Unknown → TellsExtent search.now.options
+        (source_run H.Input.handed_out H.Input.is_at_end H.Input.failures trace.old trace.new)
+        (sink_run W.written W.failures out.old out.new) }
+{
+    host.begin_search(search);
+    let surveyor = surveyor_of(search);
+    let options = &search.options;
+    if search.tells_progress {
+        run_certified_survey(
+            alloc, rt, trace, &surveyor, options, progress, cert, names, part, out,
+        )
+    } else {
+        run_certified_survey(
+            alloc, rt, trace, &surveyor, options, &OpenGate, cert, names, part, out,
+        )
+    }
+}
+
+/// Decides whether the trace in the file at this path has a legal schedule, and writes the report to the standard output.
+fn survey_opened<'p, R: Threads + Wait + Sync, G: Gate + Sync, H: Host<'p>, W: Sink>(
+    alloc: Global,
+    rt: &R,
+    progress: &G,
+    host: &mut H,
+    trace: &'p str,
+    search: &SearchRequest,
+    out: &mut W,
+) -> Result<Status, Fault>
+    ensures { RunsSurveyed H.calls (source_run H.Input.handed_out H.Input.is_at_end H.Input.failures)
+        host.old trace.now search.now (sink_run W.written W.failures out.old out.new) result host.new }
+{
+    let mut trace = host.source(trace);
+    survey(alloc, rt, progress, host, &mut trace, search, out)
+}
+
+/// The same, with sinks for the certificate, the names and the part.
+fn certify_opened<
+    'p,
+    R: Threads + Wait + Sync,
+    G: Gate + Sync,
+    H: Host<'p>,
+    C: Sink,
+    N: Sink,
+    P: Sink,
+    W: Sink,
+>(
+    alloc: Global,
+    rt: &R,
+    progress: &G,
+    host: &mut H,
+    trace: &'p str,
+    search: &SearchRequest,
+    cert: &mut C,
+    names: &mut N,
+    part: &mut P,
+    out: &mut W,
+) -> Result<Status, Fault>
+    ensures { CertifiesSurveyed H.calls (source_run H.Input.handed_out H.Input.is_at_end H.Input.failures)
+        host.old trace.now search.now
+        (sink_run C.written C.failures cert.old cert.new)
+        (sink_run N.written N.failures names.old names.new)
+        (sink_run P.written P.failures part.old part.new)
+        (sink_run W.written W.failures out.old out.new)
+        result host.new }
+{
+    let mut trace = host.source(trace);
+    certify(
+        alloc, rt, progress, host, &mut trace, search, cert, names, part, out,
+    )
+}
+
+/// The same, where no file takes the part.
+fn part_nowhere<
+    'p,
+    R: Threads + Wait + Sync,
+    G: Gate + Sync,
+    H: Host<'p>,
+    C: Sink,
+    N: Sink,
+    W: Sink,
+>(
+    alloc: Global,
+    rt: &R,
+    progress: &G,
+    host: &mut H,
+    trace: &'p str,
+    search: &SearchRequest,
+    cert: &mut C,
+    names: &mut N,
+    out: &mut W,
+) -> Result<Status, Fault>
+    ensures { TakesPart H.calls (source_run H.Input.handed_out H.Input.is_at_end H.Input.failures)
+        (sink_run H.Output.written H.Output.failures)
+        host.old trace.now None search.now
+        (sink_run C.written C.failures cert.old cert.new)
+        (sink_run N.written N.failures names.old names.new)
+        (sink_run W.written W.failures out.old out.new)
+        result host.new }
+{
+    let mut part = NoFile::new();
+    certify_opened(
+        alloc, rt, progress, host, trace, search, cert, names, &mut part, out,
+    )
+}
+
+/// The same, with a file for the part. It is made or emptied first, and `Device` is answered if that is not possible.
+fn part_in_file<
+    'p,
+    R: Threads + Wait + Sync,
+    G: Gate + Sync,
+    H: Host<'p>,
+    C: Sink,
+    N: Sink,
+    W: Sink,
+>(
+    alloc: Global,
+    rt: &R,
+    progress: &G,
+    host: &mut H,
+    trace: &'p str,
+    path: &'p str,
+    search: &SearchRequest,
+    cert: &mut C,
+    names: &mut N,
+    out: &mut W,
+) -> Result<Status, Fault>
+    ensures { TakesPart H.calls (source_run H.Input.handed_out H.Input.is_at_end H.Input.failures)
+        (sink_run H.Output.written H.Output.failures)
+        host.old trace.now (Some path.entry) search.now
+        (sink_run C.written C.failures cert.old cert.new)
+        (sink_run N.written N.failures names.old names.new)
+        (sink_run W.written W.failures out.old out.new)
+        result host.new }
+{
+    let Ok(mut made) = host.create(path) else {
+        return Err(Fault::Device);
+    };
+    let outcome = certify_opened(
+        alloc, rt, progress, host, trace, search, cert, names, &mut made, out,
+    );
+    host.close(made);
+    outcome
+}
+
+/// The same, with a file for the part if there is a path for it.
+fn with_part<'p, R: Threads + Wait + Sync, G: Gate + Sync, H: Host<'p>, C: Sink, N: Sink, W: Sink>(
+    alloc: Global,
+    rt: &R,
+    progress: &G,
+    host: &mut H,
+    trace: &'p str,
+    path: Option<&'p str>,
+    search: &SearchRequest,
+    cert: &mut C,
+    names: &mut N,
+    out: &mut W,
+) -> Result<Status, Fault>
+    ensures { TakesPart H.calls (source_run H.Input.handed_out H.Input.is_at_end H.Input.failures)
+        (sink_run H.Output.written H.Output.failures)
+        host.old trace.now path.entry search.now
+        (sink_run C.written C.failures cert.old cert.new)
+        (sink_run N.written N.failures names.old names.new)
+        (sink_run W.written W.failures out.old out.new)
+        result host.new }
+{
+    match path {
+        Some(path) => part_in_file(
+            alloc, rt, progress, host, trace, path, search, cert, names, out,
+        ),
+        None => part_nowhere(alloc, rt, progress, host, trace, search, cert, names, out),
+    }
+}
+
+/// The same, where no file takes the names.
+fn names_nowhere<'p, R: Threads + Wait + Sync, G: Gate + Sync, H: Host<'p>, C: Sink, W: Sink>(
+    alloc: Global,
+    rt: &R,
+    progress: &G,
+    host: &mut H,
+    trace: &'p str,
+    part: Option<&'p str>,
+    search: &SearchRequest,
+    cert: &mut C,
+    out: &mut W,
+) -> Result<Status, Fault>
+    ensures { TakesNamesAndPart H.calls (source_run H.Input.handed_out H.Input.is_at_end H.Input.failures)
+        (sink_run H.Output.written H.Output.failures)
+        host.old trace.now None part.entry search.now
+        (sink_run C.written C.failures cert.old cert.new)
+        (sink_run W.written W.failures out.old out.new)
+        result host.new }
+{
+    let mut names = NoFile::new();
+    with_part(
+        alloc, rt, progress, host, trace, part, search, cert, &mut names, out,
+    )
+}
+
+/// The same, with a file for the names, which is made or emptied before that for the part.
+fn names_in_file<'p, R: Threads + Wait + Sync, G: Gate + Sync, H: Host<'p>, C: Sink, W: Sink>(
+    alloc: Global,
+    rt: &R,
+    progress: &G,
+    host: &mut H,
+    trace: &'p str,
+    path: &'p str,
+    part: Option<&'p str>,
+    search: &SearchRequest,
+    cert: &mut C,
+    out: &mut W,
+) -> Result<Status, Fault>
+    ensures { TakesNamesAndPart H.calls (source_run H.Input.handed_out H.Input.is_at_end H.Input.failures)
+        (sink_run H.Output.written H.Output.failures)
+        host.old trace.now (Some path.entry) part.entry search.now
+        (sink_run C.written C.failures cert.old cert.new)
+        (sink_run W.written W.failures out.old out.new)
+        result host.new }
+{
+    let Ok(mut file) = host.create(path) else {
+        return Err(Fault::Device);
+    };
+    let outcome = with_part(
+        alloc, rt, progress, host, trace, part, search, cert, &mut file, out,
+    );
+    host.close(file);
+    outcome
+}
+
+/// The same, with a file for the names if there is a path for it.
+fn with_names<'p, R: Threads + Wait + Sync, G: Gate + Sync, H: Host<'p>, C: Sink, W: Sink>(
+    alloc: Global,
+    rt: &R,
+    progress: &G,
+    host: &mut H,
+    trace: &'p str,
+    path: Option<&'p str>,
+    part: Option<&'p str>,
+    search: &SearchRequest,
+    cert: &mut C,
+    out: &mut W,
+) -> Result<Status, Fault>
+    ensures { TakesNamesAndPart H.calls (source_run H.Input.handed_out H.Input.is_at_end H.Input.failures)
+        (sink_run H.Output.written H.Output.failures)
+        host.old trace.now path.entry part.entry search.now
+        (sink_run C.written C.failures cert.old cert.new)
+        (sink_run W.written W.failures out.old out.new)
+        result host.new }
+{
+    match path {
+        Some(path) => names_in_file(
+            alloc, rt, progress, host, trace, path, part, search, cert, out,
+        ),
+        None => names_nowhere(alloc, rt, progress, host, trace, part, search, cert, out),
+    }
+}
+
+/// The same, where no file takes the certificate.
+fn cert_nowhere<'p, R: Threads + Wait + Sync, G: Gate + Sync, H: Host<'p>, W: Sink>(
+    alloc: Global,
+    rt: &R,
+    progress: &G,
+    host: &mut H,
+    trace: &'p str,
+    names: Option<&'p str>,
+    part: Option<&'p str>,
+    search: &SearchRequest,
+    out: &mut W,
+) -> Result<Status, Fault>
+    ensures { TakesCore H.calls (source_run H.Input.handed_out H.Input.is_at_end H.Input.failures)
+        (sink_run H.Output.written H.Output.failures)
+        host.old trace.now None names.entry part.entry search.now
+        (sink_run W.written W.failures out.old out.new)
+        result host.new }
+{
+    let mut cert = NoFile::new();
+    with_names(
+        alloc, rt, progress, host, trace, names, part, search, &mut cert, out,
+    )
+}
+
+/// The same, with a file for the certificate, which is made or emptied before the others.
+fn cert_in_file<'p, R: Threads + Wait + Sync, G: Gate + Sync, H: Host<'p>, W: Sink>(
+    alloc: Global,
+    rt: &R,
+    progress: &G,
+    host: &mut H,
+    trace: &'p str,
+    path: &'p str,
+    names: Option<&'p str>,
+    part: Option<&'p str>,
+    search: &SearchRequest,
+    out: &mut W,
+) -> Result<Status, Fault>
+    ensures { TakesCore H.calls (source_run H.Input.handed_out H.Input.is_at_end H.Input.failures)
+        (sink_run H.Output.written H.Output.failures)
+        host.old trace.now (Some path.entry) names.entry part.entry search.now
+        (sink_run W.written W.failures out.old out.new)
+        result host.new }
+{
+    let Ok(mut file) = host.create(path) else {
+        return Err(Fault::Device);
+    };
+    let outcome = with_names(
+        alloc, rt, progress, host, trace, names, part, search, &mut file, out,
+    );
+    host.close(file);
+    outcome
+}
+
+/// The same, with a file for each that there is a path for.
+fn with_cert<'p, R: Threads + Wait + Sync, G: Gate + Sync, H: Host<'p>, W: Sink>(
+    alloc: Global,
+    rt: &R,
+    progress: &G,
+    host: &mut H,
+    trace: &'p str,
+    path: Option<&'p str>,
+    names: Option<&'p str>,
+    part: Option<&'p str>,
+    search: &SearchRequest,
+    out: &mut W,
+) -> Result<Status, Fault>
+    ensures { TakesCore H.calls (source_run H.Input.handed_out H.Input.is_at_end H.Input.failures)
+        (sink_run H.Output.written H.Output.failures)
+        host.old trace.now path.entry names.entry part.entry search.now
+        (sink_run W.written W.failures out.old out.new)
+        result host.new }
+{
+    match path {
+        Some(path) => cert_in_file(
+            alloc, rt, progress, host, trace, path, names, part, search, out,
+        ),
+        None => cert_nowhere(alloc, rt, progress, host, trace, names, part, search, out),
+    }
+}
+
+/// Returns whether no file is asked for.
+fn takes_none(files: SurveyFiles<'_>) -> bool
+    ensures { result ≡ takes_none files.entry }
+{
+    !(files.cert.is_some() || (files.names.is_some() || files.part.is_some()))
+}
+
+/// Decides whether the trace in the file at this path has a legal schedule, and writes what shows an INCONSISTENT to the files that are
+/// asked for. They are made or emptied before the trace is opened.
+pub(crate) fn survey_file<'p, R: Threads + Wait + Sync, G: Gate + Sync, H: Host<'p>, W: Sink>(
+    alloc: Global,
+    rt: &R,
+    progress: &G,
+    host: &mut H,
+    trace: &'p str,
+    files: SurveyFiles<'p>,
+    search: &SearchRequest,
+    out: &mut W,
+) -> Result<Status, Fault>
+    ensures { RunsSurvey H.calls (source_run H.Input.handed_out H.Input.is_at_end H.Input.failures)
+        (sink_run H.Output.written H.Output.failures)
+        host.old trace.now files.entry search.now
+        (sink_run W.written W.failures out.old out.new)
+        result host.new }
+{
+    if takes_none(files) {
+        survey_opened(alloc, rt, progress, host, trace, search, out)
+    } else {
+        with_cert(
+            alloc,
+            rt,
+            progress,
+            host,
+            trace,
+            files.cert,
+            files.names,
+            files.part,
+            search,
+            out,
+        )
+    }
+}
