@@ -2,9 +2,10 @@
 
 The file must-fail.record has a line for each crate whose wrong bodies the prover has all refused: the crate's name, and a hash
 of all that they were tried on. That is what git tracks of the crate's folder (its wrong bodies too) and of the folders of the
-crates below it (theirs not, since nothing reads them), the lines of crates.txt of all of these, HANDLES, and the version of the
-kit. Where one byte or one name of these is another, the hash is, and the crate's wrong bodies are tried again. A crate's documents
-(`*.md` outside of src/, specs/ and proofs/) are no part of it, since no check reads them.
+crates below it (theirs not, since nothing reads them), the lines of crates.txt of all of these, HANDLES, and the logic that the
+kit names. Where one byte or one name of these is another, the hash is, and the crate's wrong bodies are tried again. A crate's documents
+(`*.md` outside of src/, specs/ and proofs/) are no part of it, since no check reads them. Nor is the kit's own version: kits of one logic
+refuse by the same rules, and machines change between them; `./test --all` tries all.
 """
 
 import hashlib
@@ -48,9 +49,11 @@ def untracked(root):
     return (listed(root, "--others", "--exclude-standard", "--", "crates") or []) if listed(root) else []
 
 
-def kit_version():
-    """The line that names the kit."""
-    return subprocess.run(["rt", "version"], check=True, stdout=subprocess.PIPE).stdout
+def kit_logic():
+    """The logic that the kit names, as `logic dac8..`, or all that it says of itself if it names none."""
+    said = subprocess.run(["rt", "version"], check=True, stdout=subprocess.PIPE).stdout
+    logic = re.search(rb"logic [0-9a-f]+", said)
+    return logic[0] if logic else said
 
 
 def content(root, path):
@@ -124,7 +127,7 @@ def wrong_bodies(paths):
     return found
 
 
-def hashes(root, paths, version):
+def hashes(root, paths, logic):
     """For each crate of crates.txt the hash of all that its wrong bodies are tried on."""
     lines = crate_lines(root)
     proved, tried = {}, {}
@@ -132,7 +135,7 @@ def hashes(root, paths, version):
         files, bodies = files_of(name, paths)
         proved[name] = hash_of([name.encode(), line.encode(), *with_content(root, files)]).encode()
         tried[name] = hash_of(with_content(root, bodies)).encode()
-    common = [version, content(root, "HANDLES")]
+    common = [logic, content(root, "HANDLES")]
     return {name: hash_of([name.encode(), *common, tried[name], *[proved[it] for it in below(name, lines)]]) for name in lines}
 
 
@@ -160,8 +163,8 @@ def write(root, entries):
 class Plan:
     """Whose wrong bodies a run tries: those of the crates for which the record has not the hash of today."""
 
-    def __init__(self, root, paths, version, entries):
-        self.hashed = hashes(root, paths, version)
+    def __init__(self, root, paths, logic, entries):
+        self.hashed = hashes(root, paths, logic)
         self.bodies = {name: it for name, it in wrong_bodies(paths).items() if name in self.hashed}
         self.tried = sorted(name for name in self.bodies if entries.get(name) != self.hashed[name])
 
