@@ -1,5 +1,5 @@
 //! Laws of verdicts.
-ghost use Rattle.std.specs.Prelude.{◌≡◌, ◌<◌, ℕ, ℤ, Bool, List, IsTrue, Some, IsPermutation};
+ghost use Rattle.std.specs.Prelude.{◌≡◌, ◌↔◌, ◌<◌, ℕ, ℤ, Bool, List, IsTrue, Some, IsPermutation};
 ghost use Rattle.std.specs.List.{AllZip, list_all, Contains, slice_get};
 ghost use Rattle.cube_jobs.specs.Models.{IsModelIn};
 ghost use Rattle.cube_tree.specs.Covers.{Covers};
@@ -29,6 +29,12 @@ pub fn agreeing_ledgers_agree()
 pub fn entered_in_either_order()
     ensures { (slots ledger : List Slot) (results reordered : List Settled) → AreEnteredInTurn slots results ledger → IsPermutation results reordered →
         AreEnteredInTurn slots reordered ledger }
+{}
+
+/// Results are entered one after the other if and only if each is in the slot of its leaf, which was empty, and no other slot has changed.
+/// So what is said of the one, as that the order changes nothing, holds of the other.
+pub fn entered_in_turn_is_entered()
+    ensures { (slots ledger : List Slot) (results : List Settled) → AreEnteredInTurn slots results ledger ↔ AreEntered slots results ledger }
 {}
 
 /// If all results of a search were entered and one of them is of a leaf that was skipped, the verdict is a model in the cube of a lower

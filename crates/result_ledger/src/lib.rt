@@ -17,8 +17,9 @@ pub use derivations::Derivations;
 pub use entering::enter_all;
 pub use entry_fault::EntryFault;
 pub use laws::{
-    agreeing_ledgers_agree, entered_in_either_order, inconsistent_has_no_model, proofs_by_leaf,
-    skipped_only_above_a_model, split_tree_splits_a_cube, unknown_holds_all_models,
+    agreeing_ledgers_agree, entered_in_either_order, entered_in_turn_is_entered,
+    inconsistent_has_no_model, proofs_by_leaf, skipped_only_above_a_model,
+    split_tree_splits_a_cube, unknown_holds_all_models,
 };
 pub use leaves::Leaves;
 pub use ledger::Ledger;
