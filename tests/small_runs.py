@@ -3,6 +3,7 @@
 import collections
 import itertools
 import os
+import re
 import subprocess
 import tempfile
 
@@ -13,18 +14,24 @@ REFUSED = (2, b"refused: memory\n")
 NO_THREAD = (2, b"refused: search 3 NoThread\n")
 DEVICE = (4, b"refused: device\n")
 
-# What the file of the certificate has before a run, and what stands for its path in a command.
+# What each file that a command writes has before a run, and what stands for their paths in a command, in the order in which these files are
+# emptied and written: a certificate, the names of a core, and its part.
 EARLIER = b"what stood here before\n"
-CERT = "CERT"
+WRITTEN = ("CERT", "NAMES", "PART")
 
-# How a run has ended: its exit status, both streams, and what the file of the certificate holds, or None where there is none.
-Ended = collections.namedtuple("Ended", "status out err cert")
-HANGS = Ended(None, b"", b"it did not end", None)
+# What stands for the path of a text in a command; the texts that are not named so come at its end.
+TEXT = "TEXT"
+
+# How a run has ended: its exit status, both streams, and what each file that it writes holds.
+Ended = collections.namedtuple("Ended", "status out err files")
+HANGS = Ended(None, b"", b"it did not end", ())
+NOTE = b"note: "
 
 HAND_OFF = "vsc 1\nproc P\nW x 1\nproc Q\nR x 1\n"
 STORE_BUFFERING = "vsc 1\ninit x 0\ninit y 0\nproc P\nW x 1\nR y 0\nproc Q\nW y 1\nR x 0\n"
 TWO_READERS = "vsc 1\ninit x 0\ninit y 0\nproc P\nW x 1\nproc Q\nW y 1\nproc R\nR x 1\nR y 0\nproc S\nR y 1\nR x 0\n"
 TOO_FEW_SOURCES = "vsc 1\ninit x 0\n" + "".join(f"proc P{n}\nU x {n // 4} {1 - n // 4}\n" for n in range(6))
+UNWRITTEN = "vsc 1\nproc P\nW x 1\nW y 1\nproc Q\nR y 1\nR x 2\n"
 UPDATED_BACK = "vsc 1\ninit x 0\nfinal x 0\nproc P\nU x 0 1\nproc Q\nU x 1 0\n"
 READ_AGAIN = "vsc 1\nproc P\nW x 1\n" + 4095 * "R x 1\n"
 WRITTEN_AGAIN = "vsc 1\ninit x 0\nproc P\nW x 0\nproc Q\nR x 0\n"
@@ -35,6 +42,13 @@ STORE_BUFFERING_CNF = (
 STORE_BUFFERING_PROOF = "15 0 1 2 11 12 3 7 13 14 0\n"
 
 CERTIFICATE = "vsc-cert 1\nsplit 3\nleaf\nleaf\nproof 0\n16 0 13 14 15 0\nend\nproof 1\n16 0 1 2 11 12 3 7 15 0\nend\n"
+PART_OF_HAND_OFF = "vsc 1\nproc P\n# P.1\nW x 1\nproc Q\n# Q.1\nR x 1\n"
+
+# Of the part of `UNWRITTEN` that Q.2 makes up, since nothing writes what it reads; and the notes on that.
+UNWRITTEN_CERTIFICATE = "vsc-cert 1\nleaf\nproof 0\n3 0 1 2 0\nend\n"
+UNWRITTEN_NOTES = (
+    "note: Q.2 reads 2 at x, which nothing writes, and x has no init line\nnote: each of these alone rules out all schedules\n"
+)
 
 # The cubes of each tree, those with a legal schedule first among the names of the row.
 TWO_CUBES = ("3", "-3")
@@ -47,32 +61,48 @@ class Row:
     """A command, the files that it reads, how it ends where nothing fails, and which cubes it may leave open.
 
     Of `with_schedule` are the cubes in which there is a legal schedule: a report that leaves cubes open has to name them. Where the
-    command names a file for a certificate, `certificate` is what that file holds in the end.
+    command names files that are written, `written` is what these hold in the end. Where it explains its answer, `notes` are the notes on
+    standard error; notes are left out where something fails, so they are not looked at then. Where `printed` is None, it is what is
+    printed where nothing fails.
     """
 
-    def __init__(self, title, command, texts, status, printed, cubes=(), with_schedule=(), told=""):
+    def __init__(self, title, command, texts, status, printed, cubes=(), with_schedule=(), told="", notes=None):
         self.title, self.command, self.texts = title, command, texts
         self.status, self.printed = status, printed.encode() if isinstance(printed, str) else printed
-        self.told = told.encode()
+        self.told, self.notes = told.encode(), notes
         self.cubes, self.with_schedule = cubes, with_schedule
-        self.certificate = None
+        self.written = ()
 
-    def cert_in(self, folder):
-        """The path of the certificate's file, or None."""
-        return os.path.join(folder, CERT) if CERT in self.command.split() else None
+    def outputs_in(self, folder):
+        """The paths of the files that the command writes, in the order in which it writes them."""
+        return [os.path.join(folder, word) for word in WRITTEN if word in self.command.split()]
 
     def words(self, program, folder):
         """The command line, with the texts as files in the folder."""
-        words = [program, *(self.cert_in(folder) if word == CERT else word for word in self.command.split())]
+        paths = {word: os.path.join(folder, word) for word in WRITTEN}
         for number, text in enumerate(self.texts):
-            words.append(os.path.join(folder, str(number)))
-            with open(words[-1], "w", encoding="ascii") as file:
+            paths[f"{TEXT}{number}"] = os.path.join(folder, str(number))
+            with open(os.path.join(folder, str(number)), "w", encoding="ascii") as file:
                 file.write(text)
-        return words
+        words = self.command.split()
+        last = [paths[f"{TEXT}{number}"] for number in range(len(self.texts)) if f"{TEXT}{number}" not in words]
+        return [program, *(paths.get(word, word) for word in words), *last]
+
+    def run(self, words, environment, folder, tells=None):
+        """Runs the command line in this environment, its notes left out: see `run`."""
+        ended, was_told = run(words, environment, tells, self.outputs_in(folder))
+        return (ended if self.notes is None else without_notes(ended)), was_told
 
     def wanted(self):
         """How the command ends where nothing fails."""
-        return Ended(self.status, self.printed, self.told, self.certificate)
+        return Ended(self.status, self.printed, self.told, self.written)
+
+    def allows_whole(self, ended):
+        """Whether it is a report on the whole trace of a survey whose part was left open, where that part is the whole."""
+        if not self.written or not self.printed.startswith(b"INCONSISTENT operations="):
+            return False
+        report = b"INCONSISTENT " + re.search(rb"cubes=\d+\n", self.printed).group()
+        return ended == Ended(1, report, self.told, (self.written[0], b"", b""))
 
     def opened(self, ended):
         """The cubes that a report leaves open, or None where it is no such report."""
@@ -93,45 +123,68 @@ class Row:
         """Whether it is a report of open cubes that is true: each is one of the tree, and those with a legal schedule are there."""
         cubes = self.opened(ended)
         is_true = cubes is not None and set(self.with_schedule) <= set(cubes) <= set(self.cubes)
-        return is_true and ended.cert in (None, b"")
+        return is_true and not any(ended.files)
 
     def starts_threads(self):
         """Whether the command may start threads: a single cube, or a single worker, needs none."""
         return len(self.cubes) > 1 and "--workers 1" not in self.command
 
-    def is_beginning(self, cert, out):
-        """Whether the certificate and the report are a prefix of both, the certificate first."""
-        if self.certificate is None:
-            return self.printed.startswith(out)
-        return (self.certificate + self.printed).startswith(cert + out) and (out == b"" or cert == self.certificate)
+    def is_beginning(self, files, out):
+        """Whether the files and the report are a prefix of all that is written, the files first, one after the other."""
+        wanted, found = [*self.written, self.printed], [*files, out]
+        whole = list(itertools.takewhile(lambda pair: pair[0] == pair[1], zip(wanted, found)))
+        left = found[len(whole):]
+        return not left or (wanted[len(whole)].startswith(left[0]) and not any(left[1:]))
 
     def learn(self, program):
-        """Runs the command where nothing fails: what is wrong with how it ends, or None. What the certificate is, is not fixed: it
-        is one that `recheck` accepts, or none."""
+        """Runs the command where nothing fails: what is wrong with how it ends, or None. What the files hold in the end is not fixed: the
+        certificate is one that `recheck` accepts, for the part that the names make up where these are written too, or nothing; the names
+        are those of the report, and the part is what `part` prints of them."""
         with tempfile.TemporaryDirectory(prefix="vsc-small-") as folder:
-            words, cert = self.words(program, folder), self.cert_in(folder)
-            ended, _ = run(words, {}, cert=cert)
-            self.certificate = ended.cert
-            if ended != self.wanted() or (ended.cert and self.status != 1):
+            words, paths = self.words(program, folder), self.outputs_in(folder)
+            ended, _ = run(words, {}, outputs=paths)
+            if self.notes is not None and ended.err != self.told + self.notes.encode():
                 return told(ended)
-            if self.certificate is None or self.status != 1:
+            ended = ended if self.notes is None else without_notes(ended)
+            self.written = ended.files
+            if self.printed is None and ended.out:
+                self.printed = ended.out
+            if ended != self.wanted() or (any(ended.files) and self.status != 1):
+                return told(ended)
+            if not paths or self.status != 1:
                 return None
-            checked, _ = run([program, "recheck", words[-1], cert], {})
-            accepted = f"ACCEPTED cubes={len(self.cubes)}\n".encode()
-            return None if checked[:3] == (0, accepted, b"") else told(checked)
+            trace, cert, *others = words[-1], *paths
+            checked, _ = run([program, "recheck", trace, cert, *(["--part", others[0]] if others else [])], {})
+            accepted = b"ACCEPTED " + re.search(rb"cubes=\d+\n", self.printed).group()
+            if checked != Ended(0, accepted, b"", ()):
+                return told(checked)
+            if not others:
+                return None
+            part, _ = run([program, "part", "--names", trace, others[0]], {})
+            are_right = self.written[1] == self.printed.partition(b"\n")[2] and part == Ended(0, self.written[2], b"", ())
+            return None if are_right else told(ended)
+
+
+def without_notes(ended):
+    """The same with nothing but the first line on standard error where notes stand there, the last of them perhaps cut short."""
+    *lines, last = ended.err.split(b"\n")
+    kept = [line + b"\n" for line in lines if not line.startswith(NOTE)]
+    is_note = last.startswith(NOTE) or NOTE.startswith(last)
+    return ended._replace(err=b"".join(kept) + (b"" if is_note else last))
 
 
 def told(ended):
     text = f"status {ended.status}, printed {ended.out[:200]!r}, on standard error {ended.err[:200]!r}"
-    return text if ended.cert is None else f"{text}, in the certificate's file {ended.cert[:200]!r}"
+    return text + "".join(f", in a file {content[:200]!r}" for content in ended.files)
 
 
 def names(*schedule):
     return "".join(f"{name}\n" for name in schedule)
 
 
-def inconsistent(count):
-    return f"INCONSISTENT cubes={count}\n"
+def inconsistent(count, core=()):
+    """The report where all cubes are refuted: of the whole trace, or of the part that a core makes up."""
+    return f"INCONSISTENT operations={len(core)} cubes={count}\n" + names(*core) if core else f"INCONSISTENT cubes={count}\n"
 
 
 def compiler():
@@ -157,18 +210,18 @@ def built_program():
     return os.path.join(ROOT, "crates", "vsc", "out", "vsc") if program == os.path.join(ROOT, "vsc") else program
 
 
-def run(words, environment, tells=None, cert=None):
+def run(words, environment, tells=None, outputs=()):
     """Runs a command in this environment: how it ended, and whether it wrote to the file descriptor that the variable `tells` names. The
-    file at the path `cert`, if there is one, is made anew before."""
-    if cert:
-        with open(cert, "wb") as file:
+    files at the paths `outputs` are made anew before."""
+    for path in outputs:
+        with open(path, "wb") as file:
             file.write(EARLIER)
     reading, telling = os.pipe()
     environment = {**environment, **({tells: str(telling)} if tells else {})}
     how = {"stdin": subprocess.DEVNULL, "stdout": subprocess.PIPE, "stderr": subprocess.PIPE, "timeout": SECONDS}
     try:
         done = subprocess.run(words, env=environment, pass_fds=[telling], **how)
-        ended = Ended(done.returncode, done.stdout, done.stderr, content_of(cert))
+        ended = Ended(done.returncode, done.stdout, done.stderr, tuple(map(content_of, outputs)))
     except subprocess.TimeoutExpired:
         ended = HANGS
     finally:
@@ -179,8 +232,6 @@ def run(words, environment, tells=None, cert=None):
 
 
 def content_of(path):
-    """What the file at the path holds, or None where there is no path."""
-    if not path:
-        return None
+    """What the file at the path holds."""
     with open(path, "rb") as file:
         return file.read()
