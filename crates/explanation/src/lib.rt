@@ -4,6 +4,7 @@
 #![tactic(auto)]
 
 mod asked_command;
+mod by_solver;
 mod explaining;
 mod inputs;
 mod verdicts;

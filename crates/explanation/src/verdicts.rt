@@ -1,18 +1,24 @@
 //! Notes on the verdict of a command.
 
 use crate::asked_command::AskedCommand;
+use crate::by_solver::BySolver;
 use crate::inputs::{schedule_of, trace_of};
+use derivation_notes::explain_derivation;
 use note_text::{NamedText, Notes};
 use std::alloc::{AllocError, Global};
 use survey::BySaturation;
+use trace_semantics::trace::Trace;
 use verdict_notes::{
-    SearchEffort, explain_certificate_length, explain_illegal, explain_inconsistent,
-    explain_undecided,
+    SearchEffort, explain_by_survey, explain_certificate_length, explain_illegal,
+    explain_sourceless, explain_undecided,
 };
 use verdict_report::{INPUT_LIMIT, Status};
 
 /// The steps that a survey may take: a fraction of a second.
 const SURVEY_STEPS: u64 = 20_000_000;
+
+/// The conflicts that the search for a derivation may have: about a second.
+const SEARCH_CONFLICTS: u64 = 10_000;
 
 /// Notes on the verdict of this status that the command gave.
 pub(crate) fn explain_verdict(
@@ -65,19 +71,34 @@ fn explain_judged(
     }
 }
 
-/// Notes why the trace has no legal schedule.
+/// Notes why the trace in this file has no legal schedule.
 fn explain_contradiction(
     alloc: Global,
     notes: &mut Notes,
     trace: &NamedText<'_>,
 ) -> Result<(), AllocError> {
+    match trace_of(alloc, trace) {
+        Some(trace) => explain_inconsistent(alloc, notes, &trace),
+        None => Ok(()),
+    }
+}
+
+/// Notes why the trace has no legal schedule: reads and final values of values that nothing gives; or else a short derivation of a
+/// contradiction; or else a few operations that a survey finds.
+fn explain_inconsistent(alloc: Global, notes: &mut Notes, trace: &Trace) -> Result<(), AllocError> {
+    if explain_sourceless(alloc, notes, trace)? {
+        return Ok(());
+    }
+    let deriver = BySolver {
+        budget: SEARCH_CONFLICTS,
+    };
+    if explain_derivation(alloc, notes, trace, &deriver)? {
+        return Ok(());
+    }
     let surveyor = BySaturation {
         budget: SURVEY_STEPS,
     };
-    match trace_of(alloc, trace) {
-        Some(trace) => explain_inconsistent(alloc, notes, &trace, &surveyor),
-        None => Ok(()),
-    }
+    explain_by_survey(alloc, notes, trace, &surveyor)
 }
 
 /// Notes what is asked of a schedule if there is one.

@@ -6,6 +6,7 @@
 mod all_refusals;
 mod certificate_notes;
 mod earlier_lines;
+mod failed_hint;
 mod meanings;
 mod name_notes;
 mod names;

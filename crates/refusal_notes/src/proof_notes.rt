@@ -1,10 +1,11 @@
 //! Why a derivation was refused at a step.
 
+use crate::failed_hint::explain_hint;
 use crate::meanings::Explained;
 use crate::swapped::bytes_of;
 use lrat_check::refusal::StepFault;
 use note_text::{AskedTexts, NamedText, Notes, word_at};
-use std::alloc::AllocError;
+use std::alloc::{AllocError, Global};
 use text_lines::comments::begins_dimacs_comment;
 use text_lines::lines::cut_line;
 
@@ -41,8 +42,9 @@ fn note_step(notes: &mut Notes, text: &NamedText<'_>, step: u64) -> Result<(), A
     }
 }
 
-/// Adds why the derivation was refused at this step.
+/// Adds why the derivation was refused at this step, and at which hint.
 pub(crate) fn explain_step(
+    alloc: Global,
     notes: &mut Notes,
     cause: StepFault,
     step: u64,
@@ -51,5 +53,11 @@ pub(crate) fn explain_step(
     if let Some(text) = texts.proof {
         note_step(notes, &text, step)?;
     }
-    notes.note(&[cause.meaning().as_bytes()])
+    notes.note(&[cause.meaning().as_bytes()])?;
+    match (texts.cnf, texts.proof) {
+        (Some(cnf), Some(proof)) => {
+            explain_hint(alloc, notes, bytes_of(&cnf), bytes_of(&proof), step)
+        }
+        _ => Ok(()),
+    }
 }

@@ -217,6 +217,7 @@ fn explain_memory(notes: &mut Notes) -> Result<(), AllocError> {
 
 /// Adds why a file of a command about clauses and proofs was refused.
 fn explain_proofs(
+    alloc: Global,
     notes: &mut Notes,
     fault: &Fault,
     texts: &AskedTexts<'_>,
@@ -243,7 +244,7 @@ fn explain_proofs(
                 texts,
             )
         }
-        Fault::Check(cause, step) => explain_step(notes, *cause, *step as u64, texts),
+        Fault::Check(cause, step) => explain_step(alloc, notes, *cause, *step as u64, texts),
         Fault::Cert(cause, place) => explain_certificate(notes, *cause, *place as u64, texts),
         _ => Ok(()),
     }
@@ -251,6 +252,7 @@ fn explain_proofs(
 
 /// Adds why an engine gave up for lack of something.
 fn explain_lack(
+    alloc: Global,
     notes: &mut Notes,
     fault: &Fault,
     texts: &AskedTexts<'_>,
@@ -262,7 +264,7 @@ fn explain_lack(
         Fault::Reduce(cause, left) => explain_reduction(notes, *cause, *left as u64),
         Fault::Decode(cause, clause) => explain_decoding(notes, *cause, *clause as u64),
         Fault::Search(cause) => explain_search(notes, *cause),
-        _ => explain_proofs(notes, fault, texts),
+        _ => explain_proofs(alloc, notes, fault, texts),
     }
 }
 
@@ -277,6 +279,6 @@ pub fn explain_refusal(
         Fault::Trace(cause, line) => explain_trace(alloc, notes, *cause, *line as u64, texts),
         Fault::Schedule(cause, line) => explain_schedule(notes, *cause, *line as u64, texts),
         Fault::Part(cause, line) => explain_part(alloc, notes, *cause, *line as u64, texts),
-        _ => explain_lack(notes, fault, texts),
+        _ => explain_lack(alloc, notes, fault, texts),
     }
 }

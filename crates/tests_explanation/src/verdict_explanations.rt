@@ -142,7 +142,7 @@ const SOURCELESS: [(&str, &str); 6] = [
     ),
     (
         STORE_BUFFERING,
-        "note: a survey, which nothing checks here, finds these operations in contradiction: 4\nnote: init x 0\nnote: init y 0\nnote: P.1 W x 1\nnote: P.2 R y 0\nnote: Q.1 W y 1\nnote: Q.2 R x 0\nnote: fewer may suffice; vsc part writes them as a trace, if a file has their names\nnote: vsc survey finds and refutes such operations\n",
+        "note: a contradiction of 8 clauses, of 14 in all:\nnote: P.2 R y 0 reads the initial value: nothing else writes that value\nnote: Q.2 R x 0 reads the initial value: nothing else writes that value\nnote: P.2 reads the initial value, so Q.1 W y 1 stands after it\nnote: P.1 < P.2 < Q.1 < Q.2\nnote: P.1 W x 1 stands before Q.2, which reads the initial value: contradiction\n",
     ),
 ];
 

@@ -1,8 +1,7 @@
-//! Why a trace has no legal schedule.
+//! Why a trace has no legal schedule, as a survey finds.
 
 use crate::named_operations::operation_of;
 use crate::sentence::Sentence;
-use crate::sourceless::explain_sourceless;
 use note_text::{Notes, decimal};
 use std::alloc::{AllocError, Global};
 use surveyor::{Finding, Surveyor};
@@ -12,17 +11,14 @@ use trace_semantics::trace::Trace;
 /// The most operations of a core that are shown.
 const MOST_SHOWN: u64 = 40;
 
-/// Notes why the trace has no legal schedule: reads and final values of values that nothing gives, or else a few operations by which a
-/// survey finds that there is none. The survey is not trusted, and its core is not refuted again.
-pub fn explain_inconsistent<S: Surveyor>(
+/// Notes a few operations by which a survey finds that the trace has no legal schedule. The survey is not trusted, and its core is not
+/// refuted again.
+pub fn explain_by_survey<S: Surveyor>(
     alloc: Global,
     notes: &mut Notes,
     trace: &Trace,
     surveyor: &S,
 ) -> Result<(), AllocError> {
-    if explain_sourceless(alloc, notes, trace)? {
-        return Ok(());
-    }
     let overview = surveyor.survey(alloc, trace)?;
     match &overview.finding {
         Finding::Core(names) => explain_core(alloc, notes, trace, names.as_slice()),

@@ -20,6 +20,9 @@ mod sourceless_reads;
 mod undecided;
 
 pub use certificate_length::explain_certificate_length;
-pub use contradiction::explain_inconsistent;
+pub use contradiction::explain_by_survey;
 pub use illegal::explain_illegal;
+pub use named_operations::{is_named, origin_of, place_after};
+pub use sentence::Sentence;
+pub use sourceless::explain_sourceless;
 pub use undecided::{SearchEffort, explain_undecided};

@@ -41,6 +41,11 @@ impl Sentence {
         self.add_name(name.process.as_bytes(), name.place as u64)
     }
 
+    /// Adds the number in decimal.
+    pub fn add_value(&mut self, value: u64) -> Result<(), AllocError> {
+        self.add(&[decimal(value).as_slice()])
+    }
+
     /// Adds what an operation reads, as ` reads 0 at x`.
     pub fn add_read(&mut self, value: u64, location: &[u8]) -> Result<(), AllocError> {
         self.add(&[b" reads ", decimal(value).as_slice(), b" at ", location])

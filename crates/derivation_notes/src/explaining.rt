@@ -1,0 +1,105 @@
+//! Why a trace has no legal schedule, by the derivation of a contradiction.
+
+use crate::kept_ops::kept_ops;
+use crate::needed_steps::{NeededSteps, needed_steps};
+use crate::rests::Rests;
+use crate::story::Story;
+use crate::telling::Teller;
+use clause_blocks::trace_clauses::TraceClauses;
+use dimacs::ClauseList;
+use lrat_check::derivation::Derivation;
+use note_text::{Notes, decimal};
+use reducer::reduced::reduce;
+use std::alloc::{AllocError, Global};
+use trace_semantics::trace::Trace;
+
+/// The most hints of a derivation that is said clause by clause.
+const MOST_HINTS: u64 = 60;
+
+/// The most steps of a derivation that is said clause by clause.
+const MOST_STEPS: u64 = 5;
+
+/// A search for a derivation that the clauses of a trace contradict each other. Nothing is promised but that the call returns: what it
+/// answers may be no derivation.
+pub trait Deriver {
+    /// The derivation, if one was found.
+    fn derivation_of(
+        &self,
+        alloc: Global,
+        clauses: &TraceClauses,
+    ) -> Result<Option<Derivation>, AllocError>;
+}
+
+/// Notes why the trace has no legal schedule, if a derivation is found: a short one sentence by sentence, and of a long one on what it
+/// rests. The answer is whether the derivation was said in sentences.
+pub fn explain_derivation<D: Deriver>(
+    alloc: Global,
+    notes: &mut Notes,
+    trace: &Trace,
+    deriver: &D,
+) -> Result<bool, AllocError> {
+    let Ok(reduced) = reduce(alloc, trace) else {
+        return Ok(false);
+    };
+    let clauses = TraceClauses::of(alloc, &reduced)?;
+    match deriver.derivation_of(alloc, &clauses)? {
+        Some(derivation) => explain_derived(alloc, notes, trace, &clauses, &derivation),
+        None => Ok(false),
+    }
+}
+
+/// Notes the derivation.
+fn explain_derived(
+    alloc: Global,
+    notes: &mut Notes,
+    trace: &Trace,
+    clauses: &TraceClauses,
+    derivation: &Derivation,
+) -> Result<bool, AllocError> {
+    let ops = kept_ops(alloc, trace)?;
+    if ops.len() != clauses.layout().operations() {
+        return Ok(false);
+    }
+    let Some(needed) = needed_steps(alloc, derivation, clauses.count() as u64)? else {
+        return Ok(false);
+    };
+    let rests = Rests::of(alloc, clauses, &needed)?;
+    let story = Story::new(alloc, ops);
+    if needed.count() > MOST_STEPS || needed.hints() > MOST_HINTS {
+        rests.explain(notes, &story, needed.count())?;
+        return Ok(false);
+    }
+    let mut teller = Teller::new(alloc, clauses, story);
+    if !tell_steps(&mut teller, &needed)? {
+        return Ok(false);
+    }
+    let used = rests.count_clauses();
+    explain_extent(notes, used, clauses.count() as u64)?;
+    teller.story.note_all(notes)?;
+    Ok(true)
+}
+
+/// Says all steps. The answer is whether each of them ends with a contradiction.
+fn tell_steps(teller: &mut Teller<'_>, needed: &NeededSteps<'_>) -> Result<bool, AllocError> {
+    let steps = needed.steps.as_slice();
+    for k in (0..steps.len()).rev() {
+        let number = (steps.len() - k) as u64;
+        if !teller.tell(needed, &steps[k], number)? {
+            return Ok(false);
+        }
+    }
+    Ok(true)
+}
+
+/// Notes how many clauses contradict each other.
+fn explain_extent(notes: &mut Notes, used: u64, all: u64) -> Result<(), AllocError> {
+    let used = decimal(used);
+    let all = decimal(all);
+    notes.note(&[
+        b"a contradiction of ",
+        used.as_slice(),
+        b" clauses, of ",
+        all.as_slice(),
+        b" in all:",
+    ])
+}

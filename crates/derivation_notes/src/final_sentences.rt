@@ -1,0 +1,89 @@
+//! Sentences on final values.
+
+use crate::story::Phrase;
+use crate::telling::{Conclusion, Teller};
+use std::alloc::AllocError;
+use var_layout::candidate::FinalChoice;
+use var_layout::layout::Layout;
+
+/// The writers that leave the final value of this number.
+fn finals_of(layout: &Layout, final_value: usize) -> &[FinalChoice] {
+    if final_value < layout.final_values() {
+        layout.finals(final_value)
+    } else {
+        &[]
+    }
+}
+
+/// The writer that the variable makes the last one.
+fn last_of(choices: &[FinalChoice], variable: u32) -> Option<usize> {
+    for choice in choices {
+        if choice.variable == variable {
+            return Some(choice.writer);
+        }
+    }
+    None
+}
+
+impl<'t> Teller<'t> {
+    /// Says the clause that a writer leaves the final value of this number.
+    pub fn tell_last(
+        &mut self,
+        final_value: usize,
+        conclusion: Conclusion,
+    ) -> Result<(), AllocError> {
+        let choices = finals_of(self.clauses.layout(), final_value);
+        let is_only = choices.len() == 1;
+        match conclusion {
+            Conclusion::Of(variable) => match last_of(choices, variable) {
+                Some(writer) => self.say_last(writer, is_only),
+                None => Ok(()),
+            },
+            Conclusion::Contradiction => {
+                self.story.say(&[Phrase::Words(
+                    b"no operation is left that can write the final value last: contradiction",
+                )])
+            }
+            Conclusion::Order(_, _) => Ok(()),
+        }
+    }
+
+    /// Says why the writer is the last one.
+    fn say_last(&mut self, writer: usize, is_only: bool) -> Result<(), AllocError> {
+        let words: &[u8] = if is_only {
+            b" is the last write there: it alone writes the final value"
+        } else {
+            b" is the last write there: nothing else is left that writes the final value"
+        };
+        self.story
+            .say(&[Phrase::Whole(writer), Phrase::Words(words)])
+    }
+
+    /// Says the clause that the other writer stands before the last one.
+    pub fn tell_before_last(
+        &mut self,
+        last: usize,
+        writer: usize,
+        conclusion: Conclusion,
+    ) -> Result<(), AllocError> {
+        if let Conclusion::Order(_, _) = conclusion {
+            return self.story.say(&[
+                Phrase::Whole(writer),
+                Phrase::Words(b" stands before "),
+                Phrase::Name(last),
+                Phrase::Words(b", the last write there"),
+            ]);
+        }
+        self.say_order(last, writer)?;
+        let end: &[u8] = match conclusion {
+            Conclusion::Contradiction => b", the last write there: contradiction",
+            _ => b", which so is not the last write there",
+        };
+        self.story.say(&[
+            Phrase::Whole(writer),
+            Phrase::Words(b" stands after "),
+            Phrase::Whole(last),
+            Phrase::Words(end),
+        ])
+    }
+}

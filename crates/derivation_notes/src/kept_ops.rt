@@ -1,0 +1,111 @@
+//! The operations that have numbers in the formula of a trace, by their names in the whole trace.
+
+use std::alloc::{AllocError, Global};
+use trace_semantics::operation::{Op, Origin};
+use trace_semantics::trace::{Process, Trace};
+use verdict_notes::{is_named, origin_of, place_after};
+
+/// An operation that is not left out of the formula.
+#[derive(Clone, Copy)]
+pub struct KeptOp<'t> {
+    /// The name of its process.
+    pub process: &'t [u8],
+    /// Its place in the process, counted from 1.
+    pub place: u64,
+    pub op: &'t Op,
+}
+
+/// Whether the operation of this name stands in a before pair.
+fn is_in_pair(trace: &Trace, process: &[u8], place: u64) -> bool {
+    for pair in trace.before() {
+        if is_named(&pair.0, process, place) || is_named(&pair.1, process, place) {
+            return true;
+        }
+    }
+    false
+}
+
+/// Whether one of these operations reads, by its line, from the operation of this name.
+fn is_source_of(ops: &[Op], process: &[u8], place: u64) -> bool {
+    for op in ops {
+        if let Some(Origin::Operation(name)) = origin_of(op) {
+            if is_named(name, process, place) {
+                return true;
+            }
+        }
+    }
+    false
+}
+
+/// Whether a before pair or an origin names the operation.
+fn is_spoken_of(trace: &Trace, process: &[u8], place: u64) -> bool {
+    if is_in_pair(trace, process, place) {
+        return true;
+    }
+    for other in trace.processes() {
+        if is_source_of(other.operations.as_slice(), process, place) {
+            return true;
+        }
+    }
+    false
+}
+
+/// What the operation's location holds directly after it.
+fn value_behind(op: &Op) -> Option<u64> {
+    match op.written_value() {
+        Some(value) => Some(value),
+        None => op.value_read(),
+    }
+}
+
+/// Whether the second is a plain read of what its location holds directly after the first, of which nothing is said from where.
+fn repeats(earlier: &Op, op: &Op) -> bool {
+    match op {
+        Op::Read {
+            location,
+            value,
+            origin: Origin::Any,
+        } => {
+            earlier.location().as_bytes() == location.as_bytes()
+                && value_behind(earlier) == Some(*value)
+        }
+        _ => false,
+    }
+}
+
+/// Whether the reduction leaves out the operation at this place of the process, counted from 0.
+fn is_left_out(trace: &Trace, process: &Process, k: usize) -> bool {
+    let ops = process.operations.as_slice();
+    if k == 0 || k >= ops.len() {
+        return false;
+    }
+    repeats(&ops[k - 1], &ops[k]) && !is_spoken_of(trace, process.name.as_bytes(), place_after(k))
+}
+
+/// Adds the operations of the process that are kept.
+fn add_process<'t>(
+    kept: &mut Vec<KeptOp<'t>>,
+    trace: &'t Trace,
+    process: &'t Process,
+) -> Result<(), AllocError> {
+    let ops = process.operations.as_slice();
+    for k in 0..ops.len() {
+        if !is_left_out(trace, process, k) {
+            kept.push(KeptOp {
+                process: process.name.as_bytes(),
+                place: place_after(k),
+                op: &ops[k],
+            })?;
+        }
+    }
+    Ok(())
+}
+
+/// The operations that the reduction keeps, in the order of their numbers.
+pub fn kept_ops<'t>(alloc: Global, trace: &'t Trace) -> Result<Vec<KeptOp<'t>>, AllocError> {
+    let mut kept = Vec::new(alloc);
+    for process in trace.processes() {
+        add_process(&mut kept, trace, process)?;
+    }
+    Ok(kept)
+}

@@ -1,0 +1,264 @@
+//! Sentences on what is read from where.
+
+use crate::clause_meaning::ClauseMeaning;
+use crate::story::{Phrase, Story};
+use crate::telling::{Conclusion, Teller};
+use std::alloc::AllocError;
+use trace_semantics::operation::Origin;
+use var_layout::candidate::{Candidate, ReadsFromChoice};
+use var_layout::layout::Layout;
+use verdict_notes::origin_of;
+
+/// The choices of the reader.
+fn choices_of(layout: &Layout, reader: usize) -> &[ReadsFromChoice] {
+    if !layout.is_reader(reader) {
+        return &[];
+    }
+    layout.choices(reader)
+}
+
+/// The candidate of the reader that has the variable.
+fn chosen(layout: &Layout, reader: usize, variable: u32) -> Option<Candidate> {
+    for choice in choices_of(layout, reader) {
+        if choice.variable == variable {
+            return Some(choice.candidate);
+        }
+    }
+    None
+}
+
+/// Whether the line of the operation of this number says from where it reads.
+fn has_origin(story: &Story<'_>, number: usize) -> bool {
+    match story.ops().get(number) {
+        Some(op) => match origin_of(op.op) {
+            Some(Origin::Any) => false,
+            Some(_) => true,
+            None => false,
+        },
+        None => false,
+    }
+}
+
+impl<'t> Teller<'t> {
+    /// Says a clause of what is read, or of final values.
+    pub fn tell_sources(
+        &mut self,
+        meaning: &ClauseMeaning,
+        conclusion: Conclusion,
+    ) -> Result<(), AllocError> {
+        match meaning {
+            ClauseMeaning::HasSource(reader) => self.tell_source(*reader, conclusion),
+            ClauseMeaning::BeforeWriter { reader, writer } => {
+                self.tell_before_writer(*reader, *writer, conclusion)
+            }
+            ClauseMeaning::AfterSource { reader, source } => {
+                self.tell_after_source(*reader, *source, conclusion)
+            }
+            ClauseMeaning::NotBetween {
+                reader,
+                source,
+                writer,
+            } => self.tell_not_between(*reader, *source, *writer, conclusion),
+            ClauseMeaning::HasLast(final_value) => self.tell_last(*final_value, conclusion),
+            ClauseMeaning::BeforeLast { last, writer, .. } => {
+                self.tell_before_last(*last, *writer, conclusion)
+            }
+            _ => Ok(()),
+        }
+    }
+
+    /// Says why the reader reads from this candidate.
+    fn say_source(
+        &mut self,
+        reader: usize,
+        candidate: Candidate,
+        is_only: bool,
+    ) -> Result<(), AllocError> {
+        let by_line = has_origin(&self.story, reader);
+        match candidate {
+            Candidate::InitialValue => {
+                let words: &[u8] = match (by_line, is_only) {
+                    (true, _) => b", by its line",
+                    (false, true) => b": nothing else writes that value",
+                    (false, false) => b": no writer of that value is left",
+                };
+                self.story.say(&[
+                    Phrase::Whole(reader),
+                    Phrase::Words(b" reads the initial value"),
+                    Phrase::Words(words),
+                ])
+            }
+            Candidate::Writer(source) => {
+                let words: &[u8] = match (by_line, is_only) {
+                    (true, _) => b", by its line",
+                    (false, true) => b", the only writer of ",
+                    (false, false) => b", the only one left that writes ",
+                };
+                let end = if by_line {
+                    Phrase::Words(b"")
+                } else {
+                    Phrase::ValueRead(reader)
+                };
+                self.story.say(&[
+                    Phrase::Whole(reader),
+                    Phrase::Words(b" reads from "),
+                    Phrase::Name(source),
+                    Phrase::Words(words),
+                    end,
+                ])
+            }
+        }
+    }
+
+    /// Says the clause that the operation reads from somewhere.
+    fn tell_source(&mut self, reader: usize, conclusion: Conclusion) -> Result<(), AllocError> {
+        let layout = self.clauses.layout();
+        let is_only = choices_of(layout, reader).len() == 1;
+        match conclusion {
+            Conclusion::Of(variable) => match chosen(layout, reader, variable) {
+                Some(candidate) => self.say_source(reader, candidate, is_only),
+                None => Ok(()),
+            },
+            Conclusion::Contradiction => self.story.say(&[
+                Phrase::Whole(reader),
+                Phrase::Words(b" has nothing left to read from: contradiction"),
+            ]),
+            Conclusion::Order(_, _) => Ok(()),
+        }
+    }
+
+    /// Says the clause that a reader of the initial value stands before the writer.
+    fn tell_before_writer(
+        &mut self,
+        reader: usize,
+        writer: usize,
+        conclusion: Conclusion,
+    ) -> Result<(), AllocError> {
+        if let Conclusion::Order(_, _) = conclusion {
+            return self.story.say(&[
+                Phrase::Name(reader),
+                Phrase::Words(b" reads the initial value, so "),
+                Phrase::Whole(writer),
+                Phrase::Words(b" stands after it"),
+            ]);
+        }
+        self.say_order(writer, reader)?;
+        let end: &[u8] = match conclusion {
+            Conclusion::Contradiction => b", which reads the initial value: contradiction",
+            _ => b", which so does not read the initial value",
+        };
+        self.story.say(&[
+            Phrase::Whole(writer),
+            Phrase::Words(b" stands before "),
+            Phrase::Name(reader),
+            Phrase::Words(end),
+        ])
+    }
+
+    /// Says the clause that a reader stands after its source. If the source is known, that goes without saying.
+    fn tell_after_source(
+        &mut self,
+        reader: usize,
+        source: usize,
+        conclusion: Conclusion,
+    ) -> Result<(), AllocError> {
+        if let Conclusion::Order(_, _) = conclusion {
+            return Ok(());
+        }
+        self.say_order(reader, source)?;
+        let end: &[u8] = match conclusion {
+            Conclusion::Contradiction => b", from which it reads: contradiction",
+            _ => b", so it does not read from there",
+        };
+        self.story.say(&[
+            Phrase::Whole(reader),
+            Phrase::Words(b" stands before "),
+            Phrase::Whole(source),
+            Phrase::Words(end),
+        ])
+    }
+
+    /// Says the clause that the writer does not stand between the source and the reader.
+    fn tell_not_between(
+        &mut self,
+        reader: usize,
+        source: usize,
+        writer: usize,
+        conclusion: Conclusion,
+    ) -> Result<(), AllocError> {
+        match conclusion {
+            Conclusion::Order(_, second) => {
+                self.say_pushed(reader, source, writer, second == source)
+            }
+            Conclusion::Contradiction => {
+                self.say_between(reader, source, writer)?;
+                self.story.say(&[
+                    Phrase::Whole(writer),
+                    Phrase::Words(b" stands between "),
+                    Phrase::Name(source),
+                    Phrase::Words(b" and "),
+                    Phrase::Name(reader),
+                    Phrase::Words(b": contradiction"),
+                ])
+            }
+            Conclusion::Of(_) => {
+                self.say_between(reader, source, writer)?;
+                self.story.say(&[
+                    Phrase::Whole(writer),
+                    Phrase::Words(b" stands between "),
+                    Phrase::Name(source),
+                    Phrase::Words(b" and "),
+                    Phrase::Whole(reader),
+                    Phrase::Words(b", which so does not read from there"),
+                ])
+            }
+        }
+    }
+
+    /// Says in which order the writer stands between the source and the reader.
+    fn say_between(
+        &mut self,
+        reader: usize,
+        source: usize,
+        writer: usize,
+    ) -> Result<(), AllocError> {
+        self.say_order(source, writer)?;
+        self.say_order(writer, reader)
+    }
+
+    /// Says to which side of the source and the reader the writer is pushed.
+    fn say_pushed(
+        &mut self,
+        reader: usize,
+        source: usize,
+        writer: usize,
+        is_before_source: bool,
+    ) -> Result<(), AllocError> {
+        if is_before_source {
+            self.say_order(writer, reader)?;
+            return self.story.say(&[
+                Phrase::Name(reader),
+                Phrase::Words(b" reads from "),
+                Phrase::Name(source),
+                Phrase::Words(b", so "),
+                Phrase::Whole(writer),
+                Phrase::Words(b", which stands before "),
+                Phrase::Name(reader),
+                Phrase::Words(b", stands before "),
+                Phrase::Name(source),
+            ]);
+        }
+        self.say_order(source, writer)?;
+        self.story.say(&[
+            Phrase::Name(reader),
+            Phrase::Words(b" reads from "),
+            Phrase::Name(source),
+            Phrase::Words(b", so "),
+            Phrase::Whole(writer),
+            Phrase::Words(b", which stands after "),
+            Phrase::Name(source),
+            Phrase::Words(b", stands after "),
+            Phrase::Name(reader),
+        ])
+    }
+}

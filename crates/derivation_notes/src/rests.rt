@@ -1,0 +1,180 @@
+//! On what a long derivation rests.
+
+use crate::clause_meaning::{ClauseMeaning, meaning_at, order_of};
+use crate::needed_steps::NeededSteps;
+use crate::story::{Phrase, Story};
+use clause_blocks::trace_clauses::TraceClauses;
+use dimacs::ClauseList;
+use note_text::{Notes, decimal};
+use std::alloc::{AllocError, Global};
+
+/// The most operations that are named.
+const MOST_NAMED: u64 = 40;
+
+/// The clauses and the operations on which a derivation rests.
+#[derive(Drop)]
+pub struct Rests {
+    clauses: Vec<bool>,
+    operations: Vec<bool>,
+}
+
+/// Marks this place.
+fn mark(marks: &mut Vec<bool>, place: usize) {
+    if place < marks.len() {
+        marks[place] = true;
+    }
+}
+
+/// How many places are marked.
+fn count(marks: &[bool]) -> u64 {
+    let mut count: u64 = 0;
+    for marked in marks {
+        if *marked {
+            count = count.saturating_add(1);
+        }
+    }
+    count
+}
+
+impl Rests {
+    /// The clauses and the operations on which the steps rest.
+    pub fn of(
+        alloc: Global,
+        clauses: &TraceClauses,
+        needed: &NeededSteps<'_>,
+    ) -> Result<Rests, AllocError> {
+        let mut rests = Rests {
+            clauses: vec![in alloc; false; clauses.count()]?,
+            operations: vec![in alloc; false; clauses.layout().operations()]?,
+        };
+        for step in &needed.steps {
+            rests.add_hints(step.hints.as_slice());
+        }
+        rests.add_operations(clauses);
+        Ok(rests)
+    }
+
+    /// Marks the clauses of these hints.
+    fn add_hints(&mut self, hints: &[i64]) {
+        for hint in hints {
+            let id = hint.unsigned_abs();
+            if id > 0 {
+                let place = usize::try_from(id - 1).unwrap_or(usize::MAX);
+                mark(&mut self.clauses, place);
+            }
+        }
+    }
+
+    /// Marks the operations of which the marked clauses say something but that they stand in program order or in an order.
+    fn add_operations(&mut self, clauses: &TraceClauses) {
+        for place in clauses.reads_start()..clauses.count() {
+            if self.clauses.get(place).copied().unwrap_or(false) {
+                self.add_clause(clauses, place);
+            }
+        }
+    }
+
+    /// Marks the operations of the clause at this place.
+    fn add_clause(&mut self, clauses: &TraceClauses, place: usize) {
+        match meaning_at(clauses, place) {
+            Some(ClauseMeaning::HasSource(reader)) => mark(&mut self.operations, reader),
+            Some(ClauseMeaning::BeforeWriter { reader, writer }) => {
+                mark(&mut self.operations, reader);
+                mark(&mut self.operations, writer);
+            }
+            Some(ClauseMeaning::AfterSource { reader, source }) => {
+                mark(&mut self.operations, reader);
+                mark(&mut self.operations, source);
+            }
+            Some(
+                ClauseMeaning::NotBetween {
+                    reader,
+                    source,
+                    writer,
+                },
+            ) => {
+                mark(&mut self.operations, reader);
+                mark(&mut self.operations, source);
+                mark(&mut self.operations, writer);
+            }
+            Some(ClauseMeaning::BeforeLast { last, writer, .. }) => {
+                mark(&mut self.operations, last);
+                mark(&mut self.operations, writer);
+            }
+            Some(ClauseMeaning::BeforePair) => self.add_pair(clauses, place),
+            _ => {}
+        }
+    }
+
+    /// Marks the operations of the `before` line whose clause stands at this place.
+    fn add_pair(&mut self, clauses: &TraceClauses, place: usize) {
+        if place >= clauses.count() {
+            return;
+        }
+        let clause = clauses.clause(place);
+        for literal in clause.as_slice() {
+            if let Some((first, second)) = order_of(clauses.layout().operations(), *literal) {
+                mark(&mut self.operations, first);
+                mark(&mut self.operations, second);
+            }
+        }
+    }
+
+    /// How many clauses there are.
+    pub fn count_clauses(&self) -> u64 {
+        count(self.clauses.as_slice())
+    }
+
+    /// Notes on what the derivation of this many steps rests.
+    pub fn explain(
+        &self,
+        notes: &mut Notes,
+        story: &Story<'_>,
+        steps: u64,
+    ) -> Result<(), AllocError> {
+        let steps = decimal(steps);
+        let used = decimal(self.count_clauses());
+        let all = decimal(self.clauses.len() as u64);
+        notes.note(&[
+            b"the contradiction was derived in ",
+            steps.as_slice(),
+            b" steps, which rest on ",
+            used.as_slice(),
+            b" of ",
+            all.as_slice(),
+            b" clauses",
+        ])?;
+        self.explain_operations(notes, story)
+    }
+
+    /// Notes of which operations these clauses speak.
+    fn explain_operations(&self, notes: &mut Notes, story: &Story<'_>) -> Result<(), AllocError> {
+        let named = count(self.operations.as_slice());
+        let number = decimal(named);
+        let all = decimal(self.operations.len() as u64);
+        if named > MOST_NAMED {
+            return notes.note(&[
+                b"they speak of ",
+                number.as_slice(),
+                b" of ",
+                all.as_slice(),
+                b" operations",
+            ]);
+        }
+        let mut sentence = story.begin();
+        for k in 0..self.operations.len() {
+            if self.operations[k] {
+                sentence.add(&[b" "])?;
+                story.add_piece(&mut sentence, Phrase::Name(k))?;
+            }
+        }
+        notes.note(&[
+            b"they speak of ",
+            number.as_slice(),
+            b" of ",
+            all.as_slice(),
+            b" operations:",
+            sentence.as_slice(),
+        ])
+    }
+}

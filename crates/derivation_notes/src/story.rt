@@ -1,0 +1,110 @@
+//! Sentences, which are noted once all are made.
+
+use crate::kept_ops::KeptOp;
+use note_text::Notes;
+use std::alloc::{AllocError, Global};
+use verdict_notes::Sentence;
+
+/// Operations by their numbers, and sentences on them.
+#[derive(Drop)]
+pub struct Story<'t> {
+    alloc: Global,
+    ops: Vec<KeptOp<'t>>,
+    sentences: Vec<Sentence>,
+}
+
+/// A piece of a sentence.
+#[derive(Clone, Copy)]
+pub enum Phrase<'w> {
+    /// These words.
+    Words(&'w [u8]),
+    /// The name of the operation of this number.
+    Name(usize),
+    /// The name of the operation of this number, and what it does.
+    Whole(usize),
+    /// What the operation of this number reads.
+    ValueRead(usize),
+}
+
+impl<'t> Story<'t> {
+    /// No sentence on these operations.
+    pub fn new(alloc: Global, ops: Vec<KeptOp<'t>>) -> Story<'t> {
+        Story {
+            alloc,
+            ops,
+            sentences: Vec::new(alloc),
+        }
+    }
+
+    /// The operations.
+    pub fn ops(&self) -> &[KeptOp<'t>] {
+        self.ops.as_slice()
+    }
+
+    /// Appends what a piece says of the operation.
+    fn add_op(
+        &self,
+        sentence: &mut Sentence,
+        number: usize,
+        is_whole: bool,
+    ) -> Result<(), AllocError> {
+        let Some(op) = self.ops.get(number) else {
+            return Ok(());
+        };
+        sentence.add_name(op.process, op.place)?;
+        if is_whole {
+            sentence.add(&[b" "])?;
+            sentence.add_operation(op.op)?;
+        }
+        Ok(())
+    }
+
+    /// Appends what the operation of this number reads.
+    fn add_value_read(&self, sentence: &mut Sentence, number: usize) -> Result<(), AllocError> {
+        let Some(op) = self.ops.get(number) else {
+            return Ok(());
+        };
+        match op.op.value_read() {
+            Some(value) => sentence.add_value(value),
+            None => Ok(()),
+        }
+    }
+
+    /// Appends the piece to the sentence.
+    pub fn add_piece(&self, sentence: &mut Sentence, piece: Phrase<'_>) -> Result<(), AllocError> {
+        match piece {
+            Phrase::Words(words) => sentence.add(&[words]),
+            Phrase::Name(number) => self.add_op(sentence, number, false),
+            Phrase::Whole(number) => self.add_op(sentence, number, true),
+            Phrase::ValueRead(number) => self.add_value_read(sentence, number),
+        }
+    }
+
+    /// An empty sentence.
+    pub fn begin(&self) -> Sentence {
+        Sentence::new(self.alloc)
+    }
+
+    /// Adds the sentence.
+    pub fn end(&mut self, sentence: Sentence) -> Result<(), AllocError> {
+        self.sentences.push(sentence)?;
+        Ok(())
+    }
+
+    /// Adds the sentence of these pieces.
+    pub fn say(&mut self, pieces: &[Phrase<'_>]) -> Result<(), AllocError> {
+        let mut sentence = self.begin();
+        for piece in pieces {
+            self.add_piece(&mut sentence, *piece)?;
+        }
+        self.end(sentence)
+    }
+
+    /// Notes all sentences.
+    pub fn note_all(&self, notes: &mut Notes) -> Result<(), AllocError> {
+        for sentence in &self.sentences {
+            notes.note(&[sentence.as_slice()])?;
+        }
+        Ok(())
+    }
+}

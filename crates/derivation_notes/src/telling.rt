@@ -1,0 +1,392 @@
+//! A derivation that is followed clause by clause, and said in sentences.
+
+use crate::chains::{chain_between, is_program_order, shortened};
+use crate::clause_meaning::{ClauseMeaning, meaning_at, order_of};
+use crate::facts::{Facts, Implication, OrderReason};
+use crate::literal_words::add_literal;
+use crate::needed_steps::{NeededStep, NeededSteps};
+use crate::story::{Phrase, Story};
+use clause_blocks::trace_clauses::TraceClauses;
+use dimacs::{ClauseList, Lit};
+use note_text::decimal;
+use std::alloc::{AllocError, Global};
+
+/// What follows from a clause.
+#[derive(Clone, Copy)]
+pub enum Conclusion {
+    Contradiction,
+    /// The first operation stands before the second.
+    Order(usize, usize),
+    /// Something else, of this variable.
+    Of(u32),
+}
+
+/// How a step of a derivation ended.
+#[derive(Clone, Copy)]
+pub enum StepEnd {
+    Contradiction,
+    /// A hint was used up, and the next one may follow.
+    GoesOn,
+    /// The hints do not lead to a contradiction.
+    Unclear,
+}
+
+/// What is known and what was said of it, within one step of a derivation.
+#[derive(Drop)]
+pub struct Teller<'t> {
+    alloc: Global,
+    pub clauses: &'t TraceClauses,
+    pub story: Story<'t>,
+    facts: Facts,
+    said: Vec<(usize, usize)>,
+}
+
+impl<'t> Teller<'t> {
+    /// Nothing is known.
+    pub fn new(alloc: Global, clauses: &'t TraceClauses, story: Story<'t>) -> Teller<'t> {
+        Teller {
+            alloc,
+            clauses,
+            story,
+            facts: Facts::new(alloc),
+            said: Vec::new(alloc),
+        }
+    }
+
+    /// The number of operations.
+    fn operations(&self) -> usize {
+        self.clauses.layout().operations()
+    }
+
+    /// What the literal concludes.
+    fn conclusion_of(&self, literal: Lit) -> Conclusion {
+        match order_of(self.operations(), literal) {
+            Some((first, second)) => Conclusion::Order(first, second),
+            None => Conclusion::Of(literal.variable()),
+        }
+    }
+
+    /// Whether a sentence has said that the first operation stands before the second.
+    fn has_said(&self, first: usize, second: usize) -> bool {
+        for pair in &self.said {
+            if pair.0 == first && pair.1 == second {
+                return true;
+            }
+        }
+        false
+    }
+
+    /// Says the chain of these operations, and these words after it.
+    fn say_chain(&mut self, chain: &[usize], end: &[u8]) -> Result<(), AllocError> {
+        let mut sentence = self.story.begin();
+        for k in 0..chain.len() {
+            if k > 0 {
+                sentence.add(&[b" < "])?;
+            }
+            self.story.add_piece(&mut sentence, Phrase::Name(chain[k]))?;
+        }
+        sentence.add(&[end])?;
+        self.story.end(sentence)
+    }
+
+    /// Says that the first operation stands before the second, and why, unless a sentence has.
+    pub fn say_order(&mut self, first: usize, second: usize) -> Result<(), AllocError> {
+        if self.has_said(first, second) {
+            return Ok(());
+        }
+        self.said.push((first, second))?;
+        if is_program_order(self.story.ops(), first, second) {
+            return self.story.say(&[
+                Phrase::Name(first),
+                Phrase::Words(b" before "),
+                Phrase::Name(second),
+                Phrase::Words(b", program order"),
+            ]);
+        }
+        match self.facts.reason_of(first, second) {
+            Some(OrderReason::BeforePair) => self.story.say(&[
+                Phrase::Name(first),
+                Phrase::Words(b" before "),
+                Phrase::Name(second),
+                Phrase::Words(b", by a before line"),
+            ]),
+            Some(OrderReason::Through(_)) => {
+                let chain = chain_between(self.alloc, &self.facts, first, second)?;
+                let short = shortened(self.alloc, self.story.ops(), chain.as_slice())?;
+                self.say_chain(short.as_slice(), b"")
+            }
+            _ => Ok(()),
+        }
+    }
+
+    /// The operation through which the other literals of a clause of transitivity lead from the first to the second.
+    fn middle_of(&self, literals: &[Lit], first: usize, second: usize) -> Option<usize> {
+        for literal in literals {
+            if let Some((a, b)) = order_of(self.operations(), literal.negated()) {
+                if a == first && b != second {
+                    return Some(b);
+                }
+            }
+        }
+        None
+    }
+
+    /// Says a cycle of three operations.
+    fn say_cycle(&mut self, literals: &[Lit]) -> Result<(), AllocError> {
+        let Some(literal) = literals.first() else {
+            return Ok(());
+        };
+        let Some((first, second)) = order_of(self.operations(), literal.negated()) else {
+            return Ok(());
+        };
+        let mut cycle = chain_between(self.alloc, &self.facts, first, second)?;
+        let mut last = second;
+        for _ in 1..literals.len() {
+            let Some(next) = self.next_in_cycle(literals, last) else {
+                break;
+            };
+            let more = chain_between(self.alloc, &self.facts, last, next)?;
+            for operation in more.as_slice().get(1..).unwrap_or(&[]) {
+                cycle.push(*operation)?;
+            }
+            last = next;
+        }
+        let short = shortened(self.alloc, self.story.ops(), cycle.as_slice())?;
+        self.say_chain(short.as_slice(), b": contradiction")
+    }
+
+    /// The operation before which a literal of the clause denies that this one stands.
+    fn next_in_cycle(&self, literals: &[Lit], from: usize) -> Option<usize> {
+        for literal in literals {
+            if let Some((a, b)) = order_of(self.operations(), literal.negated()) {
+                if a == from {
+                    return Some(b);
+                }
+            }
+        }
+        None
+    }
+
+    /// Says a clause of transitivity.
+    fn tell_transitivity(
+        &mut self,
+        literals: &[Lit],
+        conclusion: Conclusion,
+    ) -> Result<(), AllocError> {
+        match conclusion {
+            Conclusion::Contradiction => self.say_cycle(literals),
+            Conclusion::Order(first, second) => {
+                let reason = match self.middle_of(literals, first, second) {
+                    Some(middle) => OrderReason::Through(middle),
+                    None => OrderReason::Said,
+                };
+                self.facts.add_order(first, second, reason)
+            }
+            Conclusion::Of(_) => Ok(()),
+        }
+    }
+
+    /// Says a clause of one order.
+    fn tell_order(
+        &mut self,
+        literals: &[Lit],
+        conclusion: Conclusion,
+        reason: OrderReason,
+        name: &[u8],
+    ) -> Result<(), AllocError> {
+        match conclusion {
+            Conclusion::Order(first, second) => self.facts.add_order(first, second, reason),
+            Conclusion::Of(_) => Ok(()),
+            Conclusion::Contradiction => {
+                let Some(literal) = literals.first() else {
+                    return Ok(());
+                };
+                let Some((second, first)) = order_of(self.operations(), literal.negated()) else {
+                    return Ok(());
+                };
+                self.say_order(second, first)?;
+                self.story.say(&[
+                    Phrase::Name(first),
+                    Phrase::Words(b" before "),
+                    Phrase::Name(second),
+                    Phrase::Words(name),
+                    Phrase::Words(b": contradiction"),
+                ])
+            }
+        }
+    }
+
+    /// Says a clause of the formula that says this, if it is one of order, and keeps an order that it concludes.
+    fn tell_orders(
+        &mut self,
+        meaning: ClauseMeaning,
+        literals: &[Lit],
+        conclusion: Conclusion,
+    ) -> Result<(), AllocError> {
+        match meaning {
+            ClauseMeaning::ProgramOrder => self.tell_order(
+                literals,
+                conclusion,
+                OrderReason::ProgramOrder,
+                b", program order",
+            ),
+            ClauseMeaning::BeforePair => self.tell_order(
+                literals,
+                conclusion,
+                OrderReason::BeforePair,
+                b", by a before line",
+            ),
+            ClauseMeaning::Transitivity => self.tell_transitivity(literals, conclusion),
+            _ => self.keep_order(conclusion),
+        }
+    }
+
+    /// Keeps the order that a sentence has said.
+    fn keep_order(&mut self, conclusion: Conclusion) -> Result<(), AllocError> {
+        match conclusion {
+            Conclusion::Order(first, second) => {
+                self.facts.add_order(first, second, OrderReason::Said)
+            }
+            _ => Ok(()),
+        }
+    }
+
+    /// Says a clause that an earlier step has added.
+    fn tell_step(
+        &mut self,
+        number: u64,
+        conclusion: Conclusion,
+        unit: Option<Lit>,
+    ) -> Result<(), AllocError> {
+        let digits = decimal(number);
+        let mut sentence = self.story.begin();
+        sentence.add(&[b"by step ", digits.as_slice(), b", "])?;
+        match unit {
+            Some(literal) => {
+                add_literal(self.clauses.layout(), &self.story, &mut sentence, literal)?;
+            }
+            None => sentence.add(&[b"this is impossible: contradiction"])?,
+        }
+        self.story.end(sentence)?;
+        self.keep_order(conclusion)
+    }
+
+    /// Says the clause of this id of these literals, by what is implied.
+    fn tell_clause(
+        &mut self,
+        needed: &NeededSteps<'_>,
+        id: u64,
+        literals: &[Lit],
+        unit: Option<Lit>,
+    ) -> Result<(), AllocError> {
+        let conclusion = match unit {
+            Some(literal) => self.conclusion_of(literal),
+            None => Conclusion::Contradiction,
+        };
+        if let Some((_, number)) = needed.step_of(id) {
+            return self.tell_step(number, conclusion, unit);
+        }
+        let place = usize::try_from(id.saturating_sub(1)).unwrap_or(0);
+        match meaning_at(self.clauses, place) {
+            Some(meaning) => {
+                self.tell_orders(meaning, literals, conclusion)?;
+                self.tell_sources(&meaning, conclusion)
+            }
+            None => Ok(()),
+        }
+    }
+
+    /// Follows the clause of these literals.
+    fn follow_clause(
+        &mut self,
+        needed: &NeededSteps<'_>,
+        id: u64,
+        literals: &[Lit],
+    ) -> Result<StepEnd, AllocError> {
+        match self.facts.implication(literals) {
+            Implication::Contradiction => {
+                self.tell_clause(needed, id, literals, None)?;
+                Ok(StepEnd::Contradiction)
+            }
+            Implication::Unit(literal) => {
+                self.tell_clause(needed, id, literals, Some(literal))?;
+                self.facts.add(literal)?;
+                Ok(StepEnd::GoesOn)
+            }
+            Implication::Satisfied => Ok(StepEnd::GoesOn),
+            Implication::Nothing => Ok(StepEnd::Unclear),
+        }
+    }
+
+    /// Follows the hint.
+    fn follow(&mut self, needed: &NeededSteps<'_>, hint: i64) -> Result<StepEnd, AllocError> {
+        if hint <= 0 {
+            return Ok(StepEnd::Unclear);
+        }
+        let id = hint.unsigned_abs();
+        if let Some((literals, _)) = needed.step_of(id) {
+            return self.follow_clause(needed, id, literals);
+        }
+        let place = usize::try_from(id - 1).unwrap_or(usize::MAX);
+        let clauses = self.clauses;
+        if place >= clauses.count() {
+            return Ok(StepEnd::Unclear);
+        }
+        let clause = clauses.clause(place);
+        self.follow_clause(needed, id, clause.as_slice())
+    }
+
+    /// Supposes that the clause of a step is false.
+    fn suppose(&mut self, literals: &[Lit]) -> Result<(), AllocError> {
+        self.facts = Facts::new(self.alloc);
+        self.said = Vec::new(self.alloc);
+        for literal in literals {
+            let negated = literal.negated();
+            self.facts.add(negated)?;
+            let conclusion = self.conclusion_of(negated);
+            self.keep_order(conclusion)?;
+        }
+        Ok(())
+    }
+
+    /// Says the number of a step, and what it supposes.
+    fn say_supposition(&mut self, number: u64, literals: &[Lit]) -> Result<(), AllocError> {
+        let digits = decimal(number);
+        let mut sentence = self.story.begin();
+        sentence.add(&[b"step ", digits.as_slice()])?;
+        if literals.is_empty() {
+            sentence.add(&[b", without a supposition"])?;
+        } else {
+            sentence.add(&[b": suppose "])?;
+        }
+        for k in 0..literals.len() {
+            if k > 0 {
+                sentence.add(&[b", and "])?;
+            }
+            let supposed = literals[k].negated();
+            add_literal(self.clauses.layout(), &self.story, &mut sentence, supposed)?;
+        }
+        self.story.end(sentence)
+    }
+
+    /// Says the step of this number. The answer is whether its hints lead to a contradiction.
+    pub fn tell(
+        &mut self,
+        needed: &NeededSteps<'_>,
+        step: &NeededStep<'_>,
+        number: u64,
+    ) -> Result<bool, AllocError> {
+        if needed.count() > 1 {
+            self.say_supposition(number, step.literals)?;
+        }
+        self.suppose(step.literals)?;
+        for hint in &step.hints {
+            match self.follow(needed, *hint)? {
+                StepEnd::Contradiction => return Ok(true),
+                StepEnd::GoesOn => {}
+                StepEnd::Unclear => return Ok(false),
+            }
+        }
+        Ok(false)
+    }
+}

@@ -1,0 +1,277 @@
+//! The hint at which a step of a derivation fails.
+
+use cnf_text::read_cnf;
+use dimacs::{ClauseList, Formula, Lit};
+use lrat_check::derivation::Step;
+use lrat_check::lrat_reader::read_lrat;
+use note_text::{Notes, decimal};
+use std::alloc::{AllocError, Global};
+
+/// The most hints that are followed.
+const MOST_FOLLOWED: usize = 200;
+
+/// What a clause is worth, by the literals that are true.
+#[derive(Clone, Copy)]
+enum HintWorth {
+    /// All its literals are false.
+    Conflict,
+    /// This one alone is not false.
+    Implies(Lit),
+    /// These two are not false.
+    Open(Lit, Lit),
+}
+
+/// A literal as it stands in a text.
+fn add_number(words: &mut Vec<u8>, literal: Lit) -> Result<(), AllocError> {
+    words.push(b' ')?;
+    if !literal.is_positive() {
+        words.push(b'-')?;
+    }
+    words.extend_from_slice(decimal(literal.variable() as u64).as_slice())
+}
+
+/// The clause as it stands in a text.
+fn clause_words(alloc: Global, literals: &[Lit]) -> Result<Vec<u8>, AllocError> {
+    let mut words = Vec::new(alloc);
+    for literal in literals {
+        add_number(&mut words, *literal)?;
+    }
+    words.extend_from_slice(b" 0")?;
+    Ok(words)
+}
+
+/// Whether the literal of this number is among these.
+fn has(literals: &[Lit], number: i64) -> bool {
+    for literal in literals {
+        if literal.number() as i64 == number {
+            return true;
+        }
+    }
+    false
+}
+
+/// What the clause is worth.
+fn worth_of(trues: &[Lit], literals: &[Lit]) -> HintWorth {
+    let mut open: Option<Lit> = None;
+    for literal in literals {
+        let number = literal.number() as i64;
+        if has(trues, -number) {
+            continue;
+        }
+        match open {
+            None => open = Some(*literal),
+            Some(first) => {
+                if first.number() as i64 != number {
+                    return HintWorth::Open(first, *literal);
+                }
+            }
+        }
+    }
+    match open {
+        Some(literal) => HintWorth::Implies(literal),
+        None => HintWorth::Conflict,
+    }
+}
+
+/// What the last step says that speaks of a clause.
+#[derive(Clone, Copy)]
+enum LastWord<'d> {
+    /// It adds the clause of these literals.
+    Added(&'d [Lit]),
+    /// It drops the clause.
+    Dropped,
+    /// There is no such step.
+    Silence,
+}
+
+/// Whether the number is among these.
+fn is_among(ids: &[u64], id: u64) -> bool {
+    for other in ids {
+        if *other == id {
+            return true;
+        }
+    }
+    false
+}
+
+/// What the last of these steps says that speaks of the clause of this id.
+fn last_word<'d>(steps: &'d [Step], id: u64) -> LastWord<'d> {
+    for k in (0..steps.len()).rev() {
+        match &steps[k] {
+            Step::Addition {
+                id: added,
+                literals,
+                ..
+            } => {
+                if *added == id {
+                    return LastWord::Added(literals.as_slice());
+                }
+            }
+            Step::Deletion { ids, .. } => {
+                if is_among(ids.as_slice(), id) {
+                    return LastWord::Dropped;
+                }
+            }
+        }
+    }
+    LastWord::Silence
+}
+
+/// A hint and its place among the hints of its step, counted from 1.
+#[derive(Clone, Copy)]
+struct PlacedHint {
+    id: u64,
+    place: u64,
+}
+
+/// Notes that there is no such clause.
+fn note_unknown(notes: &mut Notes, hint: PlacedHint) -> Result<(), AllocError> {
+    let place = decimal(hint.place);
+    let id = decimal(hint.id);
+    notes.note(&[
+        b"hint ",
+        place.as_slice(),
+        b" is ",
+        id.as_slice(),
+        b", and there is no such clause at this step",
+    ])
+}
+
+/// Notes that two literals of the clause are not false.
+fn note_open(
+    alloc: Global,
+    notes: &mut Notes,
+    hint: PlacedHint,
+    literals: &[Lit],
+    open: [Lit; 2],
+) -> Result<(), AllocError> {
+    let place = decimal(hint.place);
+    let id = decimal(hint.id);
+    let clause = clause_words(alloc, literals)?;
+    let mut two = Vec::new(alloc);
+    for literal in &open {
+        add_number(&mut two, *literal)?;
+    }
+    notes.note(&[
+        b"hint ",
+        place.as_slice(),
+        b" is clause ",
+        id.as_slice(),
+        b":",
+        clause.as_slice(),
+    ])?;
+    notes.note(&[b"two of its literals are not false:", two.as_slice()])
+}
+
+/// Follows a hint. The answer is whether the next one follows.
+fn follow(
+    alloc: Global,
+    notes: &mut Notes,
+    trues: &mut Vec<Lit>,
+    hint: PlacedHint,
+    literals: &[Lit],
+) -> Result<bool, AllocError> {
+    match worth_of(trues.as_slice(), literals) {
+        HintWorth::Conflict => Ok(false),
+        HintWorth::Implies(literal) => {
+            trues.push(literal)?;
+            Ok(true)
+        }
+        HintWorth::Open(first, second) => {
+            note_open(alloc, notes, hint, literals, [first, second])?;
+            Ok(false)
+        }
+    }
+}
+
+/// Follows the hint by the clause that it names, of the formula or of an earlier step.
+fn follow_named(
+    alloc: Global,
+    notes: &mut Notes,
+    trues: &mut Vec<Lit>,
+    formula: &Formula,
+    earlier: &[Step],
+    hint: PlacedHint,
+) -> Result<bool, AllocError> {
+    match last_word(earlier, hint.id) {
+        LastWord::Added(literals) => return follow(alloc, notes, trues, hint, literals),
+        LastWord::Dropped => {
+            note_unknown(notes, hint)?;
+            return Ok(false);
+        }
+        LastWord::Silence => {}
+    }
+    let place = usize::try_from(hint.id.saturating_sub(1)).unwrap_or(usize::MAX);
+    if place >= formula.count() {
+        note_unknown(notes, hint)?;
+        return Ok(false);
+    }
+    let clause = formula.clause(place);
+    follow(alloc, notes, trues, hint, clause.as_slice())
+}
+
+/// Follows the hints up to the first that fails. Groups are not followed.
+fn follow_hints(
+    alloc: Global,
+    notes: &mut Notes,
+    formula: &Formula,
+    earlier: &[Step],
+    literals: &[Lit],
+    hints: &[i64],
+) -> Result<(), AllocError> {
+    let mut trues = Vec::new(alloc);
+    for literal in literals {
+        trues.push(literal.negated())?;
+    }
+    let mut place: u64 = 0;
+    for hint in hints.get(..MOST_FOLLOWED).unwrap_or(hints) {
+        place = place.saturating_add(1);
+        if *hint <= 0 {
+            return Ok(());
+        }
+        let placed = PlacedHint {
+            id: hint.unsigned_abs(),
+            place,
+        };
+        if !follow_named(alloc, notes, &mut trues, formula, earlier, placed)? {
+            return Ok(());
+        }
+    }
+    Ok(())
+}
+
+/// Adds at which hint the step of this number fails, counted from 1, and the clause of that hint.
+pub(crate) fn explain_hint(
+    alloc: Global,
+    notes: &mut Notes,
+    cnf: &[u8],
+    proof: &[u8],
+    step: u64,
+) -> Result<(), AllocError> {
+    let (Ok(formula), Ok(derivation)) = (read_cnf(alloc, cnf), read_lrat(alloc, proof)) else {
+        return Ok(());
+    };
+    let steps = derivation.steps();
+    let number = usize::try_from(step.saturating_sub(1)).unwrap_or(usize::MAX);
+    if number >= steps.len() {
+        return Ok(());
+    }
+    if let Step::Addition {
+        literals,
+        hints,
+        ..
+    } = &steps[number]
+    {
+        let hints = hints.to_vec(alloc)?;
+        let earlier = &steps[..number];
+        follow_hints(
+            alloc,
+            notes,
+            &formula,
+            earlier,
+            literals.as_slice(),
+            hints.as_slice(),
+        )?;
+    }
+    Ok(())
+}
