@@ -1,5 +1,6 @@
 pub mod PropagationLemmas
 pub mod RefuteLemmas
+pub mod CountTableLemmas
 pub mod TrailLemmas
 pub mod ActiveLemmas
 pub mod AddedLemmas

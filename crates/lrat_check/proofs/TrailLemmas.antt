@@ -4,7 +4,7 @@ use Rattle.std.specs.Prelude.{ℤ}
 use Rattle.std.specs.Ordering.{int_eq}
 use Rattle.std.proofs.lemmas.Bool.{cases_Bool, eq-eqb, ne_eqb, true≢false, not-true}
 use Rattle.std.proofs.lemmas.List.{map-append, same_from_push}
-use Rattle.lrat_check.specs.Marks.{place_of, marked_at}
+use Rattle.lrat_check.specs.Marks.{place_of}
 use Rattle.lrat_check.specs.Propagation.{has, Extends}
 use Rattle.lrat_check.specs.Trail.{literals_of, novelties, IsTrail}
 use Rattle.lrat_check.specs.declared.true_literals.TrueLiteral.{TrueLiteral}
@@ -27,8 +27,8 @@ marked_more true false = refl
 marked_more false true = refl
 marked_more false false = refl
 
-pub trail_more : (trail : List TrueLiteral) (entry : TrueLiteral) (old new : List Bool) → IsTrail trail old → entry.is_new ≡ not (marked_at old (place_of entry.literal)) →
-    ((k : ℕ) → marked_at new k ≡ cond (eqb (place_of entry.literal) k) true (marked_at old k)) → IsTrail (trail ++ entry ∷ []) new
+pub trail_more : (trail : List TrueLiteral) (entry : TrueLiteral) (old new : ℕ → Bool) → IsTrail trail old → entry.is_new ≡ not (old (place_of entry.literal)) →
+    ((k : ℕ) → new k ≡ cond (eqb (place_of entry.literal) k) true (old k)) → IsTrail (trail ++ entry ∷ []) new
 trail_more trail entry old new h e marks =
     let literals = literals_push trail entry in
     let x = entry.literal in (
@@ -38,6 +38,18 @@ trail_more trail entry old new h e marks =
           ∙ sym (novelties_push [] (literals_of trail) x)
           ∙ ap (novelties []) (sym literals),
     )
+
+-- the same marks
+pub trail_same : (trail : List TrueLiteral) (old new : ℕ → Bool) → IsTrail trail old → ((k : ℕ) → new k ≡ old k) → IsTrail trail new
+trail_same trail old new h same = ((λ z. same (place_of z) ∙ h.0 z), h.1)
+
+-- one more that is taken back at once
+pub taken_back : (trail front now : List TrueLiteral) (entry : TrueLiteral) (count : ℕ) → count ≡ length trail → front ≡ trail ++ entry ∷ [] → now ≡ take count front → now ≡ trail
+taken_back trail front now entry count e f h = h ∙ (λ i. take (e i) (f i)) ∙ all_of trail
+  where
+    all_of : (xs : List TrueLiteral) → take (length xs) (xs ++ entry ∷ []) ≡ xs
+    all_of [] = refl
+    all_of (x ∷ xs) = ap (λ l. x ∷ l) (all_of xs)
 
 -- one less
 taken_new : (old same : Bool) → (same ≡ true → old ≡ false) → ((old || (same || false)) && not same) ≡ old
@@ -58,23 +70,23 @@ place_turned x z = elim (cases_Bool (int_eq x z)) [
   | inr apart ↦ ne_eqb (place_of z) (place_of x) (λ e. true≢false (sym (eq-eqb (place_of x) (place_of z) (sym e)) ∙ place_same x z ∙ apart)) ∙ sym apart
 ]
 
-unmarked : (is_new had : Bool) (old : List Bool) (literals : List ℤ) (x z : ℤ) → is_new ≡ not (has literals x) → had ≡ has (literals ++ x ∷ []) z →
+unmarked : (is_new had : Bool) (literals : List ℤ) (x z : ℤ) → is_new ≡ not (has literals x) → had ≡ has (literals ++ x ∷ []) z →
     cond is_new (had && not (eqb (place_of z) (place_of x))) had ≡ has literals z
-unmarked true had old literals x z e h =
+unmarked true had literals x z e h =
     let none : has literals x ≡ false = not-true (has literals x) (sym e) in
     (λ i. (h ∙ has_push literals x z) i && not (place_turned x z i)) ∙ taken_new (has literals z) (int_eq x z) (λ same. ap (has literals) (sym (int_same x z same)) ∙ none)
-unmarked false had old literals x z e h =
+unmarked false had literals x z e h =
     let some : has literals x ≡ true = elim (cases_Bool (has literals x)) [ inl there ↦ there | inr missing ↦ absurd (true≢false (sym (ap not missing) ∙ sym e)) ] in
     h ∙ has_push literals x z ∙ kept_old (has literals z) (int_eq x z) (λ same. ap (has literals) (sym (int_same x z same)) ∙ some)
 
-pub trail_less : (trail : List TrueLiteral) (entry : TrueLiteral) (old new : List Bool) → IsTrail (trail ++ entry ∷ []) old →
-    ((k : ℕ) → marked_at new k ≡ cond entry.is_new (marked_at old k && not (eqb k (place_of entry.literal))) (marked_at old k)) → IsTrail trail new
+pub trail_less : (trail : List TrueLiteral) (entry : TrueLiteral) (old new : ℕ → Bool) → IsTrail (trail ++ entry ∷ []) old →
+    ((k : ℕ) → new k ≡ cond entry.is_new (old k && not (eqb k (place_of entry.literal))) (old k)) → IsTrail trail new
 trail_less trail entry old new h marks =
     let x = entry.literal in
     let literals = literals_push trail entry in
     let split = same_from_push (map (λ (other : TrueLiteral). other.is_new) trail) (novelties [] (literals_of trail)) entry.is_new (not (has (literals_of trail) x))
     (sym (map-append (λ (other : TrueLiteral). other.is_new) trail (entry ∷ [])) ∙ h.1 ∙ ap (novelties []) literals ∙ novelties_push [] (literals_of trail) x) in (
-      λ z. marks (place_of z) ∙ unmarked entry.is_new (marked_at old (place_of z)) old (literals_of trail) x z split.1 (h.0 z ∙ ap (λ l. has l z) literals),
+      λ z. marks (place_of z) ∙ unmarked entry.is_new (old (place_of z)) (literals_of trail) x z split.1 (h.0 z ∙ ap (λ l. has l z) literals),
       split.0,
     )
 

@@ -1,6 +1,7 @@
 -- How often literals stand in the active clauses.
 use Rattle.std.specs.Prelude.{◌≡◌, ℕ, ℤ, List, length, Option, ◌==◌, slice_index_or}
 use Rattle.std.specs.List.{filter}
+use Rattle.std.specs.Map.{lookup}
 use Rattle.std.specs.Option.{option_map, unwrap_or}
 use Rattle.std.specs.Ordering.{int_eq}
 use Rattle.lrat_check.specs.Marks.{place_of}
@@ -23,13 +24,17 @@ repeats ids id = length (filter (λ other. other == id) ids)
 abbrev pub IsCount : (ℕ → Option (List ℤ)) → ℤ → ℕ → Type 0
 IsCount active literal count = (ids : List ℕ) × ((id : ℕ) → repeats ids id ≡ times_at active literal id) × (length ids ≡ count)
 
--- the count at a place of a table: past its end it is 0
-abbrev pub count_in : List ℕ → ℕ → ℕ
-count_in counts place = slice_index_or counts place 0
+-- the count at a place in the tree: 0 if none stands there
+abbrev pub far_count : LiteralCounts → ℕ → ℕ
+far_count counts place = unwrap_or (lookup (λ other. place == other) counts.far.entries) 0
+
+-- the count at a place: past the end of the table it stands in the tree
+abbrev pub count_at : LiteralCounts → ℕ → ℕ
+count_at counts place = slice_index_or counts.near.items place (far_count counts place)
 
 -- the count of a literal
 abbrev pub count_of : LiteralCounts → ℤ → ℕ
-count_of counts literal = count_in counts.counts.items (place_of literal)
+count_of counts literal = count_at counts (place_of literal)
 
 -- the counts are those of each literal in the active clauses
 abbrev pub AreCounts : (ℕ → Option (List ℤ)) → LiteralCounts → Type 0

@@ -1,6 +1,6 @@
 -- The literals that are true, in the order in which they became so, and the marks of those that are.
-use Rattle.std.specs.Prelude.{◌≡◌, ℤ, Bool, not, List, [], ◌∷◌, ◌++◌, map}
-use Rattle.lrat_check.specs.Marks.{place_of, marked_at}
+use Rattle.std.specs.Prelude.{◌≡◌, ℕ, ℤ, Bool, not, List, [], ◌∷◌, ◌++◌, map}
+use Rattle.lrat_check.specs.Marks.{place_of}
 use Rattle.lrat_check.specs.Propagation.{has}
 use Rattle.lrat_check.specs.declared.true_literals.TrueLiteral.{TrueLiteral}
 
@@ -13,6 +13,6 @@ novelties before [] = []
 novelties before (z ∷ literals) = not (has before z) ∷ novelties (before ++ z ∷ []) literals
 
 -- there is a mark for each literal that is true, and each entry says whether its literal was new
-abbrev pub IsTrail : List TrueLiteral → List Bool → Type 0
+abbrev pub IsTrail : List TrueLiteral → (ℕ → Bool) → Type 0
 IsTrail trail marks =
-    ((z : ℤ) → marked_at marks (place_of z) ≡ has (literals_of trail) z) × (map (λ entry. entry.is_new) trail ≡ novelties [] (literals_of trail))
+    ((z : ℤ) → marks (place_of z) ≡ has (literals_of trail) z) × (map (λ entry. entry.is_new) trail ≡ novelties [] (literals_of trail))

@@ -1,11 +1,12 @@
 //! How often literals stand in clauses.
 
-ghost use Rattle.std.specs.Prelude.{◌≡◌, ◌+◌, ◌-◌, ◌==◌, ◌<◌, ℕ, ℤ, vec_len, if◌then◌else◌, OnOk};
-ghost use Rattle.lrat_check.specs.Counts.{count_in, count_of, times};
+ghost use Rattle.std.specs.Prelude.{◌≡◌, ◌+◌, ◌-◌, ◌==◌, ◌<◌, ◌≤◌, ℕ, ℤ, vec_len, if◌then◌else◌, OnOk};
+ghost use Rattle.lrat_check.specs.Counts.{count_at, count_of, far_count, times};
 
-use crate::marks::place_of;
+use crate::marks::{is_paid, place_of};
 use dimacs::Lit;
 use std::alloc::{AllocError, Global};
+use std::collections::BTreeMap;
 
 /// The number of times that the clause holds the literal.
 pub fn times(clause: &[Lit], literal: Lit) -> usize
@@ -17,54 +18,13 @@ pub fn times(clause: &[Lit], literal: Lit) -> usize
         .count()
 }
 
-/// The count at this place. Past the end of the table it is 0.
-fn count_at(counts: &[usize], place: usize) -> usize
-    ensures { result ≡ count_in counts.now place }
-{
-    if place < counts.len() {
-        counts[place]
-    } else {
-        0
-    }
-}
-
-/// Makes the table reach to this place. Its counts stay as they are.
-fn make_room(counts: &mut Vec<usize>, place: usize) -> Result<(), AllocError>
-    ensures room { OnOk result (place < vec_len counts.new) }
-    ensures same { (k : ℕ) → count_in counts.new.items k ≡ count_in counts.old.items k }
-{
-    while counts.len() <= place {
-        counts.push(0)?;
-    }
-    Ok(())
-}
-
-/// Counts one more at this place. More than a `usize` holds there never are, and would be answered as memory that is not
-/// there.
-fn raise_at(counts: &mut Vec<usize>, place: usize) -> Result<(), AllocError>
-    ensures { OnOk result ((k : ℕ) → count_in counts.new.items k ≡ count_in counts.old.items k + (if place == k then 1 else 0)) }
-{
-    make_room(counts, place)?;
-    let Some(more) = counts[place].checked_add(1) else {
-        return Err(AllocError);
-    };
-    counts[place] = more;
-    Ok(())
-}
-
-/// Counts one less at this place.
-fn lower_at(counts: &mut Vec<usize>, place: usize)
-    ensures { (k : ℕ) → count_in counts.new.items k ≡ count_in counts.old.items k - (if place == k then 1 else 0) }
-{
-    if place < counts.len() {
-        counts[place] = counts[place].saturating_sub(1);
-    }
-}
-
-/// The number of times that each literal stands in the clauses that are counted.
+/// The number of times that each literal stands in the clauses that are counted, by the literals' places. A table reaches as far as
+/// the literals that were counted pay for; the counts past that stand in a tree.
 #[derive(Drop)]
 pub struct LiteralCounts {
-    counts: Vec<usize>,
+    near: Vec<usize>,
+    far: BTreeMap<usize, usize>,
+    counted: usize,
 }
 
 impl LiteralCounts {
@@ -73,7 +33,107 @@ impl LiteralCounts {
         ensures { (z : ℤ) → count_of result z ≡ 0 }
     {
         LiteralCounts {
-            counts: Vec::new(alloc),
+            near: Vec::new(alloc),
+            far: BTreeMap::new(alloc),
+            counted: 0,
+        }
+    }
+
+    /// The count at this place in the tree: 0 if none stands there.
+    fn far_count(&self, place: usize) -> usize
+        ensures { result ≡ far_count self.now place }
+    {
+        match self.far.get(&place) {
+            Some(count) => *count,
+            None => 0,
+        }
+    }
+
+    /// The count at this place.
+    fn at(&self, place: usize) -> usize
+        ensures { result ≡ count_at self.now place }
+    {
+        if place < self.near.len() {
+            self.near[place]
+        } else {
+            self.far_count(place)
+        }
+    }
+
+    /// Makes the table reach to this place. The counts stay as they are.
+    fn reach(&mut self, place: usize) -> Result<(), AllocError>
+        ensures room { OnOk result (place < vec_len self.new.near) }
+        ensures same { (k : ℕ) → count_at self.new k ≡ count_at self.old k }
+    {
+        while self.near.len() <= place {
+            let count = self.far_count(self.near.len());
+            self.near.push(count)?;
+        }
+        Ok(())
+    }
+
+    /// Puts the count into the table.
+    fn put_near(&mut self, place: usize, count: usize) -> Result<(), AllocError>
+        ensures { OnOk result ((k : ℕ) → count_at self.new k ≡ (if place == k then count else count_at self.old k)) }
+    {
+        self.reach(place)?;
+        self.near[place] = count;
+        Ok(())
+    }
+
+    /// Puts the count into the tree.
+    fn put_far(&mut self, place: usize, count: usize) -> Result<(), AllocError>
+        requires { vec_len self.old.near ≤ place }
+        ensures { OnOk result ((k : ℕ) → count_at self.new k ≡ (if place == k then count else count_at self.old k)) }
+    {
+        self.far.insert(place, count)?;
+        Ok(())
+    }
+
+    /// Counts one more at this place. More than a `usize` holds there never are, and would be answered as memory that is not
+    /// there.
+    fn raise(&mut self, place: usize) -> Result<(), AllocError>
+        ensures { OnOk result ((k : ℕ) → count_at self.new k ≡ count_at self.old k + (if place == k then 1 else 0)) }
+    {
+        let Some(more) = self.at(place).checked_add(1) else {
+            return Err(AllocError);
+        };
+        self.counted = self.counted.saturating_add(1);
+        if place < self.near.len() || is_paid(place, self.counted) {
+            self.put_near(place, more)
+        } else {
+            self.put_far(place, more)
+        }
+    }
+
+    /// Puts the count in the place of one in the tree.
+    fn replace_far(&mut self, place: usize, count: usize)
+        requires past { vec_len self.old.near ≤ place }
+        requires counted { 0 < count_at self.old place }
+        ensures { (k : ℕ) → count_at self.new k ≡ (if place == k then count else count_at self.old k) }
+    {
+        let _replaced = self.far.insert(place, count);
+    }
+
+    /// Puts the count in the place of another.
+    fn replace(&mut self, place: usize, count: usize)
+        requires { 0 < count_at self.old place }
+        ensures { (k : ℕ) → count_at self.new k ≡ (if place == k then count else count_at self.old k) }
+    {
+        if place < self.near.len() {
+            self.near[place] = count;
+        } else {
+            self.replace_far(place, count);
+        }
+    }
+
+    /// Counts one less at this place.
+    fn lower(&mut self, place: usize)
+        ensures { (k : ℕ) → count_at self.new k ≡ count_at self.old k - (if place == k then 1 else 0) }
+    {
+        let count = self.at(place);
+        if count > 0 {
+            self.replace(place, count - 1);
         }
     }
 
@@ -81,7 +141,7 @@ impl LiteralCounts {
     pub fn of(&self, literal: Lit) -> usize
         ensures { result ≡ count_of self.now literal }
     {
-        count_at(self.counts.as_slice(), place_of(literal))
+        self.at(place_of(literal))
     }
 
     /// Counts a clause.
@@ -89,7 +149,7 @@ impl LiteralCounts {
         ensures { OnOk result ((z : ℤ) → count_of self.new z ≡ count_of self.old z + times clause.now z) }
     {
         for literal in clause {
-            raise_at(&mut self.counts, place_of(*literal))?;
+            self.raise(place_of(*literal))?;
         }
         Ok(())
     }
@@ -99,7 +159,7 @@ impl LiteralCounts {
         ensures { (z : ℤ) → count_of self.new z ≡ count_of self.old z - times clause.now z }
     {
         for literal in clause {
-            lower_at(&mut self.counts, place_of(*literal));
+            self.lower(place_of(*literal));
         }
     }
 }

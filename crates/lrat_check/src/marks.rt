@@ -1,10 +1,25 @@
 //! Marks of literals.
 
-ghost use Rattle.std.specs.Prelude.{◌≡◌, ◌<◌, ℕ, ◌&&◌, ◌==◌, not, true, vec_len, if◌then◌else◌, OnOk};
-ghost use Rattle.lrat_check.specs.Marks.{place_of, marked_at};
+ghost use Rattle.std.specs.Prelude.{◌≡◌, ◌<◌, ℕ, ◌&&◌, ◌==◌, not, true, false, vec_len, if◌then◌else◌, OnErr, OnOk};
+ghost use Rattle.std.specs.BTreeSet.{contains};
+ghost use Rattle.std.specs.Ordering.{nat_cmp};
+ghost use Rattle.lrat_check.specs.Marks.{place_of, marked_at, is_marked};
 
 use dimacs::Lit;
-use std::alloc::AllocError;
+use std::alloc::{AllocError, Global};
+use std::collections::BTreeSet;
+
+/// The number of places of a table that one entry pays for.
+const PLACES_FOR_EACH: usize = 64;
+
+/// The number of entries whose places are paid for before any was made, so that a table serves small formulas at once.
+const PAID_AT_START: usize = 256;
+
+/// Whether a table that reaches to this place is paid for by so many entries. Then its time and its memory are at most a fixed
+/// multiple of what was read, whichever variables a derivation names. No answer rests on this.
+pub fn is_paid(place: usize, entries: usize) -> bool {
+    place / PLACES_FOR_EACH <= entries.saturating_add(PAID_AT_START)
+}
 
 /// The place of the literal in a table of marks.
 pub fn place_of(literal: Lit) -> usize
@@ -50,5 +65,85 @@ pub fn unmark_at(marks: &mut Vec<bool>, place: usize)
 {
     if place < marks.len() {
         marks[place] = false;
+    }
+}
+
+/// Marks by their places. A table reaches as far as the marks that were made pay for; a mark past that stands in a tree.
+#[derive(Drop)]
+pub struct LiteralMarks {
+    near: Vec<bool>,
+    far: BTreeSet<usize>,
+    made: usize,
+}
+
+impl LiteralMarks {
+    /// No marks.
+    pub fn new(alloc: Global) -> LiteralMarks
+        ensures { (k : ℕ) → is_marked result k ≡ false }
+    {
+        LiteralMarks {
+            near: Vec::new(alloc),
+            far: BTreeSet::new(alloc),
+            made: 0,
+        }
+    }
+
+    /// Whether there is a mark at this place in the tree.
+    fn is_far(&self, place: usize) -> bool
+        ensures { result ≡ contains nat_cmp self.now.far place }
+    {
+        if self.far.is_empty() {
+            return false;
+        }
+        self.far.contains(&place)
+    }
+
+    /// Whether there is a mark at this place.
+    pub fn has(&self, place: usize) -> bool
+        ensures { result ≡ is_marked self.now place }
+    {
+        marked_at(self.near.as_slice(), place) || self.is_far(place)
+    }
+
+    /// Makes a mark at this place of the table.
+    fn add_near(&mut self, place: usize) -> Result<(), AllocError>
+        ensures added { OnOk result ((k : ℕ) → is_marked self.new k ≡ (if place == k then true else is_marked self.old k)) }
+        ensures unchanged { OnErr result ((k : ℕ) → is_marked self.new k ≡ is_marked self.old k) }
+    {
+        make_room(&mut self.near, place)?;
+        mark_at(&mut self.near, place);
+        Ok(())
+    }
+
+    /// Makes a mark at this place in the tree.
+    fn add_far(&mut self, place: usize) -> Result<(), AllocError>
+        ensures added { OnOk result ((k : ℕ) → is_marked self.new k ≡ (if place == k then true else is_marked self.old k)) }
+        ensures unchanged { OnErr result ((k : ℕ) → is_marked self.new k ≡ is_marked self.old k) }
+    {
+        self.far.insert(place)?;
+        Ok(())
+    }
+
+    /// Makes a mark at this place.
+    pub fn add(&mut self, place: usize) -> Result<(), AllocError>
+        ensures added { OnOk result ((k : ℕ) → is_marked self.new k ≡ (if place == k then true else is_marked self.old k)) }
+        ensures unchanged { OnErr result ((k : ℕ) → is_marked self.new k ≡ is_marked self.old k) }
+    {
+        self.made = self.made.saturating_add(1);
+        if place < self.near.len() || is_paid(place, self.made) {
+            self.add_near(place)
+        } else {
+            self.add_far(place)
+        }
+    }
+
+    /// Takes the mark at this place away.
+    pub fn remove(&mut self, place: usize)
+        ensures { (k : ℕ) → is_marked self.new k ≡ (is_marked self.old k && not (k == place)) }
+    {
+        unmark_at(&mut self.near, place);
+        if !self.far.is_empty() {
+            let _was_far = self.far.remove(&place);
+        }
     }
 }

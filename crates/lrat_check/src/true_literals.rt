@@ -3,7 +3,7 @@
 ghost use Rattle.std.specs.Prelude.{◌≡◌, [], ◌∷◌, ◌++◌, ◌-◌, length, take, OnOk};
 ghost use Rattle.lrat_check.specs.Propagation.{has, is_falsified};
 
-use crate::marks::{make_room, mark_at, marked_at, place_of, unmark_at};
+use crate::marks::{LiteralMarks, place_of};
 use dimacs::Lit;
 use std::alloc::{AllocError, Global};
 use std::marker::Model;
@@ -15,24 +15,25 @@ struct TrueLiteral {
     is_new: bool,
 }
 
-/// The literals that are true, in the order in which they became so; one that was true already may have become so again. A table
-/// has a mark for each of them, so that a look takes the same time however many there are. The last ones can be taken back in the
+/// The literals that are true, in the order in which they became so; one that was true already may have become so again. There is a
+/// mark for each of them, so that a look takes the same time however many there are. The last ones can be taken back in the
 /// time that it took to make them true.
 #[derive(Drop)]
 pub struct TrueLiterals {
     trail: Vec<TrueLiteral>,
-    marks: Vec<bool>,
+    marks: LiteralMarks,
 }
 
 impl Model for TrueLiterals {
     ghost use Rattle.std.specs.Prelude.{List, ℤ};
+    ghost use Rattle.lrat_check.specs.Marks.{is_marked};
     ghost use Rattle.lrat_check.specs.Trail.{literals_of, IsTrail};
 
     ghost Value = { List ℤ };
 
     ghost view = { λ trues. literals_of trues.trail.items };
 
-    ghost invariant = { λ trues. IsTrail trues.trail.items trues.marks.items };
+    ghost invariant = { λ trues. IsTrail trues.trail.items (is_marked trues.marks) };
 }
 
 impl TrueLiterals {
@@ -42,7 +43,7 @@ impl TrueLiterals {
     {
         TrueLiterals {
             trail: Vec::new(alloc),
-            marks: Vec::new(alloc),
+            marks: LiteralMarks::new(alloc),
         }
     }
 
@@ -50,14 +51,14 @@ impl TrueLiterals {
     pub fn is_false(&self, literal: Lit) -> bool
         ensures { result ≡ is_falsified self.now literal }
     {
-        marked_at(self.marks.as_slice(), place_of(literal.negated()))
+        self.marks.has(place_of(literal.negated()))
     }
 
     /// Whether the literal is true.
     pub fn holds(&self, literal: Lit) -> bool
         ensures { result ≡ has self.now literal }
     {
-        marked_at(self.marks.as_slice(), place_of(literal))
+        self.marks.has(place_of(literal))
     }
 
     /// The number of true literals.
@@ -72,11 +73,16 @@ impl TrueLiterals {
         ensures { OnOk result (self.new ≡ self.old ++ literal ∷ []) }
     {
         let place = place_of(literal);
-        make_room(&mut self.marks, place)?;
-        let is_new = !marked_at(self.marks.as_slice(), place);
+        let count = self.trail.len();
+        let is_new = !self.marks.has(place);
         self.trail.push(TrueLiteral { literal, is_new })?;
-        mark_at(&mut self.marks, place);
-        Ok(())
+        match self.marks.add(place) {
+            Ok(()) => Ok(()),
+            Err(error) => {
+                self.trail.truncate(count);
+                Err(error)
+            }
+        }
     }
 
     /// Takes the last one back.
@@ -85,7 +91,7 @@ impl TrueLiterals {
     {
         if let Some(last) = self.trail.pop() {
             if last.is_new {
-                unmark_at(&mut self.marks, place_of(last.literal));
+                self.marks.remove(place_of(last.literal));
             }
         }
     }
