@@ -18,8 +18,8 @@ pub fn times(clause: &[Lit], literal: Lit) -> usize
         .count()
 }
 
-/// The number of times that each literal stands in the clauses that are counted, by the literals' places. A table reaches as far as
-/// the literals that were counted pay for; the counts past that stand in a tree.
+/// The number of times that each literal stands in the clauses that are counted, by the literals' places. A table has the places
+/// that the literals counted before pay for; the counts past those stand in a tree.
 #[derive(Drop)]
 pub struct LiteralCounts {
     near: Vec<usize>,

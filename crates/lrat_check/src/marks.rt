@@ -15,7 +15,7 @@ const PLACES_FOR_EACH: usize = 64;
 /// The number of entries whose places are paid for before any was made, so that a table serves small formulas at once.
 const PAID_AT_START: usize = 256;
 
-/// Whether a table that reaches to this place is paid for by so many entries. Then its time and its memory are at most a fixed
+/// Whether a table that reaches to this place is paid for by this number of entries. Then its time and its memory are at most a fixed
 /// multiple of what was read, whichever variables a derivation names. No answer rests on this.
 pub fn is_paid(place: usize, entries: usize) -> bool {
     place / PLACES_FOR_EACH <= entries.saturating_add(PAID_AT_START)
@@ -68,7 +68,7 @@ pub fn unmark_at(marks: &mut Vec<bool>, place: usize)
     }
 }
 
-/// Marks by their places. A table reaches as far as the marks that were made pay for; a mark past that stands in a tree.
+/// Marks by their places. A table has the places that the marks made before pay for; a mark past those stands in a tree.
 #[derive(Drop)]
 pub struct LiteralMarks {
     near: Vec<bool>,
@@ -99,6 +99,7 @@ impl LiteralMarks {
     }
 
     /// Whether there is a mark at this place.
+    #[inline(always)]
     pub fn has(&self, place: usize) -> bool
         ensures { result ≡ is_marked self.now place }
     {
