@@ -5,6 +5,7 @@ pub mod LatestLemmas
 pub mod PairRowLemmas
 pub mod PartOfLemmas
 pub mod RowLemmas
+mod SearchLemmas
 pub mod ToldLemmas
 pub mod ToldStepLemmas
 pub mod WriterTableLemmas

@@ -125,7 +125,7 @@ module _ (t : TraceValue) (ok : IsTrace t) (order : OrderValue) (stays : OpName 
       let both = in_pairs pair c in told_alike pair.0 pair.1 both.0 both.1)
 
   -- the groups make up all names that remain, each of one process and in program order
-  joined_are : (ps : List Process) → joined (map (λ (p : Process). map (left_row t stays) (filter (is_left stays) (names_of p))) ps) ≡ map (left_row t stays) (filter (is_left stays) (flat_map names_of ps))
+  pub joined_are : (ps : List Process) → joined (map (λ (p : Process). map (left_row t stays) (filter (is_left stays) (names_of p))) ps) ≡ map (left_row t stays) (filter (is_left stays) (flat_map names_of ps))
   joined_are [] = refl
   joined_are (p ∷ ps) =
       ap (λ l. map (left_row t stays) (filter (is_left stays) (names_of p)) ++ l) (joined_are ps)
@@ -148,9 +148,12 @@ module _ (t : TraceValue) (ok : IsTrace t) (order : OrderValue) (stays : OpName 
       let first : number + 0 ≡ number = omega arith in
       (group_is number p (h 0 p (omega arith) ∙ first), groups_from (number + 1) ps (λ k d l. (let e = h (suc k) d (omega (arith, l)) in let f : number + suc k ≡ number + 1 + k = omega arith in e ∙ f)))
 
+  pub groups_are : AreGroupsFrom 0 (groups_of t stays)
+  groups_are = groups_from 0 t.processes (λ k d l. (let e : k ≡ 0 + k = omega arith in order_is t.processes ok.distinct k d l ∙ e))
+
   pub told_by_groups : told_pairs order (groups_of t stays) ≡ map pair_row (filter (is_told t (ordered_by t order) stays) (left_pairs t stays))
   told_by_groups =
-      told_are_rows order (groups_of t stays) 0 (groups_from 0 t.processes (λ k d l. (let e : k ≡ 0 + k = omega arith in order_is t.processes ok.distinct k d l ∙ e)))
+      told_are_rows order (groups_of t stays) 0 groups_are
       ∙ ap (told_rows order) (joined_are t.processes)
       ∙ told_are
 

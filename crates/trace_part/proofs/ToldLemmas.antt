@@ -46,7 +46,7 @@ pub record IsWhole (names group : List LeftName) : Type 0 where
   pub one_process : (x y : LeftName) → Contains group x → Contains group y → x.name.process ≡ y.name.process
   pub rising : AllPairs (λ (x y : LeftName). x.name.place < y.name.place) group
 
-whole_from : (number : ℕ) (groups : List (List LeftName)) → AreGroupsFrom number groups → (group : List LeftName) → Contains groups group → IsWhole (joined groups) group
+pub whole_from : (number : ℕ) (groups : List (List LeftName)) → AreGroupsFrom number groups → (group : List LeftName) → Contains groups group → IsWhole (joined groups) group
 whole_from number [] given group c = absurd (none_in group c)
 whole_from number (first ∷ groups) given group c =
     elim (cases_in first groups group c) [

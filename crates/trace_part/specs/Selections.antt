@@ -2,6 +2,7 @@
 use Rattle.std.specs.Prelude.{ℕ, List, Option, Bool}
 use Rattle.trace_semantics.specs.declared.operation.Op.{Op}
 use Rattle.trace_semantics.specs.declared.operation.OpName.{OpName}
+use Rattle.forced_order.specs.Order.{IsClosedForward}
 use Rattle.forced_order.specs.Rows.{ordered_by}
 use Rattle.part_law.specs.Part.{stays}
 use Rattle.trace_part.specs.declared.selection.Selection.{Selection}
@@ -22,7 +23,9 @@ chosen_in s = has s.set
 abbrev pub stays_in : Selection → OpName → Option Op
 stays_in s = stays s.trace.now (ordered_in s) (chosen_in s)
 
--- the writers of each location are listed, and among them what stands before one stands before the later ones of its process
+-- the writers of each location are listed, and what stands before an operation stands before the later ones of its process, also among the
+-- writers of a location
 pub record IsSelection (s : Selection) : Type 0 where
   pub table : IsTable s.trace.now (has s.set) s.writers
+  pub closed : IsClosedForward s.trace.now (ordered_in s)
   pub forward : (location : List ℕ) → IsForwardAmong s.order (rows_of s.trace.now (has s.set) location)

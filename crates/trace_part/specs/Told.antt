@@ -1,6 +1,7 @@
 -- The before pairs of a part, by numbers. The names that remain are grouped by process.
 use Rattle.std.specs.Prelude.{◌&&◌, not, false, ◌==◌, List, [], ◌∷◌, ◌++◌, map, Option, Some, None, Bool, if◌then◌else◌}
-use Rattle.std.specs.List.{filter, find, flat_map}
+use Rattle.std.specs.List.{Contains, filter, find, flat_map}
+use Rattle.std.specs.List.Sorted.{IsPartitionedBy}
 use Rattle.trace_semantics.specs.declared.operation.Op.{Op}
 use Rattle.trace_semantics.specs.declared.operation.OpName.{OpName}
 use Rattle.trace_semantics.specs.declared.trace.Process.{Process}
@@ -43,6 +44,22 @@ first_of (n ∷ names) = Some n
 abbrev pub told_from : OrderValue → List (List LeftName) → List LeftName → List (LeftName × LeftName)
 told_from order groups [] = []
 told_from order groups (m ∷ names) = told_of order m (first_of names) groups ++ told_from order groups names
+
+-- of the names of the group, those that m stands before come after the others
+abbrev pub IsForwardFrom : OrderValue → LeftName → List LeftName → Type 0
+IsForwardFrom order m group = IsPartitionedBy (λ (n : LeftName). not (stands_by order m.name n.name)) group
+
+-- this holds of each of the groups
+abbrev pub AreForwardFrom : OrderValue → LeftName → List (List LeftName) → Type 0
+AreForwardFrom order m groups = (group : List LeftName) → Contains groups group → IsForwardFrom order m group
+
+-- this holds of each name of one group
+abbrev pub IsGroupForward : OrderValue → List (List LeftName) → List LeftName → Type 0
+IsGroupForward order groups names = (m : LeftName) → Contains names m → AreForwardFrom order m groups
+
+-- this holds of each name of the groups
+abbrev pub AreForward : OrderValue → List (List LeftName) → Type 0
+AreForward order groups = (names : List LeftName) → Contains groups names → IsGroupForward order groups names
 
 -- all pairs
 abbrev pub told_pairs : OrderValue → List (List LeftName) → List (LeftName × LeftName)

@@ -2,11 +2,11 @@
 
 ghost use Rattle.std.specs.Prelude.{◌≡◌, ◌<◌, ◌+◌, ◌++◌, length, map, take, Option, Some, IfOk, OnOk};
 ghost use Rattle.std.specs.List.{filter, find, slice_get};
-ghost use Rattle.std.specs.Option.{option_copied};
 ghost use Rattle.trace_semantics.specs.declared.operation.Op.{Op as Old};
 ghost use Rattle.trace_semantics.specs.declared.operation.OpName.{OpName as Named};
 ghost use Rattle.trace_semantics.specs.declared.trace.Process.{Process as Listed};
 ghost use Rattle.restriction.specs.Left.{new_pair};
+ghost use Rattle.forced_order.specs.Order.{IsClosedForward};
 ghost use Rattle.forced_order.specs.Rows.{ordered_by, stands_by};
 ghost use Rattle.part_law.specs.Part.{is_told, left_pairs};
 ghost use Rattle.trace_part.specs.Rows.{Leaves};
@@ -21,17 +21,20 @@ use trace_semantics::name::Name;
 use trace_semantics::operation::OpName;
 use trace_semantics::trace::Trace;
 
-fn find_after<'a>(order: &ForcedOrder, m: LeftName, group: &'a [LeftName]) -> Option<&'a LeftName>
-    ensures { option_copied result ≡ find (λ (n : Row). stands_by order.now m.name n.name) group.now }
+/// Returns how many names of the group come before the first that the order puts after m.
+fn count_before(order: &ForcedOrder, m: LeftName, group: &[LeftName]) -> usize
+    requires forward { told.IsForwardFrom order.now m group.now }
+    ensures { find (λ (n : Row). stands_by order.now m.name n.name) group.now ≡ slice_get group.now result }
 {
-    group.iter().find(|n| order.stands(m.name, n.name))
+    group.partition_point(|n| !order.stands(m.name, n.name))
 }
 
 /// Returns the first of the names that the order puts after m.
 fn first_after(order: &ForcedOrder, m: LeftName, group: &[LeftName]) -> Option<LeftName>
+    requires forward { told.IsForwardFrom order.now m group.now }
     ensures { result ≡ find (λ (n : Row). stands_by order.now m.name n.name) group.now }
 {
-    find_after(order, m, group).copied()
+    group.get(count_before(order, m, group)).copied()
 }
 
 /// Returns whether the order puts this name, if there is one, before n.
@@ -59,6 +62,7 @@ fn push_told_in(
     next: Option<LeftName>,
     group: &[LeftName],
 ) -> Result<(), AllocError>
+    requires forward { told.IsForwardFrom order.now m group.now }
     ensures { OnOk result (pairs.new.items ≡ pairs.old.items ++ told.told_in order.now m next group.now) }
 {
     match first_after(order, m, group) {
@@ -80,6 +84,7 @@ fn push_told_of(
     next: Option<LeftName>,
     groups: &[LeftNames],
 ) -> Result<(), AllocError>
+    requires forward { told.AreForwardFrom order.now m groups.now }
     ensures { OnOk result (pairs.new.items ≡ pairs.old.items ++ told.told_of order.now m next groups.now) }
 {
     for k in 0..groups.len() {
@@ -103,6 +108,7 @@ fn push_told_from(
     group: &[LeftName],
     groups: &[LeftNames],
 ) -> Result<(), AllocError>
+    requires forward { told.IsGroupForward order.now groups.now group.now }
     ensures { OnOk result (pairs.new.items ≡ pairs.old.items ++ told.told_from order.now groups.now group.now) }
 {
     for k in 0..group.len() {
@@ -117,6 +123,7 @@ fn told_pairs(
     order: &ForcedOrder,
     groups: &[LeftNames],
 ) -> Result<Vec<(LeftName, LeftName)>, AllocError>
+    requires forward { told.AreForward order.now groups.now }
     ensures { IfOk result (λ pairs. pairs.items ≡ told.told_pairs order.now groups.now) }
 {
     let mut pairs = Vec::new(alloc);
@@ -162,7 +169,9 @@ pub fn pairs_left(
     order: &ForcedOrder,
     all: &[Left],
 ) -> Result<Vec<(OpName, OpName)>, AllocError>
-    requires { length all.now ≡ length trace.now.processes }
+    requires long { length all.now ≡ length trace.now.processes }
+    requires forward { IsClosedForward trace.now (ordered_by trace.now order.now) }
+    requires left { (stays : Named → Option Old) × Leaves trace.now stays all.now }
     ensures { IfOk result (λ pairs. (stays : Named → Option Old) → Leaves trace.now stays all.now → pairs.items ≡ map (new_pair stays) (take 4096 (filter (is_told trace.now (ordered_by trace.now order.now) stays) (left_pairs trace.now stays)))) }
 {
     trace.is_trace();

@@ -1,11 +1,18 @@
-use Rattle.std.proofs.Common.{◌≡◌, ◌<◌, ℕ, map, take, length, arith, ap, ◌∙◌}
+use Rattle.std.proofs.Common.{◌≡◌, ◌<◌, ℕ, map, take, length, arith, ap, sym, ◌∙◌, subst}
 use Rattle.std.specs.List.{filter}
 use Rattle.restriction.specs.Left.{new_pair}
 use Rattle.part_law.specs.Part.{is_told, left_pairs}
 use Rattle.forced_order.specs.Rows.{ordered_by}
-use Rattle.trace_part.specs.Told.{told_pairs}
+use Rattle.trace_part.specs.Told.{AreForward, told_pairs}
 use Rattle.trace_part.proofs.PairRowLemmas.{told_by_groups, one_more_told, told_in_all}
+use Rattle.trace_part.proofs.SearchLemmas.{are_forward}
 use Rattle.trace_part.proofs.pairs.pairs_left.Goals as goal
+
+pub told_pairs-requires : goal.told_pairs-requires
+told_pairs-requires c = record {
+  forward = subst (λ gs. AreForward c.args.order.now gs) (sym (c.as_slice.ensures.value ∙ c.in_ok-groups.ensures c.requires.left.0 c.requires.left.1))
+      (are_forward c.args.trace.now c.is_trace.ensures c.args.order.now c.requires.forward c.requires.left.0 c.args.all.now c.requires.left.1);
+}
 
 pub loop-k-preserved : goal.loop-k-preserved
 loop-k-preserved c = λ stays given.

@@ -1,6 +1,10 @@
 use Rattle.std.proofs.Common.{arith}
+use Rattle.std.proofs.lemmas.List.Elements.{Contains-get_or}
 use Rattle.trace_part.proofs.ToldStepLemmas.{told_step, told_end}
 use Rattle.trace_part.proofs.pairs.push_told_from.Goals as goal
+
+pub push_told_of-requires : goal.push_told_of-requires
+push_told_of-requires c = record { forward = c.requires.forward _ (Contains-get_or c.args.group.now c.loop-k.k _ c.loop-k-test.true) }
 
 pub loop-k-preserved : goal.loop-k-preserved
 loop-k-preserved c =

@@ -13,6 +13,7 @@ pub selected_part-requires : goal.selected_part-requires
 selected_part-requires c = record {
   selection = record {
     table = c.in_ok-writers.ensures;
+    closed = c.requires.forward;
     forward = λ location. forward_among c.args.trace.now c.is_trace.ensures c.args.order c.requires.forward (has c.in_ok-set.set) location;
   };
 }

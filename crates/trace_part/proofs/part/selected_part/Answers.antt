@@ -1,5 +1,6 @@
-use Rattle.std.proofs.Common.{◌≡◌, List, Bool, map, ap, sym, ◌∙◌, subst}
+use Rattle.std.proofs.Common.{◌≡◌, List, Bool, length, map, ap, sym, ◌∙◌, subst}
 use Rattle.std.specs.Prelude.{Option}
+use Rattle.std.proofs.lemmas.List.{length-map}
 use Rattle.trace_semantics.specs.declared.operation.Op.{Op}
 use Rattle.trace_semantics.specs.declared.operation.OpName.{OpName}
 use Rattle.trace_semantics.specs.Trace.{TraceValue, IsTrace}
@@ -12,6 +13,18 @@ use Rattle.trace_semantics.specs.declared.trace.Process.{Process}
 use Rattle.restriction.specs.Left.{names_of}
 use Rattle.trace_part.proofs.PairRowLemmas.{map_twice}
 use Rattle.trace_part.proofs.part.selected_part.Goals as goal
+
+pub pairs_left-requires : goal.pairs_left-requires
+pairs_left-requires c =
+    let t : TraceValue = c.args.selection.now.trace.now in
+    let ordered : OpName → OpName → Bool = ordered_in c.args.selection.now in
+    let left : OpName → Option Op = stays t ordered (chosen_in c.args.selection.now) in
+    let given : Leaves t left c.in_ok-left.left.items = record { values = c.in_ok-left.ensures; known = (part_alike t ordered (chosen_in c.args.selection.now)).known } in
+    record {
+      long = ap length c.as_slice-2.ensures.value ∙ ap length c.in_ok-left.ensures ∙ length-map t.processes (λ (p : Process). left_value left (names_of p));
+      forward = c.requires.selection.closed;
+      left = (left, subst (λ (l : List LeftValue). Leaves t left l) (sym c.as_slice-2.ensures.value) given);
+    }
 
 pub new-trace-requires : goal.new-trace-requires
 new-trace-requires c =
