@@ -37,7 +37,7 @@ pub fn new_cnf_command<'a>(alloc: Global) -> Result<Command<'a>, AllocError>
     ensures local { IfOk result (λ c. (out-Command c).has_globals ≡ false) }
 {
     let trace = trace_argument(alloc);
-    let workers = workers_argument(alloc, "As of verify, 1 to 8: it changes nothing here");
+    let workers = workers_argument(alloc, "Taken as by verify, 1 to 8, and has no effect");
     command_of_two(alloc, "cnf", ABOUT, EXAMPLE, trace, workers)
 }
 

@@ -68,7 +68,7 @@ pub fn budget_argument<'a>(alloc: Global) -> Arg<'a>
         "100000",
         0,
         1_000_000_000,
-        "After how many conflicts the search of a cube is given up, 0 to 1000000000",
+        "Most conflicts of a cube, and steps of a proof by counting, 0 to 1000000000",
     )
 }
 
@@ -83,7 +83,7 @@ pub fn steps_argument<'a>(alloc: Global) -> Arg<'a>
         "1000000000",
         0,
         1_000_000_000,
-        "After how many steps the survey is given up, 0 to 1000000000",
+        "Most steps of the survey, 0 to 1000000000",
     )
 }
 
@@ -98,7 +98,7 @@ pub fn rounds_argument<'a>(alloc: Global) -> Arg<'a>
         "1",
         1,
         4,
-        "How many rounds there are at most, 1 to 4: between two of them the open cubes are split",
+        "Most rounds, 1 to 4; open cubes are split between two rounds",
     )
 }
 

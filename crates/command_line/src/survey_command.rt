@@ -23,7 +23,7 @@ const EXAMPLE: &str =
     CONSISTENT, and a schedule of all operations that is legal, one name a line;
     INCONSISTENT operations=N cubes=M, and the N names of a core: the part that they make up has no legal
         schedule, so TRACE has none, and each of M cases has a checked proof of that;
-    INCONSISTENT or UNKNOWN open=N as of 'vsc verify', if the search of the whole trace had the last word;
+    INCONSISTENT cubes=M alone, if no core was found and the search of the whole trace refuted it;
     UNKNOWN placed=N undecided=M: neither was shown, and this is how far the survey came.
 What the survey finds is not trusted: a schedule is judged, and a part refuted as 'vsc verify' does it. The
 files are made or emptied before TRACE is opened, and stay empty unless the answer is INCONSISTENT.
