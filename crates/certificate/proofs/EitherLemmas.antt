@@ -10,7 +10,7 @@ use Rattle.cube_tree.specs.TreeText.{tree_lines}
 use Rattle.lrat_check.proofs.LratLawLemmas.{spelled_or_refused as steps_or_refused}
 use Rattle.certificate.specs.CertCause.{of_tree}
 use Rattle.certificate.specs.CertFaults.{LacksHeader, HasCertFault}
-use Rattle.certificate.specs.CertLine.{is_silent, is_header, begun_by}
+use Rattle.certificate.specs.CertLine.{is_skipped_line, is_header, begun_by}
 use Rattle.certificate.specs.CertRead.{ends, IsSectionCut, HasSectionFaultBehind}
 use Rattle.certificate.specs.CertText.{IsHeaded, AreSections, SpellsCertificate}
 use Rattle.certificate.specs.declared.cert_fault.CertCause.{CertCause}
@@ -54,7 +54,7 @@ header_from (suc fuel) text number rest below h = elim (cut rest) [
   | inl nothing ↦ inr (number + 1, none_first text number rest h nothing)
   | inr c ↦ elim (either (is_header (words_of c.line))) [
     | inl says ↦ inl (c.after, number + 1, found text number rest c.line c.after h c.lines says)
-    | inr other ↦ elim (either (is_silent c.line)) [
+    | inr other ↦ elim (either (is_skipped_line c.line)) [
       | inl silent ↦ header_from fuel text (number + 1) c.after (omega (arith, below, c.shorter)) (next_silent text number rest c.line c.after h c.lines c.shorter silent)
       | inr said ↦ inr (number + 1, other_first text number rest c.line c.after h c.lines said other)
     ]
@@ -96,7 +96,7 @@ sections_from : (fuel : ℕ) (text : List ℕ) (before number : ℕ) (rest : Lis
 sections_from zero text before number rest sections below h = absurd (omega (arith, below))
 sections_from (suc fuel) text before number rest sections below h = elim (cut rest) [
   | inl nothing ↦ inl (sections, all_read text before number rest sections (read_up_to text before number rest sections h) nothing)
-  | inr c ↦ elim (either (is_silent c.line)) [
+  | inr c ↦ elim (either (is_skipped_line c.line)) [
     | inl silent ↦ sections_from fuel text before (number + 1) c.after sections (omega (arith, below, c.shorter)) (turn_silent text before number rest sections c.line c.after h c.lines c.shorter silent)
     | inr said ↦ elim (some_or_none (begun_by (words_of c.line))) [
       | inr none ↦ inr (BadLine, number + 1, refused_between text before number rest sections c.line c.after h c.lines said none)

@@ -14,7 +14,7 @@ use Rattle.cube_tree.proofs.TextLemmas.{most_bytes}
 use Rattle.lrat_check.specs.LratFaults.{HasLratFault}
 use Rattle.lrat_check.specs.declared.lrat_fault.LratCause.{LratCause}
 use Rattle.certificate.specs.CertFaults.{LacksHeader, HasCertFault}
-use Rattle.certificate.specs.CertLine.{is_silent, is_header}
+use Rattle.certificate.specs.CertLine.{is_skipped_line, is_header}
 use Rattle.certificate.specs.CertRead.{BeginsWithTree, HasTreeFaultBehind, HasSectionFaultBehind}
 use Rattle.certificate.specs.CertText.{IsHeaded}
 use Rattle.certificate.specs.declared.cert_fault.CertCause.{CertCause}
@@ -28,19 +28,19 @@ pub record IsSilentSoFar (text : List ℕ) (number : ℕ) (rest : List ℕ) : Ty
   pub done : List (List ℕ)
   pub parts : lines_of text ≡ done ++ lines_of rest
   pub counted : number ≡ length done
-  pub silent : list_all is_silent done ≡ true
+  pub silent : list_all is_skipped_line done ≡ true
   pub behind : number + length rest ≤ length text
 
 pub none_yet : (text : List ℕ) → IsSilentSoFar text 0 text
 none_yet text = record { done = []; parts = refl; counted = refl; silent = refl; behind = omega arith }
 
-pub next_silent : (text : List ℕ) (number : ℕ) (rest line after : List ℕ) → IsSilentSoFar text number rest → lines_of rest ≡ line ∷ lines_of after → length after < length rest → is_silent line ≡ true →
+pub next_silent : (text : List ℕ) (number : ℕ) (rest line after : List ℕ) → IsSilentSoFar text number rest → lines_of rest ≡ line ∷ lines_of after → length after < length rest → is_skipped_line line ≡ true →
     IsSilentSoFar text (number + 1) after
 next_silent text number rest line after h cut shorter silent = record {
   done = h.done ++ line ∷ [];
   parts = h.parts ∙ ap (λ ls. h.done ++ ls) cut ∙ sym (append_assoc h.done (line ∷ []) (lines_of after));
   counted = omega (arith, h.counted, length_push h.done line);
-  silent = list_all-append is_silent h.done (line ∷ []) ∙ and_from _ _ h.silent (and_from _ true silent refl);
+  silent = list_all-append is_skipped_line h.done (line ∷ []) ∙ and_from _ _ h.silent (and_from _ true silent refl);
   behind = omega (arith, h.behind, shorter);
 }
 
@@ -54,7 +54,7 @@ found text number rest line after h cut says = record {
   says = says;
 }
 
-pub other_first : (text : List ℕ) (number : ℕ) (rest line after : List ℕ) → IsSilentSoFar text number rest → lines_of rest ≡ line ∷ lines_of after → is_silent line ≡ false → is_header (words_of line) ≡ false →
+pub other_first : (text : List ℕ) (number : ℕ) (rest line after : List ℕ) → IsSilentSoFar text number rest → lines_of rest ≡ line ∷ lines_of after → is_skipped_line line ≡ false → is_header (words_of line) ≡ false →
     LacksHeader text Header (number + 1)
 other_first text number rest line after h cut said other = (
   refl,
@@ -73,7 +73,7 @@ other_first text number rest line after h cut said other = (
 pub none_first : (text : List ℕ) (number : ℕ) (rest : List ℕ) → IsSilentSoFar text number rest → lines_of rest ≡ [] → LacksHeader text Header (number + 1)
 none_first text number rest h nothing =
     let all : lines_of text ≡ h.done = h.parts ∙ ap (λ ls. h.done ++ ls) nothing ∙ append-nil h.done in
-    (refl, inr (record { silent = ap (list_all is_silent) all ∙ h.silent; behind = omega (arith, h.counted, ap length all) }))
+    (refl, inr (record { silent = ap (list_all is_skipped_line) all ∙ h.silent; behind = omega (arith, h.counted, ap length all) }))
 
 -- a tree has a split less than leaves
 pub line_count : (tree : CubeTree) → length (tree_lines tree) + 1 ≡ 2 * leaves tree

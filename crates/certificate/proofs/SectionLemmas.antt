@@ -7,17 +7,18 @@ use Rattle.std.specs.Str.{bytes_eq}
 use Rattle.std.proofs.lemmas.Bool.{or_parts, and_from, cond-true, cond-false, true≢false}
 use Rattle.std.proofs.lemmas.Slice.Eq.{bytes_eq-Decides}
 use Rattle.text_lines.specs.FirstFault.{IsFaultless}
+use Rattle.text_lines.specs.Kept.{is_dimacs_skipped}
 use Rattle.text_lines.specs.Lines.{lines_of}
 use Rattle.text_lines.specs.Numbers.{plain_number_up_to}
 use Rattle.text_lines.specs.Words.{words_of}
 use Rattle.text_lines.proofs.FaultLemmas.{faultless_push, faultless_nil, either}
 use Rattle.lrat_check.specs.LratFaults.{line_fault}
-use Rattle.lrat_check.specs.LratText.{is_skipped, SpellsDerivation}
+use Rattle.lrat_check.specs.LratText.{SpellsDerivation}
 use Rattle.lrat_check.specs.declared.lrat_fault.LratCause.{LratCause}
 use Rattle.lrat_check.specs.declared.derivation.Step.{Step}
 use Rattle.lrat_check.proofs.LratLawLemmas.{never_both}
 use Rattle.certificate.specs.CertFaults.{is_open_behind, fault_inside, fault_outside, section_line_fault, HasSectionFault}
-use Rattle.certificate.specs.CertLine.{most_number, is_silent, begun_by, is_end}
+use Rattle.certificate.specs.CertLine.{most_number, is_skipped_line, begun_by, is_end}
 use Rattle.certificate.specs.CertRead.{ends}
 use Rattle.certificate.specs.CertText.{AreSections}
 use Rattle.certificate.specs.declared.cert_fault.CertCause.{CertCause}
@@ -77,7 +78,7 @@ other_word word text true e h k =
     let same : word ≡ text = (bytes_eq-Decides word text).0 e in
     absurd (true≢false (sym k ∙ ap (λ (w : List ℕ). slice_index w 0 == 99) same ∙ h))
 
-silent_words : (words : List (List ℕ)) → is_skipped words ≡ true → (begun_by words ≡ None) × (is_end words ≡ false)
+silent_words : (words : List (List ℕ)) → is_dimacs_skipped words ≡ true → (begun_by words ≡ None) × (is_end words ≡ false)
 silent_words [] h = (refl, refl)
 silent_words (word ∷ []) h = (refl, other_word word (codes "end") (bytes_eq word (codes "end")) refl refl h)
 silent_words (word ∷ (number ∷ [])) h =
@@ -85,7 +86,7 @@ silent_words (word ∷ (number ∷ [])) h =
 silent_words (word ∷ (number ∷ (other ∷ words))) h = (refl, refl)
 
 -- a line that says nothing begins and ends no section
-pub silent_line : (line : List ℕ) → is_silent line ≡ true → (is_some (begun_by (words_of line)) ≡ false) × (ends line ≡ false)
+pub silent_line : (line : List ℕ) → is_skipped_line line ≡ true → (is_some (begun_by (words_of line)) ≡ false) × (ends line ≡ false)
 silent_line line h = let (first, last) = silent_words (words_of line) h in (ap (λ (o : Option ℕ). is_some o) first, last)
 
 begins_clear : (line : List ℕ) (b : Bool) → is_some (begun_by (words_of line)) ≡ true → cond b None (cond (is_some (begun_by (words_of line))) None (Some BadLine)) ≡ None
@@ -111,9 +112,9 @@ fault_at lines line b h = ap (λ (o : Bool). cond o (fault_inside line) (fault_o
 open_push : (lines : List (List ℕ)) (line : List ℕ) (b : Bool) → is_open_behind false lines ≡ b → is_open_behind false (lines ++ line ∷ []) ≡ cond b (not (ends line)) (is_some (begun_by (words_of line)))
 open_push lines line b h = open_append false lines (line ∷ []) ∙ ap (λ (o : Bool). cond o (not (ends line)) (is_some (begun_by (words_of line)))) h
 
-pub push_silent : (lines : List (List ℕ)) (line : List ℕ) → AreClosed lines → is_silent line ≡ true → AreClosed (lines ++ line ∷ [])
+pub push_silent : (lines : List (List ℕ)) (line : List ℕ) → AreClosed lines → is_skipped_line line ≡ true → AreClosed (lines ++ line ∷ [])
 push_silent lines line h silent = record {
-  faultless = faultless_push section_line_fault lines line h.faultless (fault_at lines line false h.closed ∙ cond-true (is_silent line) None _ silent);
+  faultless = faultless_push section_line_fault lines line h.faultless (fault_at lines line false h.closed ∙ cond-true (is_skipped_line line) None _ silent);
   closed = open_push lines line false h.closed ∙ (silent_line line silent).0;
 }
 
@@ -121,7 +122,7 @@ pub push_begin : (lines : List (List ℕ)) (line : List ℕ) (leaf : ℕ) → Ar
 push_begin lines line leaf h begins =
     let some : is_some (begun_by (words_of line)) ≡ true = ap (λ (o : Option ℕ). is_some o) begins in
     record {
-      faultless = faultless_push section_line_fault lines line h.faultless (fault_at lines line false h.closed ∙ begins_clear line (is_silent line) some);
+      faultless = faultless_push section_line_fault lines line h.faultless (fault_at lines line false h.closed ∙ begins_clear line (is_skipped_line line) some);
       opened = open_push lines line false h.closed ∙ some;
     }
 
@@ -156,13 +157,13 @@ fault_in_section lines line cause h none faulty =
     fault_at lines line true h.opened ∙ cond-false (ends line) None _ none ∙ ap (option_map (λ (c : LratCause). BadLrat)) faulty
 
 -- the fault of a line outside of sections
-pub fault_between : (lines : List (List ℕ)) (line : List ℕ) → AreClosed lines → is_silent line ≡ false → begun_by (words_of line) ≡ None → section_line_fault lines line ≡ Some BadLine
+pub fault_between : (lines : List (List ℕ)) (line : List ℕ) → AreClosed lines → is_skipped_line line ≡ false → begun_by (words_of line) ≡ None → section_line_fault lines line ≡ Some BadLine
 fault_between lines line h said none =
-    fault_at lines line false h.closed ∙ cond-false (is_silent line) None _ said ∙ ap (λ (o : Option ℕ). cond (is_some o) None (Some BadLine)) none
+    fault_at lines line false h.closed ∙ cond-false (is_skipped_line line) None _ said ∙ ap (λ (o : Option ℕ). cond (is_some o) None (Some BadLine)) none
 
 -- sections after a line that says nothing
-pub silent_first : (line : List ℕ) (lines : List (List ℕ)) (sections : List Section) → is_silent line ≡ true → AreSections lines sections → AreSections (line ∷ lines) sections
-silent_first line lines [] silent h = and_from (is_silent line) (list_all is_silent lines) silent h
+pub silent_first : (line : List ℕ) (lines : List (List ℕ)) (sections : List Section) → is_skipped_line line ≡ true → AreSections lines sections → AreSections (line ∷ lines) sections
+silent_first line lines [] silent h = and_from (is_skipped_line line) (list_all is_skipped_line lines) silent h
 silent_first line lines (section ∷ sections) silent (behind, first, others) = (
   behind,
   record {
@@ -171,7 +172,7 @@ silent_first line lines (section ∷ sections) silent (behind, first, others) = 
     steps = first.steps;
     last = first.last;
     parts = ap (λ l. line ∷ l) first.parts;
-    silent = and_from (is_silent line) (list_all is_silent first.before) silent first.silent;
+    silent = and_from (is_skipped_line line) (list_all is_skipped_line first.before) silent first.silent;
     begins = first.begins;
     derivation = first.derivation;
     ends = first.ends;

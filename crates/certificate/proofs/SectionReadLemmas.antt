@@ -14,7 +14,7 @@ use Rattle.text_lines.specs.Words.{words_of}
 use Rattle.lrat_check.specs.LratText.{SpellsDerivation}
 use Rattle.lrat_check.specs.declared.derivation.Step.{Step}
 use Rattle.certificate.specs.CertFaults.{HasSectionFault}
-use Rattle.certificate.specs.CertLine.{is_silent, begun_by}
+use Rattle.certificate.specs.CertLine.{is_skipped_line, begun_by}
 use Rattle.certificate.specs.CertRead.{ends, AreReadUpTo, IsSectionCut, HasLratFaultBehind, HasSectionFaultBehind}
 use Rattle.certificate.specs.CertText.{AreSections}
 use Rattle.certificate.specs.declared.cert_fault.CertCause.{CertCause}
@@ -38,7 +38,7 @@ parts_on : (all done rest : List (List ℕ)) (line : List ℕ) (after : List (Li
 parts_on all done rest line after e f = e ∙ ap (λ l. done ++ l) f ∙ sym (append_assoc done (line ∷ []) after)
 
 pub turn_silent : (text : List ℕ) (before number : ℕ) (rest : List ℕ) (sections : List Section) (line after : List ℕ) → IsReadSoFar text before number rest sections →
-    lines_of rest ≡ line ∷ lines_of after → length after < length rest → is_silent line ≡ true → IsReadSoFar text before (number + 1) after sections
+    lines_of rest ≡ line ∷ lines_of after → length after < length rest → is_skipped_line line ≡ true → IsReadSoFar text before (number + 1) after sections
 turn_silent text before number rest sections line after h cut shorter silent = record {
   done = h.done ++ line ∷ [];
   parts = parts_on (lines_of text) h.done (lines_of rest) line (lines_of after) h.parts cut;
@@ -100,7 +100,7 @@ turn_section text before number rest sections line after inside from_end count l
     }
 
 pub refused_between : (text : List ℕ) (before number : ℕ) (rest : List ℕ) (sections : List Section) (line after : List ℕ) → IsReadSoFar text before number rest sections →
-    lines_of rest ≡ line ∷ lines_of after → is_silent line ≡ false → begun_by (words_of line) ≡ None → HasSectionFaultBehind before (lines_of text) BadLine (number + 1)
+    lines_of rest ≡ line ∷ lines_of after → is_skipped_line line ≡ false → begun_by (words_of line) ≡ None → HasSectionFaultBehind before (lines_of text) BadLine (number + 1)
 refused_between text before number rest sections line after h cut said none = record {
   place = length h.done + 1;
   fault = inl (record {

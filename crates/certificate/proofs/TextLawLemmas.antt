@@ -6,6 +6,7 @@ use Rattle.std.specs.Str.{bytes_eq}
 use Rattle.std.proofs.lemmas.Bool.{and_parts, or_parts, or_from, true≢false, false≢true, cases_Bool}
 use Rattle.std.proofs.lemmas.Slice.Eq.{bytes_eq-Decides}
 use Rattle.text_lines.specs.FirstFault.{IsFaultless}
+use Rattle.text_lines.specs.Kept.{is_dimacs_skipped}
 use Rattle.text_lines.specs.Lines.{lines_of}
 use Rattle.text_lines.specs.Words.{words_of}
 use Rattle.text_lines.proofs.FaultLemmas.{none_is_some, compared, one_first}
@@ -15,14 +16,14 @@ use Rattle.cube_tree.specs.TreeText.{tree_lines, line_bytes, front_bytes, Spells
 use Rattle.cube_tree.specs.declared.tree_fault.TreeCause.{TreeCause}
 use Rattle.cube_tree.proofs.TextLawLemmas as tree
 use Rattle.cube_tree.proofs.WrittenLemmas.{lines_behind, others_behind}
-use Rattle.lrat_check.specs.LratText.{is_skipped, AreStepLines, SpellsDerivation}
+use Rattle.lrat_check.specs.LratText.{AreStepLines, SpellsDerivation}
 use Rattle.lrat_check.specs.LratFaults.{line_fault, words_fault}
 use Rattle.lrat_check.specs.declared.lrat_fault.LratCause.TheVariants.{BadNumber}
 use Rattle.lrat_check.specs.declared.derivation.Step.{Step}
 use Rattle.lrat_check.proofs.LratLawLemmas as lrat
 use Rattle.certificate.specs.CertCause.{of_tree}
 use Rattle.certificate.specs.CertFaults.{is_open_behind, section_line_fault, LacksHeader, HasSectionFault, HasCertFault}
-use Rattle.certificate.specs.CertLine.{is_silent, is_header, begun_by, is_end}
+use Rattle.certificate.specs.CertLine.{is_skipped_line, is_header, begun_by, is_end}
 use Rattle.certificate.specs.CertRead.{ends}
 use Rattle.certificate.specs.CertText.{IsHeaded, BeginWithSection, AreSections, SpellsCertificate}
 use Rattle.certificate.specs.declared.cert_fault.CertCause.{CertCause}
@@ -32,9 +33,9 @@ use Rattle.certificate.proofs.LineCutLemmas.{front_lines}
 use Rattle.certificate.proofs.SectionLemmas.{AreClosed, AreOpen, no_lines, push_silent, push_begin, push_inside, push_end, spelled_clear, silent_line, faultless_join, open_append}
 
 -- all of these say nothing, so this one does
-silent_at : (before : List (List ℕ)) (line : List ℕ) (after : List (List ℕ)) → list_all is_silent (before ++ line ∷ after) ≡ true → is_silent line ≡ true
-silent_at [] line after h = (and_parts (is_silent line) (list_all is_silent after) h).0
-silent_at (x ∷ before) line after h = silent_at before line after (and_parts (is_silent x) (list_all is_silent (before ++ line ∷ after)) h).1
+silent_at : (before : List (List ℕ)) (line : List ℕ) (after : List (List ℕ)) → list_all is_skipped_line (before ++ line ∷ after) ≡ true → is_skipped_line line ≡ true
+silent_at [] line after h = (and_parts (is_skipped_line line) (list_all is_skipped_line after) h).0
+silent_at (x ∷ before) line after h = silent_at before line after (and_parts (is_skipped_line x) (list_all is_skipped_line (before ++ line ∷ after)) h).1
 
 -- two lines that say something, after lines that say nothing, are one
 record SameFirst (x y : List ℕ) (b c a d : List (List ℕ)) : Type 0 where
@@ -48,28 +49,28 @@ tails [] (z ∷ c) x y a d s e = absurd (cc)
 tails (z ∷ b) [] x y a d s e = absurd (cc)
 tails (z ∷ b) (w ∷ c) x y a d s e = tails b c x y a d (cc) (cc)
 
-same_first : (b c : List (List ℕ)) (x y : List ℕ) (a d : List (List ℕ)) → b ++ x ∷ a ≡ c ++ y ∷ d → list_all is_silent b ≡ true → list_all is_silent c ≡ true → is_silent x ≡ false → is_silent y ≡ false → SameFirst x y b c a d
+same_first : (b c : List (List ℕ)) (x y : List ℕ) (a d : List (List ℕ)) → b ++ x ∷ a ≡ c ++ y ∷ d → list_all is_skipped_line b ≡ true → list_all is_skipped_line c ≡ true → is_skipped_line x ≡ false → is_skipped_line y ≡ false → SameFirst x y b c a d
 same_first b c x y a d e silent quiet said told = elim (compared b c x y a d e) [
   | inl (bs, xs) ↦ record { line = xs; before = bs; after = tails b c x y a d bs e }
-  | inr (inl (m, f)) ↦ absurd (true≢false (sym (silent_at b x m (ap (list_all is_silent) (sym f) ∙ quiet)) ∙ said))
-  | inr (inr (m, f)) ↦ absurd (true≢false (sym (silent_at c y m (ap (list_all is_silent) (sym f) ∙ silent)) ∙ told))
+  | inr (inl (m, f)) ↦ absurd (true≢false (sym (silent_at b x m (ap (list_all is_skipped_line) (sym f) ∙ quiet)) ∙ said))
+  | inr (inr (m, f)) ↦ absurd (true≢false (sym (silent_at c y m (ap (list_all is_skipped_line) (sym f) ∙ silent)) ∙ told))
 ]
 
 -- a word with which a line begins that says something
 said_word : (word text : List ℕ) → bytes_eq word text ≡ true → (slice_index text 0 == 99) ≡ false → (slice_index word 0 == 99) ≡ false
 said_word word text h other = ap (λ (w : List ℕ). slice_index w 0 == 99) ((bytes_eq-Decides word text).0 h) ∙ other
 
-header_words : (words : List (List ℕ)) → is_header words ≡ true → is_skipped words ≡ false
+header_words : (words : List (List ℕ)) → is_header words ≡ true → is_dimacs_skipped words ≡ false
 header_words [] h = absurd (false≢true h)
 header_words (word ∷ []) h = absurd (false≢true h)
 header_words (word ∷ (version ∷ [])) h = said_word word (codes "vsc-cert") (and_parts (bytes_eq word (codes "vsc-cert")) (bytes_eq version (codes "1")) h).0 refl
 header_words (word ∷ (version ∷ (other ∷ words))) h = absurd (false≢true h)
 
-header_said : (line : List ℕ) → is_header (words_of line) ≡ true → is_silent line ≡ false
+header_said : (line : List ℕ) → is_header (words_of line) ≡ true → is_skipped_line line ≡ false
 header_said line h = header_words (words_of line) h
 
-begin_said : (line : List ℕ) (leaf : ℕ) → begun_by (words_of line) ≡ Some leaf → is_silent line ≡ false
-begin_said line leaf h = elim (cases_Bool (is_silent line)) [
+begin_said : (line : List ℕ) (leaf : ℕ) → begun_by (words_of line) ≡ Some leaf → is_skipped_line line ≡ false
+begin_said line leaf h = elim (cases_Bool (is_skipped_line line)) [
   | inl silent ↦ absurd (true≢false (sym (ap (λ (o : Option ℕ). is_some o) h) ∙ (silent_line line silent).0))
   | inr said ↦ said
 ]
@@ -86,14 +87,14 @@ headed_lacks text behind line place cause h (told, inl k) =
     let s = same_first h.before k.before h.header k.first (lines_of behind) k.after (sym h.parts ∙ k.parts) h.silent k.silent (header_said h.header h.says) k.said in
     true≢false (sym h.says ∙ ap (λ l. is_header (words_of l)) s.line ∙ k.other)
 headed_lacks text behind line place cause h (told, inr k) =
-    true≢false (sym (silent_at h.before h.header (lines_of behind) (ap (list_all is_silent) (sym h.parts) ∙ k.silent)) ∙ header_said h.header h.says)
+    true≢false (sym (silent_at h.before h.header (lines_of behind) (ap (list_all is_skipped_line) (sym h.parts) ∙ k.silent)) ∙ header_said h.header h.says)
 
 lacks_once : (text : List ℕ) (c d : CertCause) (p q : ℕ) → LacksHeader text c p → LacksHeader text d q → (c ≡ d) × (p ≡ q)
 lacks_once text c d p q (e, inl h) (f, inl k) =
     let s = same_first h.before k.before h.first k.first h.after k.after (sym h.parts ∙ k.parts) h.silent k.silent h.said k.said in
     (e ∙ sym f, h.counted ∙ ap (λ ls. length ls + 1) s.before ∙ sym k.counted)
-lacks_once text c d p q (e, inl h) (f, inr k) = absurd (true≢false (sym (silent_at h.before h.first h.after (ap (list_all is_silent) (sym h.parts) ∙ k.silent)) ∙ h.said))
-lacks_once text c d p q (e, inr h) (f, inl k) = absurd (true≢false (sym (silent_at k.before k.first k.after (ap (list_all is_silent) (sym k.parts) ∙ h.silent)) ∙ k.said))
+lacks_once text c d p q (e, inl h) (f, inr k) = absurd (true≢false (sym (silent_at h.before h.first h.after (ap (list_all is_skipped_line) (sym h.parts) ∙ k.silent)) ∙ h.said))
+lacks_once text c d p q (e, inr h) (f, inl k) = absurd (true≢false (sym (silent_at k.before k.first k.after (ap (list_all is_skipped_line) (sym k.parts) ∙ h.silent)) ∙ k.said))
 lacks_once text c d p q (e, inr h) (f, inr k) = (e ∙ sym f, h.behind ∙ sym k.behind)
 
 -- a text is seen by its lines
@@ -161,7 +162,7 @@ end_words (word ∷ []) h = ap (λ (w : List ℕ). w ∷ []) ((bytes_eq-Decides 
 end_words (word ∷ (other ∷ words)) h = absurd (false≢true h)
 
 end_faulty : (line : List ℕ) → ends line ≡ true → line_fault [] line ≡ Some BadNumber
-end_faulty line h = ap (λ (ws : List (List ℕ)). cond (is_skipped ws) None (words_fault ws)) (end_words (words_of line) h)
+end_faulty line h = ap (λ (ws : List (List ℕ)). cond (is_dimacs_skipped ws) None (words_fault ws)) (end_words (words_of line) h)
 
 none_ends : (lines : List (List ℕ)) → IsFaultless line_fault lines → list_any ends lines ≡ false
 none_ends [] h = refl
@@ -201,9 +202,9 @@ section_clear lines section behind b h = steps_clear b.steps section.derivation 
 one_list : (lines : List (List ℕ)) (ss ts : List Section) → HaveText lines → AreSections lines ss → AreSections lines ts → ss ≡ ts
 one_list lines [] [] text h k = refl
 one_list lines [] (t ∷ ts) text h (behind, c, later) =
-    absurd (true≢false (sym (silent_at c.before c.first (c.steps ++ c.last ∷ behind) (ap (list_all is_silent) (sym c.parts) ∙ h)) ∙ begin_said c.first t.leaf c.begins))
+    absurd (true≢false (sym (silent_at c.before c.first (c.steps ++ c.last ∷ behind) (ap (list_all is_skipped_line) (sym c.parts) ∙ h)) ∙ begin_said c.first t.leaf c.begins))
 one_list lines (s ∷ ss) [] text (behind, b, later) k =
-    absurd (true≢false (sym (silent_at b.before b.first (b.steps ++ b.last ∷ behind) (ap (list_all is_silent) (sym b.parts) ∙ k)) ∙ begin_said b.first s.leaf b.begins))
+    absurd (true≢false (sym (silent_at b.before b.first (b.steps ++ b.last ∷ behind) (ap (list_all is_skipped_line) (sym b.parts) ∙ k)) ∙ begin_said b.first s.leaf b.begins))
 one_list lines (s ∷ ss) (t ∷ ts) text (rest, b, later) (others, c, further) =
     let first = same_first b.before c.before b.first c.first (b.steps ++ b.last ∷ rest) (c.steps ++ c.last ∷ others) (sym b.parts ∙ c.parts) b.silent c.silent (begin_said b.first s.leaf b.begins) (begin_said c.first t.leaf c.begins) in
     let last = same_end b.steps c.steps b.last c.last rest others first.after (none_ends b.steps (section_clear lines s rest b text)) (none_ends c.steps (section_clear lines t others c text)) b.ends c.ends in
@@ -215,10 +216,10 @@ one_list lines (s ∷ ss) (t ∷ ts) text (rest, b, later) (others, c, further) 
     λ i. record { leaf = number i; derivation = steps i } ∷ more i
 
 -- lines of sections have no fault
-closed_silent : (done lines : List (List ℕ)) → AreClosed done → list_all is_silent lines ≡ true → AreClosed (done ++ lines)
+closed_silent : (done lines : List (List ℕ)) → AreClosed done → list_all is_skipped_line lines ≡ true → AreClosed (done ++ lines)
 closed_silent done [] h silent = subst AreClosed (sym (append-nil done)) h
 closed_silent done (line ∷ lines) h silent =
-    let parts = and_parts (is_silent line) (list_all is_silent lines) silent in
+    let parts = and_parts (is_skipped_line line) (list_all is_skipped_line lines) silent in
     subst AreClosed (append_assoc done (line ∷ []) lines) (closed_silent (done ++ line ∷ []) lines (push_silent done line h parts.0) parts.1)
 
 closed_join : (done lines : List (List ℕ)) → AreClosed done → AreClosed lines → AreClosed (done ++ lines)

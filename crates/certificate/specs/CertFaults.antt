@@ -11,7 +11,7 @@ use Rattle.cube_tree.specs.TreeText.{tree_lines, SpellsTree}
 use Rattle.cube_tree.specs.declared.tree_fault.TreeCause.{TreeCause}
 use Rattle.lrat_check.specs.LratFaults.{line_fault}
 use Rattle.certificate.specs.CertCause.{of_tree}
-use Rattle.certificate.specs.CertLine.{is_silent, is_header, begun_by, is_end}
+use Rattle.certificate.specs.CertLine.{is_skipped_line, is_header, begun_by, is_end}
 use Rattle.certificate.specs.CertText.{IsHeaded}
 use Rattle.certificate.specs.declared.cert_fault.CertCause.{CertCause}
 use Rattle.certificate.specs.declared.cert_fault.CertCause.TheVariants.{Header, BadLine, BadLrat}
@@ -23,13 +23,13 @@ pub record IsNoHeader (lines : List (List ℕ)) (line : ℕ) : Type 0 where
   pub after : List (List ℕ)
   pub parts : lines ≡ before ++ first ∷ after
   pub counted : line ≡ length before + 1
-  pub silent : list_all is_silent before ≡ true
-  pub said : is_silent first ≡ false
+  pub silent : list_all is_skipped_line before ≡ true
+  pub said : is_skipped_line first ≡ false
   pub other : is_header (words_of first) ≡ false
 
 -- no line says anything
 pub record IsSilent (lines : List (List ℕ)) (line : ℕ) : Type 0 where
-  pub silent : list_all is_silent lines ≡ true
+  pub silent : list_all is_skipped_line lines ≡ true
   pub behind : line ≡ length lines + 1
 
 -- the header is missing, which is reported of the first line that says something, or of the line after the last
@@ -59,7 +59,7 @@ fault_inside line = if is_end (words_of line) then None else option_map (λ caus
 
 -- what is wrong with a line outside of sections, which may begin one
 abbrev pub fault_outside : List ℕ → Option CertCause
-fault_outside line = if is_silent line then None else if is_some (begun_by (words_of line)) then None else Some BadLine
+fault_outside line = if is_skipped_line line then None else if is_some (begun_by (words_of line)) then None else Some BadLine
 
 -- what is wrong with a line after the lines before it, after the tree
 abbrev pub section_line_fault : List (List ℕ) → List ℕ → Option CertCause

@@ -1,17 +1,17 @@
 -- What the lines of a certificate say.
 use Rattle.std.specs.Prelude.{ℕ, Bool, false, ◌&&◌, List, [], ◌∷◌, Option, None, codes, if◌then◌else◌}
 use Rattle.std.specs.Str.{bytes_eq}
+use Rattle.text_lines.specs.Kept.{is_dimacs_skipped}
 use Rattle.text_lines.specs.Numbers.{plain_number_up_to}
 use Rattle.text_lines.specs.Words.{words_of}
-use Rattle.lrat_check.specs.LratText.{is_skipped}
 
 -- the largest number of a section
 abbrev pub most_number : ℕ
 most_number = 4294967295
 
--- a line without words, or a comment, whose first word begins with `c`
-abbrev pub is_silent : List ℕ → Bool
-is_silent line = is_skipped (words_of line)
+-- a line that says nothing
+abbrev pub is_skipped_line : List ℕ → Bool
+is_skipped_line line = is_dimacs_skipped (words_of line)
 
 -- whether the words are those of the header
 abbrev pub is_header : List (List ℕ) → Bool

@@ -5,7 +5,7 @@ use Rattle.text_lines.specs.Lines.{lines_of}
 use Rattle.text_lines.specs.Words.{words_of}
 use Rattle.cube_tree.specs.TreeText.{SpellsTree}
 use Rattle.lrat_check.specs.LratText.{AreStepLines}
-use Rattle.certificate.specs.CertLine.{is_silent, is_header, begun_by, is_end}
+use Rattle.certificate.specs.CertLine.{is_skipped_line, is_header, begun_by, is_end}
 use Rattle.certificate.specs.declared.certificate.Certificate.{Certificate}
 use Rattle.certificate.specs.declared.certificate.Section.{Section}
 
@@ -15,7 +15,7 @@ pub record IsHeaded (text behind : List ℕ) (line : ℕ) : Type 0 where
   pub header : List ℕ
   pub parts : lines_of text ≡ before ++ header ∷ lines_of behind
   pub counted : line ≡ length before + 1
-  pub silent : list_all is_silent before ≡ true
+  pub silent : list_all is_skipped_line before ≡ true
   pub says : is_header (words_of header) ≡ true
 
 -- The lines begin with a section, and these are after it: a line `proof` and the leaf's number, which lines that say nothing may
@@ -26,14 +26,14 @@ pub record BeginWithSection (lines : List (List ℕ)) (section : Section) (behin
   pub steps : List (List ℕ)
   pub last : List ℕ
   pub parts : lines ≡ before ++ first ∷ (steps ++ last ∷ behind)
-  pub silent : list_all is_silent before ≡ true
+  pub silent : list_all is_skipped_line before ≡ true
   pub begins : begun_by (words_of first) ≡ Some section.leaf
   pub derivation : AreStepLines steps section.derivation
   pub ends : is_end (words_of last) ≡ true
 
 -- the lines are these sections, and other lines say nothing
 abbrev pub AreSections : List (List ℕ) → List Section → Type 0
-AreSections lines [] = list_all is_silent lines ≡ true
+AreSections lines [] = list_all is_skipped_line lines ≡ true
 AreSections lines (section ∷ sections) = (behind : List (List ℕ)) × BeginWithSection lines section behind × AreSections behind sections
 
 -- The header is first; at once after it stands the text of the tree; all other lines are the sections.

@@ -2,21 +2,10 @@
 
 ghost use Rattle.std.specs.Prelude.{◌≡◌};
 ghost use Rattle.text_lines.specs.Words.{words_of};
-ghost use Rattle.certificate.specs.CertLine.{is_silent, is_header, begun_by, is_end};
+ghost use Rattle.certificate.specs.CertLine.{is_header, begun_by, is_end};
 
-use text_lines::comments::begins_dimacs_comment;
 use text_lines::numbers::read_plain;
 use text_lines::words::{cut_word, is_word};
-
-/// Whether the line says nothing: it has no words, or is a comment.
-pub(crate) fn is_silent_line(line: &[u8]) -> bool
-    ensures { result ≡ is_silent line.now }
-{
-    match cut_word(line) {
-        None => true,
-        Some((word, _)) => begins_dimacs_comment(word),
-    }
-}
 
 /// Whether the line is the header, `vsc-cert 1`.
 pub(crate) fn is_header_line(line: &[u8]) -> bool

@@ -9,12 +9,13 @@ ghost use Rattle.certificate.specs.CertCause.{of_tree};
 ghost use Rattle.certificate.specs.CertRead.{BeginsWithTree, HasTreeFaultBehind};
 
 use crate::cert_fault::{CertCause, CertFault};
-use crate::cert_line::{is_header_line, is_silent_line};
+use crate::cert_line::is_header_line;
 use crate::certificate::Certificate;
 use crate::section_reader::read_sections;
 use cube_tree::tree_laws::other_lines_are_behind;
 use cube_tree::{Tree, TreeCause, read_tree};
 use std::alloc::Global;
+use text_lines::comments::is_dimacs_skipped_line;
 use text_lines::fault::PlacedFault;
 use text_lines::lines::cut_line;
 
@@ -31,7 +32,7 @@ fn read_header(text: &[u8]) -> Result<(&[u8], usize), CertFault>
         if is_header_line(line) {
             return Ok((after, number));
         }
-        if !is_silent_line(line) {
+        if !is_dimacs_skipped_line(line) {
             return Err(CertFault::At(CertCause::Header, number));
         }
         rest = after;
@@ -71,7 +72,7 @@ fn count_lines(tree: &Tree) -> usize
     ensures lines { result ≡ length (tree_lines tree.now) }
     ensures few { result < 2048 }
 {
-    tree.covers();
+    tree.recall_cover();
     2 * tree.leaves() as usize - 1
 }
 

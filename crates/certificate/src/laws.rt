@@ -1,4 +1,7 @@
 //! Laws of certificates: what an accepted one shows, that each is accepted or refused in one way, and when one is accepted.
+//!
+//! A law's body is empty, or calls other laws: what it says is proved in the folder of its name in `proofs/laws`, or needs no
+//! answer. Who calls it has what it says in proofs; the call does nothing when run.
 
 ghost use Rattle.std.specs.Prelude.{◌≡◌, ◌⊎◌, ℕ, ℤ, Bool, List, IsTrue};
 ghost use Rattle.std.specs.List.{AllZip};

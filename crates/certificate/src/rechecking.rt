@@ -11,9 +11,9 @@ ghost use Rattle.certificate.specs.Rechecked.{is_of, section_fault, AreRight, Is
 
 use crate::cert_fault::{CertCause, CertFault};
 use crate::certificate::{Certificate, Section};
+use cube_tree::cubes;
 use cube_tree::laws::a_cube_for_each_leaf;
-use cube_tree::{Cube, cubes};
-use dimacs::{ClauseList, Lit};
+use dimacs::{ClauseList, Cube, Lit};
 use lrat_check::checker::check;
 use lrat_check::derivation::Derivation;
 use lrat_check::refusal::Refusal;
@@ -118,8 +118,8 @@ fn first_refused<L: ClauseList>(
     Ok(None)
 }
 
-/// The literals that the sections' steps add are clauses. This says what derivations keep, and does nothing.
-fn are_clauses(sections: &[Section])
+/// Hands its caller, in proofs alone, what derivations keep: the literals that the sections' steps add are clauses. Does nothing when run.
+fn recall_clauses(sections: &[Section])
     ensures { IsTrue (are_sections_of_clauses sections.now) }
 {
     for section in sections {
@@ -142,9 +142,9 @@ pub fn recheck<L: ClauseList>(
     ensures refused { IfErr result (λ fault. IsRefusal (HasRecheckFault (L.formula clauses.now).clauses certificate.now) fault) }
 {
     a_cube_for_each_leaf();
-    certificate.tree.covers();
-    clauses.is_formula();
-    are_clauses(certificate.sections.as_slice());
+    certificate.tree.recall_cover();
+    clauses.recall_invariant();
+    recall_clauses(certificate.sections.as_slice());
     let count = certificate.tree.leaves();
     let sections = certificate.sections.as_slice();
     if let Some((cause, leaf)) = first_wrong(sections, count) {

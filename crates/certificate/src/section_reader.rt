@@ -8,13 +8,14 @@ ghost use Rattle.certificate.specs.CertText.{AreSections};
 ghost use Rattle.certificate.specs.CertRead.{AreReadUpTo, HasLratFaultBehind, HasSectionFaultBehind};
 
 use crate::cert_fault::{CertCause, CertFault};
-use crate::cert_line::{is_silent_line, read_begin};
+use crate::cert_line::read_begin;
 use crate::certificate::{Section, Sections};
 use crate::section_text::cut_section;
 use lrat_check::derivation::Derivation;
 use lrat_check::lrat_fault::LratFault;
 use lrat_check::lrat_reader::read_lrat;
 use std::alloc::Global;
+use text_lines::comments::is_dimacs_skipped_line;
 use text_lines::lines::cut_line;
 
 /// The derivation that the lines spell, which stand after `before` lines of the certificate.
@@ -56,7 +57,7 @@ fn read_half(
     while let Some((line, after)) = cut_line(rest) {
         number += 1;
         rest = after;
-        if is_silent_line(line) {
+        if is_dimacs_skipped_line(line) {
             continue;
         }
         let Some(leaf) = read_begin(line) else {

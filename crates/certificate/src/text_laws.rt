@@ -1,4 +1,7 @@
 //! Laws of a certificate's text.
+//!
+//! A law's body is empty, or calls other laws: what it says is proved in the folder of its name in `proofs/text_laws`, or needs no
+//! answer. Who calls it has what it says in proofs; the call does nothing when run.
 
 ghost use Rattle.std.specs.Prelude.{◌≡◌, ◌≤◌, ◌⊎◌, ℕ, List, length, true};
 ghost use Rattle.std.specs.List.{list_all};

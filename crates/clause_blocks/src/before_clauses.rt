@@ -15,7 +15,7 @@ pub(crate) fn push_before_clauses(
 ) -> Result<(), AllocError>
     ensures { OnOk result (clauses.new.items ≡ clauses.old.items ++ before_clauses layout.now) }
 {
-    layout.is_layout();
+    layout.recall_limits();
     for pair in layout.before() {
         clauses.push(Clause::unit(alloc, layout.order_lit(pair.0, pair.1)))?;
     }

@@ -61,7 +61,7 @@ fn push_finals(
     requires not_void { void_final layout.now k ≡ None }
     ensures { OnOk result (clauses.new.items ≡ clauses.old.items ++ clauses_at layout.now k) }
 {
-    layout.is_layout();
+    layout.recall_limits();
     let finals = layout.finals(k);
     if finals.is_empty() {
         return Ok(());
@@ -85,7 +85,7 @@ fn push_clauses_of_final(
     requires { k < length layout.now.final_values }
     ensures { OnOk result (clauses.new.items ≡ clauses.old.items ++ clauses_at layout.now k) }
 {
-    layout.is_layout();
+    layout.recall_limits();
     match layout.void_var(ReadsFromOwner::Final(k)) {
         Some(variable) => push_void(alloc, variable, clauses),
         None => push_finals(alloc, layout, k, clauses),

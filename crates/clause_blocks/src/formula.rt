@@ -85,7 +85,7 @@ pub fn formula<R: Threads + Sync>(
     ensures { IfOk result (λ formula. formula ≡ formula_of reduced.now.kept) }
 {
     let clauses = TraceClauses::of(alloc, reduced)?;
-    clauses.is_clause_list();
+    clauses.recall_limits();
     formula_is_over_its_variables();
     let made = clause_list(alloc, rt, &clauses, workers)?;
     Ok(Formula::new(clauses.layout().count(), made))

@@ -71,7 +71,7 @@ impl TraceClauses {
         ensures model { OnOk result (IsModel (value_of assignment.now) (blocks.transitivity_from (operation_count self.now) i)) }
         ensures first { IfErr result (λ found. IsFirstFalse (value_of assignment.now) (blocks.transitivity_from (operation_count self.now) i) found.clause) }
     {
-        self.is_clause_list();
+        self.recall_limits();
         for place in 0..count_transitivity_from(self.layout().operations(), i) {
             if !assignment.satisfies(self.clause_from(i, place).as_slice()) {
                 return Err(FirstFalse { clause: place + 1 });
@@ -120,7 +120,7 @@ impl ClauseList for TraceClauses {
 
     /// Transitivity is evaluated clause by clause only if the assignment does not put the operations in an order.
     fn eval(&self, assignment: &Assignment) -> Result<(), FirstFalse> {
-        self.is_clause_list();
+        self.recall_limits();
         few_clauses();
         let in_order = puts_in_order(self.layout(), assignment);
         for k in 0..self.pieces() {
@@ -133,8 +133,8 @@ impl ClauseList for TraceClauses {
         Ok(())
     }
 
-    fn is_formula(&self) {
-        self.is_clause_list();
+    fn recall_invariant(&self) {
+        self.recall_limits();
         formula_is_over_its_variables();
         clauses_are_clauses();
     }

@@ -1,4 +1,7 @@
 //! What the clauses mean: their models are the legal schedules of the trace.
+//!
+//! A law's body is empty, or calls other laws: what it says is proved in the folder of its name in `proofs/meaning`, or needs no
+//! answer. Who calls it has what it says in proofs; the call does nothing when run.
 
 ghost use Rattle.std.specs.Prelude.{◌≡◌, ◌↔◌, ℕ, Bool, List};
 ghost use Rattle.dimacs.specs.Models.{IsModel};

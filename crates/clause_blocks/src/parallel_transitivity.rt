@@ -48,7 +48,7 @@ fn cycles_from<R: Threads + Sync>(
     requires { i < operation_count layout.now }
     ensures { IfOk result (λ cycles. cycles.items ≡ map (cycle_at (operation_count layout.now) i) (filter (is_above (operation_count layout.now) i) (range_with_len 0 (operation_count layout.now * operation_count layout.now)))) }
 {
-    layout.is_layout();
+    layout.recall_limits();
     let n = layout.operations();
     (0..n * n)
         .into_par_iter()

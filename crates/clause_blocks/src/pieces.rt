@@ -68,13 +68,13 @@ impl Pieces {
         })
     }
 
-    /// The trace is one, with at most 160 operations. This says what the pieces keep, and does nothing.
+    /// Hands its caller, in proofs alone, what the pieces keep: their trace is one, with at most 160 operations. Does nothing when run.
     #[inline]
-    pub(crate) fn are_of_trace(&self)
+    pub(crate) fn recall_limits(&self)
         ensures trace { IsTrace self.now }
         ensures few { operation_count self.now ≤ 160 }
     {
-        self.layout.is_layout();
+        self.layout.recall_limits();
     }
 
     /// The variables of the trace.
@@ -98,7 +98,7 @@ impl Pieces {
         ensures number { result ≡ operation_count self.now + 1 }
         ensures within { result < length (list.pieces self.now) }
     {
-        self.are_of_trace();
+        self.recall_limits();
         self.layout().operations() + 1
     }
 
@@ -107,7 +107,7 @@ impl Pieces {
         ensures number { result ≡ operation_count self.now + 2 }
         ensures within { result < length (list.pieces self.now) }
     {
-        self.are_of_trace();
+        self.recall_limits();
         self.layout().operations() + 2
     }
 
@@ -115,7 +115,7 @@ impl Pieces {
     pub(crate) fn count(&self) -> usize
         ensures { result ≡ length (list.pieces self.now) }
     {
-        self.are_of_trace();
+        self.recall_limits();
         self.layout().operations() + 4
     }
 
@@ -145,7 +145,7 @@ impl Pieces {
         requires { k < length (list.pieces self.now) }
         ensures { result ≡ length (slice_index_or (list.pieces self.now) k []) }
     {
-        self.are_of_trace();
+        self.recall_limits();
         match self.piece(k) {
             Piece::Stored(clauses) => clauses.len(),
             Piece::TransitivityFrom(i) => count_transitivity_from(self.layout().operations(), i),

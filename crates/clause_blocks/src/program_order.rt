@@ -15,7 +15,7 @@ pub(crate) fn push_program_order(
 ) -> Result<(), AllocError>
     ensures { OnOk result (clauses.new.items ≡ clauses.old.items ++ program_order layout.now) }
 {
-    layout.is_layout();
+    layout.recall_limits();
     for i in 0..layout.operations() {
         if layout.in_one_process(i, i + 1) {
             clauses.push(Clause::unit(alloc, layout.order_lit(i, i + 1)))?;

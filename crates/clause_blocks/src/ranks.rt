@@ -23,7 +23,7 @@ fn stands_before(layout: &Layout, assignment: &Assignment, i: usize, j: usize) -
 /// The number of operations before each one, as the assignment says. Wrong ranks would cost time and no more, since each
 /// pair is compared with them.
 fn ranks(layout: &Layout, assignment: &Assignment) -> [u8; 160] {
-    layout.is_layout();
+    layout.recall_limits();
     let mut ranks = [0u8; 160];
     for i in 0..layout.operations() {
         for j in i + 1..layout.operations() {
@@ -43,7 +43,7 @@ fn agrees_from(layout: &Layout, assignment: &Assignment, ranks: &[u8; 160], i: u
     requires { i < operation_count layout.now }
     ensures { IsTrue result → IsRankedFrom (value_of assignment.now) (operation_count layout.now) (slice_index ranks.now) i }
 {
-    layout.is_layout();
+    layout.recall_limits();
     for j in i + 1..layout.operations() {
         if stands_before(layout, assignment, i, j) != (ranks[i] < ranks[j]) {
             return false;

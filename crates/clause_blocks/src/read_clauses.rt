@@ -32,7 +32,7 @@ fn others_after(alloc: Global, layout: &Layout, r: usize) -> Result<Vec<Lit>, Al
     requires { r < operation_count layout.now }
     ensures { IfOk result (λ after. after.items ≡ map (stands_before layout.now r) (other_writers layout.now r)) }
 {
-    layout.is_layout();
+    layout.recall_limits();
     let others = layout.other_writers(r);
     let mut after = Vec::with_capacity(alloc, others.len())?;
     for v in others {
@@ -74,7 +74,7 @@ fn push_reads_writer(
     requires variable { FitsFormula variable }
     ensures { OnOk result (clauses.new.items ≡ clauses.old.items ++ blocks.reads_from layout.now r variable (Candidate.Writer w)) }
 {
-    layout.is_layout();
+    layout.recall_limits();
     let unchosen = Lit::positive(variable).negated();
     clauses.push(Clause::binary(alloc, unchosen, layout.order_lit(w, r)))?;
     let writers = layout.other_writers(r);
@@ -120,7 +120,7 @@ fn push_choices(
     requires { IsSome (read_at layout.now r) }
     ensures { OnOk result (clauses.new.items ≡ clauses.old.items ++ (map (λ (c : ReadsFromChoice). pos c.variable) (choices layout.now r) ∷ flat_map (λ (c : ReadsFromChoice). blocks.reads_from layout.now r c.variable c.candidate) (choices layout.now r))) }
 {
-    layout.is_layout();
+    layout.recall_limits();
     let choices = layout.choices(r);
     let literals = literals_of(alloc, choices)?;
     clauses.push(Clause::from_slice(alloc, literals.as_slice())?)?;
@@ -141,7 +141,7 @@ fn push_clauses_of_read(
     requires { IsSome (read_at layout.now r) }
     ensures { OnOk result (clauses.new.items ≡ clauses.old.items ++ blocks.clauses_of_read layout.now r) }
 {
-    layout.is_layout();
+    layout.recall_limits();
     match layout.void_var(ReadsFromOwner::Read(r)) {
         Some(variable) => push_void(alloc, variable, clauses),
         None => push_choices(alloc, layout, r, clauses),

@@ -39,7 +39,7 @@ impl Model for TraceClauses {
 fn starts_of(alloc: Global, pieces: &Pieces) -> Result<Vec<u32>, AllocError>
     ensures { IfOk result (λ starts. starts.items ≡ map (clauses_before pieces.now) (range_with_len 0 (length (list.pieces pieces.now) + 1))) }
 {
-    pieces.are_of_trace();
+    pieces.recall_limits();
     few_clauses();
     let mut starts = Vec::with_capacity(alloc, pieces.count() + 1)?;
     let mut before = 0;
@@ -57,7 +57,7 @@ impl TraceClauses {
         ensures { IfOk result (λ clauses. clauses ≡ reduced.now.kept) }
     {
         let pieces = Pieces::of(alloc, reduced)?;
-        pieces.are_of_trace();
+        pieces.recall_limits();
         let starts = starts_of(alloc, &pieces)?;
         let triples = TripleTable::of(alloc, pieces.layout().operations())?;
         Ok(TraceClauses {
@@ -67,13 +67,14 @@ impl TraceClauses {
         })
     }
 
-    /// Its trace is one, with at most 160 operations. This says what each clause list keeps, and does nothing.
+    /// Hands its caller, in proofs alone, what each clause list keeps: its trace is one, with at most 160 operations. Does nothing when
+    /// run.
     #[inline]
-    pub fn is_clause_list(&self)
+    pub fn recall_limits(&self)
         ensures trace { IsTrace self.now }
         ensures few { operation_count self.now ≤ 160 }
     {
-        self.pieces.are_of_trace();
+        self.pieces.recall_limits();
     }
 
     /// The variables of the trace.
@@ -143,7 +144,7 @@ impl TraceClauses {
         ensures above { clauses_before self.now result ≤ place }
         ensures below { place < clauses_before self.now (result + 1) }
     {
-        self.is_clause_list();
+        self.recall_limits();
         few_clauses();
         reached(self.starts.as_slice(), 0, self.pieces(), place as u32)
     }
@@ -153,7 +154,7 @@ impl TraceClauses {
         ensures count { result ≡ length (list.clauses_of self.now) }
         ensures few { result ≤ 16777216 }
     {
-        self.is_clause_list();
+        self.recall_limits();
         few_clauses();
         self.start(self.pieces())
     }

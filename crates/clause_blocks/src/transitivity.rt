@@ -62,7 +62,7 @@ pub(crate) fn push_transitivity_from(
 ) -> Result<(), AllocError>
     ensures { OnOk result (clauses.new.items ≡ clauses.old.items ++ blocks.transitivity_from (operation_count layout.now) i) }
 {
-    layout.is_layout();
+    layout.recall_limits();
     let operations = layout.operations();
     if operations <= i {
         return Ok(());
@@ -109,7 +109,7 @@ pub(crate) fn put_transitivity_from<W: Sink>(
     ensures front { OnErr result (AppendsFront (W.written sink.old) (W.written sink.new) (writer.old ++ flat_map clause_line (blocks.transitivity_from (operation_count layout.now) i))) }
     ensures failed { OnErr result (W.failures sink.new ≡ W.failures sink.old + 1) }
 {
-    layout.is_layout();
+    layout.recall_limits();
     let operations = layout.operations();
     if operations <= i {
         return Ok(());

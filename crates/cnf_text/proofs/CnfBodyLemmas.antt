@@ -114,13 +114,6 @@ pub record IsWithinLine (h : Header) (number : ℕ) (line : List (List ℕ)) (cl
   pub parts : line ≡ done ++ rest
   pub taken : (words : Words) → AreClauses h words clauses begun → AreClauses h (words ++ words_of_line (number, done)) new_clauses new_begun
 
-pub at_line_start : (h : Header) (number : ℕ) (line : List (List ℕ)) (clauses : List (List ℤ)) (begun : List ℤ) → IsWithinLine h number line clauses begun line clauses begun
-at_line_start h number line clauses begun = record {
-  done = [];
-  parts = refl;
-  taken = λ words so_far. subst (λ (w : Words). AreClauses h w clauses begun) (sym (append-nil words)) so_far;
-}
-
 place_more : (number : ℕ) (done : List (List ℕ)) (word : List ℕ) (words : Words) → (words ++ words_of_line (number, done)) ++ (number, word) ∷ [] ≡ words ++ words_of_line (number, done ++ word ∷ [])
 place_more number done word words = append_assoc words (words_of_line (number, done)) ((number, word) ∷ []) ∙ ap (λ w. words ++ w) (sym (map_push (λ (w : List ℕ). (number, w)) done word))
 
@@ -132,12 +125,6 @@ next_in_line h number line clauses begun rest between between_begun word after n
   taken = λ words so_far. subst (λ (w : Words). AreClauses h w new_clauses new_begun) (place_more number within.done word words)
       (take_more h (words ++ words_of_line (number, within.done)) between between_begun number word new_clauses new_begun (within.taken words so_far) takes);
 }
-
-pub line_taken : (h : Header) (number : ℕ) (line : List ℕ) (clauses : List (List ℤ)) (begun : List ℤ) (rest : List (List ℕ)) (new_clauses : List (List ℤ)) (new_begun : List ℤ) →
-    IsWithinLine h number (words_of line) clauses begun rest new_clauses new_begun → rest ≡ [] → TakesLine h number line clauses begun new_clauses new_begun
-line_taken h number line clauses begun rest new_clauses new_begun within none words so_far =
-    let whole : within.done ≡ words_of line = sym (append-nil within.done) ∙ ap (λ r. within.done ++ r) (sym none) ∙ sym within.parts in
-    subst (λ (d : List (List ℕ)). AreClauses h (words ++ words_of_line (number, d)) new_clauses new_begun) whole (within.taken words so_far)
 
 -- a refusal of the next word is one of the line
 pub line_refused : (h : Header) (number : ℕ) (line : List ℕ) (clauses : List (List ℤ)) (begun : List ℤ) (rest : List (List ℕ)) (between : List (List ℤ)) (between_begun : List ℤ) (word : List ℕ) (after : List (List ℕ)) (fault : PlacedFault CnfCause) →

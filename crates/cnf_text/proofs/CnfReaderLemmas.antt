@@ -56,9 +56,6 @@ module _ (h : Header) (first : ℕ) (all : List (List ℕ)) (number : ℕ) (line
 pub whole_here : (h : Header) (words : Words) (clauses : List (List ℤ)) (begun : List ℤ) → AreClauses h words clauses begun → whole_fault h words ≡ fault_at_end h clauses begun
 whole_here h words clauses begun so_far = λ i. if not (so_far.last i) then Some Unended else if nat_lt (so_far.counted i) h.clauses then Some CountMismatch else None
 
-pub whole_refused : (h : Header) (words : Words) (clauses : List (List ℤ)) (begun : List ℤ) (end line : ℕ) (cause : CnfCause) → AreClauses h words clauses begun → Some cause ≡ fault_at_end h clauses begun → line ≡ end → HasBodyFault h words end cause line
-whole_refused h words clauses begun end line cause so_far e stands = inr (record { clear = so_far.clear; faulty = whole_here h words clauses begun so_far ∙ sym e; stands = stands })
-
 nothing_begun : (begun : List ℤ) → is_empty begun ≡ true → begun ≡ []
 nothing_begun [] e = refl
 nothing_begun (x ∷ begun) e = absurd (grind (arith, nat_tests))

@@ -12,6 +12,7 @@ use Rattle.std.proofs.lemmas.Fmt.{decimal_is_IsNumeral}
 use Rattle.std.proofs.lemmas.List.{map-append}
 use Rattle.std.proofs.lemmas.List.Folds.{list_any-append}
 use Rattle.std.proofs.lemmas.List.Concat.{flat_map-cons}
+use Rattle.text_lines.specs.Kept.{is_dimacs_skipped}
 use Rattle.text_lines.specs.Lines.{lines_of, is_line_feed}
 use Rattle.text_lines.specs.Words.{words_of, is_blank, is_empty}
 use Rattle.text_lines.specs.Numbers.{is_digits, has_minus, digits_after_sign, digits_up_to, solver_number}
@@ -19,7 +20,7 @@ use Rattle.text_lines.proofs.LineLemmas.{line_ended, word_ended, one_word}
 use Rattle.text_lines.proofs.PlainLemmas.{own}
 use Rattle.text_lines.proofs.SolverLemmas.{chosen}
 use Rattle.text_lines.proofs.DigitLemmas.{digit_no_feed, digit_no_blank, none_in_digits}
-use Rattle.cnf_text.specs.CnfLines.{begins_with, is_end, is_silent, said_from, said_lines, words_of_line, placed_words}
+use Rattle.cnf_text.specs.CnfLines.{begins_with, is_end, said_from, said_lines, words_of_line, placed_words}
 use Rattle.cnf_text.specs.CnfReading.{header_of, header_of_counts, ended, SpellsCnf}
 use Rattle.dimacs.specs.CnfText.{literal_text, clause_line, cnf_text}
 use Rattle.dimacs.specs.Formula.{FormulaValue, is_formula}
@@ -40,6 +41,11 @@ value_of_decimal n small = (decimal_is_IsNumeral n small).1
 
 not_empty : {X : Type 0} (xs : List X) → 0 < length xs → is_empty xs ≡ false
 not_empty xs l = grind (arith, nat_tests)
+
+-- words that begin no comment are not skipped
+not_skipped : (words : List (List ℕ)) → is_empty words ≡ false → begins_with 99 words ≡ false → is_dimacs_skipped words ≡ false
+not_skipped [] some plain = absurd (cc)
+not_skipped (word ∷ words) some plain = plain
 
 are_digits : (n : ℕ) → n < 2 ^ 64 → is_digits (decimal n) ≡ true
 are_digits n small = and_from _ _ (ap not (not_empty (decimal n) (some_digit n small))) (digits_of n small)
@@ -126,10 +132,10 @@ module _ (variables : ℕ) (few : variables ≤ most_variable) where
   some_word : (literals : List ℤ) → is_empty (words_of_clause literals) ≡ false
   some_word literals = not_empty (words_of_clause literals) (omega (arith, length-append (map signed_decimal literals) (codes "0" ∷ [])))
 
-  clause_says : (literals : List ℤ) → is_clause_up_to variables literals ≡ true → (is_end (line_of_clause literals) ≡ false) × (is_silent (words_of (line_of_clause literals)) ≡ false)
+  clause_says : (literals : List ℤ) → is_clause_up_to variables literals ≡ true → (is_end (line_of_clause literals) ≡ false) × (is_dimacs_skipped (words_of (line_of_clause literals)) ≡ false)
   clause_says literals h = (
     ap (begins_with 37) (clause_words literals h) ∙ clause_begins 37 (below_digits 37 (omega arith)) refl refl literals h,
-    ap is_silent (clause_words literals h) ∙ or_from (is_empty (words_of_clause literals)) (begins_with 99 (words_of_clause literals)) (some_word literals) (clause_begins 99 (above_digits 99 (omega arith)) refl refl literals h),
+    ap is_dimacs_skipped (clause_words literals h) ∙ not_skipped (words_of_clause literals) (some_word literals) (clause_begins 99 (above_digits 99 (omega arith)) refl refl literals h),
   )
 
   clause_numbers : (n : ℕ) (literals : List ℤ) → is_clause_up_to variables literals ≡ true → map number_of (words_of_line (n, words_of_clause literals)) ≡ map Some (ended literals)
@@ -215,7 +221,7 @@ module _ (f : FormulaValue) (formula : is_formula f ≡ true) (few_variables : f
   said : said_lines (cnf_text f) ≡ (1, head_words f) ∷ said_clauses f.variables few_variables 2 f.clauses
   said =
       ap (said_from 1) text_lines
-      ∙ more_said 1 (head f) (map line_of_clause f.clauses) (ap (begins_with 37) head_read) (ap is_silent head_read ∙ or_from (is_empty (head_words f)) (begins_with 99 (head_words f)) (not_empty (head_words f) (omega arith)) refl)
+      ∙ more_said 1 (head f) (map line_of_clause f.clauses) (ap (begins_with 37) head_read) (ap is_dimacs_skipped head_read)
       ∙ (λ i. (1, head_read i) ∷ lines_said f.variables few_variables 2 f.clauses formula i)
 
   pub written_spells : SpellsCnf (cnf_text f) f

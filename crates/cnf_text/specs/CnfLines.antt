@@ -1,8 +1,9 @@
 -- The lines of a formula's text that say something, and their words.
-use Rattle.std.specs.Prelude.{ℕ, ◌+◌, Bool, false, not, List, [], ◌∷◌, length, map, ◌==◌, ◌||◌, slice_index}
+use Rattle.std.specs.Prelude.{ℕ, ◌+◌, Bool, false, not, List, [], ◌∷◌, length, map, ◌==◌, slice_index}
 use Rattle.std.specs.List.{filter, flat_map, before_first}
+use Rattle.text_lines.specs.Kept.{is_dimacs_skipped}
 use Rattle.text_lines.specs.Lines.{lines_of}
-use Rattle.text_lines.specs.Words.{words_of, is_empty}
+use Rattle.text_lines.specs.Words.{words_of}
 
 -- the first of the words begins with this byte
 abbrev pub begins_with : ℕ → List (List ℕ) → Bool
@@ -13,10 +14,6 @@ begins_with byte (word ∷ words) = slice_index word 0 == byte
 abbrev pub is_end : List ℕ → Bool
 is_end line = begins_with 37 (words_of line)
 
--- a line without words, or a comment, whose first byte that is no blank is `c`
-abbrev pub is_silent : List (List ℕ) → Bool
-is_silent words = is_empty words || begins_with 99 words
-
 -- each line as its number and its words, where the first has this number
 abbrev pub numbered : ℕ → List (List ℕ) → List (ℕ × List (List ℕ))
 numbered number [] = []
@@ -24,7 +21,7 @@ numbered number (line ∷ lines) = (number, words_of line) ∷ numbered (number 
 
 -- of lines of which the first has this number, those before the end that are not skipped
 abbrev pub said_from : ℕ → List (List ℕ) → List (ℕ × List (List ℕ))
-said_from number lines = filter (λ line. not (is_silent line.1)) (numbered number (before_first is_end lines))
+said_from number lines = filter (λ line. not (is_dimacs_skipped line.1)) (numbered number (before_first is_end lines))
 
 -- the number of the line at which such lines end: of the first whose first word begins with `%`, or else of the one after the last
 abbrev pub end_from : ℕ → List (List ℕ) → ℕ

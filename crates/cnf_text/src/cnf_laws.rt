@@ -1,4 +1,8 @@
 //! Laws of a formula's text.
+//!
+//! A law's body is empty, or calls other laws: what it says is proved in the folder of its name in `proofs/cnf_laws`, or needs no
+//! answer. Who calls it has what it says in proofs; the call does nothing when run.
+
 ghost use Rattle.std.specs.Prelude.{◌≡◌, ◌≤◌, ◌⊎◌, ℕ, List, length, true};
 ghost use Rattle.cnf_text.specs.declared.cnf_fault.CnfCause.{CnfCause};
 ghost use Rattle.cnf_text.specs.CnfReading.{SpellsCnf, HasCnfFault};

@@ -3,8 +3,9 @@
 ghost use Rattle.std.specs.Prelude.{◌≡◌, ◌<◌, ◌≤◌, ◌+◌, ◌^◌, ◌==◌, [], ◌∷◌, length, slice_index, MatchResult};
 ghost use Rattle.text_lines.specs.Lines.{lines_of};
 ghost use Rattle.text_lines.specs.Words.{words_of};
-ghost use Rattle.cnf_text.specs.CnfLines.{is_end, is_silent, said_from, end_from};
+ghost use Rattle.cnf_text.specs.CnfLines.{is_end, said_from, end_from};
 
+use text_lines::comments::is_dimacs_skipped_line;
 use text_lines::lines::cut_line;
 use text_lines::words::cut_word;
 
@@ -37,16 +38,6 @@ fn is_end_line(line: &[u8]) -> bool
     }
 }
 
-/// Whether the line is skipped.
-fn is_silent_line(line: &[u8]) -> bool
-    ensures { result ≡ is_silent (words_of line.now) }
-{
-    match cut_word(line) {
-        Some((word, _)) => begins_with_byte(word, b'c'),
-        None => true,
-    }
-}
-
 /// The next line that says something, where the first one of the text has this number; or the number of the line at
 /// which the text ends.
 pub(crate) fn next_said(text: &[u8], first: usize) -> Result<ContentLine<'_>, usize>
@@ -63,7 +54,7 @@ pub(crate) fn next_said(text: &[u8], first: usize) -> Result<ContentLine<'_>, us
         if is_end_line(line) {
             return Err(number);
         }
-        if !is_silent_line(line) {
+        if !is_dimacs_skipped_line(line) {
             return Ok(ContentLine {
                 line,
                 number,

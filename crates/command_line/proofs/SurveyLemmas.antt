@@ -8,7 +8,7 @@ use Rattle.command_line.proofs.FoundLemmas.{EntersAs, reads}
 use Rattle.command_line.proofs.GivenLemmas.{AllFit}
 
 survey_fits : AllFit (passes survey_built.rules) survey_built.rules
-survey_fits = (fits survey_built.rules _ refl refl refl refl, (fits survey_built.rules _ refl refl refl refl, (fits survey_built.rules _ refl refl refl refl, (fits survey_built.rules _ refl refl refl refl, (fits survey_built.rules _ refl refl refl refl, (fits survey_built.rules _ refl refl refl refl, (fits survey_built.rules _ refl refl refl refl, (fits survey_built.rules _ refl refl refl refl, (fits survey_built.rules _ refl refl refl refl, tt)))))))))
+survey_fits = (fits survey_built.rules _ refl refl refl refl, (fits survey_built.rules _ refl refl refl refl, (fits survey_built.rules _ refl refl refl refl, (fits survey_built.rules _ refl refl refl refl, (fits survey_built.rules _ refl refl refl refl, (fits survey_built.rules _ refl refl refl refl, (fits survey_built.rules _ refl refl refl refl, (fits survey_built.rules _ refl refl refl refl, (fits survey_built.rules _ refl refl refl refl, (fits survey_built.rules _ refl refl refl refl, tt))))))))))
 
 pub survey_reads : (words : List Text) (found : Found) → EntersAs words (codes "survey") found → (id : Text) → is_sure survey_built.rules id ≡ true
     → Reads survey_built.rules id (rows_of found)

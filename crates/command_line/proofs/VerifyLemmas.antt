@@ -8,7 +8,7 @@ use Rattle.command_line.proofs.FoundLemmas.{EntersAs, reads}
 use Rattle.command_line.proofs.GivenLemmas.{AllFit}
 
 verify_fits : AllFit (passes verify_built.rules) verify_built.rules
-verify_fits = (fits verify_built.rules _ refl refl refl refl, (fits verify_built.rules _ refl refl refl refl, (fits verify_built.rules _ refl refl refl refl, (fits verify_built.rules _ refl refl refl refl, (fits verify_built.rules _ refl refl refl refl, (fits verify_built.rules _ refl refl refl refl, (fits verify_built.rules _ refl refl refl refl, (fits verify_built.rules _ refl refl refl refl, (fits verify_built.rules _ refl refl refl refl, tt)))))))))
+verify_fits = (fits verify_built.rules _ refl refl refl refl, (fits verify_built.rules _ refl refl refl refl, (fits verify_built.rules _ refl refl refl refl, (fits verify_built.rules _ refl refl refl refl, (fits verify_built.rules _ refl refl refl refl, (fits verify_built.rules _ refl refl refl refl, (fits verify_built.rules _ refl refl refl refl, (fits verify_built.rules _ refl refl refl refl, (fits verify_built.rules _ refl refl refl refl, (fits verify_built.rules _ refl refl refl refl, tt))))))))))
 
 pub verify_reads : (words : List Text) (found : Found) → EntersAs words (codes "verify") found → (id : Text) → is_sure verify_built.rules id ≡ true
     → Reads verify_built.rules id (rows_of found)

@@ -74,10 +74,14 @@ rounds_rule = number_rule (codes "rounds") (codes "1") 1 4
 abbrev pub progress_rule : Rule
 progress_rule = flag_rule (codes "progress") (codes "progress")
 
--- verify TRACE [--cert FILE] [--workers N] [--split N] [--budget N] [--rounds N] [--progress]
+-- --picture FILE
+abbrev pub picture_rule : Rule
+picture_rule = optional_path (codes "picture")
+
+-- verify TRACE [--cert FILE] [--workers N] [--split N] [--budget N] [--rounds N] [--progress] [--picture FILE]
 abbrev pub verify_app : App
 verify_app =
-    with_rule (with_rule (with_rule (with_rule (with_rule (with_rule (with_rule (new_app (codes "verify")) (required_path (codes "trace"))) cert_rule) workers_rule) split_rule) budget_rule) rounds_rule) progress_rule
+    with_rule (with_rule (with_rule (with_rule (with_rule (with_rule (with_rule (with_rule (new_app (codes "verify")) (required_path (codes "trace"))) cert_rule) workers_rule) split_rule) budget_rule) rounds_rule) progress_rule) picture_rule
 
 -- judge TRACE SCHEDULE
 abbrev pub judge_app : App
@@ -123,10 +127,10 @@ names_rule = optional_path (codes "names")
 abbrev pub steps_rule : Rule
 steps_rule = number_rule (codes "budget") (codes "1000000000") 0 1000000000
 
--- survey TRACE [--cert FILE] [--names FILE] [--part FILE] [--budget N] [--workers N] [--progress]
+-- survey TRACE [--cert FILE] [--names FILE] [--part FILE] [--budget N] [--workers N] [--progress] [--picture FILE]
 abbrev pub survey_app : App
 survey_app =
-    with_rule (with_rule (with_rule (with_rule (with_rule (with_rule (with_rule (new_app (codes "survey")) (required_path (codes "trace"))) cert_rule) names_rule) part_rule) steps_rule) workers_rule) progress_rule
+    with_rule (with_rule (with_rule (with_rule (with_rule (with_rule (with_rule (with_rule (new_app (codes "survey")) (required_path (codes "trace"))) cert_rule) names_rule) part_rule) steps_rule) workers_rule) progress_rule) picture_rule
 
 -- refusals
 abbrev pub refusals_app : App
@@ -233,10 +237,11 @@ AsksFor command given (Verify trace cert numbers progress) = AsksToVerify comman
 AsksFor command given (Survey trace files numbers progress) = AsksToSurvey command given trace.now files numbers progress
 AsksFor command given Refusals = command ≡ Some (codes "refusals")
 
--- it asks for the line, and for an explanation of the answer or for none
+-- it asks for the line, for an explanation of the answer or for none, and for a picture in a file or for none
 pub record AsksWith (command : Option Text) (given : Text → Option Text) (asked : CommandLine) : Type 0 where
   pub line : AsksFor command given asked.line
   pub explain_text : given (codes "explain") ≡ Some (bool_text asked.explains)
+  pub picture_path : given (codes "picture") ≡ option_map (λ path. path.now) asked.picture
 
 -- the words ask for the line, with an explanation or without
 abbrev pub Asks : List Text → CommandLine → Type 0

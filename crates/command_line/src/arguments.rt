@@ -4,7 +4,7 @@ ghost use Rattle.std.specs.Prelude.{◌≡◌, IsSome, Some, codes, false, optio
 ghost use Rattle.clap.specs.Values.{bool_text};
 ghost use Rattle.clap.specs.Words.{first_value, found_of, rule_of};
 ghost use Rattle.command_line.specs.Arguments.{HasFlag};
-ghost use Rattle.command_line.specs.CommandLine.{flag_rule, optional_path, progress_rule, required_path};
+ghost use Rattle.command_line.specs.CommandLine.{flag_rule, optional_path, picture_rule, progress_rule, required_path};
 
 use clap::{Arg, ArgAction, ArgMatches};
 use std::alloc::Global;
@@ -70,6 +70,19 @@ pub fn progress_argument<'a>(alloc: Global) -> Arg<'a>
         "progress",
         "progress",
         "Says on standard error how far the search is",
+    )
+}
+
+/// `--picture FILE`.
+pub fn picture_argument<'a>(alloc: Global) -> Arg<'a>
+    ensures rule { rule_of result ≡ picture_rule }
+    ensures local { result.global ≡ false }
+{
+    optional_path_argument(
+        alloc,
+        "picture",
+        "FILE",
+        "Draws the schedule, or a few operations that contradict each other, into FILE, as SVG",
     )
 }
 

@@ -6,7 +6,7 @@ ghost use Rattle.clap.specs.declared.builder.command.Command.TheViews.{out-Comma
 ghost use Rattle.command_line.specs.CommandLine.{AsksWith, cnf_app};
 ghost use Rattle.command_line.specs.Arguments.{HasFlag, HasWorkers};
 
-use crate::arguments::{flag_of, text_of, trace_argument};
+use crate::arguments::{flag_of, optional_text_of, text_of, trace_argument};
 use crate::building::command_of_two;
 use crate::line::{CommandLine, Line};
 use crate::numbers::{workers_argument, workers_of};
@@ -55,5 +55,6 @@ pub fn cnf_line<'a>(matches: &ArgMatches<'a>) -> CommandLine<'a>
     CommandLine {
         line,
         explains: flag_of(matches, "explain"),
+        picture: optional_text_of(matches, "picture"),
     }
 }

@@ -6,7 +6,7 @@ ghost use Rattle.clap.specs.declared.builder.command.Command.TheViews.{out-Comma
 ghost use Rattle.command_line.specs.Arguments.{HasFlag};
 ghost use Rattle.command_line.specs.CommandLine.{AsksWith, decode_app};
 
-use crate::arguments::{flag_of, path_argument, text_of, trace_argument};
+use crate::arguments::{flag_of, optional_text_of, path_argument, text_of, trace_argument};
 use crate::building::command_of_two;
 use crate::line::{CommandLine, Line};
 use clap::{ArgMatches, Command};
@@ -59,5 +59,6 @@ pub fn decode_line<'a>(matches: &ArgMatches<'a>) -> CommandLine<'a>
     CommandLine {
         line,
         explains: flag_of(matches, "explain"),
+        picture: optional_text_of(matches, "picture"),
     }
 }

@@ -113,6 +113,8 @@ pub struct CommandLine<'a> {
     pub line: Line<'a>,
     /// Whether it asks for an explanation of its answer or its refusal.
     pub explains: bool,
+    /// The path of the file that takes a picture, if one was given. Only `verify` and `survey` have that option.
+    pub picture: Option<&'a str>,
 }
 
 // What `clap` makes of the words.

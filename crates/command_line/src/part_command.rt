@@ -6,7 +6,9 @@ ghost use Rattle.clap.specs.declared.builder.command.Command.TheViews.{out-Comma
 ghost use Rattle.command_line.specs.Arguments.{HasFlag};
 ghost use Rattle.command_line.specs.CommandLine.{AsksWith, part_app, show_names_rule};
 
-use crate::arguments::{flag_argument, flag_of, path_argument, text_of, trace_argument};
+use crate::arguments::{
+    flag_argument, flag_of, optional_text_of, path_argument, text_of, trace_argument,
+};
 use crate::building::command_of_three;
 use crate::line::{CommandLine, Line};
 use clap::{Arg, ArgMatches, Command};
@@ -81,5 +83,6 @@ pub fn part_line<'a>(matches: &ArgMatches<'a>) -> CommandLine<'a>
     CommandLine {
         line,
         explains: flag_of(matches, "explain"),
+        picture: optional_text_of(matches, "picture"),
     }
 }

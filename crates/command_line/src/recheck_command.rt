@@ -79,5 +79,6 @@ pub fn recheck_line<'a>(matches: &ArgMatches<'a>) -> CommandLine<'a>
     CommandLine {
         line,
         explains: flag_of(matches, "explain"),
+        picture: optional_text_of(matches, "picture"),
     }
 }

@@ -6,7 +6,7 @@ ghost use Rattle.clap.specs.declared.builder.command.Command.TheViews.{out-Comma
 ghost use Rattle.command_line.specs.Arguments.{HasFlag};
 ghost use Rattle.command_line.specs.CommandLine.{AsksWith, refusals_app};
 
-use crate::arguments::flag_of;
+use crate::arguments::{flag_of, optional_text_of};
 use crate::line::{CommandLine, Line};
 use clap::{ArgMatches, Command};
 use std::alloc::{AllocError, Global};
@@ -44,5 +44,6 @@ pub fn refusals_line<'a>(matches: &ArgMatches<'a>) -> CommandLine<'a>
     CommandLine {
         line: Line::Refusals,
         explains: flag_of(matches, "explain"),
+        picture: optional_text_of(matches, "picture"),
     }
 }

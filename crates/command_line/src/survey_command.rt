@@ -1,4 +1,5 @@
-//! The command `survey TRACE [--cert FILE] [--names FILE] [--part FILE] [--budget N] [--workers N] [--progress]`.
+//! The command `survey TRACE [--cert FILE] [--names FILE] [--part FILE] [--budget N] [--workers N] [--progress]
+//! [--picture FILE]`.
 
 ghost use Rattle.std.specs.Prelude.{◌≡◌, IfOk, IsSome, Some, codes, false, option_map};
 ghost use Rattle.clap.specs.Words.{app_of, first_value, found_of, rule_of};
@@ -7,7 +8,8 @@ ghost use Rattle.command_line.specs.Arguments.{HasFlag, HasNumber, HasWorkers};
 ghost use Rattle.command_line.specs.CommandLine.{AsksWith, cert_rule, names_rule, part_rule, survey_app};
 
 use crate::arguments::{
-    flag_of, optional_path_argument, optional_text_of, progress_argument, text_of, trace_argument,
+    flag_of, optional_path_argument, optional_text_of, picture_argument, progress_argument,
+    text_of, trace_argument,
 };
 use crate::building::{command_of_three, with_two};
 use crate::line::{CommandLine, Line, SurveyFiles, SurveyNumbers};
@@ -26,7 +28,8 @@ const EXAMPLE: &str =
     INCONSISTENT cubes=M alone, if no core was found and the search of the whole trace refuted it;
     UNKNOWN placed=N undecided=M: neither was shown, and this is how far the survey came.
 What the survey finds is not trusted: a schedule is judged, and a part refuted as 'vsc verify' does it. The
-files are made or emptied before TRACE is opened, and stay empty unless the answer is INCONSISTENT.
+files are made or emptied before TRACE is opened, and stay empty unless the answer is INCONSISTENT. That of
+--picture takes an SVG document, which a browser shows, after CONSISTENT of at most 100 operations too.
 
 Example, which can be pasted:
     printf 'vsc 1\\nproc P\\nW x 1\\nW y 1\\nproc Q\\nR y 1\\nR x 2\\n' > whole.trace
@@ -93,7 +96,8 @@ pub fn new_survey_command<'a>(alloc: Global) -> Result<Command<'a>, AllocError>
     let command = with_two(command, part, budget)?;
     let workers = workers_argument(alloc, "How many threads may search, 1 to 8");
     let progress = progress_argument(alloc);
-    with_two(command, workers, progress)
+    let command = with_two(command, workers, progress)?;
+    command.arg(picture_argument(alloc))
 }
 
 // The files that were given.
@@ -131,5 +135,6 @@ pub fn survey_line<'a>(matches: &ArgMatches<'a>) -> CommandLine<'a>
     CommandLine {
         line,
         explains: flag_of(matches, "explain"),
+        picture: optional_text_of(matches, "picture"),
     }
 }

@@ -1,4 +1,5 @@
-//! The command `verify TRACE [--cert FILE] [--workers N] [--split N] [--budget N] [--rounds N] [--progress]`.
+//! The command `verify TRACE [--cert FILE] [--workers N] [--split N] [--budget N] [--rounds N] [--progress]
+//! [--picture FILE]`.
 
 ghost use Rattle.std.specs.Prelude.{◌≡◌, IfOk, IsSome, Some, codes, false};
 ghost use Rattle.clap.specs.Words.{app_of, first_value, found_of, rule_of};
@@ -7,7 +8,8 @@ ghost use Rattle.command_line.specs.Arguments.{HasFlag, HasNumber, HasWorkers};
 ghost use Rattle.command_line.specs.CommandLine.{AsksWith, cert_rule, verify_app};
 
 use crate::arguments::{
-    flag_of, optional_path_argument, optional_text_of, progress_argument, text_of, trace_argument,
+    flag_of, optional_path_argument, optional_text_of, picture_argument, progress_argument,
+    text_of, trace_argument,
 };
 use crate::building::{command_of_two, with_two};
 use crate::line::{CommandLine, Line, SearchNumbers};
@@ -27,6 +29,8 @@ const EXAMPLE: &str = "The answer is
         which are literals of the clauses that 'vsc cnf' writes.
 With --cert the proofs of INCONSISTENT go to FILE, for 'vsc recheck'. FILE is made or emptied first, and
 stays empty after any other answer. If TRACE is '-', standard input is read.
+With --picture FILE takes an SVG document, which a browser shows: of the schedule of at most 100 operations,
+or of a few operations that contradict each other. It stays empty if there is nothing to be drawn.
 
 Example, which can be pasted:
     printf 'vsc 1\\nproc P\\nW x 1\\nproc Q\\nR x 1\\n' | vsc verify -
@@ -69,7 +73,9 @@ pub fn new_verify_command<'a>(alloc: Global) -> Result<Command<'a>, AllocError>
     let budget = budget_argument(alloc);
     let rounds = rounds_argument(alloc);
     let command = with_two(command, budget, rounds)?;
-    command.arg(progress_argument(alloc))
+    let progress = progress_argument(alloc);
+    let picture = picture_argument(alloc);
+    with_two(command, progress, picture)
 }
 
 /// What the matches of the command ask for.
@@ -98,5 +104,6 @@ pub fn verify_line<'a>(matches: &ArgMatches<'a>) -> CommandLine<'a>
     CommandLine {
         line,
         explains: flag_of(matches, "explain"),
+        picture: optional_text_of(matches, "picture"),
     }
 }

@@ -1,11 +1,12 @@
 -- Why a line is refused before anything is opened.
 use Rattle.std.specs.Borrow.{Bor}
 use Rattle.std.specs.Prelude.{◌≡◌, ◌≢◌, ◌⊎◌, ℕ, Bool, false, true, List, [], ◌∷◌, Option, None, Some, codes, if◌then◌else◌}
+use Rattle.command_line.specs.declared.line.CommandLine.{CommandLine}
 use Rattle.command_line.specs.declared.line.Line.{Line}
 use Rattle.command_line.specs.declared.line.Line.TheVariants.{Survey, Verify}
 use Rattle.command_line.specs.declared.line.SurveyFiles.{SurveyFiles}
 use Rattle.command_run.specs.declared.clash.Clash.{Clash}
-use Rattle.command_run.specs.declared.clash.Clash.TheVariants.{CertIsNames, CertIsPart, CertIsTrace, InputTwice, NamesIsPart, NamesIsTrace, PartIsTrace}
+use Rattle.command_run.specs.declared.clash.Clash.TheVariants.{CertIsNames, CertIsPart, CertIsTrace, InputTwice, NamesIsPart, NamesIsTrace, PartIsTrace, PictureIsCert, PictureIsNames, PictureIsPart, PictureIsTrace}
 use Rattle.command_run.specs.HostCalls.{HostCalls}
 use Rattle.command_run.specs.Inputs.{inputs_of, repeats_input}
 
@@ -18,6 +19,10 @@ clash_line PartIsTrace = codes "error: --part names the file of TRACE\n"
 clash_line CertIsNames = codes "error: --cert and --names name one file\n"
 clash_line CertIsPart = codes "error: --cert and --part name one file\n"
 clash_line NamesIsPart = codes "error: --names and --part name one file\n"
+clash_line PictureIsTrace = codes "error: --picture names the file of TRACE\n"
+clash_line PictureIsCert = codes "error: --picture and --cert name one file\n"
+clash_line PictureIsNames = codes "error: --picture and --names name one file\n"
+clash_line PictureIsPart = codes "error: --picture and --part name one file\n"
 
 -- whether the files at two paths are one: the paths are the same, or else the host says that the files are
 abbrev pub IsOneFile : {H I O : Type 0} → HostCalls H I O → H → List ℕ → List ℕ → Bool → H → Type 0
@@ -56,6 +61,26 @@ pairings_of (Verify trace cert numbers progress) = pairings_of_verify trace cert
 pairings_of (Survey trace files numbers progress) = pairings_of_survey trace files
 pairings_of line = []
 
+-- the file of a picture: it is none of the others
+abbrev pub pairings_of_picture_and_verify : Option (Bor (List ℕ)) → Bor (List ℕ) → Option (Bor (List ℕ)) → List Pairing
+pairings_of_picture_and_verify picture trace cert =
+    record { first = picture; second = Some trace; clash = PictureIsTrace }
+    ∷ record { first = picture; second = cert; clash = PictureIsCert }
+    ∷ []
+
+abbrev pub pairings_of_picture_and_survey : Option (Bor (List ℕ)) → Bor (List ℕ) → SurveyFiles → List Pairing
+pairings_of_picture_and_survey picture trace files =
+    record { first = picture; second = Some trace; clash = PictureIsTrace }
+    ∷ record { first = picture; second = files.cert; clash = PictureIsCert }
+    ∷ record { first = picture; second = files.names; clash = PictureIsNames }
+    ∷ record { first = picture; second = files.part; clash = PictureIsPart }
+    ∷ []
+
+abbrev pub pairings_of_picture : Option (Bor (List ℕ)) → Line → List Pairing
+pairings_of_picture picture (Verify trace cert numbers progress) = pairings_of_picture_and_verify picture trace cert
+pairings_of_picture picture (Survey trace files numbers progress) = pairings_of_picture_and_survey picture trace files
+pairings_of_picture picture line = []
+
 -- what is found is this clash if the files at the two paths are one, and else nothing
 abbrev pub ClashesIfOne : {H I O : Type 0} → HostCalls H I O → H → Option (Bor (List ℕ)) → Option (Bor (List ℕ)) → Clash → Option Clash → H → Type 0
 ClashesIfOne calls from first second clash found to =
@@ -72,10 +97,16 @@ FindsClash calls from before [] found to = (found ≡ before) × (to ≡ from)
 FindsClash {H} calls from before (p ∷ rest) found to =
     (next : Option Clash) × (between : H) × Compares calls from before p.first p.second p.clash next between × FindsClash calls between next rest found to
 
--- why the line is refused, or nothing: first whether standard input would be read twice, and then the files that it writes
-abbrev pub ClashesIf : {H I O : Type 0} → Bool → HostCalls H I O → H → Line → Option Clash → H → Type 0
-ClashesIf true calls from line found to = (found ≡ Some InputTwice) × (to ≡ from)
-ClashesIf false calls from line found to = FindsClash calls from None (pairings_of line) found to
+-- what is found of the files that are written: those of the line, and then that of the picture
+abbrev pub ClashesOfWritten : {H I O : Type 0} → HostCalls H I O → H → CommandLine → Option Clash → H → Type 0
+ClashesOfWritten {H} calls from asked found to =
+    (own : Option Clash) × (between : H) × FindsClash calls from None (pairings_of asked.line) own between
+    × FindsClash calls between own (pairings_of_picture asked.picture asked.line) found to
 
-abbrev pub ClashesBy : {H I O : Type 0} → HostCalls H I O → H → Line → Option Clash → H → Type 0
-ClashesBy calls from line found to = ClashesIf (repeats_input (inputs_of line)) calls from line found to
+-- why the line is refused, or nothing: first whether standard input would be read twice, and then the files that are written
+abbrev pub ClashesIf : {H I O : Type 0} → Bool → HostCalls H I O → H → CommandLine → Option Clash → H → Type 0
+ClashesIf true calls from asked found to = (found ≡ Some InputTwice) × (to ≡ from)
+ClashesIf false calls from asked found to = ClashesOfWritten calls from asked found to
+
+abbrev pub ClashesBy : {H I O : Type 0} → HostCalls H I O → H → CommandLine → Option Clash → H → Type 0
+ClashesBy calls from asked found to = ClashesIf (repeats_input (inputs_of asked.line)) calls from asked found to

@@ -295,6 +295,35 @@ abbrev pub EndsAsked : {H I O : Type 0} → Bool → HostCalls H I O → (I → 
 EndsAsked true calls read wrote from line out err status to = EndsExplained calls read wrote from line out err status to
 EndsAsked false calls read wrote from line out err status to = EndsRun calls read wrote from line out err status to
 
+-- The file at this path was made or emptied, and then the line was run as without a picture: with the same status, and the same texts on the
+-- standard streams. Then the trace was handed out once more, the file took some text, of which nothing is said, and it was given back.
+pub record EndsWithPicture {H I O : Type 0} (calls : HostCalls H I O) (read : I → I → SourceRun) (wrote : O → O → SinkRun) (from : H) (path : List ℕ) (asked : CommandLine) (out err : SinkRun) (status : ℕ) (to : H) : Type 0 where
+  pub before : O
+  pub after : O
+  pub made : H
+  pub makes : calls.makes from path before made
+  pub no_byte_before : (wrote before after).before ≡ []
+  pub no_failure_before : (wrote before after).failures_before ≡ 0
+  pub ran : H
+  pub ends : EndsAsked asked.explains calls read wrote made asked.line out err status ran
+  pub drawn : H
+  pub reopens : ReopensGiven calls ran (inputs_of asked.line).first drawn
+  pub adds : Adds (wrote before after)
+  pub closes : calls.closes drawn after to
+
+-- the file for the picture could not be made: the line was not run, and that is reported
+pub record EndsWithoutFile {H I O : Type 0} (calls : HostCalls H I O) (from : H) (path : List ℕ) (out err : SinkRun) (status : ℕ) (to : H) : Type 0 where
+  pub fails : calls.fails_to_make from path to
+  pub nothing : TakesNothing out
+  pub tells : TellsFault err Device
+  pub status_is : status ≡ 4
+
+-- the line was run, with a picture in a file or without one
+abbrev pub EndsDrawn : {H I O : Type 0} → Option (Bor (List ℕ)) → HostCalls H I O → (I → I → SourceRun) → (O → O → SinkRun) → H → CommandLine → (out err : SinkRun) → ℕ → H → Type 0
+EndsDrawn None calls read wrote from asked out err status to = EndsAsked asked.explains calls read wrote from asked.line out err status to
+EndsDrawn (Some path) calls read wrote from asked out err status to =
+    EndsWithoutFile calls from path.now out err status to ⊎ EndsWithPicture calls read wrote from path.now asked out err status to
+
 -- the stream took this text whole, and the status is the given one, or it failed behind a prefix of it, and the status is 4
 abbrev pub Prints : SinkRun → List ℕ → ℕ → ℕ → Type 0
 Prints stream text status found = (TakesWhole stream text × (found ≡ status)) ⊎ (FailsBehindFront stream text × (found ≡ 4))
@@ -302,13 +331,13 @@ Prints stream text status found = (TakesWhole stream text × (found ≡ status))
 -- the line was refused for a clash of its files, or it was run
 abbrev pub EndsCompared : {H I O : Type 0} → HostCalls H I O → (I → I → SourceRun) → (O → O → SinkRun) → H → CommandLine → Option Clash → (out err : SinkRun) → ℕ → H → Type 0
 EndsCompared calls read wrote from asked (Some clash) out err status to = TakesNothing out × Prints err (clash_line clash) 2 status × (to ≡ from)
-EndsCompared calls read wrote from asked None out err status to = EndsAsked asked.explains calls read wrote from asked.line out err status to
+EndsCompared calls read wrote from asked None out err status to = EndsDrawn asked.picture calls read wrote from asked out err status to
 
 -- what is done for a line
 pub record EndsLine {H I O : Type 0} (calls : HostCalls H I O) (read : I → I → SourceRun) (wrote : O → O → SinkRun) (from : H) (asked : CommandLine) (out err : SinkRun) (status : ℕ) (to : H) : Type 0 where
   pub clash : Option Clash
   pub compared : H
-  pub compares : ClashesBy calls from asked.line clash compared
+  pub compares : ClashesBy calls from asked clash compared
   pub ends : EndsCompared calls read wrote compared asked clash out err status to
 
 -- this is the text of a fault of the command line, or what is known of it

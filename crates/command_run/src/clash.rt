@@ -1,6 +1,6 @@
 //! Why a line is refused before anything is opened.
 ghost use Rattle.std.specs.Prelude.{◌≡◌, None, Some, if◌then◌else◌};
-ghost use Rattle.command_run.specs.Clashes.{AreOneFile, ClashesBy, ClashesIfOne, Compares, FindsClash, IsOneFile, clash_line, pairings_of, pairings_of_survey, pairings_of_verify};
+ghost use Rattle.command_run.specs.Clashes.{AreOneFile, ClashesBy, ClashesIfOne, ClashesOfWritten, Compares, FindsClash, IsOneFile, clash_line, pairings_of, pairings_of_picture, pairings_of_picture_and_survey, pairings_of_picture_and_verify, pairings_of_survey, pairings_of_verify};
 ghost use Rattle.command_run.specs.CommandRun.{Prints};
 ghost use Rattle.command_run.specs.Inputs.{inputs_of, repeats_input};
 ghost use Rattle.verdict_report.specs.Runs.{sink_run};
@@ -8,7 +8,7 @@ ghost use Rattle.verdict_report.specs.Runs.{sink_run};
 use crate::host::Host;
 use crate::inputs::{inputs_of, repeats_input};
 use crate::telling::{REFUSED, print_text};
-use command_line::{Line, SurveyFiles};
+use command_line::{CommandLine, Line, SurveyFiles};
 use dimacs::Sink;
 
 /// Why a line is refused before anything is opened: two of its files are one.
@@ -28,6 +28,14 @@ pub enum Clash {
     CertIsPart,
     /// Names and part have one file.
     NamesIsPart,
+    /// The picture would overwrite the trace.
+    PictureIsTrace,
+    /// Picture and certificate have one file.
+    PictureIsCert,
+    /// Picture and names have one file.
+    PictureIsNames,
+    /// Picture and part have one file.
+    PictureIsPart,
 }
 
 /// The line that reports the clash.
@@ -42,6 +50,10 @@ fn text_of_clash(clash: Clash) -> &'static [u8]
         Clash::CertIsNames => b"error: --cert and --names name one file\n",
         Clash::CertIsPart => b"error: --cert and --part name one file\n",
         Clash::NamesIsPart => b"error: --names and --part name one file\n",
+        Clash::PictureIsTrace => b"error: --picture names the file of TRACE\n",
+        Clash::PictureIsCert => b"error: --picture and --cert name one file\n",
+        Clash::PictureIsNames => b"error: --picture and --names name one file\n",
+        Clash::PictureIsPart => b"error: --picture and --part name one file\n",
     }
 }
 
@@ -157,6 +169,66 @@ fn clash_of_files<'p, H: Host<'p>>(host: &mut H, line: Line<'p>) -> Option<Clash
     }
 }
 
+/// The first clash of a picture with the files of a search, after what was found before.
+fn clash_with_verify<'p, H: Host<'p>>(
+    host: &mut H,
+    found: Option<Clash>,
+    picture: Option<&'p str>,
+    trace: &'p str,
+    cert: Option<&'p str>,
+) -> Option<Clash>
+    ensures { FindsClash H.calls host.old found (pairings_of_picture_and_verify picture.entry trace.entry cert.entry) result host.new }
+{
+    let found = or_clash(host, found, picture, Some(trace), Clash::PictureIsTrace);
+    or_clash(host, found, picture, cert, Clash::PictureIsCert)
+}
+
+/// The first clash of a picture with the files of a survey, after what was found before.
+fn clash_with_survey<'p, H: Host<'p>>(
+    host: &mut H,
+    found: Option<Clash>,
+    picture: Option<&'p str>,
+    trace: &'p str,
+    files: SurveyFiles<'p>,
+) -> Option<Clash>
+    ensures { FindsClash H.calls host.old found (pairings_of_picture_and_survey picture.entry trace.entry files.entry) result host.new }
+{
+    let found = or_clash(host, found, picture, Some(trace), Clash::PictureIsTrace);
+    let found = or_clash(host, found, picture, files.cert, Clash::PictureIsCert);
+    let found = or_clash(host, found, picture, files.names, Clash::PictureIsNames);
+    or_clash(host, found, picture, files.part, Clash::PictureIsPart)
+}
+
+/// The first clash of a picture with the files of the line, after what was found before.
+fn clash_of_picture<'p, H: Host<'p>>(
+    host: &mut H,
+    found: Option<Clash>,
+    picture: Option<&'p str>,
+    line: Line<'p>,
+) -> Option<Clash>
+    ensures { FindsClash H.calls host.old found (pairings_of_picture picture.entry line.entry) result host.new }
+{
+    match line {
+        Line::Verify { trace, cert, .. } => clash_with_verify(host, found, picture, trace, cert),
+        Line::Survey { trace, files, .. } => clash_with_survey(host, found, picture, trace, files),
+        Line::Judge { .. } => found,
+        Line::Cnf { .. } => found,
+        Line::Decode { .. } => found,
+        Line::Lrat { .. } => found,
+        Line::Recheck { .. } => found,
+        Line::Part { .. } => found,
+        Line::Refusals => found,
+    }
+}
+
+/// The first clash of a file that is written: of those of the line, and then of the picture.
+fn clash_of_written<'p, H: Host<'p>>(host: &mut H, asked: CommandLine<'p>) -> Option<Clash>
+    ensures { ClashesOfWritten H.calls host.old asked.entry result host.new }
+{
+    let found = clash_of_files(host, asked.line);
+    clash_of_picture(host, found, asked.picture, asked.line)
+}
+
 /// Returns whether the line would read standard input twice.
 fn reads_input_twice(line: Line<'_>) -> bool
     ensures { result ≡ repeats_input (inputs_of line.entry) }
@@ -166,12 +238,12 @@ fn reads_input_twice(line: Line<'_>) -> bool
 }
 
 /// Why the line is refused before anything is opened, or nothing.
-pub(crate) fn clash_of<'p, H: Host<'p>>(host: &mut H, line: Line<'p>) -> Option<Clash>
-    ensures { ClashesBy H.calls host.old line.entry result host.new }
+pub(crate) fn clash_of<'p, H: Host<'p>>(host: &mut H, asked: CommandLine<'p>) -> Option<Clash>
+    ensures { ClashesBy H.calls host.old asked.entry result host.new }
 {
-    if reads_input_twice(line) {
+    if reads_input_twice(asked.line) {
         Some(Clash::InputTwice)
     } else {
-        clash_of_files(host, line)
+        clash_of_written(host, asked)
     }
 }

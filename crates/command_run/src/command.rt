@@ -1,7 +1,8 @@
 //! A command line, from its words to the exit status.
+ghost use Rattle.std.specs.Prelude.{Some};
 ghost use Rattle.clap.specs.Walk.{texts};
 ghost use Rattle.command_line.specs.CommandLine.{IsWithinRanges};
-ghost use Rattle.command_run.specs.CommandRun.{EndsAsked, EndsExplained, EndsLine, EndsRun, EndsWords, RunsLine, TellsOutcome};
+ghost use Rattle.command_run.specs.CommandRun.{EndsAsked, EndsDrawn, EndsExplained, EndsLine, EndsRun, EndsWords, RunsLine, TellsOutcome};
 ghost use Rattle.command_run.specs.ExitStatus.{IsExitStatus};
 ghost use Rattle.verdict_report.specs.Runs.{source_run, sink_run};
 
@@ -9,7 +10,8 @@ use crate::clash::{clash_of, print_clash};
 use crate::engine_runs::run_engine;
 use crate::explaining::explain_outcome;
 use crate::host::Host;
-use crate::telling::{tell_line_fault, tell_outcome};
+use crate::picturing::draw_outcome;
+use crate::telling::{DEVICE, tell_fault, tell_line_fault, tell_outcome};
 use command_line::{CommandLine, Line, read_line};
 use cube_jobs::Gate;
 use dimacs::Sink;
@@ -112,6 +114,61 @@ fn run_asked<'p, R: Threads + Wait + Sync, G: Gate + Sync, H: Host<'p>, O: Sink,
     }
 }
 
+/// Runs the engine of the line, and draws a picture into the file at this path, which is made or emptied first.
+fn run_with_picture<'p, R: Threads + Wait + Sync, G: Gate + Sync, H: Host<'p>, O: Sink, E: Sink>(
+    alloc: Global,
+    rt: &R,
+    progress: &G,
+    host: &mut H,
+    path: &'p str,
+    asked: CommandLine<'p>,
+    out: &mut O,
+    err: &mut E,
+) -> u8
+    requires { IsWithinRanges asked.line }
+    ensures ends { EndsDrawn (Some path.entry) H.calls (source_run H.Input.handed_out H.Input.is_at_end H.Input.failures)
+        (sink_run H.Output.written H.Output.failures)
+        host.old asked.entry
+        (sink_run O.written O.failures out.old out.new)
+        (sink_run E.written E.failures err.old err.new)
+        result host.new }
+    ensures known { IsExitStatus result }
+{
+    let Ok(mut file) = host.create(path) else {
+        tell_fault(alloc, &Fault::Device, err);
+        return DEVICE;
+    };
+    let status = run_asked(alloc, rt, progress, host, asked, out, err);
+    draw_outcome(alloc, host, asked.line, status, &mut file);
+    host.close(file);
+    status
+}
+
+/// Runs the engine of the line, with a picture or without.
+fn run_drawn<'p, R: Threads + Wait + Sync, G: Gate + Sync, H: Host<'p>, O: Sink, E: Sink>(
+    alloc: Global,
+    rt: &R,
+    progress: &G,
+    host: &mut H,
+    asked: CommandLine<'p>,
+    out: &mut O,
+    err: &mut E,
+) -> u8
+    requires { IsWithinRanges asked.line }
+    ensures ends { EndsDrawn asked.entry.picture H.calls (source_run H.Input.handed_out H.Input.is_at_end H.Input.failures)
+        (sink_run H.Output.written H.Output.failures)
+        host.old asked.entry
+        (sink_run O.written O.failures out.old out.new)
+        (sink_run E.written E.failures err.old err.new)
+        result host.new }
+    ensures known { IsExitStatus result }
+{
+    match asked.picture {
+        Some(path) => run_with_picture(alloc, rt, progress, host, path, asked, out, err),
+        None => run_asked(alloc, rt, progress, host, asked, out, err),
+    }
+}
+
 /// Does what the line asks for, and gives the exit status. A line of which two files are one that have to be apart is refused.
 fn run_line<'p, R: Threads + Wait + Sync, G: Gate + Sync, H: Host<'p>, O: Sink, E: Sink>(
     alloc: Global,
@@ -131,9 +188,9 @@ fn run_line<'p, R: Threads + Wait + Sync, G: Gate + Sync, H: Host<'p>, O: Sink, 
         result host.new }
     ensures known { IsExitStatus result }
 {
-    match clash_of(host, asked.line) {
+    match clash_of(host, asked) {
         Some(clash) => print_clash(clash, err),
-        None => run_asked(alloc, rt, progress, host, asked, out, err),
+        None => run_drawn(alloc, rt, progress, host, asked, out, err),
     }
 }
 
@@ -142,7 +199,7 @@ fn run_line<'p, R: Threads + Wait + Sync, G: Gate + Sync, H: Host<'p>, O: Sink, 
 /// The engine that the words name is run on the files at their paths and with their options. Standard output takes what the engine
 /// writes, standard error the line of a refusal, and nothing else goes to either of them. With `--progress` the gate `progress` is
 /// called before and after each cube, and what it writes to standard error it writes by itself. With `--explain` standard error then takes
-/// an explanation. Of words that ask for nothing, standard output takes the help or the version, or standard error what is wrong with them.
+/// an explanation, and with `--picture` a further file a picture, of which nothing is said. Of words that ask for nothing, standard output takes the help or the version, or standard error what is wrong with them.
 pub fn run<'p, R: Threads + Wait + Sync, G: Gate + Sync, H: Host<'p>, O: Sink, E: Sink>(
     alloc: Global,
     rt: &R,

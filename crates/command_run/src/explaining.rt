@@ -41,7 +41,7 @@ fn read_path_again<'p, H: Host<'p>>(alloc: Global, host: &mut H, path: &'p str) 
 }
 
 /// Reads the file once more if there is a path.
-fn read_again<'p, H: Host<'p>>(
+pub(crate) fn read_again<'p, H: Host<'p>>(
     alloc: Global,
     host: &mut H,
     path: Option<&'p str>,

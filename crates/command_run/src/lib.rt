@@ -10,6 +10,7 @@ mod host;
 mod inputs;
 mod memory_host;
 mod no_file;
+mod picturing;
 mod refusals;
 mod search_request;
 mod survey_runs;

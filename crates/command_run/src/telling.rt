@@ -12,13 +12,13 @@ use verdict_report::{Fault, Status, fault_line};
 pub(crate) const REFUSED: u8 = 2;
 
 /// The exit status if a standard stream fails.
-const DEVICE: u8 = 4;
+pub(crate) const DEVICE: u8 = 4;
 
 /// What is printed if there is no memory.
 pub(crate) const NO_MEMORY: &[u8] = b"refused: memory\n";
 
 /// Reports the fault on standard error, or that there is no memory for its line.
-fn tell_fault<E: Sink>(alloc: Global, fault: &Fault, err: &mut E)
+pub(crate) fn tell_fault<E: Sink>(alloc: Global, fault: &Fault, err: &mut E)
     ensures { TellsFault (sink_run E.written E.failures err.old err.new) fault.now }
 {
     // If standard error is closed too, only the exit status says so.

@@ -1,10 +1,8 @@
 //! Jobs and settled jobs.
 ghost use Rattle.std.specs.Prelude.{◌≡◌, ◌≤◌, length};
 
-use crate::job_cube::JobCube;
-use crate::limits::MAX_LITERALS;
 use crate::outcome::Outcome;
-use dimacs::Lit;
+use dimacs::{Cube, Lit, MAX_CUBE_LITERALS};
 use std::alloc::Global;
 
 /// A cube to search, under a ticket: its leaf's number. It is not copied, so that each job is in one place at a time. Contracts see it as
@@ -12,27 +10,27 @@ use std::alloc::Global;
 #[derive(Drop)]
 pub struct Job {
     ticket: u32,
-    cube: JobCube,
+    cube: Cube,
 }
 
 /// A job with its outcome. Only `Job::settle` makes one, so its ticket and its cube are those of the job.
 #[derive(Drop)]
 pub struct Settled {
     ticket: u32,
-    cube: JobCube,
+    cube: Cube,
     outcome: Outcome,
 }
 
 impl Job {
     /// The job of this cube, under this ticket. It takes no memory.
     pub fn new(alloc: Global, ticket: u32, cube: &[Lit]) -> Job
-        requires { length cube.now ≤ MAX_LITERALS }
+        requires { length cube.now ≤ MAX_CUBE_LITERALS }
         ensures ticket { result.ticket ≡ ticket }
         ensures cube { result.cube ≡ cube.now }
     {
         Job {
             ticket,
-            cube: JobCube::of(alloc, cube),
+            cube: Cube::of(alloc, cube),
         }
     }
 
@@ -46,7 +44,7 @@ impl Job {
     /// The literals of its cube.
     pub fn cube(&self) -> &[Lit]
         ensures literals { result.now ≡ self.now.cube }
-        ensures few { length self.now.cube ≤ MAX_LITERALS }
+        ensures few { length self.now.cube ≤ MAX_CUBE_LITERALS }
     {
         self.cube.as_slice()
     }

@@ -4,7 +4,6 @@
 
 mod gate;
 mod job;
-mod job_cube;
 pub mod limits;
 mod models;
 pub mod options;
@@ -13,8 +12,7 @@ mod search_fault;
 
 pub use gate::{Gate, OpenGate};
 pub use job::{Job, Settled};
-pub use job_cube::{JobCube, are_same};
-pub use limits::{MAX_CUBES, MAX_LITERALS, MAX_WORKERS};
+pub use limits::{MAX_CUBES, MAX_WORKERS};
 pub use models::is_model_in;
 pub use options::{BadOption, Options};
 pub use outcome::Outcome;

@@ -14,6 +14,3 @@ pub const MAX_ROUNDS: u32 = 4;
 
 /// Maximum number of cubes that are searched together: a tree has no more leaves.
 pub const MAX_CUBES: u32 = 1024;
-
-/// Maximum number of literals of a cube: no tree is deeper.
-pub const MAX_LITERALS: usize = 20;

@@ -14,7 +14,7 @@ use Rattle.stop_word.specs.declared.views.View.{View}
 use Rattle.stop_word.specs.WordRule.{nothing, least_of, marks_in}
 use Rattle.stop_word.proofs.LeastLemmas.{least_among}
 use Rattle.cube_queue.specs.Workers.{IsHonest}
-use Rattle.cube_queue.specs.Crew.{AreJobsOf, WithStops}
+use Rattle.cube_queue.specs.Participants.{AreJobsOf, WithStops}
 use Rattle.cube_queue.proofs.PairLemmas.{pairs_to_map}
 use Rattle.cube_queue.proofs.PartLemmas.{merged_part, part_merged, part_of, of_part}
 use Rattle.cube_queue.proofs.JobLemmas.{ticket_of, job_asked}

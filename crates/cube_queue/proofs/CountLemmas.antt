@@ -7,7 +7,7 @@ use Rattle.std.proofs.lemmas.List.Elements.{All-head, All-tail}
 use Rattle.cube_jobs.specs.declared.job.Job.{Job}
 use Rattle.cube_jobs.specs.declared.job.Settled.{Settled}
 use Rattle.job_board.specs.Pairs.{Pair, of_job, of_result, of_jobs, of_results, below}
-use Rattle.cube_queue.specs.Crew.{WithStops}
+use Rattle.cube_queue.specs.Participants.{WithStops}
 
 -- jobs that came before one that was not put are fewer
 pub put_fewer : (jobs yielded rest put : List Job) (job : Job) → jobs ≡ yielded ++ job ∷ rest → put ≡ yielded → length put < length jobs

@@ -10,7 +10,7 @@ use Rattle.job_board.specs.declared.board.Board.{Board}
 use Rattle.job_board.specs.declared.seats.CollectorSeat.{CollectorSeat}
 use Rattle.job_board.specs.declared.seats.DealerSeat.{DealerSeat}
 use Rattle.job_board.specs.Seats.{put_by, gathered_by, IsDealerAt, IsCollectorAt}
-use Rattle.cube_queue.specs.Crew.{AreJobsOf, WithStops}
+use Rattle.cube_queue.specs.Participants.{AreJobsOf, WithStops}
 use Rattle.cube_queue.specs.Faults.{IsBoardOf, HasPutNoJob, IsFaultAt, IsFaultOf}
 
 module _ (board : Board) (jobs : List Job) where

@@ -5,7 +5,7 @@ use Rattle.std.proofs.lemmas.List.Elements.{Contains-get_or}
 use Rattle.trace_semantics.proofs.ElementLemmas.{to_map}
 use Rattle.cube_jobs.specs.declared.job.Job.{Job}
 use Rattle.cube_jobs.specs.Results.{AreLeaves}
-use Rattle.cube_queue.specs.Crew.{AreJobsOf}
+use Rattle.cube_queue.specs.Participants.{AreJobsOf}
 use Rattle.cube_queue.proofs.PairLemmas.{pairs_from_map, pairs_before}
 
 abbrev pub ticket_of : Job → ℕ

@@ -6,13 +6,13 @@ use Rattle.std.proofs.lemmas.List.Elements.{All-nil, All-cons, All-head, All-tai
 use Rattle.std.proofs.lemmas.Slice.Zip.{AllZip-long}
 use Rattle.cube_jobs.specs.Results.{AreLeaves}
 use Rattle.job_board.specs.declared.seats.WorkerSeat.{WorkerSeat}
-use Rattle.job_board.specs.Hands.{ticket_in}
+use Rattle.job_board.specs.InFlight.{ticket_in}
 use Rattle.job_board.specs.Seats.{put_by, given_by, IsWorkerAt, AreWorkersAt}
 use Rattle.stop_word.specs.Seats.{SeatValue, known_by, AreAllSeats}
 use Rattle.stop_word.specs.WordRule.{parts_in}
 use Rattle.cube_queue.proofs.CountLemmas.{jobs_counted}
 use Rattle.cube_queue.specs.Workers.{IsHonest, HasWorked}
-use Rattle.cube_queue.specs.Crew.{seats_of, stops_of, AreJobsOf, IsCrewAt, HasRun, AreAllAt, IsHonestRun}
+use Rattle.cube_queue.specs.Participants.{seats_of, stops_of, AreJobsOf, IsCrewAt, HasRun, AreAllAt, IsHonestRun}
 use Rattle.cube_queue.specs.declared.participants.Participants.{Participants}
 use Rattle.cube_queue.specs.declared.participants.Worker.{Worker}
 use Rattle.cube_queue.specs.declared.participants.Returned.{Returned}

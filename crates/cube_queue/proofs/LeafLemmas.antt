@@ -7,7 +7,7 @@ use Rattle.std.proofs.lemmas.List.Elements.{Contains-append_cases}
 use Rattle.trace_semantics.proofs.ElementLemmas.{cases_in, none_in}
 use Rattle.cube_jobs.specs.declared.job.Job.{Job}
 use Rattle.cube_jobs.specs.Results.{AreLeaves}
-use Rattle.cube_queue.specs.Crew.{AreJobsOf}
+use Rattle.cube_queue.specs.Participants.{AreJobsOf}
 
 -- there is no job yet
 pub no_job : (cubes : List (List ℤ)) (which : List ℕ) → AreJobsOf cubes (take 0 which) []

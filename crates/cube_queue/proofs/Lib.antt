@@ -1,6 +1,5 @@
 pub mod AnswerLemmas
 pub mod CountLemmas
-pub mod CrewLemmas
 pub mod FaultLemmas
 pub mod HandleLemmas
 pub mod JobLemmas
@@ -8,6 +7,7 @@ pub mod JoinLemmas
 pub mod LeafLemmas
 pub mod PairLemmas
 pub mod PartLemmas
+pub mod ParticipantLemmas
 pub mod PutLemmas
 pub mod ResultLemmas
 pub mod RunLemmas

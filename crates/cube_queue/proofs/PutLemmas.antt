@@ -4,7 +4,7 @@ use Rattle.std.specs.List.{All, AllPairs}
 use Rattle.std.proofs.lemmas.List.{append-nil, length-append}
 use Rattle.std.proofs.lemmas.List.Elements.{All-nil, All-cons, All-head, All-tail, All-push, All-weaker}
 use Rattle.cube_jobs.specs.declared.job.Job.{Job}
-use Rattle.cube_queue.specs.Crew.{WithStops}
+use Rattle.cube_queue.specs.Participants.{WithStops}
 use Rattle.cube_queue.proofs.JobLemmas.{all_below}
 
 -- a prefix of a list

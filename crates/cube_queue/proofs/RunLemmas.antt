@@ -7,7 +7,7 @@ use Rattle.cube_jobs.specs.declared.job.Settled.{Settled}
 use Rattle.cube_jobs.specs.declared.outcome.Outcome.TheVariants.{Skipped}
 use Rattle.cube_jobs.specs.Results.{AreResultsOf, HasModelBelow}
 use Rattle.job_board.specs.Accounts.{AreAnswersTo}
-use Rattle.job_board.specs.Hands.{ticket_in}
+use Rattle.job_board.specs.InFlight.{ticket_in}
 use Rattle.job_board.specs.Merge.{IsMergeOf}
 use Rattle.job_board.specs.declared.seats.WorkerSeat.{WorkerSeat}
 use Rattle.job_board.specs.Seats.{put_by, given_by, gathered_by}
@@ -15,7 +15,7 @@ use Rattle.stop_word.specs.declared.views.View.{View}
 use Rattle.stop_word.specs.Seats.{SeatValue, known_by}
 use Rattle.stop_word.specs.WordRule.{least_of, marks_in}
 use Rattle.cube_queue.specs.Workers.{IsHonest}
-use Rattle.cube_queue.specs.Crew.{seats_of, stops_of, IsHonestRun}
+use Rattle.cube_queue.specs.Participants.{seats_of, stops_of, IsHonestRun}
 use Rattle.cube_queue.specs.declared.participants.Worker.{Worker}
 use Rattle.cube_queue.specs.declared.participants.Returned.{Returned}
 use Rattle.cube_queue.specs.declared.shared_search.SharedSearch.{SharedSearch}

@@ -10,7 +10,7 @@ use Rattle.job_board.specs.declared.board.Board.{Board}
 use Rattle.job_board.specs.declared.seats.CollectorSeat.{CollectorSeat}
 use Rattle.job_board.specs.declared.seats.DealerSeat.{DealerSeat}
 use Rattle.job_board.specs.Seats.{put_by, gathered_by, IsDealerAt, IsCollectorAt}
-use Rattle.cube_queue.specs.Crew.{AreJobsOf, WithStops}
+use Rattle.cube_queue.specs.Participants.{AreJobsOf, WithStops}
 
 -- A board at which several workers settle the jobs of these leaves: no more of them than may work, and no more than there are leaves.
 pub record IsBoardOf (workers : ℕ) (cubes : List (List ℤ)) (which : List ℕ) (board : Board) : Type 0 where

@@ -1,3 +1,3 @@
-pub mod Workers
-pub mod Crew
 pub mod Faults
+pub mod Participants
+pub mod Workers

@@ -4,7 +4,7 @@ use Rattle.std.specs.List.{Contains}
 use Rattle.cube_jobs.specs.declared.job.Settled.{Settled}
 use Rattle.cube_jobs.specs.declared.outcome.Outcome.TheVariants.{Skipped}
 use Rattle.cube_jobs.specs.Models.{IsModelResult}
-use Rattle.job_board.specs.Hands.{ticket_in}
+use Rattle.job_board.specs.InFlight.{ticket_in}
 use Rattle.job_board.specs.Seats.{given_by, IsWorkerAt, IsIdle}
 use Rattle.stop_word.specs.declared.views.View.{View}
 use Rattle.stop_word.specs.Seats.{KnowsNothing}

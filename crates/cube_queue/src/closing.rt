@@ -1,7 +1,7 @@
 //! Closes a search: collects and checks the workers' results after all have been joined.
 ghost use Rattle.std.specs.Prelude.{◌≡◌, ℕ, ℤ, List, IfOk};
 ghost use Rattle.cube_jobs.specs.Results.{AreResultsOf};
-ghost use Rattle.cube_queue.specs.Crew.{seats_of, stops_of, AreAllAt, IsHonestRun};
+ghost use Rattle.cube_queue.specs.Participants.{seats_of, stops_of, AreAllAt, IsHonestRun};
 
 use crate::participants::{Returned, Worker};
 use crate::shared_search::SharedSearch;

@@ -2,10 +2,10 @@
 ghost use Rattle.std.specs.Prelude.{◌≡◌, ◌<◌, length, Some, IfOk};
 ghost use Rattle.std.specs.List.{slice_get};
 ghost use Rattle.cube_jobs.specs.Results.{AreLeaves};
-ghost use Rattle.cube_queue.specs.Crew.{AreJobsOf};
+ghost use Rattle.cube_queue.specs.Participants.{AreJobsOf};
 
 use cube_jobs::Job;
-use cube_tree::Cube;
+use dimacs::Cube;
 use std::alloc::{AllocError, Global};
 
 /// The job of a leaf, where these are the cubes of all leaves.

@@ -21,7 +21,7 @@ mod starting;
 mod working;
 
 pub use cube_jobs::{
-    BadOption, Gate, Job, JobCube, OpenGate, Options, Outcome, SearchCause, SearchFault, Settled,
+    BadOption, Gate, Job, OpenGate, Options, Outcome, SearchCause, SearchFault, Settled,
 };
 pub use dealing::{Event, EventCause, GivenOutcome, Machine};
 pub use job_board::{Account, Board, CollectorSeat, DealerSeat, WorkerSeat};

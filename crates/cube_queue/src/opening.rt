@@ -1,7 +1,7 @@
 //! A search is opened: the board, the stop word, and all seats at both.
 ghost use Rattle.std.specs.Prelude.{◌≡◌, ◌<◌, ◌≤◌, length, IfOk};
 ghost use Rattle.std.specs.List.{All, AllPairs};
-ghost use Rattle.cube_queue.specs.Crew.{IsCrewAt, seats_of, stops_of};
+ghost use Rattle.cube_queue.specs.Participants.{IsCrewAt, seats_of, stops_of};
 
 use crate::participants::{Participants, Worker};
 use crate::shared_search::SharedSearch;

@@ -2,7 +2,7 @@
 ghost use Rattle.std.specs.Prelude.{◌≡◌, ◌+◌, ◌<◌, ◌≤◌, [], length, IsTrue, IsFalse};
 ghost use Rattle.std.specs.List.{All, AllPairs};
 ghost use Rattle.job_board.specs.Seats.{put_by, IsDealerAt};
-ghost use Rattle.cube_queue.specs.Crew.{WithStops};
+ghost use Rattle.cube_queue.specs.Participants.{WithStops};
 
 use cube_jobs::Job;
 use job_board::{Board, DealerSeat};

@@ -1,6 +1,6 @@
 //! A search is run in threads.
 ghost use Rattle.std.specs.Prelude.{IfOk, IfErr};
-ghost use Rattle.cube_queue.specs.Crew.{IsCrewAt, HasRun};
+ghost use Rattle.cube_queue.specs.Participants.{IsCrewAt, HasRun};
 ghost use Rattle.cube_queue.specs.Faults.{IsFaultAt};
 
 use crate::gathering::gather_all;

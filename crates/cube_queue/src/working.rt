@@ -2,7 +2,7 @@
 ghost use Rattle.std.specs.Prelude.{◌≡◌, ◌<◌, ◌≤◌, ◌⊎◌, [], ◌∷◌, ◌++◌, None, Some, IsTrue, IsFalse};
 ghost use Rattle.cube_jobs.specs.declared.outcome.Outcome.TheVariants.{Skipped};
 ghost use Rattle.cube_jobs.specs.Models.{IsModelResult};
-ghost use Rattle.job_board.specs.Hands.{ticket_in};
+ghost use Rattle.job_board.specs.InFlight.{ticket_in};
 ghost use Rattle.job_board.specs.Seats.{given_by, IsWorkerAt};
 ghost use Rattle.stop_word.specs.WordRule.{or_nothing};
 ghost use Rattle.cube_queue.specs.Workers.{IsHonest, IsReady, HasWorked};

@@ -82,35 +82,8 @@ next_line text number bytes leaves rest nodes d due line after node new h cut sh
       behind = omega (arith, h.behind, shorter);
     }
 
--- a line that is refused
-pub refused_line : (text : List ℕ) (number bytes leaves : ℕ) (rest : List ℕ) (nodes : List Node) (d : ℕ) (due : List ℕ) (line after : List ℕ) (cause : TreeCause) →
-    IsReadSoFar text number bytes leaves rest nodes (d ∷ due) → lines_of rest ≡ line ∷ lines_of after → node_fault d leaves (node_of (words_of line)) ≡ Some cause → HasTreeFault text cause (number + 1)
-refused_line text number bytes leaves rest nodes d due line after cause h cut faulty =
-    inl (record {
-      before = h.done;
-      item = line;
-      after = lines_of after;
-      parts = h.parts ∙ ap (λ ls. h.done ++ ls) cut;
-      counted = ap (λ n. n + 1) h.counted;
-      faulty = fault_here h.done nodes (d ∷ due) line h.progress ∙ ap (λ n. node_fault d n (node_of (words_of line))) (sym h.passed) ∙ faulty;
-      first = h.progress.faultless;
-    })
-
 pub some_due : (lines : List (List ℕ)) (nodes : List Node) (d : ℕ) (due : List ℕ) → IsProgress lines nodes (d ∷ due) → due_after lines ≡ d ∷ due
 some_due lines nodes d due h = ap (due_behind (0 ∷ [])) h.read ∙ h.wanted
-
--- the text ends within the tree
-pub ended_within : (text : List ℕ) (number bytes leaves : ℕ) (rest : List ℕ) (nodes : List Node) (d : ℕ) (due : List ℕ) →
-    IsReadSoFar text number bytes leaves rest nodes (d ∷ due) → lines_of rest ≡ [] → HasTreeFault text BadLine (number + 1)
-ended_within text number bytes leaves rest nodes d due h none =
-    let all : lines_of text ≡ h.done = h.parts ∙ ap (λ ls. h.done ++ ls) none ∙ append-nil h.done in
-    let progress : IsProgress (lines_of text) nodes (d ∷ due) = subst (λ (ls : List (List ℕ)). IsProgress ls nodes (d ∷ due)) (sym all) h.progress in
-    inr (record {
-      faultless = progress.faultless;
-      due = ap (λ ds. is_some (slice_get ds 0)) (some_due (lines_of text) nodes d due progress);
-      bad = refl;
-      behind = omega (arith, h.counted, ap length all);
-    })
 
 -- the lines of a whole tree spell it
 pub whole_spelled : (text : List ℕ) (done others : List (List ℕ)) (nodes : List Node) (tree : CubeTree) → lines_of text ≡ done ++ others → map words_of done ≡ map node_words nodes →
@@ -138,9 +111,6 @@ spelled_whole text number bytes leaves rest nodes h =
 -- the stack of what is due, whose last is the next
 pub popped : {A : Type 0} (old new : List A) (x : A) → old ≡ new ++ x ∷ [] → reverse old ≡ x ∷ reverse new
 popped old new x e = ap reverse e ∙ reverse-append new (x ∷ [])
-
-pub pushed : {A : Type 0} (old : List A) (x : A) → reverse (old ++ x ∷ []) ≡ x ∷ reverse old
-pushed old x = reverse-append old (x ∷ [])
 
 pub empty_stack : {A : Type 0} (old : List A) → (0 < length old → ⊥) → reverse old ≡ []
 empty_stack [] e = refl

@@ -62,16 +62,3 @@ at_root tree nodes e h =
       made = ap (walked ([] ∷ [])) (sym whole) ∙ walked_tree tree [] [] [] ∙ append-nil (behind [] (cubes_of tree)) ∙ map-id (cubes_of tree);
       room = subst (λ (ns : List Node). HasRoom ([] ∷ []) ns) whole (room_tree tree [] [] [] (omega (arith, h.shallow)) h.variables tt);
     }
-
-pub next_leaf : (tree : CubeTree) (cubes : List (List ℤ)) (cube : List ℤ) (due : List (List ℤ)) (rest : List Node) → IsWalk tree cubes (cube ∷ due) (Leaf ∷ rest) → IsWalk tree (cubes ++ cube ∷ []) due rest
-next_leaf tree cubes cube due rest w = record { made = append_assoc cubes (cube ∷ []) (walked due rest) ∙ w.made; room = w.room }
-
-pub next_split : (tree : CubeTree) (cubes : List (List ℤ)) (cube : List ℤ) (due : List (List ℤ)) (v : ℕ) (rest : List Node) → IsWalk tree cubes (cube ∷ due) (Split v ∷ rest) →
-    IsWalk tree cubes ((cube ++ pos v ∷ []) ∷ ((cube ++ neg_ℤ (pos v) ∷ []) ∷ due)) rest
-next_split tree cubes cube due v rest w = record { made = w.made; room = w.room.2 }
-
-pub no_node : (tree : CubeTree) (cubes due : List (List ℤ)) → IsWalk tree cubes due [] → cubes ≡ cubes_of tree
-no_node tree cubes due w = sym (append-nil cubes) ∙ w.made
-
-pub none_due : (tree : CubeTree) (cubes : List (List ℤ)) (node : Node) (rest : List Node) → IsWalk tree cubes [] (node ∷ rest) → ⊥
-none_due tree cubes node rest w = w.room

@@ -45,7 +45,7 @@ pub fn grow(alloc: Global, layout: &Layout, depth: u32) -> Result<Tree, AllocErr
     requires { depth ≤ 10 }
     ensures { IfOk result (λ tree. tree ≡ full_tree (take depth (splits layout.now))) }
 {
-    layout.is_layout();
+    layout.recall_limits();
     let variables = layout.first_splits(alloc, depth as usize)?;
     full_tree_of(alloc, variables.as_slice())
 }

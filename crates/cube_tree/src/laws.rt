@@ -1,4 +1,7 @@
 //! Laws of trees and their cubes.
+//!
+//! A law's body is empty, or calls other laws: what it says is proved in the folder of its name in `proofs/laws`, or needs no
+//! answer. Who calls it has what it says in proofs; the call does nothing when run.
 
 ghost use Rattle.std.specs.Prelude.{◌≡◌, ◌∷◌, ◌++◌, [], ℕ, ℤ, pos, neg_ℤ, List, length, IsTrue};
 ghost use Rattle.cube_tree.specs.CubeTree.{CubeTree, leaves, splits_variables, cubes_of, with_split};

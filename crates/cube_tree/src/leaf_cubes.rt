@@ -3,11 +3,10 @@
 ghost use Rattle.std.specs.Prelude.{◌≡◌, ◌≤◌, length, IfOk};
 ghost use Rattle.cube_tree.specs.CubeTree.{cubes_of};
 
-use crate::cube::Cube;
 use crate::laws::a_cube_for_each_leaf;
 use crate::node::Node;
 use crate::tree::Tree;
-use dimacs::Lit;
+use dimacs::{Cube, Lit};
 use std::alloc::{AllocError, Global};
 
 /// The cube of each leaf, by the leaves' numbers. A cube's literals stand from the root on: the variable to the left, its
@@ -17,7 +16,7 @@ pub fn cubes(alloc: Global, tree: &Tree) -> Result<Vec<Cube>, AllocError>
 {
     let mut cubes = Vec::new(alloc);
     let mut due = Vec::new(alloc);
-    due.push(Cube::empty())?;
+    due.push(Cube::empty(alloc))?;
     let mut rest = tree.nodes();
     while let Some((node, after)) = rest.split_first() {
         let Some(cube) = due.pop() else {
@@ -27,8 +26,8 @@ pub fn cubes(alloc: Global, tree: &Tree) -> Result<Vec<Cube>, AllocError>
             Node::Leaf => cubes.push(cube)?,
             Node::Split(variable) => {
                 let literal = Lit::positive(*variable);
-                due.push(cube.with(literal.negated()))?;
-                due.push(cube.with(literal))?;
+                due.push(cube.with(alloc, literal.negated()))?;
+                due.push(cube.with(alloc, literal))?;
             }
         }
         rest = after;
@@ -41,7 +40,7 @@ pub fn bounded_cubes(alloc: Global, tree: &Tree) -> Result<Vec<Cube>, AllocError
     ensures cubes { IfOk result (λ cubes. cubes.items ≡ cubes_of tree.now) }
     ensures few { IfOk result (λ cubes. length cubes.items ≤ 1024) }
 {
-    tree.covers();
+    tree.recall_cover();
     a_cube_for_each_leaf();
     let cubes = cubes(alloc, tree)?;
     Ok(cubes)

@@ -2,7 +2,6 @@
 //! Wieringa, Biere 2011).
 #![tactic(auto)]
 
-mod cube;
 mod grown;
 pub mod laws;
 mod leaf_cubes;
@@ -18,7 +17,6 @@ pub mod tree_laws;
 mod tree_reader;
 mod tree_writer;
 
-pub use cube::Cube;
 pub use grown::grow;
 pub use leaf_cubes::{bounded_cubes, cubes};
 pub use leaf_split::split_leaf;

@@ -70,9 +70,9 @@ impl Tree {
         count_leaves(self.nodes())
     }
 
-    /// It is within the limits, and its cubes cover: whatever the truth values of the variables are, they make all literals of
-    /// one leaf's cube true, and of no other. This says what each tree keeps, and does nothing.
-    pub fn covers(&self)
+    /// Hands its caller, in proofs alone, what each tree keeps: it is within the limits, and its cubes cover. Whatever the truth values
+    /// of the variables are, they make all literals of one leaf's cube true, and of no other. Does nothing when run.
+    pub fn recall_cover(&self)
         ensures tree { IsCubeTree self.now }
         ensures covers { Covers (cubes_of self.now) }
     {

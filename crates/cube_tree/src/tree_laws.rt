@@ -1,4 +1,7 @@
 //! Laws of a tree's text.
+//!
+//! A law's body is empty, or calls other laws: what it says is proved in the folder of its name in `proofs/tree_laws`, or needs no
+//! answer. Who calls it has what it says in proofs; the call does nothing when run.
 
 ghost use Rattle.std.specs.Prelude.{◌≡◌, ◌≤◌, ◌⊎◌, ◌++◌, ℕ, List, length, drop};
 ghost use Rattle.text_lines.specs.Lines.{lines_of};

@@ -1,4 +1,8 @@
 //! Laws of the dealing machine.
+//!
+//! A law's body is empty, or calls other laws: what it says is proved in the folder of its name in `proofs/laws`, or needs no
+//! answer. Who calls it has what it says in proofs; the call does nothing when run.
+
 ghost use Rattle.std.specs.Prelude.{ℕ, List};
 ghost use Rattle.dealing.specs.declared.event.Event.{Event};
 ghost use Rattle.dealing.specs.Counting.{IsDealt};

@@ -6,14 +6,6 @@ use Rattle.std.proofs.lemmas.Grind.{flat_map-append}
 use Rattle.dimacs.specs.Sink.{AppendsFront, IsSent}
 use Rattle.dimacs.proofs.SinkLemmas.{front-append, front-after}
 
--- nothing was taken
-pub sent_none : (old bytes : List ℕ) → IsSent old old bytes bytes
-sent_none old bytes = record { front = []; parts = refl; appended = sym (append-nil old) }
-
--- all was taken
-pub sent_all : (old new bytes : List ℕ) → new ≡ old ++ bytes → IsSent old new [] bytes
-sent_all old new bytes e = record { front = bytes; parts = append-nil bytes; appended = e }
-
 -- more was made and is kept
 pub sent_more : (old new kept bytes kept' more : List ℕ) → IsSent old new kept bytes → kept' ≡ kept ++ more → IsSent old new kept' (bytes ++ more)
 sent_more old new kept bytes kept' more s e = record {
@@ -29,10 +21,6 @@ sent_on old between kept bytes new kept' s t = record {
   parts = rw (append_assoc, t.parts, s.parts);
   appended = rw (t.appended, s.appended, append_assoc);
 }
-
--- what was kept was taken
-pub sent_whole : (old between kept bytes new : List ℕ) → IsSent old between kept bytes → new ≡ between ++ kept → new ≡ old ++ bytes
-sent_whole old between kept bytes new s e = rw (e, s.appended, append_assoc, s.parts)
 
 -- what the sink has taken is a prefix of the whole
 pub sent_front : (old new kept bytes rest : List ℕ) → IsSent old new kept bytes → AppendsFront old new (bytes ++ rest)

@@ -13,10 +13,6 @@ use Rattle.dimacs.specs.Models.{IsModel, IsFirstFalse}
 use Rattle.text_lines.proofs.FaultLemmas.{compared}
 use Rattle.text_lines.proofs.BoolLemmas.{not_not}
 
--- one more element that passes
-pub all_take_more : {X : Type 0} (test : X → Bool) (xs : List X) (k : ℕ) (d : X) → k < length xs → list_all test (take k xs) ≡ true → test (get_or xs k d) ≡ true → list_all test (take (k + 1) xs) ≡ true
-all_take_more test xs k d within h g = list_all_more test xs k d within ∙ and_from _ _ h g
-
 -- all elements before a place pass
 all_before : {X : Type 0} (test : X → Bool) (xs : List X) (k : ℕ) (d : X) → ((j : ℕ) → j < k → not (test (get_or xs j d)) ≡ false) → list_all test (take k xs) ≡ true
 all_before test xs zero d h = refl

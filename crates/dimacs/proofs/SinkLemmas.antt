@@ -22,14 +22,6 @@ front-take old new bytes n e = record { front = take n bytes; back = drop n byte
 pub le-rest : (n count : ℕ) (bytes : List ℕ) → n ≤ length bytes → count ≤ length (take (length bytes - n) (drop n bytes)) → n + count ≤ length bytes
 le-rest n count bytes within h = let k : count ≤ length (drop n bytes) = rw range-rest at h in omega (arith, length-drop n bytes)
 
--- nothing was taken
-pub front-none : (old bytes : List ℕ) → AppendsFront old old bytes
-front-none old bytes = record { front = []; back = bytes; parts = refl; appended = sym (append-nil old) }
-
--- all was taken
-pub front-all : (old new bytes : List ℕ) → new ≡ old ++ bytes → AppendsFront old new bytes
-front-all old new bytes e = record { front = bytes; back = []; parts = append-nil bytes; appended = e }
-
 -- a prefix of the first part is a prefix of the whole
 pub front-append : (old new first second : List ℕ) → AppendsFront old new first → AppendsFront old new (first ++ second)
 front-append old new first second h = record {

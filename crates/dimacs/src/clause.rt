@@ -27,8 +27,8 @@ impl Model for Clause {
     ghost invariant = { λ clause. IsTrue (is_clause clause.literals.items) };
 }
 
-/// Each literal is one, so none is 0. This says what literals keep, and does nothing.
-pub fn are_literals(literals: &[Lit])
+/// Hands its caller, in proofs alone, what literals keep: none is 0. Does nothing when run.
+pub fn recall_literals(literals: &[Lit])
     ensures { IsTrue (is_clause literals.now) }
 {
     for literal in literals {
@@ -42,7 +42,7 @@ impl Clause {
         ensures ok { IfOk result (λ clause. clause ≡ literals.now) }
         ensures short { length literals.now ≤ 4 → IsOk result }
     {
-        are_literals(literals);
+        recall_literals(literals);
         Ok(Clause {
             literals: SmallVec::from_slice(alloc, literals)?,
         })
@@ -53,7 +53,7 @@ impl Clause {
         ensures { result ≡ literal ∷ [] }
     {
         let places = [literal; INLINE];
-        are_literals(&places);
+        recall_literals(&places);
         Clause {
             literals: SmallVec::from_buf_and_len(alloc, places, 1),
         }
@@ -64,7 +64,7 @@ impl Clause {
         ensures { result ≡ first ∷ (second ∷ []) }
     {
         let places = [first, second, second, second];
-        are_literals(&places);
+        recall_literals(&places);
         Clause {
             literals: SmallVec::from_buf_and_len(alloc, places, 2),
         }
@@ -75,7 +75,7 @@ impl Clause {
         ensures { result ≡ first ∷ (second ∷ (third ∷ [])) }
     {
         let places = [first, second, third, third];
-        are_literals(&places);
+        recall_literals(&places);
         Clause {
             literals: SmallVec::from_buf_and_len(alloc, places, 3),
         }

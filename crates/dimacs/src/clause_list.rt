@@ -29,9 +29,9 @@ pub trait ClauseList {
         requires { place < length (formula self.now).clauses }
         ensures { result ≡ slice_index_or (formula self.now).clauses place [] };
 
-    /// Its clauses are over its variables, and each of them is a clause of literals. This says what each formula keeps,
-    /// and does nothing.
-    fn is_formula(&self)
+    /// Hands its caller, in proofs alone, what each formula keeps: its clauses are over its variables, and each of them is a clause of
+    /// literals. Does nothing when run.
+    fn recall_invariant(&self)
         ensures formula { IsTrue (is_formula (formula self.now)) }
         ensures clauses { IsTrue (list_all is_clause (formula self.now).clauses) };
 
@@ -65,8 +65,8 @@ impl ClauseList for Formula {
         ListedClause::lent(&self.clauses()[place])
     }
 
-    fn is_formula(&self) {
-        Formula::is_formula(self)
+    fn recall_invariant(&self) {
+        Formula::recall_invariant(self)
     }
 
     fn eval(&self, assignment: &Assignment) -> Result<(), FirstFalse> {

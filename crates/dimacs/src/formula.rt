@@ -44,8 +44,8 @@ pub fn first_false(clauses: &[Clause], assignment: &Assignment) -> Option<usize>
         .position(|clause| !assignment.satisfies(clause.as_slice()))
 }
 
-/// Each clause is a clause of literals. This says what clauses keep, and does nothing.
-fn are_clauses(clauses: &[Clause])
+/// Hands its caller, in proofs alone, what clauses keep: each is a clause of literals. Does nothing when run.
+fn recall_clauses(clauses: &[Clause])
     ensures { IsTrue (list_all is_clause clauses.now) }
 {
     for clause in clauses {
@@ -69,13 +69,13 @@ impl Formula {
         Formula { variables, clauses }
     }
 
-    /// Its clauses are over its variables, and each of them is a clause of literals. This says what each formula keeps,
-    /// and does nothing.
-    pub fn is_formula(&self)
+    /// Hands its caller, in proofs alone, what each formula keeps: its clauses are over its variables, and each of them is a clause of
+    /// literals. Does nothing when run.
+    pub fn recall_invariant(&self)
         ensures formula { IsTrue (is_formula self.now) }
         ensures clauses { IsTrue (list_all is_clause self.now.clauses) }
     {
-        are_clauses(self.clauses.as_slice());
+        recall_clauses(self.clauses.as_slice());
     }
 
     /// The number of variables.

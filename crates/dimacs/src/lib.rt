@@ -1,4 +1,4 @@
-//! Literals, clauses, formulas and models, the text of a formula as it is written, and where texts go: sinks, with what
+//! Literals, clauses, cubes, formulas and models, the text of a formula as it is written, and where texts go: sinks, with what
 //! contracts alone see of them.
 #![tactic(auto)]
 
@@ -7,6 +7,7 @@ mod assignment;
 mod clause;
 mod clause_list;
 mod cnf_writer;
+mod cube;
 mod formula;
 mod line_buffer;
 mod listed_clause;
@@ -20,9 +21,10 @@ mod transcript;
 mod variable_table;
 
 pub use assignment::Assignment;
-pub use clause::{Clause, are_literals};
+pub use clause::{Clause, recall_literals};
 pub use clause_list::ClauseList;
 pub use cnf_writer::{CnfWriter, write_cnf};
+pub use cube::{Cube, MAX_CUBE_LITERALS, are_same};
 pub use formula::{FirstFalse, Formula, first_false};
 pub use listed_clause::ListedClause;
 pub use literal::{Lit, MAX_VARIABLE};

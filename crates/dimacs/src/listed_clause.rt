@@ -2,7 +2,7 @@
 ghost use Rattle.std.specs.Prelude.{◌≡◌, [], ◌∷◌, IsTrue};
 ghost use Rattle.dimacs.specs.Literal.{is_clause};
 
-use crate::clause::{Clause, are_literals};
+use crate::clause::{Clause, recall_literals};
 use crate::literal::Lit;
 use std::marker::Model;
 
@@ -50,7 +50,7 @@ impl<'a> ListedClause<'a> {
         ensures { result ≡ literal ∷ [] }
     {
         let places = [literal];
-        are_literals(&places);
+        recall_literals(&places);
         ListedClause {
             literals: Literals::One(places),
         }
@@ -61,7 +61,7 @@ impl<'a> ListedClause<'a> {
         ensures { result ≡ first ∷ (second ∷ []) }
     {
         let places = [first, second];
-        are_literals(&places);
+        recall_literals(&places);
         ListedClause {
             literals: Literals::Two(places),
         }
@@ -72,7 +72,7 @@ impl<'a> ListedClause<'a> {
         ensures { result ≡ first ∷ (second ∷ (third ∷ [])) }
     {
         let places = [first, second, third];
-        are_literals(&places);
+        recall_literals(&places);
         ListedClause {
             literals: Literals::Three(places),
         }

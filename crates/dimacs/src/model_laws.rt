@@ -1,4 +1,8 @@
 //! Laws of models and of first false clauses.
+//!
+//! A law's body is empty, or calls other laws: what it says is proved in the folder of its name in `proofs/model_laws`, or needs no
+//! answer. Who calls it has what it says in proofs; the call does nothing when run.
+
 ghost use Rattle.std.specs.Prelude.{◌≡◌, ◌⊎◌, ℕ, ℤ, Bool, List};
 ghost use Rattle.dimacs.specs.Models.{IsModel, IsFirstFalse};
 

@@ -36,9 +36,6 @@ path_joined t m (y ∷ between) x more n h k = (h.0, path_joined t y between x m
 pub forced_over : (t : TraceValue) (m x n : OpName) → IsForced t m x → IsForced t x n → IsForced t m n
 forced_over t m x n h k = (h.0 ++ x ∷ k.0, path_joined t m h.0 x k.0 n h.1 k.1)
 
-pub forced_step : (t : TraceValue) (m x n : OpName) → IsForced t m x → IsStep t x n → IsForced t m n
-forced_step t m x n h k = forced_over t m x n h ([], k)
-
 pub forced_lower : (t : TraceValue) (l m n : OpName) → IsSome (operation_at t l) → IsSome (operation_at t m) → l.process ≡ m.process → l.place ≤ m.place → IsForced t m n → IsForced t l n
 forced_lower t l m n first second same low h =
     elim (cases_order l.place m.place) [

@@ -21,15 +21,6 @@ use Rattle.forced_order.specs.Raised.{IsRaised}
 use Rattle.forced_order.specs.Rows.{OrderValue, last_before, numbered, IsSoundOrder}
 use Rattle.forced_order.proofs.ForcedLemmas.{forced_over, forced_lower}
 
--- if none passes, the place is the length
-pub none_at : {A : Type 0} (p : A → Bool) (xs : List A) → None ≡ position p xs → length xs ≡ position_or_len p xs
-none_at p xs e =
-    let most : position_or_len p xs ≤ length xs = prefix_len-le-length (λ x. not (p x)) xs in
-    elim (cases_lt (position_or_len p xs) (length xs)) [
-      | inl h ↦ absurd (let none : None ≡ Some (position_or_len p xs) = e ∙ sym (cond_below _ _ (Some (position_or_len p xs)) None h) in cc)
-      | inr h ↦ omega (arith, h, most)
-    ]
-
 within : {X : Type 0} (xs : List X) (k : ℕ) (x : X) → at_place xs k ≡ Some x → (1 ≤ k) × (k ≤ length xs)
 within xs zero x e = absurd (cc)
 within xs (suc k) x e = let l = slice_get_within xs k x e in (omega arith, omega (arith, l))

@@ -43,7 +43,7 @@ impl ForcedOrder {
         ensures sound { IfOk result (λ order. IsSoundOrder trace.now order) }
         ensures forward { IfOk result (λ order. IsClosedForward trace.now (ordered_by trace.now order)) }
     {
-        trace.is_trace();
+        trace.recall_invariant();
         let rows = rows_of(alloc, trace)?;
         if is_rising(&rows, trace) {
             Ok(ForcedOrder { rows })

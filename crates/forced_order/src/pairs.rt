@@ -1,32 +1,14 @@
 //! The before pairs of a trace by numbers.
 
-ghost use Rattle.std.specs.Prelude.{◌≡◌, ◌≤◌, IfOk, length, map, position};
-ghost use Rattle.std.specs.Str.{bytes_eq};
-ghost use Rattle.trace_semantics.specs.declared.trace.Process.{Process as Listed};
-ghost use Rattle.trace_semantics.specs.PairOrder.{order_of};
+ghost use Rattle.std.specs.Prelude.{◌≡◌, ◌≤◌, IfOk, length, map};
 ghost use Rattle.forced_order.specs.Forced.{numbered_pair, numbered_pairs};
 ghost use Rattle.forced_order.specs.Rows.{numbered};
 
 use crate::numbered::OperationNumber;
 use std::alloc::{AllocError, Global};
 use trace_semantics::operation::OpName;
+use trace_semantics::process_order::order_of;
 use trace_semantics::trace::{Process, Trace};
-
-fn find_process(processes: &[Process], name: &[u8]) -> Option<usize>
-    ensures { result ≡ position (λ (p : Listed). bytes_eq p.name name.now) processes.now }
-{
-    processes.iter().position(|p| p.name.as_bytes() == name)
-}
-
-/// Returns the number of processes before the one of this name.
-fn order_of_name(processes: &[Process], name: &[u8]) -> usize
-    ensures { result ≡ order_of processes.now name.now }
-{
-    match find_process(processes, name) {
-        Some(place) => place,
-        None => processes.len(),
-    }
-}
 
 /// Returns the operation by numbers.
 fn number(processes: &[Process], name: &OpName) -> OperationNumber
@@ -34,7 +16,7 @@ fn number(processes: &[Process], name: &OpName) -> OperationNumber
     ensures { result ≡ numbered processes.now name.now }
 {
     OperationNumber {
-        process: order_of_name(processes, name.process.as_bytes()) as u16,
+        process: order_of(processes, name.process.as_bytes()) as u16,
         place: name.place,
     }
 }
@@ -62,6 +44,6 @@ pub fn pairs_of(
 ) -> Result<Vec<(OperationNumber, OperationNumber)>, AllocError>
     ensures { IfOk result (λ pairs. pairs.items ≡ numbered_pairs trace.now) }
 {
-    trace.is_trace();
+    trace.recall_invariant();
     numbered_of(alloc, trace.processes(), trace.before())
 }

@@ -124,7 +124,7 @@ fn raise_fully(
 pub fn rows_of(alloc: Global, trace: &Trace) -> Result<OrderRows, AllocError>
     ensures { IfOk result (λ rows. AreForced trace.now rows) }
 {
-    trace.is_trace();
+    trace.recall_invariant();
     let counts = row_counts(alloc, trace)?;
     let numbers = pairs_of(alloc, trace)?;
     let pairs = numbers.as_slice();

@@ -76,6 +76,6 @@ fn are_all_rising(rows: &OrderRows, processes: &[Process]) -> bool
 pub fn is_rising(rows: &OrderRows, trace: &Trace) -> bool
     ensures { result ≡ true → AreAllRising trace.now.processes rows.now }
 {
-    trace.is_trace();
+    trace.recall_invariant();
     are_all_rising(rows, trace.processes())
 }

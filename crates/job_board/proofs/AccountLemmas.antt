@@ -4,7 +4,7 @@ use Rattle.cube_jobs.specs.declared.job.Job.{Job}
 use Rattle.cube_jobs.specs.declared.job.Settled.{Settled}
 use Rattle.job_board.specs.Merge.{IsMergeOf}
 use Rattle.job_board.specs.Pairs.{Pair, of_job, of_result, of_jobs, of_results, below}
-use Rattle.job_board.specs.Hands.{held_in}
+use Rattle.job_board.specs.InFlight.{held_in}
 use Rattle.job_board.specs.Seats.{taken_by, given_by}
 use Rattle.job_board.specs.Accounts.{total}
 use Rattle.job_board.specs.declared.seats.WorkerSeat.{WorkerSeat}

@@ -7,7 +7,7 @@ use Rattle.cube_jobs.specs.declared.job.Job.{Job}
 use Rattle.cube_jobs.specs.declared.job.Settled.{Settled}
 use Rattle.job_board.specs.Merge.{IsMergeOf}
 use Rattle.job_board.specs.ChannelRules.{with_worker_joined, PutAddsUp, GotAddsUp}
-use Rattle.job_board.specs.Hands.{held_in, ticket_in, is_within}
+use Rattle.job_board.specs.InFlight.{held_in, ticket_in, is_within}
 use Rattle.job_board.specs.Pairs.{of_jobs, of_results, below}
 use Rattle.job_board.specs.Seats.{put_by, taken_by, given_by, gathered_by}
 use Rattle.job_board.specs.Accounts.{total, taken_below, given_below, AreJoined, IsAccountOf, WereDealt, WereGathered, IsBalanced, AreAnswersTo}

@@ -8,7 +8,7 @@ use Rattle.cube_jobs.specs.declared.job.Job.{Job}
 use Rattle.cube_jobs.specs.declared.job.Settled.{Settled}
 use Rattle.job_board.specs.ChannelRules.{list_in, with_item}
 use Rattle.job_board.specs.Pairs.{Pair, of_job, of_result, of_jobs, of_results, below, Rise}
-use Rattle.job_board.specs.Hands.{held_in, ticket_in, is_done, is_within}
+use Rattle.job_board.specs.InFlight.{held_in, ticket_in, is_done, is_within}
 use Rattle.job_board.specs.declared.in_flight.InFlight.{InFlight}
 use Rattle.job_board.specs.declared.in_flight.InFlight.TheVariants.{Empty, Holds, Stopped, Cut}
 use Rattle.job_board.specs.declared.in_flight.HeldJob.{HeldJob}

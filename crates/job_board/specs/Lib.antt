@@ -1,6 +1,6 @@
-pub mod Merge
-pub mod ChannelRules
-pub mod Pairs
-pub mod Hands
-pub mod Seats
 pub mod Accounts
+pub mod ChannelRules
+pub mod InFlight
+pub mod Merge
+pub mod Pairs
+pub mod Seats

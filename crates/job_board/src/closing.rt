@@ -7,7 +7,7 @@ ghost use Rattle.cube_jobs.specs.declared.job.Job.{Job};
 ghost use Rattle.cube_jobs.specs.declared.job.Settled.{Settled};
 ghost use Rattle.job_board.specs.declared.channel_view.ChannelView.TheVariants.{Single};
 ghost use Rattle.job_board.specs.ChannelRules.{list_in, PutAddsUp, GotAddsUp, with_worker_joined};
-ghost use Rattle.job_board.specs.Hands.{ticket_in};
+ghost use Rattle.job_board.specs.InFlight.{ticket_in};
 ghost use Rattle.job_board.specs.Merge.{IsMergeOf};
 ghost use Rattle.job_board.specs.Seats.{put_by, given_by, gathered_by, IsDealerAt, IsWorkerAt, IsCollectorAt, AreWorkersAt};
 ghost use Rattle.job_board.specs.Accounts.{IsAccountOf, AreJoined, WereDealt, WereGathered, IsBalanced, AreAnswersTo};

@@ -1,18 +1,19 @@
 //! The job that is in flight at a worker.
 ghost use Rattle.std.specs.Prelude.{◌≡◌, ◌↔◌, IsTrue};
-ghost use Rattle.job_board.specs.Hands.{ticket_in, is_done};
+ghost use Rattle.job_board.specs.InFlight.{ticket_in, is_done};
 ghost use Rattle.job_board.specs.Pairs.{of_result};
 ghost use Rattle.job_board.specs.declared.in_flight.InFlight.TheVariants.{Holds};
 ghost use Rattle.job_board.specs.declared.in_flight.HeldJob.{HeldJob};
 
-use cube_jobs::{Job, JobCube, Settled, are_same};
+use cube_jobs::{Job, Settled};
+use dimacs::{Cube, are_same};
 use std::alloc::Global;
 
 /// The ticket and the cube of a job that a worker has taken and not yet settled.
 #[derive(Drop)]
 pub struct HeldJob {
     pub(crate) ticket: u32,
-    pub(crate) cube: JobCube,
+    pub(crate) cube: Cube,
 }
 
 /// The job that is in flight at a worker.
@@ -36,7 +37,7 @@ impl HeldJob {
     {
         HeldJob {
             ticket: job.ticket(),
-            cube: JobCube::of(alloc, job.cube()),
+            cube: Cube::of(alloc, job.cube()),
         }
     }
 

@@ -1,4 +1,8 @@
 //! Laws of the two channels.
+//!
+//! A law's body is empty, or calls other laws: what it says is proved in the folder of its name in `proofs/laws`, or needs no
+//! answer. Who calls it has what it says in proofs; the call does nothing when run.
+
 ghost use Rattle.std.specs.Prelude.{List};
 ghost use Rattle.cube_jobs.specs.declared.job.Job.{Job};
 ghost use Rattle.cube_jobs.specs.declared.job.Settled.{Settled};

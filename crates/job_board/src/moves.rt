@@ -4,7 +4,7 @@ ghost use Rattle.std.specs.List.{All};
 ghost use Rattle.cube_jobs.specs.declared.job.Job.{Job};
 ghost use Rattle.job_board.specs.declared.in_flight.InFlight.TheVariants.{Empty};
 ghost use Rattle.job_board.specs.Pairs.{of_job, of_result};
-ghost use Rattle.job_board.specs.Hands.{ticket_in, is_done, held_in};
+ghost use Rattle.job_board.specs.InFlight.{ticket_in, is_done, held_in};
 ghost use Rattle.job_board.specs.Seats.{put_by, taken_by, given_by, gathered_by, IsDealerAt, IsWorkerAt, IsCollectorAt};
 
 use crate::board::Board;

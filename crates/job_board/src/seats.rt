@@ -5,7 +5,7 @@ ghost use Rattle.crossbeam_channel.specs.Claims.{view};
 ghost use Rattle.job_board.specs.declared.channel_view.ChannelView.TheVariants.{Worker};
 ghost use Rattle.job_board.specs.ChannelRules.{list_in};
 ghost use Rattle.job_board.specs.Pairs.{of_jobs, of_results, below, Rise};
-ghost use Rattle.job_board.specs.Hands.{held_in, is_within};
+ghost use Rattle.job_board.specs.InFlight.{held_in, is_within};
 
 use crate::channel_view::ChannelView;
 use crate::in_flight::InFlight;

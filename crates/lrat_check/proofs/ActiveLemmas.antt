@@ -15,12 +15,12 @@ removed true kept added = refl
 removed false kept added = refl
 
 -- a clause after the formula's
-behind : (xs ys : List (List ℤ)) (p : ℕ) → length xs ≤ p → slice_get (xs ++ ys) p ≡ slice_get ys (p - length xs)
+pub behind : (xs ys : List (List ℤ)) (p : ℕ) → length xs ≤ p → slice_get (xs ++ ys) p ≡ slice_get ys (p - length xs)
 behind [] ys p h = ap (slice_get ys) (omega arith)
 behind (x ∷ xs) ys zero h = absurd (omega (arith, h))
 behind (x ∷ xs) ys (suc p) h = behind xs ys p (omega (arith, h)) ∙ ap (slice_get ys) (omega arith)
 
-abbrev unit_of : ℤ → List ℤ
+abbrev pub unit_of : ℤ → List ℤ
 unit_of literal = literal ∷ []
 
 unit_at : (cube : List ℤ) (k : ℕ) (z : ℤ) → k < length cube → z ≡ get_or cube k z → slice_get (map unit_of cube) k ≡ Some (z ∷ [])

@@ -6,6 +6,7 @@ use Rattle.std.proofs.lemmas.Bool.{and_from, cond-true, cond-false}
 use Rattle.std.proofs.lemmas.List.{length_push}
 use Rattle.std.proofs.lemmas.List.Folds.{list_all-append}
 use Rattle.text_lines.specs.FirstFault.{IsFaultless}
+use Rattle.text_lines.specs.Kept.{is_dimacs_skipped, dimacs_kept}
 use Rattle.text_lines.specs.Lines.{lines_of}
 use Rattle.text_lines.specs.Words.{words_of}
 use Rattle.text_lines.proofs.FaultLemmas.{faultless_nil, faultless_push}
@@ -13,7 +14,7 @@ use Rattle.text_lines.proofs.KeptLemmas.{kept_append, kept_skipped, kept_more}
 use Rattle.text_lines.proofs.ListLemmas.{next_parts}
 use Rattle.lrat_check.specs.LratFaults.{line_fault, words_fault, HasLratFault}
 use Rattle.lrat_check.specs.LratRead.{IsSkippedLine, IsLineOf}
-use Rattle.lrat_check.specs.LratText.{IsStepLine, SpellsDerivation, is_lrat_step, is_skipped, kept}
+use Rattle.lrat_check.specs.LratText.{IsStepLine, SpellsDerivation, is_lrat_step}
 use Rattle.lrat_check.specs.declared.derivation.Step.{Step}
 use Rattle.lrat_check.specs.declared.lrat_fault.LratCause.{LratCause}
 use Rattle.text_lines.specs.declared.fault.PlacedFault.{PlacedFault}
@@ -30,7 +31,7 @@ zip_push (l ∷ lines) (s ∷ steps) words step h k = (h.0, zip_push lines steps
 
 -- the lines are these steps, and none has a fault
 pub record AreSteps (lines : List (List ℕ)) (steps : List Step) : Type 0 where
-  pub lines_are : AllZip IsStepLine (kept lines) steps
+  pub lines_are : AllZip IsStepLine (dimacs_kept lines) steps
   pub written : list_all is_lrat_step steps ≡ true
   pub faultless : IsFaultless line_fault lines
 
@@ -40,23 +41,23 @@ no_lines = record { lines_are = tt; written = refl; faultless = faultless_nil li
 -- one more line that is skipped
 pub push_skipped : (lines : List (List ℕ)) (steps : List Step) (line : List ℕ) → AreSteps lines steps → IsSkippedLine line → AreSteps (lines ++ line ∷ []) steps
 push_skipped lines steps line h skipped =
-    let same : kept (lines ++ line ∷ []) ≡ kept lines = kept_append is_skipped lines (line ∷ []) ∙ ap (λ l. kept lines ++ l) (kept_skipped is_skipped line [] skipped) ∙ append-nil (kept lines) in
+    let same : dimacs_kept (lines ++ line ∷ []) ≡ dimacs_kept lines = kept_append is_dimacs_skipped lines (line ∷ []) ∙ ap (λ l. dimacs_kept lines ++ l) (kept_skipped is_dimacs_skipped line [] skipped) ∙ append-nil (dimacs_kept lines) in
     record {
       lines_are = subst (λ (ls : List (List (List ℕ))). AllZip IsStepLine ls steps) (sym same) h.lines_are;
       written = h.written;
-      faultless = faultless_push line_fault lines line h.faultless (cond-true (is_skipped (words_of line)) None (words_fault (words_of line)) skipped);
+      faultless = faultless_push line_fault lines line h.faultless (cond-true (is_dimacs_skipped (words_of line)) None (words_fault (words_of line)) skipped);
     }
 
 -- the line of a step has no fault
 pub line_clear : (before : List (List ℕ)) (line : List ℕ) (step : Step) → IsLineOf line step → line_fault before line ≡ None
-line_clear before line step h = cond-false (is_skipped (words_of line)) None (words_fault (words_of line)) h.said ∙ step_clear (words_of line) step h.step_is
+line_clear before line step h = cond-false (is_dimacs_skipped (words_of line)) None (words_fault (words_of line)) h.said ∙ step_clear (words_of line) step h.step_is
 
 -- one more line that is a step
 pub push_step : (lines : List (List ℕ)) (steps : List Step) (line : List ℕ) (step : Step) → AreSteps lines steps → IsLineOf line step → AreSteps (lines ++ line ∷ []) (steps ++ step ∷ [])
 push_step lines steps line step h new =
-    let more : kept (lines ++ line ∷ []) ≡ kept lines ++ words_of line ∷ [] = kept_append is_skipped lines (line ∷ []) ∙ ap (λ l. kept lines ++ l) (kept_more is_skipped line [] new.said) in
+    let more : dimacs_kept (lines ++ line ∷ []) ≡ dimacs_kept lines ++ words_of line ∷ [] = kept_append is_dimacs_skipped lines (line ∷ []) ∙ ap (λ l. dimacs_kept lines ++ l) (kept_more is_dimacs_skipped line [] new.said) in
     record {
-      lines_are = subst (λ (ls : List (List (List ℕ))). AllZip IsStepLine ls (steps ++ step ∷ [])) (sym more) (zip_push (kept lines) steps (words_of line) step h.lines_are new.step_is.is);
+      lines_are = subst (λ (ls : List (List (List ℕ))). AllZip IsStepLine ls (steps ++ step ∷ [])) (sym more) (zip_push (dimacs_kept lines) steps (words_of line) step h.lines_are new.step_is.is);
       written = list_all-append is_lrat_step steps (step ∷ []) ∙ and_from _ _ h.written (and_from _ true new.step_is.written refl);
       faultless = faultless_push line_fault lines line h.faultless (line_clear lines line step new);
     }

@@ -3,6 +3,7 @@ pub mod RefuteLemmas
 pub mod CountTableLemmas
 pub mod TrailLemmas
 pub mod ActiveLemmas
+pub mod OtherCubeLemmas
 pub mod AddedLemmas
 pub mod CheckLemmas
 pub mod CountLemmas

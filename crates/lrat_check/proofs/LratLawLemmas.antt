@@ -4,13 +4,14 @@ use Rattle.std.specs.Prelude.{None}
 use Rattle.std.specs.List.{list_all, AllZip}
 use Rattle.std.proofs.lemmas.Bool.{cases_Bool, cond-true, cond-false, and_parts}
 use Rattle.text_lines.specs.FirstFault.{IsFaultless}
+use Rattle.text_lines.specs.Kept.{is_dimacs_skipped, dimacs_kept}
 use Rattle.text_lines.specs.Lines.{lines_of}
 use Rattle.text_lines.specs.Words.{words_of}
 use Rattle.text_lines.proofs.FaultLemmas.{none_is_some, one_first, either}
 use Rattle.text_lines.proofs.KeptLemmas.{kept_append, kept_more}
 use Rattle.lrat_check.specs.LratFaults.{HasLratFault, line_fault, words_fault}
 use Rattle.lrat_check.specs.LratRead.{IsSkippedLine, IsLineOf, IsWrittenStep}
-use Rattle.lrat_check.specs.LratText.{SpellsDerivation, IsStepLine, is_lrat_step, is_skipped, kept}
+use Rattle.lrat_check.specs.LratText.{SpellsDerivation, IsStepLine, is_lrat_step}
 use Rattle.lrat_check.specs.declared.derivation.Step.{Step}
 use Rattle.lrat_check.specs.declared.lrat_fault.LratCause.{LratCause}
 use Rattle.lrat_check.proofs.ClearLemmas.{step_clear}
@@ -32,7 +33,7 @@ same_steps (l ∷ lines) (s ∷ m) (t ∷ n) h k a b =
     (λ i. first i ∷ later i)
 
 pub one_spelled : (text : List ℕ) (m n : List Step) → SpellsDerivation text m → SpellsDerivation text n → m ≡ n
-one_spelled text m n h k = same_steps (kept (lines_of text)) m n h.lines_are k.lines_are h.written k.written
+one_spelled text m n h k = same_steps (dimacs_kept (lines_of text)) m n h.lines_are k.lines_are h.written k.written
 
 pub one_refused : (text : List ℕ) (c d : LratCause) (p q : ℕ) → HasLratFault text c p → HasLratFault text d q → (c ≡ d) × (p ≡ q)
 one_refused text c d p q h k = let same = one_first line_fault (lines_of text) p q c d h k in (same.1, same.0)
@@ -48,12 +49,12 @@ step_of (l ∷ before) words after (s ∷ steps) h good = step_of before words a
 -- no line of a derivation has a fault
 spelled_clear : (text : List ℕ) (steps : List Step) → SpellsDerivation text steps → IsFaultless line_fault (lines_of text)
 spelled_clear text steps h before line after e =
-    elim (cases_Bool (is_skipped (words_of line))) [
-      | inl skipped ↦ cond-true (is_skipped (words_of line)) None (words_fault (words_of line)) skipped
+    elim (cases_Bool (is_dimacs_skipped (words_of line))) [
+      | inl skipped ↦ cond-true (is_dimacs_skipped (words_of line)) None (words_fault (words_of line)) skipped
       | inr said ↦ (
-          let all : kept (lines_of text) ≡ kept before ++ words_of line ∷ kept after = ap kept e ∙ kept_append is_skipped before (line ∷ after) ∙ ap (λ l. kept before ++ l) (kept_more is_skipped line after said) in
-          let s = step_of (kept before) (words_of line) (kept after) steps (subst (λ (ls : List (List (List ℕ))). AllZip IsStepLine ls steps) all h.lines_are) h.written in
-          cond-false (is_skipped (words_of line)) None (words_fault (words_of line)) said ∙ step_clear (words_of line) s.0 s.1)
+          let all : dimacs_kept (lines_of text) ≡ dimacs_kept before ++ words_of line ∷ dimacs_kept after = ap dimacs_kept e ∙ kept_append is_dimacs_skipped before (line ∷ after) ∙ ap (λ l. dimacs_kept before ++ l) (kept_more is_dimacs_skipped line after said) in
+          let s = step_of (dimacs_kept before) (words_of line) (dimacs_kept after) steps (subst (λ (ls : List (List (List ℕ))). AllZip IsStepLine ls steps) all h.lines_are) h.written in
+          cond-false (is_dimacs_skipped (words_of line)) None (words_fault (words_of line)) said ∙ step_clear (words_of line) s.0 s.1)
     ]
 
 pub never_both : (text : List ℕ) (steps : List Step) (cause : LratCause) (line : ℕ) → SpellsDerivation text steps → HasLratFault text cause line → ⊥
@@ -62,10 +63,10 @@ never_both text steps cause line h fault = none_is_some cause (sym (spelled_clea
 -- a line without a fault is skipped or is a step
 line_read : (before : List (List ℕ)) (line : List ℕ) → line_fault before line ≡ None → IsSkippedLine line ⊎ ((step : Step) × IsLineOf line step)
 line_read before line clear =
-    elim (cases_Bool (is_skipped (words_of line))) [
+    elim (cases_Bool (is_dimacs_skipped (words_of line))) [
       | inl skipped ↦ inl skipped
       | inr said ↦ (
-          let found = step_found (words_of line) said (sym (cond-false (is_skipped (words_of line)) None (words_fault (words_of line)) said) ∙ clear) in
+          let found = step_found (words_of line) said (sym (cond-false (is_dimacs_skipped (words_of line)) None (words_fault (words_of line)) said) ∙ clear) in
           inr (found.0, record { said = said; step_is = found.1 }))
     ]
 

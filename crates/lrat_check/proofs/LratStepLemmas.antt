@@ -10,11 +10,12 @@ use Rattle.std.proofs.lemmas.Int.{ints}
 use Rattle.std.proofs.lemmas.Option.{none-some}
 use Rattle.std.proofs.lemmas.Slice.Eq.{bytes_eq-Decides}
 use Rattle.dimacs.specs.Literal.{is_literal, is_clause, most_variable}
+use Rattle.text_lines.specs.Kept.{is_dimacs_skipped}
 use Rattle.text_lines.specs.Numbers.{solver_number}
 use Rattle.text_lines.proofs.ListLemmas.{same_somes}
 use Rattle.lrat_check.specs.LratFaults.{list_fault, literal_fault, hint_fault, id_fault, first_fault, behind_fault, addition_fault, deletion_fault, is_deletion, is_zero, words_fault}
 use Rattle.lrat_check.specs.LratRead.{IsWrittenStep}
-use Rattle.lrat_check.specs.LratText.{is_id, is_id_number, most_id, is_skipped, Says, ended}
+use Rattle.lrat_check.specs.LratText.{is_id, is_id_number, most_id, Says, ended}
 use Rattle.lrat_check.specs.declared.derivation.Step.{Step}
 use Rattle.lrat_check.specs.declared.derivation.Step.TheVariants.{Addition, Deletion}
 use Rattle.lrat_check.specs.declared.lrat_fault.LratCause.{LratCause}
@@ -233,7 +234,7 @@ deletion_found word (letter ∷ words) d h =
     (Deletion first.0 ids.0, record { is = (word, words, (λ i. word ∷ (is i ∷ words)), first.1, ids.2); written = and_from _ _ first.3 ids.1 })
 
 -- words without a fault are a step
-pub step_found : (words : List (List ℕ)) → is_skipped words ≡ false → words_fault words ≡ None → (step : Step) × IsWrittenStep words step
+pub step_found : (words : List (List ℕ)) → is_dimacs_skipped words ≡ false → words_fault words ≡ None → (step : Step) × IsWrittenStep words step
 step_found [] said h = absurd (true≢false said)
 step_found (word ∷ words) said h =
     elim (cases_Bool (is_deletion words)) [

@@ -15,6 +15,7 @@ use Rattle.std.proofs.lemmas.List.Folds.{list_any-append, list_all-append, flat_
 use Rattle.std.proofs.lemmas.Grind.{flat_map-append}
 use Rattle.std.proofs.lemmas.Option.{cond_some}
 use Rattle.dimacs.specs.Literal.{is_literal, is_clause, most_variable}
+use Rattle.text_lines.specs.Kept.{is_dimacs_skipped, dimacs_kept}
 use Rattle.text_lines.specs.Lines.{lines_of, is_line_feed}
 use Rattle.text_lines.specs.Numbers.{solver_number, is_digits, is_plain, has_minus, digits_after_sign}
 use Rattle.text_lines.specs.Words.{words_of, is_blank, is_empty}
@@ -25,7 +26,7 @@ use Rattle.text_lines.proofs.IntegerLemmas.{not_negative}
 use Rattle.text_lines.proofs.KeptLemmas.{kept_more}
 use Rattle.text_lines.proofs.DigitLemmas.{none_in_digits, digit_no_blank, digit_no_feed}
 use Rattle.lrat_check.specs.Derivation.{is_step, are_steps}
-use Rattle.lrat_check.specs.LratText.{SpellsDerivation, IsStepLine, Says, ended, is_id, is_id_number, is_lrat_step, is_skipped, kept, most_id}
+use Rattle.lrat_check.specs.LratText.{SpellsDerivation, IsStepLine, Says, ended, is_id, is_id_number, is_lrat_step, most_id}
 use Rattle.lrat_check.specs.LratWritten.{canonical_derivation, step_line, list_text}
 use Rattle.lrat_check.specs.declared.derivation.Step.{Step}
 use Rattle.lrat_check.specs.declared.derivation.Step.TheVariants.{Addition, Deletion}
@@ -172,9 +173,9 @@ record IsWritten (step : Step) : Type 0 where
   pub number_is : IsWord number
   pub words_are : AreWords words
   pub step_is : IsStepLine (number ∷ words) step
-  pub said : is_skipped (number ∷ words) ≡ false
+  pub said : is_dimacs_skipped (number ∷ words) ≡ false
 
-number_said : (n : ℕ) (words : List (List ℕ)) → n ≤ most_id → is_skipped (decimal n ∷ words) ≡ false
+number_said : (n : ℕ) (words : List (List ℕ)) → n ≤ most_id → is_dimacs_skipped (decimal n ∷ words) ≡ false
 number_said n words h = first_apart 99 refl refl (decimal n) (digits_of n h).all
 
 addition_written : (id : ℕ) (literals hints : List ℤ) → is_lrat_step (Addition id literals hints) ≡ true → IsWritten (Addition id literals hints)
@@ -224,7 +225,7 @@ step_written : (step : Step) → is_lrat_step step ≡ true → IsWritten step
 step_written (Addition id literals hints) h = addition_written id literals hints h
 step_written (Deletion first ids) h = deletion_written first ids h
 
-written_lines : (steps : List Step) → list_all is_lrat_step steps ≡ true → AllZip IsStepLine (kept (lines_of (canonical_derivation steps))) steps
+written_lines : (steps : List Step) → list_all is_lrat_step steps ≡ true → AllZip IsStepLine (dimacs_kept (lines_of (canonical_derivation steps))) steps
 written_lines [] h = tt
 written_lines (step ∷ steps) h =
     let parts = and_parts (is_lrat_step step) (list_all is_lrat_step steps) h in
@@ -235,8 +236,8 @@ written_lines (step ∷ steps) h =
     ap (λ l. lines_of (l ++ canonical_derivation steps)) w.line
     ∙ ap lines_of (append_assoc line (10 ∷ []) (canonical_derivation steps))
     ∙ line_ended line (canonical_derivation steps) (no_feed_in w.number w.words w.number_is w.words_are) in
-    let all : kept (lines_of (step_line step ++ canonical_derivation steps)) ≡ (w.number ∷ w.words) ∷ kept (lines_of (canonical_derivation steps)) =
-    ap kept lines ∙ kept_more is_skipped line (lines_of (canonical_derivation steps)) (ap is_skipped words ∙ w.said) ∙ ap (λ l. l ∷ kept (lines_of (canonical_derivation steps))) words in
+    let all : dimacs_kept (lines_of (step_line step ++ canonical_derivation steps)) ≡ (w.number ∷ w.words) ∷ dimacs_kept (lines_of (canonical_derivation steps)) =
+    ap dimacs_kept lines ∙ kept_more is_dimacs_skipped line (lines_of (canonical_derivation steps)) (ap is_dimacs_skipped words ∙ w.said) ∙ ap (λ l. l ∷ dimacs_kept (lines_of (canonical_derivation steps))) words in
     subst (λ (ls : List (List (List ℕ))). AllZip IsStepLine ls (step ∷ steps)) (sym all) (w.step_is, written_lines steps parts.1)
 
 -- steps that can be written add clauses of literals

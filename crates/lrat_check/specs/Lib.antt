@@ -15,6 +15,7 @@ pub mod LratRead
 pub mod LratText
 pub mod LratWritten
 pub mod Marks
+pub mod OtherCubes
 pub mod Propagation
 pub mod Rat
 pub mod Refusal

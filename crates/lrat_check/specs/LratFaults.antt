@@ -5,10 +5,11 @@ use Rattle.std.specs.Option.{option_or}
 use Rattle.std.specs.Str.{bytes_eq}
 use Rattle.dimacs.specs.Literal.{most_variable}
 use Rattle.text_lines.specs.FirstFault.{IsFirstFault}
+use Rattle.text_lines.specs.Kept.{is_dimacs_skipped}
 use Rattle.text_lines.specs.Lines.{lines_of}
 use Rattle.text_lines.specs.Numbers.{solver_number}
 use Rattle.text_lines.specs.Words.{words_of}
-use Rattle.lrat_check.specs.LratText.{most_id, is_skipped}
+use Rattle.lrat_check.specs.LratText.{most_id}
 use Rattle.lrat_check.specs.declared.lrat_fault.LratCause.{LratCause}
 use Rattle.lrat_check.specs.declared.lrat_fault.LratCause.TheVariants.{BadLine, BadNumber, Unended}
 
@@ -69,7 +70,7 @@ words_fault (number ∷ words) = if is_deletion words
 
 -- what is wrong with a line, whatever stands before it
 abbrev pub line_fault : List (List ℕ) → List ℕ → Option LratCause
-line_fault before line = if is_skipped (words_of line) then None else words_fault (words_of line)
+line_fault before line = if is_dimacs_skipped (words_of line) then None else words_fault (words_of line)
 
 -- the text has its first fault at this line, counted from 1
 abbrev pub HasLratFault : List ℕ → LratCause → ℕ → Type 0

@@ -1,12 +1,13 @@
 -- What the functions of the reader read off a line.
 use Rattle.std.specs.Prelude.{◌≡◌, ℕ, ℤ, pos, Bool, true, false, List, ◌∷◌, ◌++◌, Option, Some}
 use Rattle.std.specs.List.{list_all}
+use Rattle.text_lines.specs.Kept.{is_dimacs_skipped}
 use Rattle.text_lines.specs.Numbers.{solver_number}
 use Rattle.text_lines.specs.Words.{words_of}
 use Rattle.lrat_check.specs.declared.derivation.Step.{Step}
 use Rattle.lrat_check.specs.declared.lrat_fault.LratCause.{LratCause}
 use Rattle.lrat_check.specs.LratFaults.{list_fault}
-use Rattle.lrat_check.specs.LratText.{is_lrat_step, is_skipped, IsStepLine, Says}
+use Rattle.lrat_check.specs.LratText.{is_lrat_step, IsStepLine, Says}
 
 -- the words begin with these numbers, each of which passes, and nothing is wrong with them
 pub record BeginsWith (fault : Option ℤ → Option LratCause) (passes : ℤ → Bool) (words : List (List ℕ)) (numbers : List ℤ) (rest : List (List ℕ)) : Type 0 where
@@ -28,7 +29,7 @@ pub record BeginsWithList (fault : Option ℤ → Option LratCause) (passes : �
 
 -- the line says nothing
 abbrev pub IsSkippedLine : List ℕ → Type 0
-IsSkippedLine line = is_skipped (words_of line) ≡ true
+IsSkippedLine line = is_dimacs_skipped (words_of line) ≡ true
 
 -- the words are this step, which can be written
 pub record IsWrittenStep (words : List (List ℕ)) (step : Step) : Type 0 where
@@ -37,5 +38,5 @@ pub record IsWrittenStep (words : List (List ℕ)) (step : Step) : Type 0 where
 
 -- the line is not skipped and is this step
 pub record IsLineOf (line : List ℕ) (step : Step) : Type 0 where
-  pub said : is_skipped (words_of line) ≡ false
+  pub said : is_dimacs_skipped (words_of line) ≡ false
   pub step_is : IsWrittenStep (words_of line) step

@@ -1,10 +1,10 @@
 -- The text of a derivation (LRAT, CADE 2017).
-use Rattle.std.specs.Prelude.{◌≡◌, ℕ, ℤ, pos, nat_abs, Bool, true, not, List, [], ◌∷◌, ◌++◌, map, Some, ◌==◌, ◌&&◌, nat_lt, nat_le, codes, slice_index}
-use Rattle.std.specs.List.{list_all, filter, AllZip}
+use Rattle.std.specs.Prelude.{◌≡◌, ℕ, ℤ, pos, nat_abs, Bool, true, not, List, [], ◌∷◌, ◌++◌, map, Some, ◌&&◌, nat_lt, nat_le, codes}
+use Rattle.std.specs.List.{list_all, AllZip}
 use Rattle.dimacs.specs.Literal.{is_clause}
+use Rattle.text_lines.specs.Kept.{dimacs_kept}
 use Rattle.text_lines.specs.Lines.{lines_of}
 use Rattle.text_lines.specs.Numbers.{solver_number}
-use Rattle.text_lines.specs.Words.{words_of}
 use Rattle.lrat_check.specs.declared.derivation.Step.{Step}
 use Rattle.lrat_check.specs.declared.derivation.Step.TheVariants.{Addition, Deletion}
 
@@ -25,15 +25,6 @@ abbrev pub is_lrat_step : Step → Bool
 is_lrat_step (Addition id literals hints) = is_id id && (is_clause literals && list_all is_id_number hints)
 is_lrat_step (Deletion first ids) = nat_le first most_id && list_all is_id ids
 
--- a line without words, or a comment, whose first word begins with `c`
-abbrev pub is_skipped : List (List ℕ) → Bool
-is_skipped [] = true
-is_skipped (word ∷ words) = slice_index word 0 == 99
-
--- the words of each line that is not skipped
-abbrev pub kept : List (List ℕ) → List (List (List ℕ))
-kept lines = filter (λ words. not (is_skipped words)) (map words_of lines)
-
 -- the words are these numbers
 abbrev pub Says : List (List ℕ) → List ℤ → Type 0
 Says words numbers = map solver_number words ≡ map Some numbers
@@ -50,7 +41,7 @@ IsStepLine words (Deletion first ids) =
 
 -- the lines that are not skipped are the steps
 pub record AreStepLines (lines : List (List ℕ)) (steps : List Step) : Type 0 where
-  pub lines_are : AllZip IsStepLine (kept lines) steps
+  pub lines_are : AllZip IsStepLine (dimacs_kept lines) steps
   pub written : list_all is_lrat_step steps ≡ true
 
 abbrev pub SpellsDerivation : List ℕ → List Step → Type 0

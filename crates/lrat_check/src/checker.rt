@@ -13,7 +13,7 @@ use crate::derivation::{Derivation, Step};
 use crate::justification::justify;
 use crate::refusal::{Refusal, StepFault};
 use crate::true_literals::TrueLiterals;
-use dimacs::{ClauseList, Lit, are_literals};
+use dimacs::{ClauseList, Lit, recall_literals};
 use std::alloc::Global;
 
 /// A derivation was accepted.
@@ -75,8 +75,8 @@ pub fn check<F: ClauseList>(
     ensures sound { IfOk result (λ _. HasNoModelIn (F.formula formula.now).clauses cube.now) }
     ensures refused { IfErr result (λ refusal. IsRefusal (IsRefused (F.formula formula.now).clauses cube.now derivation.now) refusal) }
 {
-    formula.is_formula();
-    are_literals(cube);
+    formula.recall_invariant();
+    recall_literals(cube);
     let mut active = CountedClauses::at_start(alloc, cube);
     let mut trues = TrueLiterals::new(alloc);
     let mut room = Vec::new(alloc);

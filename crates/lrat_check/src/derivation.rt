@@ -43,8 +43,8 @@ impl Model for Derivation {
     ghost invariant = { λ derivation. IsTrue (are_steps derivation.steps.items) };
 }
 
-/// The literals that a step adds are a clause: none is 0. This says what clauses keep, and does nothing.
-fn is_step(step: &Step)
+/// Hands its caller, in proofs alone, what clauses keep: of the literals that a step adds none is 0. Does nothing when run.
+fn recall_step(step: &Step)
     ensures { IsTrue (is_step step.now) }
 {
     if let Step::Addition { literals, .. } = step {
@@ -52,12 +52,12 @@ fn is_step(step: &Step)
     }
 }
 
-/// The literals that steps add are clauses. This says what clauses keep, and does nothing.
-fn are_steps(steps: &[Step])
+/// Hands its caller, in proofs alone, what clauses keep: of the literals that steps add none is 0. Does nothing when run.
+fn recall_steps(steps: &[Step])
     ensures { IsTrue (are_steps steps.now) }
 {
     for step in steps {
-        is_step(step);
+        recall_step(step);
     }
 }
 
@@ -66,7 +66,7 @@ impl Derivation {
     pub fn new(steps: Vec<Step>) -> Derivation
         ensures { result ≡ steps.items }
     {
-        are_steps(steps.as_slice());
+        recall_steps(steps.as_slice());
         Derivation { steps }
     }
 

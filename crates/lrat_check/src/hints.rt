@@ -1,11 +1,13 @@
 //! Hints of an addition.
 
-ghost use Rattle.std.specs.Prelude.{◌≡◌, length, IfOk, IfSome, OnOk};
+ghost use Rattle.std.specs.Prelude.{◌≡◌, ◌↔◌, length, nat_abs, IsTrue, IfOk, IfSome, OnOk};
 ghost use Rattle.std.specs.List.{list_all};
 ghost use Rattle.lrat_check.specs.HintNumbers.{numbers_in};
 ghost use Rattle.lrat_check.specs.LratText.{is_id_number};
+ghost use Rattle.lrat_check.specs.OtherCubes.{is_outside};
 
 use crate::lrat_number::is_hint;
+use crate::other_cubes::is_outside;
 use arrayvec::ArrayVec;
 use std::alloc::{AllocError, Global};
 use std::marker::Model;
@@ -91,6 +93,20 @@ fn lengthen_all(numbers: &mut Vec<i64>, short: &[i32]) -> Result<(), AllocError>
     Ok(())
 }
 
+/// Whether these are the same numbers in the same order.
+fn are_same_short(first: &[i32], second: &[i32]) -> bool
+    ensures { IsTrue result ↔ (first.now ≡ second.now) }
+{
+    first == second
+}
+
+/// Whether these are the same numbers in the same order.
+fn are_same_long(first: &[i64], second: &[i64]) -> bool
+    ensures { IsTrue result ↔ (first.now ≡ second.now) }
+{
+    first == second
+}
+
 impl Hints {
     /// These hints.
     pub fn new(numbers: Vec<i64>) -> Hints
@@ -152,6 +168,86 @@ impl Hints {
                 .all(|number| is_hint(i64::from(*number))),
             NumberList::Short(short) => short.iter().all(|number| is_hint(i64::from(*number))),
             NumberList::Long(long) => long.iter().all(|number| is_hint(*number)),
+        }
+    }
+
+    /// Whether none of them is, or is the negative of, an id of a cube of this length, after this many clauses.
+    pub(crate) fn are_outside(&self, clauses: usize, cube: usize) -> bool
+        ensures { result ≡ list_all (λ hint. is_outside clauses cube (nat_abs hint)) self.now }
+    {
+        match &self.numbers {
+            NumberList::Few(few) => few.as_slice().iter().all(|number| is_outside(
+                clauses,
+                cube,
+                u64::from(number.unsigned_abs()),
+            )),
+            NumberList::Short(short) => short.iter().all(|number| is_outside(
+                clauses,
+                cube,
+                u64::from(number.unsigned_abs()),
+            )),
+            NumberList::Long(long) => long
+                .iter()
+                .all(|number| is_outside(clauses, cube, number.unsigned_abs())),
+        }
+    }
+
+    /// A copy of these hints. Each takes as much room as here.
+    pub fn copied(&self, alloc: Global) -> Result<Hints, AllocError>
+        ensures { IfOk result (λ hints. hints ≡ self.now) }
+    {
+        let numbers = match &self.numbers {
+            NumberList::Few(few) => NumberList::Few(few.clone()?),
+            NumberList::Short(short) => NumberList::Short(Vec::from_slice(
+                alloc,
+                short.as_slice(),
+            )?),
+            NumberList::Long(long) => NumberList::Long(Vec::from_slice(alloc, long.as_slice())?),
+        };
+        Ok(Hints { numbers })
+    }
+
+    /// Whether these are the same hints in the same order, kept in the same way. The same hints may be kept in another.
+    pub fn are_same(&self, other: &Hints) -> bool
+        ensures { IsTrue result → self.now ≡ other.now }
+    {
+        match &self.numbers {
+            NumberList::Few(few) => other.are_few(few.as_slice()),
+            NumberList::Short(short) => other.are_short(short.as_slice()),
+            NumberList::Long(long) => other.are_long(long.as_slice()),
+        }
+    }
+
+    /// Whether these are those few numbers.
+    fn are_few(&self, numbers: &[i32]) -> bool
+        ensures { IsTrue result → numbers.now ≡ self.now }
+    {
+        match &self.numbers {
+            NumberList::Few(few) => are_same_short(few.as_slice(), numbers),
+            NumberList::Short(_) => false,
+            NumberList::Long(_) => false,
+        }
+    }
+
+    /// Whether these are those numbers, and kept in 32 bits each.
+    fn are_short(&self, numbers: &[i32]) -> bool
+        ensures { IsTrue result → numbers.now ≡ self.now }
+    {
+        match &self.numbers {
+            NumberList::Few(_) => false,
+            NumberList::Short(short) => are_same_short(short.as_slice(), numbers),
+            NumberList::Long(_) => false,
+        }
+    }
+
+    /// Whether these are those numbers, and kept in 64 bits each.
+    fn are_long(&self, numbers: &[i64]) -> bool
+        ensures { IsTrue result → numbers.now ≡ self.now }
+    {
+        match &self.numbers {
+            NumberList::Few(_) => false,
+            NumberList::Short(_) => false,
+            NumberList::Long(long) => are_same_long(long.as_slice(), numbers),
         }
     }
 }

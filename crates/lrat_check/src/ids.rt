@@ -1,7 +1,8 @@
 //! Lists of ids of clauses.
 
-ghost use Rattle.std.specs.Prelude.{◌≡◌};
+ghost use Rattle.std.specs.Prelude.{◌≡◌, IfOk};
 
+use std::alloc::{AllocError, Global};
 use std::marker::Model;
 
 /// A list of ids of clauses.
@@ -31,5 +32,12 @@ impl Ids {
         ensures { result.now ≡ self.now }
     {
         self.ids.as_slice()
+    }
+
+    /// A copy of this list.
+    pub fn copied(&self, alloc: Global) -> Result<Ids, AllocError>
+        ensures { IfOk result (λ ids. ids ≡ self.now) }
+    {
+        Ok(Ids::new(Vec::from_slice(alloc, self.ids.as_slice())?))
     }
 }

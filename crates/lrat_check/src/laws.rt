@@ -1,6 +1,9 @@
 //! Laws of derivations: what an accepted one shows, and that each is accepted or refused in one way.
+//!
+//! A law's body is empty, or calls other laws: what it says is proved in the folder of its name in `proofs/laws`, or needs no
+//! answer. Who calls it has what it says in proofs; the call does nothing when run.
 
-ghost use Rattle.std.specs.Prelude.{◌≡◌, ◌⊎◌, ℕ, ℤ, Bool, true, List, Option};
+ghost use Rattle.std.specs.Prelude.{◌≡◌, ◌⊎◌, ℕ, ℤ, Bool, true, List, Option, length};
 ghost use Rattle.std.specs.List.{list_all};
 ghost use Rattle.dimacs.specs.Assignment.{makes_some};
 ghost use Rattle.dimacs.specs.Models.{HasNoModelIn};
@@ -8,6 +11,7 @@ ghost use Rattle.lrat_check.specs.Active.{after};
 ghost use Rattle.lrat_check.specs.Checked.{IsRight, IsAccepted, IsRefused};
 ghost use Rattle.lrat_check.specs.Derivation.{is_step, are_steps};
 ghost use Rattle.lrat_check.specs.Justified.{IsImplied};
+ghost use Rattle.lrat_check.specs.OtherCubes.{AreServed};
 ghost use Rattle.lrat_check.specs.Sound.{has_no_zero, HaveNoZero, Satisfies, HasModel};
 ghost use Rattle.lrat_check.specs.declared.derivation.Step.{Step};
 ghost use Rattle.lrat_check.specs.declared.refusal.StepFault.{StepFault};
@@ -47,4 +51,10 @@ pub fn never_accepted_and_refused()
 pub fn accepted_or_refused()
     ensures { (clauses : List (List ℤ)) (cube : List ℤ) (steps : List Step) →
         IsAccepted clauses cube steps ⊎ ((fault : StepFault) × (place : ℕ) × IsRefused clauses cube steps fault place) }
+{}
+
+/// A derivation that is accepted for one cube, and does not need it in place of a second, is accepted for the second.
+pub fn accepted_for_other_cubes()
+    ensures { (clauses : List (List ℤ)) (first second : List ℤ) (steps : List Step) →
+        AreServed (length clauses) first second steps → IsAccepted clauses first steps → IsAccepted clauses second steps }
 {}

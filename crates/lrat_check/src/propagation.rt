@@ -14,7 +14,7 @@ ghost use Rattle.text_lines.specs.Fault.{IsRefusalAt};
 use crate::active_clauses::ActiveClauses;
 use crate::refusal::{Refusal, StepFault};
 use crate::true_literals::{TrueLiterals, keep_first};
-use dimacs::{ClauseList, Lit, are_literals};
+use dimacs::{ClauseList, Lit, recall_literals};
 use std::alloc::AllocError;
 
 /// The status of a clause under the literals that are true.
@@ -88,7 +88,7 @@ fn standing_at<'b, F: ClauseList>(
 fn assume_negation(trues: &mut TrueLiterals, clause: &[Lit]) -> Result<bool, AllocError>
     ensures { IfOk result (λ is_tautology. IsAssumed clause.now trues.new is_tautology) }
 {
-    are_literals(clause);
+    recall_literals(clause);
     keep_first(trues, 0);
     for literal in clause {
         let negation = literal.negated();

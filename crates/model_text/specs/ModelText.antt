@@ -1,8 +1,9 @@
 -- The text of a solver's answer (SAT competitions), and the model that it spells.
-use Rattle.std.specs.Prelude.{◌≡◌, ◌↔◌, ℕ, ℤ, pos, neg_ℤ, nat_abs, Bool, true, List, [], ◌∷◌, ◌++◌, map, Option, Some, None, codes, ◌==◌, nat_le, slice_index, if◌then◌else◌}
+use Rattle.std.specs.Prelude.{◌≡◌, ◌↔◌, ℕ, ℤ, pos, neg_ℤ, nat_abs, Bool, true, List, [], ◌∷◌, ◌++◌, map, Option, Some, None, codes, nat_le, if◌then◌else◌}
 use Rattle.std.specs.List.{Contains, flat_map}
 use Rattle.std.specs.Option.{option_and_then}
 use Rattle.std.specs.Str.{bytes_eq}
+use Rattle.text_lines.specs.Kept.{is_dimacs_skipped}
 use Rattle.text_lines.specs.Lines.{lines_of}
 use Rattle.text_lines.specs.Numbers.{solver_number}
 use Rattle.text_lines.specs.Words.{words_of}
@@ -28,11 +29,11 @@ status (word ∷ []) =
     else Unknown ∷ []
 status words = Unknown ∷ []
 
--- What a line says, by its words. A line without words says nothing, nor does a comment, whose first word begins with `c`.
+-- What a line says, by its words. A line that is skipped says nothing.
 abbrev pub said : List (List ℕ) → List Said
 said [] = []
 said (first ∷ words) =
-    if slice_index first 0 == 99 then []
+    if is_dimacs_skipped (first ∷ words) then []
     else if bytes_eq first (codes "v") then map Word words
     else if bytes_eq first (codes "s") then status words
     else Unknown ∷ []

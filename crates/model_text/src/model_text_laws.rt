@@ -1,4 +1,8 @@
 //! Laws of the text of a solver's answer.
+//!
+//! A law's body is empty, or calls other laws: what it says is proved in the folder of its name in `proofs/model_text_laws`, or needs no
+//! answer. Who calls it has what it says in proofs; the call does nothing when run.
+
 ghost use Rattle.std.specs.Prelude.{◌≡◌, ◌⊎◌, ℕ, Bool, List};
 ghost use Rattle.dimacs.specs.Assignment.{value_of};
 ghost use Rattle.model_text.specs.ModelFirstFault.{HasModelFault};

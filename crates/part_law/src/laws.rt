@@ -1,9 +1,12 @@
 //! Laws of parts.
+//!
+//! A law's body is empty, or calls other laws: what it says is proved in the folder of its name in `proofs/laws`, or needs no
+//! answer. Who calls it has what it says in proofs; the call does nothing when run.
 
 ghost use Rattle.std.specs.Prelude.{◌≡◌, ◌≢◌, true, Bool, List, IsSome};
 ghost use Rattle.trace_semantics.specs.declared.operation.OpName.{OpName};
 ghost use Rattle.trace_semantics.specs.Interleaving.{StandsBefore};
-ghost use Rattle.trace_semantics.specs.Legal.{IsLegal};
+ghost use Rattle.trace_semantics.specs.Legal.{IsLegal, HasNoSchedule};
 ghost use Rattle.trace_semantics.specs.Trace.{TraceValue, IsTrace, operation_at};
 ghost use Rattle.part_law.specs.Derived.{IsDerived};
 ghost use Rattle.restriction.specs.Left.{restricted};
@@ -17,7 +20,7 @@ pub fn restriction_is_legal()
 
 /// A trace has no legal schedule if some part of it has none, made by an order that every legal schedule of the trace obeys.
 pub fn unschedulable_where_a_part_is()
-    ensures { (t : TraceValue) (ordered : OpName → OpName → Bool) (chosen : OpName → Bool) → IsTrace t → IsObeyed t ordered → ((names : List OpName) → IsLegal (part t ordered chosen) names → ⊥) → (names : List OpName) → IsLegal t names → ⊥ }
+    ensures { (t : TraceValue) (ordered : OpName → OpName → Bool) (chosen : OpName → Bool) → IsTrace t → IsObeyed t ordered → HasNoSchedule (part t ordered chosen) → HasNoSchedule t }
 {}
 
 /// A part of a trace is a trace.
@@ -28,7 +31,7 @@ pub fn part_is_a_trace()
 /// If a part has no legal schedule that is made by an order which every legal schedule obeys that puts n before m, then every legal
 /// schedule puts m before n.
 pub fn refuted_order_is_turned()
-    ensures { (t : TraceValue) (ordered : OpName → OpName → Bool) (chosen : OpName → Bool) (m n : OpName) → IsTrace t → IsSome (operation_at t m) → IsSome (operation_at t n) → m ≢ n → ((names : List OpName) → IsLegal t names → StandsBefore names n m → Obeys t names ordered) → ((names : List OpName) → IsLegal (part t ordered chosen) names → ⊥) → (names : List OpName) → IsLegal t names → StandsBefore names m n }
+    ensures { (t : TraceValue) (ordered : OpName → OpName → Bool) (chosen : OpName → Bool) (m n : OpName) → IsTrace t → IsSome (operation_at t m) → IsSome (operation_at t n) → m ≢ n → ((names : List OpName) → IsLegal t names → StandsBefore names n m → Obeys t names ordered) → HasNoSchedule (part t ordered chosen) → (names : List OpName) → IsLegal t names → StandsBefore names m n }
 {}
 
 /// A legal schedule that obeys an order also keeps what follows from it and from the only possible source of a reading operation.

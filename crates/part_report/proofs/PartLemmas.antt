@@ -6,7 +6,7 @@ use Rattle.text_lines.specs.declared.fault.PlacedFault.{PlacedFault as PartFault
 use Rattle.text_lines.specs.declared.fault.PlacedFault.TheVariants.{OutOfMemory as NoPartMemory, At}
 use Rattle.trace_semantics.specs.declared.operation.OpName.{OpName}
 use Rattle.trace_semantics.specs.Judgement.{has_come}
-use Rattle.trace_semantics.specs.Legal.{IsLegal}
+use Rattle.trace_semantics.specs.Legal.{IsLegal, HasNoSchedule}
 use Rattle.trace_semantics.specs.Trace.{TraceValue, IsTrace}
 use Rattle.trace_text.specs.TraceText.{SpellsTrace}
 use Rattle.schedule_text.specs.ScheduleText.{SpellsSchedule, HasScheduleFault}
@@ -27,7 +27,6 @@ use Rattle.verdict_report.specs.declared.status.Status.{Status}
 use Rattle.verdict_report.specs.Engine.{IsRunOfWriting}
 use Rattle.verdict_report.specs.Fault.{fault_of_part}
 use Rattle.part_report.specs.PartEngine.{IsSaidOfChoice, MakeUp, WritesPart, part_status}
-use Rattle.verdict_report.specs.RecheckEngine.{HasNoSchedule}
 use Rattle.verdict_report.specs.Runs.{SourceRun, SinkRun, HandsOut}
 
 pub whole_refuted : (t : TraceValue) → IsTrace t → (names : List OpName) (made : PartValue) → IsPart t names made → HasNoSchedule made.trace → HasNoSchedule t

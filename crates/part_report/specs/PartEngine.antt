@@ -1,6 +1,7 @@
 -- What the engine that makes parts of traces answers and writes.
 use Rattle.std.specs.Prelude.{◌≡◌, ⊤, ℕ, Bool, List, [], ◌∷◌, ◌++◌, Result, Ok, Err}
 use Rattle.trace_semantics.specs.declared.operation.OpName.{OpName}
+use Rattle.trace_semantics.specs.Legal.{HasNoSchedule}
 use Rattle.trace_semantics.specs.Trace.{TraceValue, IsTrace}
 use Rattle.trace_text.specs.TraceFault.{HasTraceFault}
 use Rattle.trace_text.specs.TraceText.{SpellsTrace}
@@ -15,7 +16,6 @@ use Rattle.verdict_report.specs.declared.status.Status.{Status}
 use Rattle.verdict_report.specs.declared.status.Status.TheVariants.{Yes}
 use Rattle.verdict_report.specs.Engine.{AtOnce, IsRunOfEngine, of_two}
 use Rattle.verdict_report.specs.JudgeEngine.{HasFaultySchedule}
-use Rattle.verdict_report.specs.RecheckEngine.{HasNoSchedule}
 use Rattle.verdict_report.specs.Runs.{SourceRun, SinkRun, HandsOut}
 
 -- the texts spell a trace and the names of some of its operations, which make up this part

@@ -8,6 +8,7 @@ use Rattle.clause_blocks.specs.Clauses.{clauses_of}
 use Rattle.reducer.specs.Reduced.{HasReduceFault}
 use Rattle.reducer.specs.Reduction.{kept_trace}
 use Rattle.reducer.specs.declared.reduce_fault.ReduceCause.{ReduceCause}
+use Rattle.trace_semantics.specs.Legal.{HasNoSchedule}
 use Rattle.trace_text.specs.TraceFault.{HasTraceFault}
 use Rattle.trace_part.specs.TraceParts.{PartValue}
 use Rattle.verdict_report.specs.declared.fault.Fault.{Fault}
@@ -16,7 +17,7 @@ use Rattle.verdict_report.specs.declared.status.Status.{Status}
 use Rattle.verdict_report.specs.Engine.{AtOnce, IsRunOfEngine, of_three}
 use Rattle.verdict_report.specs.JudgeEngine.{HasFaultySchedule}
 use Rattle.part_report.specs.PartEngine.{MakeUp, HasFaultyChoice}
-use Rattle.verdict_report.specs.RecheckEngine.{HasNoSchedule, HasFaultyCertificate, rechecked_line, rechecked_status}
+use Rattle.verdict_report.specs.RecheckEngine.{HasFaultyCertificate, rechecked_line, rechecked_status}
 use Rattle.verdict_report.specs.Runs.{SourceRun, SinkRun}
 
 -- The texts spell a trace, a certificate of this number of cubes, and names of operations; the certificate is accepted for the clause list

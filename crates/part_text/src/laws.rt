@@ -1,4 +1,7 @@
 //! Laws of the texts of parts.
+//!
+//! A law's body is empty, or calls other laws: what it says is proved in the folder of its name in `proofs/laws`, or needs no
+//! answer. Who calls it has what it says in proofs; the call does nothing when run.
 
 ghost use Rattle.std.specs.Prelude.{Bool, List};
 ghost use Rattle.trace_semantics.specs.declared.operation.OpName.{OpName};

@@ -14,7 +14,7 @@ use Rattle.trace_semantics.proofs.NameLemmas.{from_first}
 use Rattle.restriction.specs.Left.{names_of}
 use Rattle.restriction.proofs.LeftLemmas.{process_of, listed_name}
 use Rattle.restriction.proofs.PlaceLemmas.{one_more_name}
-use Rattle.reducer.specs.declared.named_ops.NamedOps.{NamedOps}
+use Rattle.trace_semantics.specs.declared.op_set.OpSet.{OpSet}
 use Rattle.reducer.specs.Named.{HasNamed}
 use Rattle.reducer.specs.Reduction.{repeats, previous, is_kept}
 use Rattle.reducer.specs.Runs.{bounds_by, bounds_of, keeps}
@@ -34,7 +34,7 @@ one_more_bound passes process k b e =
     ∙ ap (λ l. map (λ (n : OpName). n.place) (filter passes (first_names process k)) ++ l) (one_filtered passes (record { process = process; place = k + 1 }) b e)
 
 -- what the code keeps is what the reduction keeps
-keeps_kept : (t : TraceValue) → IsTrace t → (set : NamedOps) → HasNamed t set → (p : Process) → Contains t.processes p → (n : OpName) → Contains (names_of p) n → keeps set p n ≡ is_kept t n
+keeps_kept : (t : TraceValue) → IsTrace t → (set : OpSet) → HasNamed t set → (p : Process) → Contains t.processes p → (n : OpName) → Contains (names_of p) n → keeps set p n ≡ is_kept t n
 keeps_kept t ok set named p c n d =
     let found : process_named t n.process ≡ Some p = ap (process_named t) (from_first p.name (length p.operations) n d).0 ∙ process_of t ok p c in
     let here : operation_at t n ≡ at_place p.operations n.place = ap (option_and_then (λ (q : Process). at_place q.operations n.place)) found in
@@ -45,13 +45,13 @@ same_filter : {A : Type 0} (p q : A → Bool) (xs : List A) → ((x : A) → Con
 same_filter p q [] h = refl
 same_filter p q (x ∷ xs) h = λ i. cond (h x (head_in x xs) i) (x ∷ same_filter p q xs (λ y c. h y (tail_in x xs y c)) i) (same_filter p q xs (λ y c. h y (tail_in x xs y c)) i)
 
-same_bounds : (t : TraceValue) → IsTrace t → (set : NamedOps) → HasNamed t set → (p : Process) → Contains t.processes p → bounds_by (keeps set p) p ≡ bounds_of t p
+same_bounds : (t : TraceValue) → IsTrace t → (set : OpSet) → HasNamed t set → (p : Process) → Contains t.processes p → bounds_by (keeps set p) p ≡ bounds_of t p
 same_bounds t ok set named p c =
     ap (λ l. map (λ (n : OpName). n.place) l ++ (length p.operations + 1) ∷ [])
     (same_filter (keeps set p) (is_kept t) (names_of p) (λ n d. keeps_kept t ok set named p c n d))
 
 -- one more process
-pub bounds_more : (t : TraceValue) → IsTrace t → (set : NamedOps) → HasNamed t set → (ps : List Process) → ps ≡ t.processes → (i : ℕ) (p : Process) (all : List (List ℕ)) (bounds : List ℕ) → i < length ps → p ≡ get_or ps i p →
+pub bounds_more : (t : TraceValue) → IsTrace t → (set : OpSet) → HasNamed t set → (ps : List Process) → ps ≡ t.processes → (i : ℕ) (p : Process) (all : List (List ℕ)) (bounds : List ℕ) → i < length ps → p ≡ get_or ps i p →
     all ≡ map (bounds_of t) (take i ps) → bounds ≡ bounds_by (keeps set p) p → all ++ bounds ∷ [] ≡ map (bounds_of t) (take (i + 1) ps)
 bounds_more t ok set named ps same i p all bounds l at e f =
     let listed : Contains t.processes p = subst (λ qs. Contains qs p) same (subst (λ q. Contains ps q) (sym at) (Contains-get_or ps i p l)) in

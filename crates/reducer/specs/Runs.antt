@@ -5,8 +5,8 @@ use Rattle.trace_semantics.specs.declared.operation.OpName.{OpName}
 use Rattle.trace_semantics.specs.declared.trace.Process.{Process}
 use Rattle.trace_semantics.specs.Trace.{TraceValue, at_place}
 use Rattle.restriction.specs.Left.{names_of}
-use Rattle.reducer.specs.declared.named_ops.NamedOps.{NamedOps}
-use Rattle.reducer.specs.Named.{has}
+use Rattle.trace_semantics.specs.declared.op_set.OpSet.{OpSet}
+use Rattle.trace_semantics.specs.OpSet.{has}
 use Rattle.reducer.specs.Reduction.{repeats, is_kept}
 
 -- the places of the operations that pass, and then one more than the last place of the process
@@ -22,5 +22,5 @@ abbrev pub AreBounds : TraceValue → List (List ℕ) → Type 0
 AreBounds t bounds = bounds ≡ map (bounds_of t) t.processes
 
 -- an operation of the process is kept, if the set has those that are named
-abbrev pub keeps : NamedOps → Process → OpName → Bool
+abbrev pub keeps : OpSet → Process → OpName → Bool
 keeps set p n = not (repeats (at_place p.operations (n.place - 1)) (at_place p.operations n.place) && not (has set n))

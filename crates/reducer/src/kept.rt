@@ -19,7 +19,7 @@ pub fn count_kept(trace: &Trace, all: &[KeptPlaces]) -> usize
     requires { AreBounds trace.now all.now }
     ensures { result ≡ operation_count (reduction.kept_trace trace.now) }
 {
-    trace.is_trace();
+    trace.recall_invariant();
     let mut count = 0;
     for bounds in all {
         count += bounds.as_slice().len() - 1;
@@ -40,7 +40,7 @@ fn kept_operations(
     requires places { places.now ≡ bounds_of trace.now process.now }
     ensures { IfOk result (λ ops. ops.items ≡ (left_process (reduction.kept_op trace.now) process.now).operations) }
 {
-    trace.is_trace();
+    trace.recall_invariant();
     let old = process.operations.as_slice();
     let count = places.len() - 1;
     let mut ops = Vec::with_capacity(alloc, count)?;
@@ -97,7 +97,7 @@ fn new_pairs(
     requires { AreBounds trace.now all.now }
     ensures { IfOk result (λ new. new.items ≡ map (new_pair (reduction.kept_op trace.now)) trace.now.before) }
 {
-    trace.is_trace();
+    trace.recall_invariant();
     let pairs = trace.before();
     let mut new = Vec::with_capacity(alloc, pairs.len())?;
     for k in 0..pairs.len() {
@@ -124,7 +124,7 @@ pub fn kept_trace(alloc: Global, trace: &Trace, all: &[KeptPlaces]) -> Result<Tr
     requires { AreBounds trace.now all.now }
     ensures { IfOk result (λ kept. kept ≡ reduction.kept_trace trace.now) }
 {
-    trace.is_trace();
+    trace.recall_invariant();
     let processes = kept_processes(alloc, trace, all)?;
     let initial = copy_of(alloc, trace.initial())?;
     let final_values = copy_of(alloc, trace.final_values())?;

@@ -6,9 +6,9 @@ ghost use Rattle.reducer.specs.Named.{HasNamed};
 ghost use Rattle.reducer.specs.Reduction as reduction;
 ghost use Rattle.reducer.specs.Runs.{bounds_by, keeps, AreBounds};
 
-use crate::named_ops::NamedOps;
 use std::alloc::{AllocError, Global};
 use std::marker::Model;
+use trace_semantics::op_set::OpSet;
 use trace_semantics::operation::{Op, Origin};
 use trace_semantics::trace::{Process, Trace};
 
@@ -72,7 +72,7 @@ fn repeats_previous(operations: &[Op], k: usize) -> bool
 }
 
 /// Returns whether the operation is kept.
-fn is_kept<'a>(set: &NamedOps<'a>, process: &'a Process, k: usize) -> bool
+fn is_kept<'a>(set: &OpSet<'a>, process: &'a Process, k: usize) -> bool
     requires { k < length process.now.operations }
     ensures { result ≡ keeps set.now process.now (record { process = process.now.name; place = k + 1 }) }
 {
@@ -83,7 +83,7 @@ fn is_kept<'a>(set: &NamedOps<'a>, process: &'a Process, k: usize) -> bool
 /// Returns the bounds of the runs of a process.
 fn bounds_in<'a>(
     alloc: Global,
-    set: &NamedOps<'a>,
+    set: &OpSet<'a>,
     process: &'a Process,
 ) -> Result<KeptPlaces, AllocError>
     requires { length process.now.operations ≤ 4096 }
@@ -103,13 +103,13 @@ fn bounds_in<'a>(
 /// Returns the bounds of the runs of each process, if the set has the operations that are named.
 pub fn all_bounds<'a>(
     alloc: Global,
-    set: &NamedOps<'a>,
+    set: &OpSet<'a>,
     trace: &'a Trace,
 ) -> Result<Vec<KeptPlaces>, AllocError>
     requires { HasNamed trace.now set.now }
     ensures { IfOk result (λ bounds. AreBounds trace.now bounds.items) }
 {
-    trace.is_trace();
+    trace.recall_invariant();
     let processes = trace.processes();
     let mut all = Vec::new(alloc);
     for process in processes {

@@ -10,7 +10,6 @@ mod kept;
 mod kept_places;
 pub mod laws;
 mod named;
-mod named_ops;
 pub mod reduce_fault;
 pub mod reduced;
 mod renamed;

@@ -68,7 +68,7 @@ pub fn reduce(alloc: Global, trace: &Trace) -> Result<Reduced, ReduceFault>
     ensures reduced { IfOk result IsReduced }
     ensures refused { IfErr result (IsRefusal (HasReduceFault trace.now)) }
 {
-    trace.is_trace();
+    trace.recall_invariant();
     let set = named_ops(alloc, trace)?;
     let bounds = all_bounds(alloc, &set, trace)?;
     let left = count_kept(trace, bounds.as_slice());

@@ -16,13 +16,8 @@ use crate::kept_places::KeptPlaces;
 use std::alloc::{AllocError, Global};
 use trace_semantics::name::Name;
 use trace_semantics::operation::{Op, OpName, Origin};
+use trace_semantics::process_order::find_process;
 use trace_semantics::trace::{Process, Trace};
-
-fn place_of_process(processes: &[Process], name: &[u8]) -> Option<usize>
-    ensures { result ≡ position (λ (p : Listed). bytes_eq p.name name.now) processes.now }
-{
-    processes.iter().position(|p| p.name.as_bytes() == name)
-}
 
 /// Returns the bounds of the process of this name.
 pub fn bounds_at<'a>(
@@ -32,7 +27,7 @@ pub fn bounds_at<'a>(
 ) -> Option<&'a KeptPlaces>
     ensures { option_copied result ≡ option_and_then (slice_get all.now) (position (λ (p : Listed). bytes_eq p.name name.now) processes.now) }
 {
-    match place_of_process(processes, name) {
+    match find_process(processes, name) {
         Some(k) => all.get(k),
         None => None,
     }
@@ -53,7 +48,7 @@ fn new_place(trace: &Trace, all: &[KeptPlaces], name: &OpName) -> u16
     requires known { IsSome (value.operation_at trace.now name.now) }
     ensures { result ≡ (left.new_name (kept_op trace.now) name.now).place }
 {
-    trace.is_trace();
+    trace.recall_invariant();
     match bounds_at(trace.processes(), all, name.process.as_bytes()) {
         Some(bounds) => count_up_to(bounds.as_slice(), name.place) as u16,
         None => 0,

@@ -1,10 +1,11 @@
 -- What one slot's answer is worth.
-use Rattle.std.proofs.Common.{◌≡◌, ℕ, ◌<◌, ◌+◌, ℤ, Bool, List, length, get_or, Some, refl, sym, ◌∙◌, subst, inl, inr}
+use Rattle.std.proofs.Common.{◌≡◌, ℕ, ◌<◌, ◌+◌, ℤ, Bool, List, length, get_or, Some, refl, sym, ◌∙◌, ap, subst, inl, inr}
 use Rattle.std.specs.Prelude.{IsTrue, ◌↔◌}
 use Rattle.std.specs.List.{slice_get}
 use Rattle.std.proofs.lemmas.Option.{slice_get_read}
 use Rattle.cube_jobs.specs.declared.outcome.Outcome.TheVariants.{Model, Refuted}
 use Rattle.dimacs.specs.Assignment.{value_of}
+use Rattle.lrat_check.specs.Checked.{IsAccepted}
 use Rattle.lrat_check.specs.declared.derivation.Step.{Step}
 use Rattle.result_ledger.specs.declared.slot.Slot.{Slot}
 use Rattle.cube_jobs.specs.Models.{IsModelIn}
@@ -27,6 +28,15 @@ proof_answer clauses slot steps proved said right = (
       let same : steps ≡ h.steps = cc both in
       right.1 (subst (λ (values : List Step). IsProofIn clauses slot.cube values) (sym same) h.confirmed),
 )
+
+-- the answer of one slot is a derivation that is accepted for another, whose answer it is too
+pub served_answer : (clauses : List (List ℤ)) (first second : Slot) (steps others : List Step) → first.outcome ≡ Some (Refuted steps) → second.outcome ≡ Some (Refuted others) → steps ≡ others →
+    (IsAccepted clauses first.cube steps → IsAccepted clauses second.cube steps) → IsProofAnswer clauses first → IsProofAnswer clauses second
+served_answer clauses first second steps others said also same on h =
+    let both : Some (Refuted steps) ≡ Some (Refuted h.steps) = sym said ∙ h.answer in
+    let own : steps ≡ h.steps = cc both in
+    let proof : IsProofIn clauses first.cube steps = subst (λ (values : List Step). IsProofIn clauses first.cube values) (sym own) h.confirmed in
+    record { steps = steps; answer = also ∙ ap (λ (values : List Step). Some (Refuted values)) (sym same); confirmed = record { written = proof.written; accepted = on proof.accepted } }
 
 -- the element that was read
 pub read : (slots : List Slot) (leaf : ℕ) (slot : Slot) → leaf < length slots → slot ≡ get_or slots leaf slot → slice_get slots leaf ≡ Some slot

@@ -1,5 +1,5 @@
 //! Whether answers are right.
-ghost use Rattle.std.specs.Prelude.{◌≡◌, ◌<◌, ◌↔◌, Bool, List, length, IsTrue, IfOk, MatchOption, Some};
+ghost use Rattle.std.specs.Prelude.{◌≡◌, ◌<◌, ◌↔◌, Bool, List, length, IsTrue, IfOk, IfSome, MatchOption, Some};
 ghost use Rattle.cube_jobs.specs.declared.outcome.Outcome.TheVariants.{Model, Refuted};
 ghost use Rattle.lrat_check.specs.Checked.{IsAccepted};
 ghost use Rattle.lrat_check.specs.declared.derivation.Step.{Step};
@@ -11,7 +11,9 @@ use cube_jobs::{Outcome, is_model_in};
 use dimacs::{Assignment, ClauseList, Lit};
 use lrat_check::checker::check;
 use lrat_check::derivation::Derivation;
-use lrat_check::laws::never_accepted_and_refused;
+use lrat_check::derivation_copies::are_same;
+use lrat_check::laws::{accepted_for_other_cubes, never_accepted_and_refused};
+use lrat_check::other_cubes::are_served;
 use lrat_check::refusal::Refusal;
 use std::alloc::{AllocError, Global};
 
@@ -105,6 +107,41 @@ pub(crate) fn is_proved<L: ClauseList>(
     };
     let proved = is_proof_in(alloc, formula, slot.cube.as_slice(), derivation)?;
     Ok(proved)
+}
+
+/// Returns whether both answers are one derivation, which does not need the first cube in place of the second. If the first is then
+/// proved, so is the second.
+fn serves<L: ClauseList>(formula: &L, first: &Slot, second: &Slot) -> bool
+    ensures { IsTrue result → IsProofAnswer (L.formula formula.now).clauses first.now → IsProofAnswer (L.formula formula.now).clauses second.now }
+{
+    accepted_for_other_cubes();
+    let Some(derivation) = said_derivation(&first.outcome) else {
+        return false;
+    };
+    let Some(other) = said_derivation(&second.outcome) else {
+        return false;
+    };
+    let same = are_same(derivation, other);
+    if !same {
+        return false;
+    }
+    are_served(
+        formula.count(),
+        first.cube.as_slice(),
+        second.cube.as_slice(),
+        derivation,
+    )
+}
+
+/// Returns whether the slot is proved without a check, by the derivation of one that is known to be proved.
+pub(crate) fn is_served<L: ClauseList>(formula: &L, known: Option<&Slot>, slot: &Slot) -> bool
+    requires { IfSome known (λ first. IsProofAnswer (L.formula formula.now).clauses first.now) }
+    ensures { IsTrue result → IsProofAnswer (L.formula formula.now).clauses slot.now }
+{
+    match known {
+        Some(first) => serves(formula, first, slot),
+        None => false,
+    }
 }
 
 /// The lowest leaf that has a model for its answer.

@@ -1,4 +1,8 @@
 //! Laws of verdicts.
+//!
+//! A law's body is empty, or calls other laws: what it says is proved in the folder of its name in `proofs/laws`, or needs no
+//! answer. Who calls it has what it says in proofs; the call does nothing when run.
+
 ghost use Rattle.std.specs.Prelude.{◌≡◌, ◌↔◌, ◌<◌, ℕ, ℤ, Bool, List, IsTrue, Some, IsPermutation};
 ghost use Rattle.std.specs.List.{AllZip, list_all, Contains, slice_get};
 ghost use Rattle.cube_jobs.specs.Models.{IsModelIn};

@@ -14,9 +14,9 @@ use crate::leaves::Leaves;
 use crate::slot::Slot;
 use crate::unproved::without_proof;
 use crate::verdict::Verdict;
-use cube_jobs::{JobCube, MAX_LITERALS, Settled, are_same};
-use cube_tree::{Cube, Tree, bounded_cubes};
-use dimacs::{ClauseList, Lit};
+use cube_jobs::Settled;
+use cube_tree::{Tree, bounded_cubes};
+use dimacs::{ClauseList, Cube, Lit, MAX_CUBE_LITERALS, are_same};
 use std::alloc::{AllocError, Global};
 use std::marker::Model;
 use std::thread::Threads;
@@ -51,11 +51,11 @@ fn empty_slots(alloc: Global, cubes: &[Cube]) -> Result<Vec<Slot>, AllocError>
 
 /// A slot of this cube without an answer.
 fn empty(alloc: Global, cube: &[Lit]) -> Slot
-    requires { length cube.now ≤ MAX_LITERALS }
+    requires { length cube.now ≤ MAX_CUBE_LITERALS }
     ensures { result ≡ empty_slot cube.now }
 {
     Slot {
-        cube: JobCube::of(alloc, cube),
+        cube: Cube::of(alloc, cube),
         outcome: None,
     }
 }
@@ -80,8 +80,8 @@ fn fault_of(slots: &[Slot], settled: &Settled) -> Option<EntryFault>
     None
 }
 
-/// The cubes are clauses: no literal is 0. This says what cubes keep, and does nothing.
-fn are_clauses(slots: &[Slot])
+/// Hands its caller, in proofs alone, what cubes keep: no literal is 0. Does nothing when run.
+fn recall_clauses(slots: &[Slot])
     ensures { IsTrue (list_all is_clause (cubes_in slots.now)) }
 {
     for slot in slots {
@@ -154,11 +154,11 @@ impl Ledger {
         Ok(Ledger { slots })
     }
 
-    /// Its cubes are clauses: no literal is 0. This says what each ledger keeps, and does nothing.
-    pub fn has_clauses(&self)
+    /// Hands its caller, in proofs alone, what each ledger keeps: no literal of its cubes is 0. Does nothing when run.
+    pub fn recall_clauses(&self)
         ensures { IsTrue (list_all is_clause (cubes_in self.now)) }
     {
-        are_clauses(self.slots.as_slice());
+        recall_clauses(self.slots.as_slice());
     }
 
     /// The number of leaves.
@@ -173,7 +173,7 @@ impl Ledger {
     pub fn cube(&self, leaf: u32) -> &[Lit]
         requires { leaf < length self.now }
         ensures cube { slice_get (cubes_in self.now) leaf ≡ Some result.now }
-        ensures short { length result.now ≤ MAX_LITERALS }
+        ensures short { length result.now ≤ MAX_CUBE_LITERALS }
     {
         let slots = self.slots.as_slice();
         slots[leaf as usize].cube.as_slice()

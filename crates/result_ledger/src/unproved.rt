@@ -3,14 +3,15 @@ ghost use Rattle.std.specs.Prelude.{◌≡◌, ℕ, ◌+◌, ◌<◌, ◌≤◌,
 ghost use Rattle.result_ledger.specs.Verdict.{HasProofAt};
 ghost use Rattle.result_ledger.specs.Pieces.{AreWithoutBetween, piece_start};
 
-use crate::confirming::is_proved;
+use crate::confirming::{is_proved, is_served};
 use crate::slot::Slot;
 use cube_jobs::options::needed;
 use dimacs::ClauseList;
 use std::alloc::{AllocError, Global};
 use std::thread::{Threads, map_indices};
 
-/// The leaves that are not proved, rising, of those from the one number on and before the other.
+/// The leaves that are not proved, rising, of those from the one number on and before the other. A derivation that was accepted for one
+/// leaf is not checked again for another that it serves.
 fn without_proof_between<L: ClauseList>(
     alloc: Global,
     formula: &L,
@@ -23,9 +24,16 @@ fn without_proof_between<L: ClauseList>(
     ensures { IfOk result (λ leaves. AreWithoutBetween (HasProofAt (L.formula formula.now).clauses slots.now) from end leaves.items) }
 {
     let mut leaves = Vec::new(alloc);
+    let mut known = None;
     for leaf in from..end {
-        let proved = is_proved(alloc, formula, &slots[leaf])?;
+        let slot = &slots[leaf];
+        let served = is_served(formula, known, slot);
+        if served {
+            continue;
+        }
+        let proved = is_proved(alloc, formula, slot)?;
         if proved {
+            known = Some(slot);
             continue;
         }
         leaves.push(leaf as u32)?;

@@ -32,7 +32,7 @@ pub fn schedule_of(
     ensures legal { IsModelOfKept (value_of assignment.now) layout.now reduced.now.kept → IfOk result (IsLegal reduced.now.kept) }
 {
     let trace = reduced.kept();
-    trace.is_trace();
+    trace.recall_invariant();
     let order = order_of(alloc, layout, assignment)?;
     let names = names_by_number(alloc, trace)?;
     Ok(Schedule::new(names_in_order(alloc, names.as_slice(), order.as_slice())?))

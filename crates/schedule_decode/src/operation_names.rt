@@ -61,7 +61,7 @@ pub(crate) fn names_by_number<'a>(
 ) -> Result<Vec<LentName<'a>>, AllocError>
     ensures { IfOk result (λ names. names.items ≡ operation_names trace.now) }
 {
-    trace.is_trace();
+    trace.recall_invariant();
     let processes = trace.processes();
     let mut names = Vec::new(alloc);
     for process in processes {

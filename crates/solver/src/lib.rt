@@ -27,6 +27,7 @@ mod source_count;
 mod told_reads;
 mod units;
 mod wanted;
+mod whole;
 
 pub use clause_database::{EncodingHints, LastWriter, ReadsFromTable, ReadsFromVariable};
 pub use prepared_formula::PreparedFormula;

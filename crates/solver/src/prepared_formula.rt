@@ -1,6 +1,7 @@
 //! A formula prepared for the searches of all its cubes.
 
 use crate::wanted::wanted_variables;
+use crate::whole::WholeRefutation;
 use clause_database::{EncodingHints, FormulaLoader, SmallClauses, number_of};
 use dimacs::{ClauseList, Lit};
 use std::alloc::{AllocError, Global};
@@ -24,6 +25,8 @@ pub struct PreparedFormula<'a> {
     pub(crate) small: SmallClauses,
     /// The variables that can be decided.
     pub(crate) wanted: Vec<u32>,
+    /// What refutes the formula itself, if that was found by counting.
+    pub(crate) whole: Option<WholeRefutation>,
 }
 
 impl<'a> PreparedFormula<'a> {
@@ -56,6 +59,7 @@ impl<'a> PreparedFormula<'a> {
             loader,
             small,
             wanted,
+            whole: None,
         })
     }
 

@@ -22,7 +22,7 @@ fn variables_of<L: ClauseList>(formula: &L, cube: &[Lit]) -> u32 {
 
 /// Begins a search of the prepared formula in the cube of these literals. Its decisions follow a schedule if that is likely to be the
 /// faster of the two.
-fn begin<'a>(
+pub(crate) fn begin<'a>(
     alloc: Global,
     prepared: &PreparedFormula<'a>,
     cube: &[Lit],
@@ -44,6 +44,9 @@ pub fn solve_cube(
 ) -> Result<Answer, AllocError>
     ensures { IfOk result (λ answer. IsWithin budget answer) }
 {
+    if let Some(known) = prepared.known_answer(alloc, cube, budget)? {
+        return Ok(known);
+    }
     let first_id = prepared.id_in_cube(cube.len());
     let mut search = begin(alloc, prepared, cube)?;
     if let Some(counted) = search.count_sources(first_id, budget)? {

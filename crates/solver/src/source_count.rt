@@ -34,6 +34,19 @@ fn known_order<'b>(
     }
 }
 
+/// Whether there is a read-modify-write. Without one, readers can share their sources, so there is no Hall violator.
+pub(crate) fn has_updates(encoding: EncodingHints<'_>) -> bool {
+    let Some(reads_from) = encoding.reads_from() else {
+        return false;
+    };
+    for element in 0..reads_from.elements() {
+        if reads_from.reads(element) && reads_from.writes(element) {
+            return true;
+        }
+    }
+    false
+}
+
 /// Returns a bound on the steps of its derivation: those of the count, and one for each literal on which it rests.
 fn most_steps(found: &SourceContradiction) -> u64 {
     found
@@ -42,17 +55,9 @@ fn most_steps(found: &SourceContradiction) -> u64 {
 }
 
 impl<'a> Search<'a> {
-    /// Whether there is a read-modify-write. Without one, readers can share their sources, so there is no Hall violator.
+    /// Whether there is a read-modify-write.
     pub fn has_updates(&self) -> bool {
-        let Some(reads_from) = self.encoding.reads_from() else {
-            return false;
-        };
-        for element in 0..reads_from.elements() {
-            if reads_from.reads(element) && reads_from.writes(element) {
-                return true;
-            }
-        }
-        false
+        has_updates(self.encoding)
     }
 
     /// Whether there is a Hall violator. Mostly there is none, so a greedy matching is tried first.

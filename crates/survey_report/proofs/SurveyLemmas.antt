@@ -18,6 +18,7 @@ use Rattle.survey_verdict.specs.declared.surveyed.RefutedCore.{RefutedCore}
 use Rattle.survey_verdict.specs.declared.surveyed.Surveyed.{Surveyed}
 use Rattle.survey_verdict.specs.declared.surveyed.Surveyed.TheVariants.{Decided, Refuted, Undecided}
 use Rattle.survey_verdict.specs.Surveyed.{IsCertificateFor, IsSurveyed, core_names, core_part, survey_certificate, survey_report}
+use Rattle.surveyor.specs.declared.Overview.{Overview}
 use Rattle.text_lines.specs.declared.plain_fault.PlainFault.{PlainFault}
 use Rattle.text_lines.specs.declared.plain_fault.PlainFault.TheVariants.{OutOfMemory as NoMemoryToSearch, For}
 use Rattle.trace_semantics.specs.declared.operation.OpName.{OpName}
@@ -36,7 +37,7 @@ use Rattle.verdict_report.specs.Fault.{fault_of_sink, fault_of_search}
 use Rattle.verdict_report.specs.RecheckEngine.{InputHasNoLegalSchedule}
 use Rattle.verdict_report.specs.Runs.{SourceRun, SinkRun}
 use Rattle.verdict_report.specs.VerifyEngine.{ReportsLegalSchedule}
-use Rattle.survey_report.specs.SurveyEngine.{CertifiesSurvey, IsRunOfCertifiedSurvey, IsSaidOfSurvey, IsSurveyedFrom, SpellsSome, TellsExtent, status_of_survey}
+use Rattle.survey_report.specs.SurveyEngine.{AnswersSurvey, CertifiesSurvey, FollowsFromText, IsRunOfCertifiedSurvey, IsSaidOfSurvey, IsSurveyedFrom, SpellsSome, TellsExtent, status_of_survey}
 
 -- the search has no results
 pub unsearched : (text : List ℕ) → SpellsSome text → (fault : PlainFault SearchCause) → IsSaidOfSurvey text (Err (fault_of_search fault))
@@ -135,7 +136,7 @@ module _ (trace : SourceRun) (text : List ℕ) (handed : HandOut (trace ∷ []) 
     value = given.value;
     is_trace = given.is_trace;
     spelled = given.spelled;
-    no_schedule = given.decided.1;
+    no_schedule = given.decided.0.1;
   }
   has_none (Decided (NotDecided cubes)) given is = absurd (let wrong : No ≡ Unknown = is in cc)
   has_none (Refuted core) given is = record {
@@ -167,14 +168,23 @@ module _ (trace : SourceRun) (text : List ℕ) (handed : HandOut (trace ∷ []) 
         let at : IsRunOfWriting (survey_report surveyed) (status_of_survey surveyed) out (Ok Unknown) = subst (λ (r : Result Status Fault). IsRunOfWriting (survey_report surveyed) (status_of_survey surveyed) out r) so w in
         tells_extent surveyed given at.1.0 at.0
 
+-- what is written follows from what a surveyor may find
+pub answered : (IsFound : TraceValue → Overview → Type 0) (trace : SourceRun) (text : List ℕ) → HandOut (trace ∷ []) (text ∷ []) → (options : OptionsValue) (out : SinkRun) (surveyed : Surveyed) → FollowsFromText options IsFound text surveyed →
+    (result : Result Status Fault) → IsRunOfWriting (survey_report surveyed) (status_of_survey surveyed) out result → (status : Status) → result ≡ Ok status → AnswersSurvey options IsFound trace out status
+answered IsFound trace text handed options out surveyed follows result w status so =
+    let at : IsRunOfWriting (survey_report surveyed) (status_of_survey surveyed) out (Ok status) = subst (λ (r : Result Status Fault). IsRunOfWriting (survey_report surveyed) (status_of_survey surveyed) out r) so w in
+    record { text = text; handed = handed.0.0; surveyed = surveyed; follows = follows; whole = at.1.0; status_is = at.0 }
+
 -- what the laws say of the texts of an INCONSISTENT
 module _ (trace : SourceRun) (cert names part : SinkRun) (text : List ℕ) (handed : HandOut (trace ∷ []) (text ∷ [])) (options : OptionsValue)
     (spells : (options : OptionsValue) (value : TraceValue) (refutation : Refutation) → IsDecided options value (Inconsistent refutation) → SpellsCertificate (certificate_text (Inconsistent refutation)) (certificate_in refutation))
     (accepted : (options : OptionsValue) (value : TraceValue) (refutation : Refutation) → IsDecided options value (Inconsistent refutation) → IsRechecked (clauses_of (kept_trace value)) (certificate_in refutation) (leaves refutation.tree))
     (certified_core : (options : OptionsValue) (t : TraceValue) (core : RefutedCore) → IsSurveyed options t (Refuted core) → IsCertificateFor core.part.trace (survey_certificate (Refuted core)))
-    (part_spells : (options : OptionsValue) (t : TraceValue) (core : RefutedCore) → IsTrace t → IsSurveyed options t (Refuted core) → SpellsTrace (core_part (Refuted core)) core.part.trace) where
+    (part_spells : (options : OptionsValue) (t : TraceValue) (core : RefutedCore) → IsTrace t → IsSurveyed options t (Refuted core) → SpellsTrace (core_part (Refuted core)) core.part.trace)
+    (names_spell : (options : OptionsValue) (t : TraceValue) (core : RefutedCore) → IsTrace t → IsSurveyed options t (Refuted core) → SpellsSchedule (core_names (Refuted core)) core.names)
+    (part_is_trace : (options : OptionsValue) (t : TraceValue) (core : RefutedCore) → IsTrace t → IsSurveyed options t (Refuted core) → IsTrace core.part.trace) where
   certifies : (surveyed : Surveyed) → IsSurveyedFrom options text surveyed → cert.now ≡ cert.before ++ survey_certificate surveyed → names.now ≡ names.before ++ core_names surveyed → part.now ≡ part.before ++ core_part surveyed →
-      No ≡ status_of_survey surveyed → CertifiesSurvey trace cert names part
+      No ≡ status_of_survey surveyed → CertifiesSurvey options trace cert names part
   certifies (Decided (Consistent schedule)) given whole told shown is = absurd (let wrong : No ≡ Yes = is in cc)
   certifies (Decided (Inconsistent refutation)) given whole told shown is = inr (
     record {
@@ -187,11 +197,12 @@ module _ (trace : SourceRun) (cert names part : SinkRun) (text : List ℕ) (hand
       whole = whole;
       certified = record {
         certificate = certificate_in refutation;
-        spelled = spells options given.value refutation given.decided;
+        spelled = spells options given.value refutation given.decided.0;
         count = leaves refutation.tree;
-        accepted = accepted options given.value refutation given.decided;
+        accepted = accepted options given.value refutation given.decided.0;
       };
-      none_legal = given.decided.1;
+      none_legal = given.decided.0.1;
+      unrefuted = given.decided.1;
     },
     told ∙ append-nil names.before,
     shown ∙ append-nil part.before,
@@ -204,9 +215,13 @@ module _ (trace : SourceRun) (cert names part : SinkRun) (text : List ℕ) (hand
     is_trace = given.is_trace;
     spelled = given.spelled;
     names = core.names;
+    in_order = given.decided.in_order;
     told = told;
+    names_spelled = names_spell options given.value core given.is_trace given.decided;
     made = core.part;
     is_part = given.decided.is_part;
+    part_is_trace = part_is_trace options given.value core given.is_trace given.decided;
+    few_left = given.decided.few_left;
     part_told = shown;
     part_spelled = part_spells options given.value core given.is_trace given.decided;
     written = survey_certificate (Refuted core);
@@ -218,7 +233,7 @@ module _ (trace : SourceRun) (cert names part : SinkRun) (text : List ℕ) (hand
 
   -- the answer is the one for what is decided
   pub certified : (surveyed : Surveyed) → IsSurveyedFrom options text surveyed → cert.now ≡ cert.before ++ survey_certificate surveyed → names.now ≡ names.before ++ core_names surveyed → part.now ≡ part.before ++ core_part surveyed →
-      (out : SinkRun) (result : Result Status Fault) → IsRunOfWriting (survey_report surveyed) (status_of_survey surveyed) out result → result ≡ Ok No → CertifiesSurvey trace cert names part
+      (out : SinkRun) (result : Result Status Fault) → IsRunOfWriting (survey_report surveyed) (status_of_survey surveyed) out result → result ≡ Ok No → CertifiesSurvey options trace cert names part
   certified surveyed given whole told shown out result w so =
       let at : IsRunOfWriting (survey_report surveyed) (status_of_survey surveyed) out (Ok No) = subst (λ (r : Result Status Fault). IsRunOfWriting (survey_report surveyed) (status_of_survey surveyed) out r) so w in
       certifies surveyed given whole told shown at.0

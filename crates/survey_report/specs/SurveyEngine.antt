@@ -1,15 +1,20 @@
 -- What the engine that decides long traces answers and writes.
-use Rattle.std.specs.Prelude.{◌≡◌, ◌⊎◌, ⊤, ℕ, true, List, [], ◌∷◌, ◌++◌, Result, Ok, Err}
+use Rattle.std.specs.Prelude.{◌≡◌, ◌⊎◌, ◌≤◌, ⊤, ℕ, true, List, [], ◌∷◌, ◌++◌, Result, Ok, Err}
 use Rattle.cube_jobs.specs.Options.{OptionsValue}
 use Rattle.part_text.specs.PartText.{part_text}
+use Rattle.reducer.specs.Reduction.{kept_trace}
+use Rattle.schedule_text.specs.ScheduleText.{SpellsSchedule}
 use Rattle.schedule_text.specs.ScheduleWritten.{canonical_schedule}
+use Rattle.survey_verdict.specs.Findings.{FollowsFromSome}
 use Rattle.survey_verdict.specs.declared.surveyed.Surveyed.{Surveyed}
 use Rattle.survey_verdict.specs.declared.surveyed.Surveyed.TheVariants.{Decided, Refuted, Undecided}
-use Rattle.survey_verdict.specs.Surveyed.{IsCertificateFor, IsLeftOpen, IsSurveyed, core_names, core_part, extent_line, survey_certificate, survey_report}
+use Rattle.survey_verdict.specs.Surveyed.{IsCertificateFor, IsLeftOpen, IsSurveyed, IsUnrefutedChoice, core_names, core_of, core_part, extent_line, survey_certificate, survey_report}
 use Rattle.surveyor.specs.declared.Extent.{Extent}
+use Rattle.surveyor.specs.declared.Overview.{Overview}
 use Rattle.trace_part.specs.TraceParts.{PartValue, IsPart}
 use Rattle.trace_semantics.specs.declared.operation.OpName.{OpName}
-use Rattle.trace_semantics.specs.Trace.{TraceValue, IsTrace}
+use Rattle.trace_semantics.specs.Legal.{HasNoSchedule}
+use Rattle.trace_semantics.specs.Trace.{TraceValue, IsTrace, operation_count, operation_names}
 use Rattle.trace_text.specs.TraceFault.{HasTraceFault}
 use Rattle.trace_text.specs.TraceText.{SpellsTrace}
 use Rattle.verdict_report.specs.declared.fault.Fault.{Fault}
@@ -17,7 +22,6 @@ use Rattle.verdict_report.specs.declared.fault.Fault.TheVariants.{OutOfMemory, T
 use Rattle.verdict_report.specs.declared.status.Status.{Status}
 use Rattle.verdict_report.specs.declared.status.Status.TheVariants.{No, Unknown}
 use Rattle.verdict_report.specs.Engine.{AtOnce, InPieces, IsRunOfEngine, of_one}
-use Rattle.verdict_report.specs.RecheckEngine.{HasNoSchedule}
 use Rattle.verdict_report.specs.Runs.{SourceRun, SinkRun, HandsOut}
 use Rattle.verdict_report.specs.VerifyEngine.{status_of_decision}
 
@@ -33,6 +37,14 @@ pub record IsSurveyedFrom (options : OptionsValue) (text : List ℕ) (surveyed :
   pub is_trace : IsTrace value
   pub spelled : SpellsTrace text value
   pub decided : IsSurveyed options value surveyed
+
+-- the text spells a trace, of which this is decided, and it follows from something that a surveyor may find in the trace
+pub record FollowsFromText (options : OptionsValue) (IsFound : TraceValue → Overview → Type 0) (text : List ℕ) (surveyed : Surveyed) : Type 0 where
+  pub value : TraceValue
+  pub is_trace : IsTrace value
+  pub spelled : SpellsTrace text value
+  pub decided : IsSurveyed options value surveyed
+  pub follows : FollowsFromSome options value (IsFound value) surveyed
 
 -- what is said of the text: what is decided of its trace, by some search, or why nothing is; a search that has no results refuses no other
 -- texts
@@ -79,9 +91,20 @@ pub record TellsExtent (options : OptionsValue) (trace : SourceRun) (out : SinkR
   pub whole : out.now ≡ out.before ++ extent_line extent
   pub left_open : IsLeftOpen options value
 
--- The source handed out the text of a trace that has no legal schedule. One sink took the names of a core, one a line; one the text of the
--- part that they make up, which spells that part, with the names of its operations in the whole; and one the text of a certificate,
--- which is accepted for the clauses of what is kept of this part.
+-- The source handed out the text of a trace, and the sink took the report of what is decided of it. That follows from something that a
+-- surveyor may find in the trace: a legal schedule, or a core of which the part is refuted, if it is one of these, and else what a search of
+-- the whole trace decides. The status is the one for it.
+pub record AnswersSurvey (options : OptionsValue) (IsFound : TraceValue → Overview → Type 0) (trace : SourceRun) (out : SinkRun) (status : Status) : Type 0 where
+  pub text : List ℕ
+  pub handed : HandsOut trace text
+  pub surveyed : Surveyed
+  pub follows : FollowsFromText options IsFound text surveyed
+  pub whole : out.now ≡ out.before ++ survey_report surveyed
+  pub status_is : status ≡ status_of_survey surveyed
+
+-- The source handed out the text of a trace that has no legal schedule. One sink took the names of a core, one a line, by process and place,
+-- and this text spells them; one the text of the part that they make up, which spells that part, a trace, with the names of its operations in
+-- the whole; and one the text of a certificate, which is accepted for the clauses of what is kept of this part, at most 160 operations.
 pub record CertifiesCore (trace : SourceRun) (cert taken shown : SinkRun) : Type 0 where
   pub text : List ℕ
   pub handed : HandsOut trace text
@@ -89,9 +112,13 @@ pub record CertifiesCore (trace : SourceRun) (cert taken shown : SinkRun) : Type
   pub is_trace : IsTrace value
   pub spelled : SpellsTrace text value
   pub names : List OpName
+  pub in_order : names ≡ core_of value names
   pub told : taken.now ≡ taken.before ++ canonical_schedule names
+  pub names_spelled : SpellsSchedule (canonical_schedule names) names
   pub made : PartValue
   pub is_part : IsPart value names made
+  pub part_is_trace : IsTrace made.trace
+  pub few_left : operation_count (kept_trace made.trace) ≤ 160
   pub part_told : shown.now ≡ shown.before ++ part_text true made
   pub part_spelled : SpellsTrace (part_text true made) made.trace
   pub written : List ℕ
@@ -99,9 +126,9 @@ pub record CertifiesCore (trace : SourceRun) (cert taken shown : SinkRun) : Type
   pub certified : IsCertificateFor made.trace written
   pub none_legal : HasNoSchedule value
 
--- the source handed out the text of a trace that has no legal schedule, and the sink took the text of a certificate, which is accepted for
--- the clauses of what is kept of the whole trace
-pub record CertifiesWhole (trace : SourceRun) (cert : SinkRun) : Type 0 where
+-- The source handed out the text of a trace that has no legal schedule, and the sink took the text of a certificate, which is accepted for
+-- the clauses of what is kept of the whole trace. A search with these options does not refute the part that all operations make up.
+pub record CertifiesWhole (options : OptionsValue) (trace : SourceRun) (cert : SinkRun) : Type 0 where
   pub text : List ℕ
   pub handed : HandsOut trace text
   pub value : TraceValue
@@ -111,8 +138,9 @@ pub record CertifiesWhole (trace : SourceRun) (cert : SinkRun) : Type 0 where
   pub whole : cert.now ≡ cert.before ++ written
   pub certified : IsCertificateFor value written
   pub none_legal : HasNoSchedule value
+  pub unrefuted : IsUnrefutedChoice options value (operation_names value)
 
 -- the certificate is that of a core's part, whose names and text were taken, or that of the whole trace, and no name and no part was taken
-abbrev pub CertifiesSurvey : SourceRun → SinkRun → SinkRun → SinkRun → Type 0
-CertifiesSurvey trace cert names part =
-    CertifiesCore trace cert names part ⊎ (CertifiesWhole trace cert × (names.now ≡ names.before) × (part.now ≡ part.before))
+abbrev pub CertifiesSurvey : OptionsValue → SourceRun → SinkRun → SinkRun → SinkRun → Type 0
+CertifiesSurvey options trace cert names part =
+    CertifiesCore trace cert names part ⊎ (CertifiesWhole options trace cert × (names.now ≡ names.before) × (part.now ≡ part.before))

@@ -4,7 +4,7 @@ ghost use Rattle.std.specs.Prelude.{◌≡◌, ◌+◌, [], ◌∷◌, ◌++◌,
 ghost use Rattle.dimacs.specs.Sink.{AppendsFront};
 ghost use Rattle.dimacs.specs.SinkFault.{failures_told};
 ghost use Rattle.survey_verdict.specs.Surveyed.{core_names, core_part, survey_report};
-ghost use Rattle.survey_report.specs.SurveyEngine.{CertifiesSurvey, IsRunOfCertifiedSurvey, IsRunOfSurvey, IsSaidOfSurvey, IsSurveyedFrom, TellsExtent, status_of_survey};
+ghost use Rattle.survey_report.specs.SurveyEngine.{AnswersSurvey, CertifiesSurvey, FollowsFromText, IsRunOfCertifiedSurvey, IsRunOfSurvey, IsSaidOfSurvey, IsSurveyedFrom, TellsExtent, status_of_survey};
 ghost use Rattle.verdict_report.specs.Engine.{IsRunOfWriting, TakeNothing};
 ghost use Rattle.verdict_report.specs.RecheckEngine.{InputHasNoLegalSchedule};
 ghost use Rattle.verdict_report.specs.Runs.{source_run, sink_run};
@@ -18,7 +18,9 @@ use dimacs::{Sink, SinkFault, write_whole};
 use std::alloc::Global;
 use std::sync::Wait;
 use std::thread::Threads;
-use survey_verdict::laws::{core_certificate_is_accepted, core_part_spells};
+use survey_verdict::laws::{
+    core_certificate_is_accepted, core_names_spell, core_part_is_a_trace, core_part_spells,
+};
 use survey_verdict::{
     Surveyed, decide_by_survey, names_of_core, part_of_core, report_of_survey,
     write_survey_certificate,
@@ -58,6 +60,10 @@ pub fn run_survey<R: Threads + Wait + Sync, T: Source, S: Surveyor, G: Gate + Sy
     ensures unknown { result ≡ Ok Unknown → TellsExtent options.now
         (source_run T.handed_out T.is_at_end T.failures trace.old trace.new)
         (sink_run W.written W.failures out.old out.new) }
+    ensures answered { (status : Status) → result ≡ Ok status → AnswersSurvey options.now (S.finds surveyor.now)
+        (source_run T.handed_out T.is_at_end T.failures trace.old trace.new)
+        (sink_run W.written W.failures out.old out.new)
+        status }
 {
     written_schedule_spells();
     let text = read_text(alloc, trace)?;
@@ -103,7 +109,7 @@ pub fn run_certified_survey<
     ensures consistent { result ≡ Ok Yes → ReportsLegalSchedule
         (source_run T.handed_out T.is_at_end T.failures trace.old trace.new)
         (sink_run W.written W.failures out.old out.new) }
-    ensures certified { result ≡ Ok No → CertifiesSurvey
+    ensures certified { result ≡ Ok No → CertifiesSurvey options.now
         (source_run T.handed_out T.is_at_end T.failures trace.old trace.new)
         (sink_run C.written C.failures cert.old cert.new)
         (sink_run N.written N.failures names.old names.new)
@@ -115,11 +121,17 @@ pub fn run_certified_survey<
         sink_run C.written C.failures cert.old cert.new
         ∷ sink_run N.written N.failures names.old names.new
         ∷ sink_run P.written P.failures part.old part.new ∷ []) }
+    ensures answered { (status : Status) → result ≡ Ok status → AnswersSurvey options.now (S.finds surveyor.now)
+        (source_run T.handed_out T.is_at_end T.failures trace.old trace.new)
+        (sink_run W.written W.failures out.old out.new)
+        status }
 {
     written_schedule_spells();
     certificate_is_accepted();
     core_certificate_is_accepted();
     core_part_spells();
+    core_names_spell();
+    core_part_is_a_trace();
     let text = read_text(alloc, trace)?;
     let surveyed = survey_text(alloc, rt, text.as_slice(), surveyor, options, gate)?;
     write_survey_certificate(alloc, &surveyed, cert)?;
@@ -139,6 +151,7 @@ fn survey_text<R: Threads + Wait + Sync, S: Surveyor, G: Gate + Sync>(
 ) -> Result<Surveyed, Fault>
     ensures said { IsSaidOfSurvey text.now result }
     ensures surveyed { IfOk result (λ surveyed. IsSurveyedFrom options.now text.now surveyed) }
+    ensures follows { IfOk result (λ surveyed. FollowsFromText options.now (S.finds surveyor.now) text.now surveyed) }
 {
     let trace = read_trace(alloc, text)?;
     Ok(decide_by_survey(alloc, rt, &trace, surveyor, options, gate)?)

@@ -1,1 +1,5 @@
-pub mod SurveyedLemmas
+mod ChoiceLemmas
+mod CoreNameLemmas
+mod FindingLemmas
+mod NameTextLemmas
+mod SurveyedLemmas

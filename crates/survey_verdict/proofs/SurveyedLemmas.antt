@@ -1,6 +1,6 @@
 -- What is shown of a trace by what is shown of its reduction, and of a core by what is shown of its part.
-use Rattle.std.proofs.Common.{◌≡◌, List, subst}
-use Rattle.std.specs.Prelude.{IfSome, Option, Some}
+use Rattle.std.proofs.Common.{◌≡◌, ◌≤◌, List, inl, inr, subst, sym, ◌∙◌}
+use Rattle.std.specs.Prelude.{Option, Some, None}
 use Rattle.certificate.specs.CertText.{SpellsCertificate}
 use Rattle.certificate.specs.Rechecked.{IsRechecked}
 use Rattle.clause_blocks.specs.Clauses.{clauses_of}
@@ -9,39 +9,64 @@ use Rattle.cube_tree.specs.CubeTree.{leaves}
 use Rattle.reducer.specs.Reduced.{ReducedValue}
 use Rattle.reducer.specs.Reduction.{kept_trace}
 use Rattle.survey_verdict.specs.declared.surveyed.RefutedCore.{RefutedCore}
-use Rattle.survey_verdict.specs.Surveyed.{IsCertificateFor, IsReducedIfSmall, IsRefutedCore}
+use Rattle.survey_verdict.specs.Surveyed.{IsCertificateFor, IsDecidedIfShort, IsNotRefuted, IsReducedIfSmall, IsRefutedChoice, IsRefutedCore, IsRefutedIfShort, IsTooLong, core_of, refutation_in}
+use Rattle.survey_verdict.proofs.CoreNameLemmas.{in_order}
 use Rattle.trace_decision.specs.declared.decision.Decision.{Decision}
-use Rattle.trace_decision.specs.declared.decision.Decision.TheVariants.{Inconsistent}
+use Rattle.trace_decision.specs.declared.decision.Decision.TheVariants.{Consistent, Inconsistent, Unknown}
 use Rattle.trace_decision.specs.declared.refutation.Refutation.{Refutation}
 use Rattle.trace_decision.specs.Decision.{IsDecided, certificate_in, certificate_text}
 use Rattle.trace_part.specs.TraceParts.{PartValue, IsPart}
 use Rattle.trace_semantics.specs.declared.operation.OpName.{OpName}
-use Rattle.trace_semantics.specs.Legal.{IsLegal}
-use Rattle.trace_semantics.specs.Trace.{TraceValue, IsTrace}
+use Rattle.trace_semantics.specs.Legal.{HasNoSchedule}
+use Rattle.trace_semantics.specs.Trace.{TraceValue, IsTrace, operation_count}
 
 -- what the search of a reduced trace decides is decided of the whole
 pub decided_of : (options : OptionsValue) (t : TraceValue) (small : Option ReducedValue) (reduced : ReducedValue) → small ≡ Some reduced → IsReducedIfSmall t small →
-    (found decision : Decision) → found ≡ decision → IsDecided options reduced.whole found → IsDecided options t decision
-decided_of options t small reduced is_small given found decision is decided =
+    (decision : Decision) → IsDecided options reduced.whole decision → IsDecidedIfShort options t (Some decision)
+decided_of options t small reduced is_small given decision decided =
     let whole : IsReducedIfSmall t (Some reduced) = subst (λ (s : Option ReducedValue). IsReducedIfSmall t s) is_small given in
-    let here : IsDecided options reduced.whole decision = subst (λ (d : Decision). IsDecided options reduced.whole d) is decided in
-    subst (λ (w : TraceValue). IsDecided options w decision) whole.1 here
+    let few : operation_count (kept_trace reduced.whole) ≤ 160 = subst (λ (k : TraceValue). operation_count k ≤ 160) whole.0.reduction whole.0.few in
+    (subst (λ (w : TraceValue). IsDecided options w decision) whole.1 decided, subst (λ (w : TraceValue). operation_count (kept_trace w) ≤ 160) whole.1 few)
 
--- the search refutes the part of the core
-pub core_refuted : (options : OptionsValue) (t : TraceValue) (ok : IsTrace t) (core : RefutedCore) →
-    ((t : TraceValue) (names : List OpName) (p : PartValue) → IsTrace t → IsPart t names p → ((s : List OpName) → IsLegal p.trace s → ⊥) → (s : List OpName) → IsLegal t s → ⊥) →
-    (made : Option PartValue) → made ≡ Some core.part → (names : List OpName) → names ≡ core.names → IfSome made (IsPart t names) →
-    (found : Option Refutation) → found ≡ Some core.refutation → (trace : TraceValue) → trace ≡ core.part.trace → IfSome found (λ refutation. IsDecided options trace (Inconsistent refutation)) → IsRefutedCore options t core
-core_refuted options t ok core law made made_is names names_are part found found_is trace trace_is decided =
-    let chosen : IsPart t names core.part = subst (λ (m : Option PartValue). IfSome m (IsPart t names)) made_is part in
-    let is_part : IsPart t core.names core.part = subst (λ (n : List OpName). IsPart t n core.part) names_are chosen in
-    let here : IsDecided options trace (Inconsistent core.refutation) = subst (λ (f : Option Refutation). IfSome f (λ refutation. IsDecided options trace (Inconsistent refutation))) found_is decided in
-    let refuted : IsDecided options core.part.trace (Inconsistent core.refutation) = subst (λ (w : TraceValue). IsDecided options w (Inconsistent core.refutation)) trace_is here in
-    record {
-      is_part = is_part;
-      refuted = refuted;
-      none_legal = law t core.names core.part ok is_part refuted.1;
-    }
+-- what refutes the trace is in what is decided, or it is not refuted
+pub refuted_by : (options : OptionsValue) (t : TraceValue) (decision : Decision) → IsDecidedIfShort options t (Some decision) → IsRefutedIfShort options t (refutation_in decision)
+refuted_by options t (Consistent schedule) given = inr (inl (schedule, given.0))
+refuted_by options t (Inconsistent refutation) given = given
+refuted_by options t (Unknown cubes) given = inr (inr (cubes, given.0))
+
+-- what is said of the whole trace by what is decided of it
+module _ (options : OptionsValue) (t : TraceValue) (decided : Option Decision) (given : IsDecidedIfShort options t decided) where
+  pub decided_so : (decision : Decision) → decided ≡ Some decision → IsDecidedIfShort options t (Some decision)
+  decided_so decision is = subst (λ (d : Option Decision). IsDecidedIfShort options t d) is given
+
+  pub too_long : decided ≡ None → IsTooLong t
+  too_long is = subst (λ (d : Option Decision). IsDecidedIfShort options t d) is given
+
+-- the search refutes the part of the core, or does not
+module _ (options : OptionsValue) (t : TraceValue) (names found : List OpName) (names_are : names ≡ core_of t found) (p : PartValue) (is_part : IsPart t names p)
+    (trace : TraceValue) (trace_is : trace ≡ p.trace) (refuted : Option Refutation) (given : IsRefutedIfShort options trace refuted) where
+  at_part : (result : Option Refutation) → refuted ≡ result → IsRefutedIfShort options p.trace result
+  at_part result is = subst (λ (w : TraceValue). IsRefutedIfShort options w result) trace_is (subst (λ (r : Option Refutation). IsRefutedIfShort options trace r) is given)
+
+  pub core_unrefuted : refuted ≡ None → IsRefutedChoice options t (core_of t found) None
+  core_unrefuted is =
+      let here : IsNotRefuted options p.trace = at_part None is in
+      (p, subst (λ (n : List OpName). IsPart t n p) names_are is_part, here)
+
+  pub core_refuted : IsTrace t →
+      ((t : TraceValue) (names : List OpName) (p : PartValue) → IsTrace t → IsPart t names p → HasNoSchedule p.trace → HasNoSchedule t) →
+      (told : List OpName) → told ≡ names → (refutation : Refutation) → refuted ≡ Some refutation → IsRefutedChoice options t (core_of t found) (Some (record { names = told; part = p; refutation = refutation }))
+  core_refuted ok law told told_are refutation is =
+      let here : IsRefutedIfShort options p.trace (Some refutation) = at_part (Some refutation) is in
+      let all_are : told ≡ core_of t found = told_are ∙ names_are in
+      let core : IsRefutedCore options t (record { names = told; part = p; refutation = refutation }) = record {
+        in_order = in_order t told found all_are;
+        is_part = subst (λ (n : List OpName). IsPart t n p) (sym told_are) is_part;
+        few_left = here.1;
+        refuted = here.0;
+        none_legal = law t names p ok is_part here.0.1;
+      } in
+      (all_are, core)
 
 -- the certificate that is written is accepted for the part
 pub core_certified :

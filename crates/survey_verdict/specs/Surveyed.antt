@@ -1,5 +1,6 @@
 -- What is decided of a trace with the help of a survey.
-use Rattle.std.specs.Prelude.{◌≡◌, ◌⊎◌, ℕ, ℤ, true, List, [], ◌++◌, Option, Some, None, length, codes, decimal}
+use Rattle.std.specs.Prelude.{◌≡◌, ◌⊎◌, ◌≤◌, ℕ, ℤ, true, List, [], ◌++◌, Option, Some, None, length, codes, decimal}
+use Rattle.std.specs.List.{filter}
 use Rattle.certificate.specs.CertText.{SpellsCertificate}
 use Rattle.certificate.specs.CertWritten.{canonical_certificate}
 use Rattle.certificate.specs.Rechecked.{IsRechecked}
@@ -14,10 +15,13 @@ use Rattle.reducer.specs.declared.reduce_fault.ReduceCause.{ReduceCause}
 use Rattle.schedule_text.specs.ScheduleWritten.{canonical_schedule}
 use Rattle.surveyor.specs.declared.Extent.{Extent}
 use Rattle.trace_semantics.specs.declared.operation.OpName.{OpName}
-use Rattle.trace_semantics.specs.Legal.{IsLegal}
-use Rattle.trace_semantics.specs.Trace.{TraceValue}
-use Rattle.trace_part.specs.TraceParts.{IsPart}
-use Rattle.trace_decision.specs.declared.decision.Decision.TheVariants.{Inconsistent, Unknown}
+use Rattle.trace_semantics.specs.Judgement.{has_come}
+use Rattle.trace_semantics.specs.Legal.{HasNoSchedule, IsLegal}
+use Rattle.trace_semantics.specs.Trace.{TraceValue, operation_count, operation_names}
+use Rattle.trace_part.specs.TraceParts.{PartValue, IsPart}
+use Rattle.trace_decision.specs.declared.decision.Decision.{Decision}
+use Rattle.trace_decision.specs.declared.decision.Decision.TheVariants.{Consistent, Inconsistent, Unknown}
+use Rattle.trace_decision.specs.declared.refutation.Refutation.{Refutation}
 use Rattle.trace_decision.specs.Decision.{IsDecided, certificate_in, certificate_text, report}
 use Rattle.survey_verdict.specs.declared.surveyed.RefutedCore.{RefutedCore}
 use Rattle.survey_verdict.specs.declared.surveyed.Surveyed.{Surveyed}
@@ -32,22 +36,60 @@ abbrev pub IsReducedIfSmall : TraceValue → Option ReducedValue → Type 0
 IsReducedIfSmall t (Some reduced) = IsReduced reduced × (reduced.whole ≡ t)
 IsReducedIfSmall t None = IsTooLong t
 
--- The part is the one that the names of the core make up, and a search with these options shows that it has no legal schedule. So the
--- trace has none.
+-- A search with these options does not refute the trace: more operations are left of it than a search takes, or it has a legal schedule,
+-- or the search leaves cubes open.
+abbrev pub IsNotRefuted : OptionsValue → TraceValue → Type 0
+IsNotRefuted options t = IsTooLong t ⊎ (((schedule : List OpName) × IsLegal t schedule) ⊎ ((cubes : List (List ℤ)) × IsDecided options t (Unknown cubes)))
+
+-- what a search of the trace with these options decides, if no more than 160 operations are left of it, or that more are
+abbrev pub IsDecidedIfShort : OptionsValue → TraceValue → Option Decision → Type 0
+IsDecidedIfShort options t (Some decision) = IsDecided options t decision × (operation_count (kept_trace t) ≤ 160)
+IsDecidedIfShort options t None = IsTooLong t
+
+-- what refutes the trace, if that is what was decided
+abbrev pub refutation_in : Decision → Option Refutation
+refutation_in (Consistent schedule) = None
+refutation_in (Inconsistent refutation) = Some refutation
+refutation_in (Unknown cubes) = None
+
+-- what refutes the trace, of which no more than 160 operations are left, or that a search with these options does not refute it
+abbrev pub IsRefutedIfShort : OptionsValue → TraceValue → Option Refutation → Type 0
+IsRefutedIfShort options t (Some refutation) = IsDecided options t (Inconsistent refutation) × (operation_count (kept_trace t) ≤ 160)
+IsRefutedIfShort options t None = IsNotRefuted options t
+
+-- those of the trace's operations that are among these, in the order of the trace: by process and place
+abbrev pub core_of : TraceValue → List OpName → List OpName
+core_of t found = filter (has_come found) (operation_names t)
+
+-- The names of the core are those of operations of the trace, in the trace's order. The part is the one that they make up, no more than 160
+-- operations are left of it, and a search with these options shows that it has no legal schedule. So the trace has none.
 pub record IsRefutedCore (options : OptionsValue) (t : TraceValue) (core : RefutedCore) : Type 0 where
+  pub in_order : core.names ≡ core_of t core.names
   pub is_part : IsPart t core.names core.part
+  pub few_left : operation_count (kept_trace core.part.trace) ≤ 160
   pub refuted : IsDecided options core.part.trace (Inconsistent core.refutation)
-  pub none_legal : (schedule : List OpName) → IsLegal t schedule → ⊥
+  pub none_legal : HasNoSchedule t
+
+-- the names make up a part that a search with these options does not refute
+abbrev pub IsUnrefutedChoice : OptionsValue → TraceValue → List OpName → Type 0
+IsUnrefutedChoice options t names = (p : PartValue) × IsPart t names p × IsNotRefuted options p.trace
+
+-- the core of these names, or that the part which they make up is not refuted
+abbrev pub IsRefutedChoice : OptionsValue → TraceValue → List OpName → Option RefutedCore → Type 0
+IsRefutedChoice options t names (Some core) = (core.names ≡ names) × IsRefutedCore options t core
+IsRefutedChoice options t names None = IsUnrefutedChoice options t names
 
 -- a search of the whole trace does not decide it: too many operations are left, or a search with these options leaves cubes open
 abbrev pub IsLeftOpen : OptionsValue → TraceValue → Type 0
 IsLeftOpen options t = IsTooLong t ⊎ ((cubes : List (List ℤ)) × IsDecided options t (Unknown cubes))
 
--- What is decided is so: it is a legal schedule, or what a search with these options refutes, of the whole trace; or the part of the core
--- is refuted by such a search, and the trace has no legal schedule; or nothing is said, and a search of the whole trace says no more.
+-- What is decided is so: it is a legal schedule of the whole trace; or the part of the core is refuted by a search with these options, and the
+-- trace has no legal schedule; or such a search refutes the whole trace, and not the part of all its operations; or nothing is said, and a
+-- search of the whole trace says no more.
 abbrev pub IsSurveyed : OptionsValue → TraceValue → Surveyed → Type 0
+IsSurveyed options t (Decided (Consistent schedule)) = IsLegal t schedule
+IsSurveyed options t (Decided (Inconsistent refutation)) = IsDecided options t (Inconsistent refutation) × IsUnrefutedChoice options t (operation_names t)
 IsSurveyed options t (Decided (Unknown cubes)) = ⊥
-IsSurveyed options t (Decided decision) = IsDecided options t decision
 IsSurveyed options t (Refuted core) = IsRefutedCore options t core
 IsSurveyed options t (Undecided extent) = IsLeftOpen options t
 

@@ -1,11 +1,15 @@
 //! From what a survey finds to what is decided.
-ghost use Rattle.std.specs.Prelude.{IfOk, IfSome};
-ghost use Rattle.survey_verdict.specs.Surveyed.{IsReducedIfSmall, IsRefutedCore, IsSurveyed};
+ghost use Rattle.std.specs.Prelude.{◌≡◌, IfOk};
+ghost use Rattle.cube_jobs.specs.Options.{OptionsValue};
+ghost use Rattle.survey_verdict.specs.Findings.{FollowsFrom, FollowsFromSome, IsDecidedWhole, IsJudged, IsShownBy};
+ghost use Rattle.survey_verdict.specs.Surveyed.{IsDecidedIfShort, IsReducedIfSmall, IsRefutedChoice, IsRefutedIfShort, IsSurveyed, core_of, refutation_in};
+ghost use Rattle.surveyor.specs.declared.Extent.{Extent as Reached};
+ghost use Rattle.surveyor.specs.declared.Finding.TheVariants.{Core as CoreFound, Schedule as ScheduleFound};
 ghost use Rattle.trace_decision.specs.Decision.{IsDecided};
 ghost use Rattle.trace_decision.specs.declared.decision.Decision.TheVariants.{Inconsistent};
 ghost use Rattle.trace_part.specs.TraceParts.{IsPart};
-ghost use Rattle.trace_semantics.specs.Legal.{IsLegal};
 
+use crate::core_names::{all_names, names_among};
 use crate::surveyed::{RefutedCore, Surveyed};
 use cube_jobs::{Gate, Options, SearchFault};
 use reducer::reduced::{Reduced, reduce};
@@ -19,21 +23,22 @@ use trace_decision::{Decision, Refutation, decide};
 use trace_part::laws::unschedulable_where_its_part_is;
 use trace_part::part::{TracePart, part_of};
 use trace_semantics::judgement::Judgement;
-use trace_semantics::laws::legal_exactly_where_faultless;
+use trace_semantics::laws::{legal_exactly_where_faultless, one_judgement};
 use trace_semantics::operation::OpName;
 use trace_semantics::schedule::Schedule;
 use trace_semantics::trace::Trace;
 
 /// The schedule of these names, if it is a legal one of the trace.
 fn judged(alloc: Global, trace: &Trace, names: Vec<OpName>) -> Result<Option<Schedule>, AllocError>
-    ensures { IfOk result (λ found. IfSome found (IsLegal trace.now)) }
+    ensures { IfOk result (IsJudged trace.now names.items) }
 {
-    trace.is_trace();
+    trace.recall_invariant();
     legal_exactly_where_faultless();
+    one_judgement();
     let schedule = Schedule::new(names);
     match judge(alloc, trace, &schedule)? {
         Judgement::Legal => Ok(Some(schedule)),
-        Judgement::Illegal(_, _) => Ok(None),
+        Judgement::Illegal(_cause, _place) => Ok(None),
     }
 }
 
@@ -48,18 +53,34 @@ fn reduced_if_small(alloc: Global, trace: &Trace) -> Result<Option<Reduced>, All
     }
 }
 
-/// The part that these operations make up, if they are operations of the trace, each once.
-fn part_if_chosen(
+/// What the search decides of the trace, if few enough operations are left of it.
+fn decided_if_short<R: Threads + Wait + Sync, G: Gate + Sync>(
     alloc: Global,
+    rt: &R,
     trace: &Trace,
-    names: &[OpName],
-) -> Result<Option<TracePart>, AllocError>
-    ensures { IfOk result (λ found. IfSome found (IsPart trace.now names.now)) }
+    options: &Options,
+    gate: &G,
+) -> Result<Option<Decision>, SearchFault>
+    ensures { IfOk result (IsDecidedIfShort options.now trace.now) }
 {
-    match part_of(alloc, trace, names) {
-        Ok(part) => Ok(Some(part)),
-        Err(PlacedFault::OutOfMemory) => Err(AllocError),
-        Err(PlacedFault::At(_, _)) => Ok(None),
+    let small = reduced_if_small(alloc, trace)?;
+    match small {
+        Some(reduced) => {
+            let decision = decide(alloc, rt, &reduced, options, gate)?;
+            Ok(Some(decision))
+        }
+        None => Ok(None),
+    }
+}
+
+/// What refutes the trace, if that is what was decided.
+fn refutation_of(decision: Decision) -> Option<Refutation>
+    ensures { result ≡ refutation_in decision }
+{
+    match decision {
+        Decision::Consistent(_schedule) => None,
+        Decision::Inconsistent(refutation) => Some(refutation),
+        Decision::Unknown(_cubes) => None,
     }
 }
 
@@ -71,42 +92,95 @@ fn refuted<R: Threads + Wait + Sync, G: Gate + Sync>(
     options: &Options,
     gate: &G,
 ) -> Result<Option<Refutation>, SearchFault>
-    ensures { IfOk result (λ found. IfSome found (λ refutation. IsDecided options.now trace.now (Inconsistent refutation))) }
+    ensures { IfOk result (IsRefutedIfShort options.now trace.now) }
 {
-    let Some(reduced) = reduced_if_small(alloc, trace)? else {
-        return Ok(None);
-    };
-    match decide(alloc, rt, &reduced, options, gate)? {
-        Decision::Inconsistent(refutation) => Ok(Some(refutation)),
-        Decision::Consistent(_) => Ok(None),
-        Decision::Unknown(_) => Ok(None),
+    let decided = decided_if_short(alloc, rt, trace, options, gate)?;
+    match decided {
+        Some(decision) => Ok(refutation_of(decision)),
+        None => Ok(None),
     }
 }
 
-/// The core of these operations, if the search refutes their part.
+/// The part that these operations of the trace make up, which stand in its order.
+fn part_in_order(alloc: Global, trace: &Trace, names: &[OpName]) -> Result<TracePart, AllocError>
+    requires { names.now ≡ core_of trace.now names.now }
+    ensures { IfOk result (IsPart trace.now names.now) }
+{
+    trace.recall_invariant();
+    match part_of(alloc, trace, names) {
+        Ok(part) => Ok(part),
+        Err(PlacedFault::OutOfMemory) => Err(AllocError),
+        Err(PlacedFault::At(_cause, _place)) => unreachable!(),
+    }
+}
+
+/// The core of those operations of the trace that were found, if the search refutes their part.
 fn refuted_core<R: Threads + Wait + Sync, G: Gate + Sync>(
     alloc: Global,
     rt: &R,
     trace: &Trace,
-    names: Vec<OpName>,
+    found: &[OpName],
     options: &Options,
     gate: &G,
 ) -> Result<Option<RefutedCore>, SearchFault>
-    ensures { IfOk result (λ found. IfSome found (IsRefutedCore options.now trace.now)) }
+    ensures { IfOk result (IsRefutedChoice options.now trace.now (core_of trace.now found.now)) }
 {
-    trace.is_trace();
+    trace.recall_invariant();
     unschedulable_where_its_part_is();
-    let Some(part) = part_if_chosen(alloc, trace, names.as_slice())? else {
-        return Ok(None);
-    };
-    let Some(refutation) = refuted(alloc, rt, part.trace(), options, gate)? else {
-        return Ok(None);
-    };
-    Ok(Some(RefutedCore {
-        names: Schedule::new(names),
-        part,
-        refutation,
-    }))
+    let names = names_among(alloc, trace, found)?;
+    let part = part_in_order(alloc, trace, names.as_slice())?;
+    let refuted = refuted(alloc, rt, part.trace(), options, gate)?;
+    match refuted {
+        Some(refutation) => Ok(Some(RefutedCore {
+            names: Schedule::new(names),
+            part,
+            refutation,
+        })),
+        None => Ok(None),
+    }
+}
+
+/// All operations as a core, if the search refutes the part that they make up. Else what refutes the trace itself: the part of all says
+/// less than the trace where a before pair goes back in one process, or an origin does not write.
+fn core_of_all<R: Threads + Wait + Sync, G: Gate + Sync>(
+    alloc: Global,
+    rt: &R,
+    trace: &Trace,
+    refutation: Refutation,
+    options: &Options,
+    gate: &G,
+) -> Result<Surveyed, SearchFault>
+    requires { IsDecided options.now trace.now (Inconsistent refutation) }
+    ensures { (extent : Reached) → IfOk result (IsDecidedWhole options.now trace.now extent) }
+{
+    let names = all_names(alloc, trace)?;
+    let core = refuted_core(alloc, rt, trace, names.as_slice(), options, gate)?;
+    match core {
+        Some(all) => Ok(Surveyed::Refuted(all)),
+        None => Ok(Surveyed::Decided(Decision::Inconsistent(refutation))),
+    }
+}
+
+/// What is said of the whole trace, of which this is decided.
+fn said_of_whole<R: Threads + Wait + Sync, G: Gate + Sync>(
+    alloc: Global,
+    rt: &R,
+    trace: &Trace,
+    decision: Decision,
+    extent: Extent,
+    options: &Options,
+    gate: &G,
+) -> Result<Surveyed, SearchFault>
+    requires { IsDecided options.now trace.now decision }
+    ensures { IfOk result (IsDecidedWhole options.now trace.now extent) }
+{
+    match decision {
+        Decision::Consistent(schedule) => Ok(Surveyed::Decided(Decision::Consistent(schedule))),
+        Decision::Inconsistent(refutation) => {
+            core_of_all(alloc, rt, trace, refutation, options, gate)
+        }
+        Decision::Unknown(_cubes) => Ok(Surveyed::Undecided(extent)),
+    }
 }
 
 /// What the search shows of the whole trace, if few enough operations are left of it.
@@ -118,17 +192,45 @@ fn decided_whole<R: Threads + Wait + Sync, G: Gate + Sync>(
     options: &Options,
     gate: &G,
 ) -> Result<Surveyed, SearchFault>
-    ensures { IfOk result (λ surveyed. IsSurveyed options.now trace.now surveyed) }
+    ensures { IfOk result (IsDecidedWhole options.now trace.now extent) }
 {
-    let Some(reduced) = reduced_if_small(alloc, trace)? else {
-        return Ok(Surveyed::Undecided(extent));
-    };
-    match decide(alloc, rt, &reduced, options, gate)? {
-        Decision::Consistent(schedule) => Ok(Surveyed::Decided(Decision::Consistent(schedule))),
-        Decision::Inconsistent(refutation) => {
-            Ok(Surveyed::Decided(Decision::Inconsistent(refutation)))
-        }
-        Decision::Unknown(_cubes) => Ok(Surveyed::Undecided(extent)),
+    let decided = decided_if_short(alloc, rt, trace, options, gate)?;
+    match decided {
+        Some(decision) => said_of_whole(alloc, rt, trace, decision, extent, options, gate),
+        None => Ok(Surveyed::Undecided(extent)),
+    }
+}
+
+/// What the schedule of these names shows, if it is legal.
+fn shown_by_schedule(
+    alloc: Global,
+    trace: &Trace,
+    names: Vec<OpName>,
+) -> Result<Option<Surveyed>, AllocError>
+    ensures { (options : OptionsValue) → IfOk result (IsShownBy options trace.now (ScheduleFound names)) }
+{
+    let judged = judged(alloc, trace, names)?;
+    match judged {
+        Some(schedule) => Ok(Some(Surveyed::Decided(Decision::Consistent(schedule)))),
+        None => Ok(None),
+    }
+}
+
+/// What the core of these names shows, if the search refutes its part.
+fn shown_by_core<R: Threads + Wait + Sync, G: Gate + Sync>(
+    alloc: Global,
+    rt: &R,
+    trace: &Trace,
+    names: Vec<OpName>,
+    options: &Options,
+    gate: &G,
+) -> Result<Option<Surveyed>, SearchFault>
+    ensures { IfOk result (IsShownBy options.now trace.now (CoreFound names)) }
+{
+    let refuted = refuted_core(alloc, rt, trace, names.as_slice(), options, gate)?;
+    match refuted {
+        Some(core) => Ok(Some(Surveyed::Refuted(core))),
+        None => Ok(None),
     }
 }
 
@@ -141,23 +243,41 @@ fn shown<R: Threads + Wait + Sync, G: Gate + Sync>(
     options: &Options,
     gate: &G,
 ) -> Result<Option<Surveyed>, SearchFault>
-    ensures { IfOk result (λ found. IfSome found (IsSurveyed options.now trace.now)) }
+    ensures { IfOk result (IsShownBy options.now trace.now finding) }
 {
     match finding {
-        Finding::Schedule(names) => match judged(alloc, trace, names)? {
-            Some(schedule) => Ok(Some(Surveyed::Decided(Decision::Consistent(schedule)))),
-            None => Ok(None),
-        },
-        Finding::Core(names) => match refuted_core(alloc, rt, trace, names, options, gate)? {
-            Some(core) => Ok(Some(Surveyed::Refuted(core))),
-            None => Ok(None),
-        },
+        Finding::Schedule(names) => {
+            let shown = shown_by_schedule(alloc, trace, names)?;
+            Ok(shown)
+        }
+        Finding::Core(names) => shown_by_core(alloc, rt, trace, names, options, gate),
         Finding::Nothing => Ok(None),
     }
 }
 
+/// What is decided by what was found, or else by the search of the whole.
+fn decide_by_overview<R: Threads + Wait + Sync, G: Gate + Sync>(
+    alloc: Global,
+    rt: &R,
+    trace: &Trace,
+    overview: Overview,
+    options: &Options,
+    gate: &G,
+) -> Result<Surveyed, SearchFault>
+    ensures decided { IfOk result (IsSurveyed options.now trace.now) }
+    ensures follows { IfOk result (FollowsFrom options.now trace.now overview) }
+{
+    let Overview { finding, extent } = overview;
+    let shown = shown(alloc, rt, trace, finding, options, gate)?;
+    match shown {
+        Some(surveyed) => Ok(surveyed),
+        None => decided_whole(alloc, rt, trace, extent, options, gate),
+    }
+}
+
 /// Decides whether the trace has a legal schedule by what the survey finds, or else by the search of the whole, if few enough operations
-/// are left of that. So nothing stays undecided that the search decides.
+/// are left of that. So nothing stays undecided that the search decides. A legal schedule that the surveyor finds is the answer, and so is a
+/// core of its of which the search refutes the part.
 pub fn decide_by_survey<R: Threads + Wait + Sync, S: Surveyor, G: Gate + Sync>(
     alloc: Global,
     rt: &R,
@@ -166,11 +286,9 @@ pub fn decide_by_survey<R: Threads + Wait + Sync, S: Surveyor, G: Gate + Sync>(
     options: &Options,
     gate: &G,
 ) -> Result<Surveyed, SearchFault>
-    ensures { IfOk result (λ surveyed. IsSurveyed options.now trace.now surveyed) }
+    ensures decided { IfOk result (IsSurveyed options.now trace.now) }
+    ensures follows { IfOk result (FollowsFromSome options.now trace.now (S.finds surveyor.now trace.now)) }
 {
-    let Overview { finding, extent } = surveyor.survey(alloc, trace)?;
-    match shown(alloc, rt, trace, finding, options, gate)? {
-        Some(surveyed) => Ok(surveyed),
-        None => decided_whole(alloc, rt, trace, extent, options, gate),
-    }
+    let overview = surveyor.survey(alloc, trace)?;
+    decide_by_overview(alloc, rt, trace, overview, options, gate)
 }

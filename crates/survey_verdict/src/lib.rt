@@ -3,6 +3,7 @@
 #![tactic(auto)]
 
 mod certifying;
+mod core_names;
 mod deciding;
 pub mod laws;
 mod reporting;

@@ -8,7 +8,7 @@ use trace_semantics::schedule::Schedule;
 /// Operations of a trace whose part has no legal schedule.
 #[derive(Drop)]
 pub struct RefutedCore {
-    /// Their names, in the order in which they were found.
+    /// Their names, by process and place, as the trace has them.
     pub names: Schedule,
     /// The part that they make up.
     pub part: TracePart,

@@ -3,6 +3,10 @@
 //! What is found is untrusted, so nothing is promised of it.
 #![tactic(auto)]
 
+ghost use Rattle.std.specs.Prelude.{IfOk};
+ghost use Rattle.surveyor.specs.declared.Overview.{Overview as Answer};
+ghost use Rattle.trace_semantics.specs.Trace.{TraceValue};
+
 use std::alloc::{AllocError, Global};
 use trace_semantics::operation::OpName;
 use trace_semantics::trace::Trace;
@@ -37,6 +41,10 @@ pub struct Overview {
 /// A surveyor: it looks over a trace for a schedule, or for operations by which it has none. Nothing is promised but that the call returns:
 /// what it finds may be wrong.
 pub trait Surveyor {
+    /// Whether it may find this in a trace: anything, unless it says otherwise. Clauses say by it that a finding is one of this surveyor.
+    ghost finds: { Self → TraceValue → Answer → Type 0 } = { λ _ _ _. Unit {0} };
+
     /// The finding.
-    fn survey(&self, alloc: Global, trace: &Trace) -> Result<Overview, AllocError>;
+    fn survey(&self, alloc: Global, trace: &Trace) -> Result<Overview, AllocError>
+        ensures { IfOk result (λ overview. finds self.now trace.now overview) };
 }

@@ -1,8 +1,8 @@
 //! Answers for leaves, made by a test and not by a search, and what is expected of a verdict.
 
 use crate::texts::{derivation_of, literals_of};
-use cube_jobs::{Job, MAX_LITERALS, Outcome, Settled};
-use dimacs::{Assignment, Clause, Lit};
+use cube_jobs::{Job, Outcome, Settled};
+use dimacs::{Assignment, Clause, Lit, MAX_CUBE_LITERALS};
 use lrat_check::derivation::{Derivation, Step};
 use lrat_check::hints::Hints;
 use lrat_check::lrat_number::MAX_ID;
@@ -60,7 +60,7 @@ fn outcome_of(rt: &impl Abort, alloc: Global, says: Says) -> Result<Outcome, All
 
 /// The job of a leaf with this cube.
 fn job_of(rt: &impl Abort, alloc: Global, leaf: u32, literals: &[Lit]) -> Job {
-    if literals.len() > MAX_LITERALS {
+    if literals.len() > MAX_CUBE_LITERALS {
         panic!(rt; "a cube has no more than 20 literals");
     }
     Job::new(alloc, leaf, literals)

@@ -3,19 +3,18 @@
 use crate::expectations::{ample, expect};
 use crate::large_trees::{crowded_text, deep_text, full_text};
 use crate::texts::{are_literals, is_text, tree_of};
-use cube_tree::{Cube, SplitCause, cubes, split_leaf};
+use cube_tree::{SplitCause, cubes, split_leaf};
+use dimacs::Cube;
 use std::alloc::Global;
 use std::process::Abort;
 use text_lines::fault::PlacedFault;
 
-/// Asserts that the cube of this leaf has these literals, on no other variables than 3 and 4.
+/// Asserts that the cube of this leaf has these literals.
 fn assert_cube(rt: &impl Abort, alloc: Global, cubes: &[Cube], leaf: usize, numbers: &[i32]) {
     match cubes.get(leaf) {
         Some(cube) => {
             let is_right = ample(rt, are_literals(alloc, cube.as_slice(), numbers));
             expect(rt, is_right, leaf);
-            expect(rt, cube.has_variable(4) == (leaf < 2), leaf);
-            expect(rt, !cube.has_variable(5), leaf);
         }
         None => panic!(rt; "there is no leaf {leaf}"),
     }

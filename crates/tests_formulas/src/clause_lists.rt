@@ -30,8 +30,8 @@ impl ClauseList for PlainList {
         ListedClause::lent(&self.formula.clauses()[place])
     }
 
-    fn is_formula(&self) {
-        self.formula.is_formula();
+    fn recall_invariant(&self) {
+        self.formula.recall_invariant();
     }
 }
 
@@ -46,7 +46,7 @@ fn first_false<F: ClauseList>(rt: &impl Abort, alloc: Global, list: &F, values: 
 
 /// Asserts what a list of the two clauses of the hand-off answers.
 fn assert_answers<F: ClauseList>(rt: &impl Abort, alloc: Global, list: &F) {
-    list.is_formula();
+    list.recall_invariant();
     assert!(rt; list.variables() == 2 && list.count() == 2);
     assert!(rt; first_false(rt, alloc, list, &[true, true]) == 0);
     assert!(rt; first_false(rt, alloc, list, &[false, true]) == 2);

@@ -2,7 +2,8 @@
 
 use crate::expectations::{ample, expect};
 use dimacs::{
-    Assignment, Clause, Formula, Lit, MAX_VARIABLE, ShortSink, SinkFault, are_literals, write_cnf,
+    Assignment, Clause, Formula, Lit, MAX_VARIABLE, ShortSink, SinkFault, recall_literals,
+    write_cnf,
 };
 use std::alloc::Global;
 use std::process::Abort;
@@ -81,7 +82,7 @@ fn writes_formulas(rt: HostRuntime) {
 #[test]
 fn gives_its_parts_back(rt: HostRuntime) {
     let formula = formula_of(&rt, rt.alloc(), 2, &[&[2], &[-2, 1]]);
-    formula.is_formula();
+    formula.recall_invariant();
     let clauses = formula.into_clauses();
     assert!(rt; clauses.len() == 2);
     assert!(rt; Formula::fits(MAX_VARIABLE, clauses.as_slice()));
@@ -125,7 +126,7 @@ fn keeps_literals_in_clauses(rt: HostRuntime) {
     let alloc = rt.alloc();
     let [first, second] = [Lit::positive(7), Lit::positive(9).negated()];
     let last = Lit::positive(MAX_VARIABLE).negated();
-    are_literals(&[first, second, last]);
+    recall_literals(&[first, second, last]);
     assert!(rt; is_of(Clause::unit(alloc, first), &[first]));
     assert!(rt; is_of(Clause::binary(alloc, first, second), &[first, second]));
     let clause = Clause::ternary(alloc, first, second, last);

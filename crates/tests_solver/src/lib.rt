@@ -37,6 +37,8 @@ mod reads;
 #[cfg(test)]
 mod refused_memory;
 #[cfg(test)]
+mod shared_derivations;
+#[cfg(test)]
 mod small_formulas;
 #[cfg(test)]
 mod traced;

@@ -2,7 +2,7 @@
 
 use crate::expectations::{ample, expect};
 use crate::lying_surveyors::{Liar, Lie};
-use crate::traces::{HAND_OFF, STORE_BUFFERING, after_many_writes, counted_lock, with_many_writes};
+use crate::traces::{HAND_OFF, after_many_writes, counted_lock, with_many_writes};
 use cube_jobs::{OpenGate, Options};
 use dimacs::MemorySink;
 use std::alloc::Global;
@@ -86,19 +86,21 @@ fn certifies_the_part_of_a_core(rt: HostRuntime) {
     );
 }
 
-// A search of the whole trace has no core, and its certificate is one for the whole.
+const BACK: &str = "vsc 1\nproc P\nW x 1\nW x 2\nbefore P 2 P 1\n";
+
+// A pair that goes back in one process is in no part, so there is no core, and the certificate is one for the whole.
 #[test]
 fn certifies_the_whole_without_a_core(rt: HostRuntime) {
     let liar = Liar {
         lie: Lie::Core(1, 2),
     };
-    let found = texts_of(rt.alloc(), &rt, STORE_BUFFERING, &liar, Status::No, 14);
+    let found = texts_of(rt.alloc(), &rt, BACK, &liar, Status::No, 14);
     expect(&rt, found.names.as_slice().is_empty(), 14);
     expect(&rt, found.part.as_slice().is_empty(), 14);
     assert_accepts(
         rt.alloc(),
         &rt,
-        STORE_BUFFERING.as_bytes(),
+        BACK.as_bytes(),
         found.certificate.as_slice(),
         15,
     );

@@ -6,6 +6,8 @@ mod certified_surveys;
 #[cfg(test)]
 mod expectations;
 #[cfg(test)]
+mod failing_devices;
+#[cfg(test)]
 mod lying_surveyors;
 #[cfg(test)]
 mod refused_memory;

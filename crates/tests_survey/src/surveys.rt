@@ -53,7 +53,7 @@ fn decides_whatever_a_surveyor_says(rt: HostRuntime) {
     ];
     for lie in lies {
         let liar = Liar { lie };
-        let report = b"INCONSISTENT cubes=1\n";
+        let report = b"INCONSISTENT operations=4 cubes=1\nP.1\nP.2\nQ.1\nQ.2\n";
         assert_reports(
             rt.alloc(),
             &rt,

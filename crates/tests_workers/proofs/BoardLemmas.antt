@@ -1,7 +1,7 @@
 -- The seats of a board with two workers.
 use Rattle.std.proofs.Common.{◌≡◌, ℕ, zero, suc, ◌+◌, ◌<◌, List, [], ◌∷◌, ◌++◌, length, slice_index_or, None, Some, ◌∙◌, ap, subst, length-append, arith}
 use Rattle.std.specs.List.{All, slice_get}
-use Rattle.job_board.specs.Hands.{ticket_in}
+use Rattle.job_board.specs.InFlight.{ticket_in}
 use Rattle.job_board.specs.Seats.{IsWorkerAt, AreWorkersAt, IsIdle}
 use Rattle.job_board.specs.declared.board.Board.{Board}
 use Rattle.job_board.specs.declared.seats.WorkerSeat.{WorkerSeat}

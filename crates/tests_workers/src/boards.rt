@@ -1,7 +1,7 @@
 //! What no clause says: that jobs are put, taken, settled and gathered with ample memory, on one thread and on two.
 ghost use Rattle.std.specs.Prelude.{◌≡◌, ◌<◌, ◌+◌, None, Some, IfOk};
 ghost use Rattle.std.specs.List.{All};
-ghost use Rattle.job_board.specs.Hands.{ticket_in};
+ghost use Rattle.job_board.specs.InFlight.{ticket_in};
 ghost use Rattle.job_board.specs.Seats.{put_by, IsDealerAt, IsWorkerAt, IsCollectorAt, AreWorkersAt};
 
 use cube_jobs::{Job, Outcome, Settled};

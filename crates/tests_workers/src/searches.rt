@@ -25,6 +25,9 @@ const ALL_RULED_OUT: &str =
 const EIGHT_LEAVES: &[u8] =
     b"split 1\nsplit 2\nsplit 3\nleaf\nleaf\nsplit 3\nleaf\nleaf\nsplit 2\nsplit 3\nleaf\nleaf\nsplit 3\nleaf\nleaf\n";
 
+/// A leaf for each truth value of the first variable.
+const TWO_LEAVES: &[u8] = b"split 1\nleaf\nleaf\n";
+
 /// The number of looks that a held worker takes before it gives up.
 const MAX_LOOKS: u32 = 1_000_000;
 
@@ -206,6 +209,32 @@ fn is_model_of_leaf_2(verdict: &Verdict) -> bool {
     }
 }
 
+/// Returns whether the results are a model in leaf 0 and that leaf 1 was skipped, in either order.
+fn is_second_skipped(results: &[Settled]) -> bool {
+    let mut first = false;
+    let mut second = false;
+    for settled in results {
+        match settled.outcome() {
+            Outcome::Model(truth) => {
+                first = settled.ticket() == 0 && has_values(truth, true, false, true);
+            }
+            Outcome::Skipped => second = settled.ticket() == 1,
+            Outcome::Refuted(_) => return false,
+            Outcome::Open => return false,
+        }
+    }
+    results.len() == 2 && first && second
+}
+
+/// Returns whether the verdict is the model of leaf 0.
+fn is_model_of_leaf_0(verdict: &Verdict) -> bool {
+    match verdict {
+        Verdict::Consistent(leaf, truth) => *leaf == 0 && has_values(truth, true, false, true),
+        Verdict::Inconsistent(_) => false,
+        Verdict::Unknown(_) => false,
+    }
+}
+
 /// Returns whether the results are those of the eight leaves, and each leaf is refuted.
 fn are_all_refuted(results: &[Settled]) -> bool {
     for settled in results {
@@ -295,4 +324,19 @@ fn two_hundred_searches_lose_nothing(rt: HostRuntime) {
         assert_refutes_all(alloc, &rt, &tree, 8, &OpenGate);
         assert_finds_leaf_2(alloc, &rt, &tree, 8, &OpenGate, 8, 8);
     }
+}
+
+// The tree has a split on the first variable: the model 1, -2, 3 is in leaf 0, and -1, 2, -3 in leaf 1. The search of leaf 1 is held until
+// leaf 0 is settled.
+#[test]
+fn skips_the_second_of_two_leaves_after_a_model_in_the_first(rt: HostRuntime) {
+    let alloc = rt.alloc();
+    let tree = tree_of(&rt, alloc, TWO_LEAVES);
+    let formula = formula_of(&rt, alloc, WRITTEN_AGAIN);
+    let gate = SearchGate::new(1, 1, 0);
+    let results = results_of(alloc, &rt, &formula, &tree, 2, &gate);
+    assert!(&rt; !gate.gave_up.load(Ordering::SeqCst));
+    assert!(&rt; is_second_skipped(results.as_slice()));
+    let verdict = verdict_of(alloc, &rt, &formula, &tree, results);
+    assert!(&rt; is_model_of_leaf_0(&verdict));
 }

@@ -45,10 +45,7 @@ pub faultless_nil : {A F : Type 0} (fault : List A → A → Option F) → IsFau
 faultless_nil fault [] y a e = absurd (cc)
 faultless_nil fault (z ∷ b) y a e = absurd (cc)
 
--- a prefix of a list without faults has none
-pub faultless_front : {A F : Type 0} (fault : List A → A → Option F) (done rest : List A) → IsFaultless fault (done ++ rest) → IsFaultless fault done
-faultless_front fault done rest ok b y a e = ok b y (a ++ rest) (ap (λ l. l ++ rest) e ∙ append_assoc b (y ∷ a) rest)
-
+-- no fault, or a first one
 abbrev pub IsEither : {A F : Type 0} → (List A → A → Option F) → List A → Type 0
 IsEither {A} {F} fault items = IsFaultless fault items ⊎ ((place : ℕ) × (found : F) × IsFirstFault fault items place found)
 

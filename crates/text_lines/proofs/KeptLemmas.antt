@@ -1,13 +1,10 @@
--- Lines that are kept, line by line, for any test of the lines that are passed over.
+-- Lines that are kept, line by line, for any test of the lines that are skipped.
 use Rattle.std.proofs.Common.{◌≡◌, ℕ, List, ◌∷◌, ◌++◌, map, Bool, true, false, cond, not, ap, ◌∙◌}
 use Rattle.std.specs.List.{filter}
 use Rattle.std.proofs.lemmas.List.{map-append}
 use Rattle.std.proofs.lemmas.List.Elements.{filter-append}
+use Rattle.text_lines.specs.Kept.{kept_by}
 use Rattle.text_lines.specs.Words.{words_of}
-
--- the words of the lines that are not passed over
-abbrev kept_by : (List (List ℕ) → Bool) → List (List ℕ) → List (List (List ℕ))
-kept_by skips lines = filter (λ words. not (skips words)) (map words_of lines)
 
 pub kept_append : (skips : List (List ℕ) → Bool) (a b : List (List ℕ)) → kept_by skips (a ++ b) ≡ kept_by skips a ++ kept_by skips b
 kept_append skips a b = ap (filter (λ words. not (skips words))) (map-append words_of a b) ∙ filter-append (λ words. not (skips words)) (map words_of a) (map words_of b)

@@ -18,16 +18,3 @@ one_more_word most line rest after word words so_far l e = record {
       ∙ ap (λ t. words ++ t) (sym (ap (take (most - length words)) e ∙ take_suc (most - length words) (most - length (words ++ word ∷ [])) word (words_of after) (omega (arith, length-append words (word ∷ []), l))))
       ∙ so_far.parts;
 }
-
-pub enough_words : (most : ℕ) (line rest : List ℕ) (words : List (List ℕ)) → AreFirstWords most line words rest → most ≤ length words → words ≡ take most (words_of line)
-enough_words most line rest words so_far l =
-    let none : most - length words ≡ 0 = omega (arith, l) in
-    sym (append-nil words) ∙ ap (λ k. words ++ take k (words_of rest)) (sym none) ∙ so_far.parts
-
-take_nil : (n : ℕ) → take {A = List ℕ} n [] ≡ []
-take_nil zero = refl
-take_nil (suc n) = refl
-
-pub no_more_words : (most : ℕ) (line rest : List ℕ) (words : List (List ℕ)) → AreFirstWords most line words rest → words_of rest ≡ [] → words ≡ take most (words_of line)
-no_more_words most line rest words so_far e =
-    sym (append-nil words) ∙ ap (λ t. words ++ t) (sym (take_nil (most - length words))) ∙ ap (λ ws. words ++ take (most - length words) ws) (sym e) ∙ so_far.parts

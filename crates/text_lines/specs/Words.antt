@@ -12,7 +12,3 @@ is_empty xs = length xs == 0
 -- the longest runs of bytes that are no blanks, in order
 abbrev pub words_of : List ℕ → List (List ℕ)
 words_of line = filter (λ word. not (is_empty word)) (slice_split is_blank line)
-
--- a line without words
-abbrev pub is_blank_line : List ℕ → Bool
-is_blank_line line = is_empty (words_of line)

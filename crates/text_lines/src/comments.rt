@@ -1,9 +1,12 @@
 //! Lines that say nothing: those without words, and comments.
 
 ghost use Rattle.std.specs.Prelude.{◌≡◌, ◌==◌, map, slice_index};
-ghost use Rattle.text_lines.specs.Kept.{is_skipped};
+ghost use Rattle.text_lines.specs.Kept.{is_skipped, is_dimacs_skipped};
+ghost use Rattle.text_lines.specs.Words.{words_of};
 
-/// Whether the line is skipped: it has no words, or is a comment.
+use crate::words::cut_word;
+
+/// Whether the line of these words is skipped: it has no words, or is a comment.
 pub fn is_skipped_line(words: &[&[u8]]) -> bool
     ensures { result ≡ is_skipped (map (λ word. word.now) words.now) }
 {
@@ -22,4 +25,14 @@ pub fn begins_dimacs_comment(word: &[u8]) -> bool
     ensures { result ≡ (slice_index word.now 0 == 99) }
 {
     !word.is_empty() && word[0] == b'c'
+}
+
+/// Whether the line is skipped in texts of DIMACS or LRAT: it has no words, or is a comment.
+pub fn is_dimacs_skipped_line(line: &[u8]) -> bool
+    ensures { result ≡ is_dimacs_skipped (words_of line.now) }
+{
+    match cut_word(line) {
+        None => true,
+        Some((word, _)) => begins_dimacs_comment(word),
+    }
 }

@@ -1,4 +1,7 @@
 //! Laws of the first fault of a list.
+//!
+//! A law's body is empty, or calls other laws: what it says is proved in the folder of its name in `proofs/first_fault`, or needs no
+//! answer. Who calls it has what it says in proofs; the call does nothing when run.
 
 ghost use Rattle.std.specs.Prelude.{◌≡◌, ℕ, List, Option, ◌⊎◌};
 ghost use Rattle.text_lines.specs.FirstFault.{IsFaultless, IsFirstFault};

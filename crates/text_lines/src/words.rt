@@ -75,7 +75,8 @@ pub fn first_words(alloc: Global, line: &[u8], most: usize) -> Result<Vec<&[u8]>
     Ok(words)
 }
 
-/// Bytes without a blank, after which one stands, are the first word; and bytes without a blank are one word.
+/// Bytes without a blank, after which one stands, are the first word; and bytes without a blank are one word. A law, proved in
+/// `proofs/words/ended_word_is_first`.
 pub fn ended_word_is_first()
     ensures ended { (word : List ℕ) (blank : ℕ) (rest : List ℕ) → 0 < length word → list_any is_blank word ≡ false → is_blank blank ≡ true →
         words_of (word ++ blank ∷ rest) ≡ word ∷ words_of rest }

@@ -4,8 +4,7 @@ use Rattle.std.specs.List.{AllZip, Contains, flat_map, slice_get}
 use Rattle.dimacs.specs.Assignment.{makes_all}
 use Rattle.dimacs.specs.CnfText.{clause_line}
 use Rattle.dimacs.specs.Models.{IsModel}
-use Rattle.trace_semantics.specs.declared.operation.OpName.{OpName}
-use Rattle.trace_semantics.specs.Legal.{IsLegal}
+use Rattle.trace_semantics.specs.Legal.{IsLegal, HasNoSchedule}
 use Rattle.trace_semantics.specs.Trace.{TraceValue}
 use Rattle.schedule_text.specs.ScheduleWritten.{canonical_schedule}
 use Rattle.reducer.specs.Reduction.{kept_trace}
@@ -60,7 +59,7 @@ pub record AreLeftOpen (t : TraceValue) (options : OptionsValue) (cubes : List (
 -- them.
 abbrev pub IsDecided : OptionsValue → TraceValue → Decision → Type 0
 IsDecided options value (Consistent names) = IsLegal value names
-IsDecided options value (Inconsistent refutation) = IsRefutation (clauses_of (kept_trace value)) refutation × ((names : List OpName) → IsLegal value names → ⊥)
+IsDecided options value (Inconsistent refutation) = IsRefutation (clauses_of (kept_trace value)) refutation × HasNoSchedule value
 IsDecided options value (Unknown cubes) = HoldModels (clauses_of (kept_trace value)) cubes × AreLeftOpen (kept_trace value) options cubes
 
 -- where nothing is decided, the cubes are those that this verdict leaves open

@@ -1,13 +1,13 @@
 //! Lists of cubes.
 ghost use Rattle.std.specs.Prelude.{◌≡◌};
 
-use cube_jobs::JobCube;
+use dimacs::Cube;
 use std::marker::Model;
 
 /// A list of cubes.
 #[derive(Drop)]
 pub struct Cubes {
-    cubes: Vec<JobCube>,
+    cubes: Vec<Cube>,
 }
 
 impl Model for Cubes {
@@ -20,14 +20,14 @@ impl Model for Cubes {
 
 impl Cubes {
     /// The list of these cubes.
-    pub fn new(cubes: Vec<JobCube>) -> Cubes
+    pub fn new(cubes: Vec<Cube>) -> Cubes
         ensures { result ≡ cubes.items }
     {
         Cubes { cubes }
     }
 
     /// The cubes, in order.
-    pub fn as_slice(&self) -> &[JobCube]
+    pub fn as_slice(&self) -> &[Cube]
         ensures { result.now ≡ self.now }
     {
         self.cubes.as_slice()

@@ -16,8 +16,8 @@ use crate::guide::{guide_to_order, reads_from_table};
 use crate::refutation::Refutation;
 use crate::rounds::search_in_rounds;
 use clause_blocks::trace_clauses::TraceClauses;
-use cube_jobs::{Gate, JobCube, Options, SearchFault};
-use dimacs::{Assignment, ClauseList};
+use cube_jobs::{Gate, Options, SearchFault};
+use dimacs::{Assignment, ClauseList, Cube};
 use reducer::expand::expand;
 use reducer::reduced::Reduced;
 use result_ledger::{Ledger, Verdict, inconsistent_has_no_model, unknown_holds_all_models};
@@ -50,7 +50,7 @@ fn cubes_of_leaves(alloc: Global, ledger: &Ledger, leaves: &[u32]) -> Result<Cub
 {
     let mut cubes = Vec::with_capacity(alloc, leaves.len())?;
     for leaf in leaves {
-        cubes.push(JobCube::of(alloc, ledger.cube(*leaf)))?;
+        cubes.push(Cube::of(alloc, ledger.cube(*leaf)))?;
     }
     Ok(Cubes::new(cubes))
 }
@@ -70,14 +70,14 @@ fn decision_of(
     ensures named { IfOk result (λ decision. NamesOpen decided decision) }
 {
     let _kept = reduced.kept();
-    clauses.is_formula();
+    clauses.recall_invariant();
     let Decided {
         tree,
         ledger,
         verdict,
     } = decided;
-    tree.covers();
-    ledger.has_clauses();
+    tree.recall_cover();
+    ledger.recall_clauses();
     inconsistent_has_no_model();
     unknown_holds_all_models();
     match &verdict {
@@ -109,7 +109,11 @@ pub fn decide<R: Threads + Wait + Sync, G: Gate + Sync>(
     let clauses = TraceClauses::of(alloc, reduced)?;
     let reads_from = reads_from_table(alloc, &clauses)?;
     let encoding = guide_to_order(&clauses).with_reads_from(&reads_from);
-    let prepared = PreparedFormula::of(alloc, &clauses, encoding)?;
+    let mut prepared = PreparedFormula::of(alloc, &clauses, encoding)?;
+    let splits = clauses
+        .layout()
+        .first_splits(alloc, options.split() as usize)?;
+    prepared.count_whole(alloc, splits.len(), options.budget())?;
     let decided = search_in_rounds(alloc, rt, &clauses, &prepared, options, gate)?;
     Ok(decision_of(alloc, reduced, &clauses, options, decided)?)
 }

@@ -1,4 +1,8 @@
 //! Laws of what is decided.
+//!
+//! A law's body is empty, or calls other laws: what it says is proved in the folder of its name in `proofs/laws`, or needs no
+//! answer. Who calls it has what it says in proofs; the call does nothing when run.
+
 ghost use Rattle.certificate.specs.CertText.{SpellsCertificate};
 ghost use Rattle.certificate.specs.Rechecked.{IsRechecked};
 ghost use Rattle.clause_blocks.specs.Clauses.{clauses_of};

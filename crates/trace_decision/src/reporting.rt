@@ -7,8 +7,7 @@ ghost use Rattle.trace_decision.specs.declared.decision.Decision.TheVariants.{Co
 
 use crate::decision::Decision;
 use crate::refutation::Refutation;
-use cube_jobs::JobCube;
-use dimacs::Lit;
+use dimacs::{Cube, Lit};
 use schedule_text::schedule_writer::write_schedule;
 use std::alloc::{AllocError, Global};
 use trace_semantics::schedule::Schedule;
@@ -34,7 +33,7 @@ fn push_open_line(alloc: Global, text: &mut Vec<u8>, cube: &[Lit]) -> Result<(),
 }
 
 /// Puts the lines of open cubes at the end of the text.
-fn push_open_lines(alloc: Global, text: &mut Vec<u8>, cubes: &[JobCube]) -> Result<(), AllocError>
+fn push_open_lines(alloc: Global, text: &mut Vec<u8>, cubes: &[Cube]) -> Result<(), AllocError>
     ensures { OnOk result (text.new.items ≡ text.old.items ++ flat_map open_line cubes.now) }
 {
     for cube in cubes {
@@ -76,7 +75,7 @@ fn counting_line(alloc: Global, count: usize) -> Result<Vec<u8>, AllocError>
 }
 
 /// The report of open cubes.
-fn unknown_report(alloc: Global, cubes: &[JobCube]) -> Result<Vec<u8>, AllocError>
+fn unknown_report(alloc: Global, cubes: &[Cube]) -> Result<Vec<u8>, AllocError>
     ensures { IfOk result (λ text. text.items ≡ report (Unknown cubes.now)) }
 {
     let mut text = counting_line(alloc, cubes.len())?;

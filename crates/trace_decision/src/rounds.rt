@@ -10,9 +10,10 @@ ghost use Rattle.trace_decision.specs.Rounds.{AreOfUnanswered, HaveEnded, IsConf
 use crate::decided::{Decided, Next};
 use crate::splitting::split_all;
 use clause_blocks::trace_clauses::TraceClauses;
-use cube_jobs::{Gate, MAX_LITERALS, Options, SearchFault, Settled};
+use cube_jobs::{Gate, Options, SearchFault, Settled};
 use cube_queue::search;
 use cube_tree::{Tree, grow};
+use dimacs::MAX_CUBE_LITERALS;
 use result_ledger::{Ledger, Verdict, enter_all};
 use solver::PreparedFormula;
 use std::alloc::{AllocError, Global};
@@ -141,7 +142,7 @@ fn search_again<R: Threads + Wait + Sync, G: Gate + Sync>(
 fn split_variables(alloc: Global, clauses: &TraceClauses) -> Result<Vec<u32>, AllocError>
     ensures { IfOk result (λ variables. variables.items ≡ variables_of clauses.now) }
 {
-    clauses.layout().first_splits(alloc, MAX_LITERALS)
+    clauses.layout().first_splits(alloc, MAX_CUBE_LITERALS)
 }
 
 /// Searches in rounds, at most as many as the options say.

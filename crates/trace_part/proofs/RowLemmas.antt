@@ -27,7 +27,8 @@ use Rattle.trace_part.specs.declared.writers.ChosenWriter.{ChosenWriter}
 use Rattle.restriction.specs.Left.{is_left, names_of}
 use Rattle.part_law.specs.Part.{writes_at, writers_of, may_be_source, sources, may_be_last, last_writers, stays_of, stays, stays_final}
 use Rattle.forced_order.specs.Rows.{OrderValue, stands_by, numbered, ordered_by}
-use Rattle.trace_part.specs.Rows.{LeftValue, left_value, row_of, left_there, row_in, rows_in, rows_of, is_same, row_is_source, row_is_last}
+use Rattle.restriction.specs.Restriction.{left_by}
+use Rattle.trace_part.specs.Rows.{LeftValue, left_value, row_of, row_in, rows_in, rows_of, is_same, row_is_source, row_is_last}
 use Rattle.restriction.proofs.LeftLemmas.{process_of}
 use Rattle.restriction.proofs.OrderedPairLemmas.{above_first, behind_first, order_here, order_there}
 use Rattle.restriction.proofs.PlaceLemmas.{one_more_name, place_more}
@@ -61,8 +62,8 @@ order_is (p ∷ ps) apart (suc k) d l =
 
 -- the rows of a process are those of its names
 module _ (t : TraceValue) (chosen : OpName → Bool) (location : List ℕ) (p : Process) (number : ℕ) (order : order_of t.processes p.name ≡ number) (found : process_named t p.name ≡ Some p) where
-  value_there : (n : OpName) → n.process ≡ p.name → value_left_at t location n ≡ option_and_then (left_there location) (at_place p.operations n.place)
-  value_there n e = ap (λ o. option_and_then (left_there location) (option_and_then (λ (q : Process). at_place q.operations n.place) o)) (ap (process_named t) e ∙ found)
+  value_there : (n : OpName) → n.process ≡ p.name → value_left_at t location n ≡ option_and_then (left_by location) (at_place p.operations n.place)
+  value_there n e = ap (λ o. option_and_then (left_by location) (option_and_then (λ (q : Process). at_place q.operations n.place) o)) (ap (process_named t) e ∙ found)
 
   row_step : (n : OpName) (names : List OpName) (v : Option ℕ) → n.process ≡ p.name → value_left_at t location n ≡ v → filter_map (row_in p number chosen location) names ≡ map (row_of t chosen location) (filter (writes_at t location) names) →
       cons_option (option_map (λ (d : ℕ). record { name = record { process = number; place = n.place }; value = Some d; chosen = chosen n }) v) (filter_map (row_in p number chosen location) names) ≡ map (row_of t chosen location) (cond (is_some v) (n ∷ filter (writes_at t location) names) (filter (writes_at t location) names))
@@ -76,7 +77,7 @@ module _ (t : TraceValue) (chosen : OpName → Bool) (location : List ℕ) (p : 
   rows_are (n ∷ names) h =
       let e = h n (head_in n names) in
       let v = value_there n e in
-      row_step n names (option_and_then (left_there location) (at_place p.operations n.place)) e v (rows_are names (λ m c. h m (tail_in n names m c)))
+      row_step n names (option_and_then (left_by location) (at_place p.operations n.place)) e v (rows_are names (λ m c. h m (tail_in n names m c)))
       ∙ ap (λ o. map (row_of t chosen location) (cond (is_some o) (n ∷ filter (writes_at t location) names) (filter (writes_at t location) names))) (sym v)
 
   pub rows_of_process : rows_in p number chosen location ≡ map (row_of t chosen location) (filter (writes_at t location) (names_of p))

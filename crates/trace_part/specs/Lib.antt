@@ -1,5 +1,4 @@
 pub mod Choice
-pub mod Chosen
 pub mod Latest
 pub mod PartCauses
 pub mod Rows

@@ -14,6 +14,7 @@ use Rattle.forced_order.specs.declared.numbered.OperationNumber.{OperationNumber
 use Rattle.trace_part.specs.declared.left_names.LeftName.{LeftName}
 use Rattle.trace_part.specs.declared.writers.ChosenWriter.{ChosenWriter}
 use Rattle.restriction.specs.Left.{is_left, new_name, names_of}
+use Rattle.restriction.specs.Restriction.{left_by}
 use Rattle.forced_order.specs.Rows.{OrderValue, stands_by, numbered}
 use Rattle.part_law.specs.Part.{writers_of}
 
@@ -21,13 +22,9 @@ use Rattle.part_law.specs.Part.{writers_of}
 abbrev pub row_of : TraceValue → (OpName → Bool) → List ℕ → OpName → ChosenWriter
 row_of t chosen location n = record { name = numbered t.processes n; value = value_left_at t location n; chosen = chosen n }
 
--- what the operation leaves at the location, if it writes there
-abbrev pub left_there : List ℕ → Op → Option ℕ
-left_there location op = if bytes_eq (location_of op) location then written_value op else None
-
 -- the operation at a place of a process as a row, if it writes the location
 abbrev pub row_in : Process → ℕ → (OpName → Bool) → List ℕ → OpName → Option ChosenWriter
-row_in p number chosen location n = option_map (λ d. record { name = record { process = number; place = n.place }; value = Some d; chosen = chosen n }) (option_and_then (left_there location) (at_place p.operations n.place))
+row_in p number chosen location n = option_map (λ d. record { name = record { process = number; place = n.place }; value = Some d; chosen = chosen n }) (option_and_then (left_by location) (at_place p.operations n.place))
 
 abbrev pub rows_in : Process → ℕ → (OpName → Bool) → List ℕ → List ChosenWriter
 rows_in p number chosen location = filter_map (row_in p number chosen location) (names_of p)

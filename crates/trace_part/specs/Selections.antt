@@ -6,7 +6,7 @@ use Rattle.forced_order.specs.Order.{IsClosedForward}
 use Rattle.forced_order.specs.Rows.{ordered_by}
 use Rattle.part_law.specs.Part.{stays}
 use Rattle.trace_part.specs.declared.selection.Selection.{Selection}
-use Rattle.trace_part.specs.Chosen.{has}
+use Rattle.trace_semantics.specs.OpSet.{has}
 use Rattle.trace_part.specs.Latest.{IsForwardAmong}
 use Rattle.trace_part.specs.Rows.{rows_of}
 use Rattle.trace_part.specs.WriterTables.{IsTable}

@@ -7,13 +7,13 @@ ghost use Rattle.trace_semantics.specs.declared.operation.OpName.{OpName as Name
 ghost use Rattle.trace_semantics.specs.Judgement.{has_come};
 ghost use Rattle.trace_semantics.specs.Trace.{at_place, operation_at};
 ghost use Rattle.trace_part.specs.Choice.{fault_of_choice, IsChoice};
-ghost use Rattle.trace_part.specs.Chosen.{has};
+ghost use Rattle.trace_semantics.specs.OpSet.{has};
 
-use crate::chosen_ops::ChosenOps;
 use crate::part_fault::{PartCause, PartFault};
 use crate::staying::process_of;
 use std::alloc::Global;
 use text_lines::fault::PlacedFault;
+use trace_semantics::op_set::OpSet;
 use trace_semantics::operation::OpName;
 use trace_semantics::trace::{Process, Trace};
 
@@ -35,7 +35,7 @@ fn is_known(trace: &Trace, name: &OpName) -> bool
 }
 
 /// Returns the fault of a name after the names that the set has.
-fn fault_of_name(trace: &Trace, set: &ChosenOps, name: &OpName) -> Option<PartCause>
+fn fault_of_name(trace: &Trace, set: &OpSet, name: &OpName) -> Option<PartCause>
     ensures { (before : List Named) → ((n : Named) → has set.now n ≡ has_come before n) → result ≡ fault_of_choice trace.now before name.now }
 {
     if !is_known(trace, name) {
@@ -52,12 +52,12 @@ pub fn chosen_ops<'a>(
     alloc: Global,
     trace: &Trace,
     names: &'a [OpName],
-) -> Result<ChosenOps<'a>, PartFault>
+) -> Result<OpSet<'a>, PartFault>
     ensures chosen { IfOk result (λ set. (n : Named) → has set n ≡ has_come names.now n) }
     ensures choice { IfOk result (λ set. IsChoice trace.now names.now) }
     ensures refused { IfErr result (IsRefusal (λ cause place. IsFirstFault (fault_of_choice trace.now) names.now place cause)) }
 {
-    let mut set = ChosenOps::new(alloc);
+    let mut set = OpSet::new(alloc);
     for k in 0..names.len() {
         if let Some(cause) = fault_of_name(trace, &set, &names[k]) {
             return Err(PlacedFault::At(cause, k + 1));

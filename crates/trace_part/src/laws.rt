@@ -1,9 +1,12 @@
 //! Laws of the parts that are made.
+//!
+//! A law's body is empty, or calls other laws: what it says is proved in the folder of its name in `proofs/laws`, or needs no
+//! answer. Who calls it has what it says in proofs; the call does nothing when run.
 
 ghost use Rattle.std.specs.Prelude.{◌≡◌, true, List, Some, IsSome};
 ghost use Rattle.trace_semantics.specs.declared.operation.OpName.{OpName};
 ghost use Rattle.trace_semantics.specs.Judgement.{has_come};
-ghost use Rattle.trace_semantics.specs.Legal.{IsLegal};
+ghost use Rattle.trace_semantics.specs.Legal.{HasNoSchedule};
 ghost use Rattle.trace_semantics.specs.Trace.{TraceValue, IsTrace, operation_at};
 ghost use Rattle.restriction.specs.Left.{is_left, new_name};
 ghost use Rattle.part_law.specs.Part.{stays};
@@ -11,7 +14,7 @@ ghost use Rattle.trace_part.specs.TraceParts.{PartValue, IsPart, whole_name};
 
 /// If a part of a trace has no legal schedule, the trace has none.
 pub fn unschedulable_where_its_part_is()
-    ensures { (t : TraceValue) (names : List OpName) (p : PartValue) → IsTrace t → IsPart t names p → ((s : List OpName) → IsLegal p.trace s → ⊥) → (s : List OpName) → IsLegal t s → ⊥ }
+    ensures { (t : TraceValue) (names : List OpName) (p : PartValue) → IsTrace t → IsPart t names p → HasNoSchedule p.trace → HasNoSchedule t }
 {}
 
 /// Each operation of a part is what remains of the chosen operation of the trace that its name in the whole names.

@@ -79,7 +79,7 @@ pub fn all_left<'a>(alloc: Global, selection: &Selection<'a>) -> Result<Vec<Left
     requires selection { IsSelection selection.now }
     ensures { IfOk result (λ all. AreLeft selection.now.trace.now (stays_in selection.now) all.items) }
 {
-    selection.trace.is_trace();
+    selection.trace.recall_invariant();
     let processes = selection.trace.processes();
     let mut all = Vec::new(alloc);
     for k in 0..processes.len() {

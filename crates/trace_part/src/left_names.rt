@@ -69,7 +69,7 @@ pub fn left_groups(alloc: Global, trace: &Trace, all: &[Left]) -> Result<Vec<Lef
     requires { length all.now ≡ length trace.now.processes }
     ensures { IfOk result (λ groups. (stays : Named → Option Old) → Leaves trace.now stays all.now → groups.items ≡ groups_of trace.now stays) }
 {
-    trace.is_trace();
+    trace.recall_invariant();
     let mut groups = Vec::new(alloc);
     for k in 0..all.len() {
         groups.push(names_in(alloc, &all[k], k as u16)?)?;

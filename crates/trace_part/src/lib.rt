@@ -4,7 +4,6 @@
 #![tactic(auto)]
 
 pub mod choice;
-pub mod chosen_ops;
 pub mod finals;
 pub mod laws;
 pub mod left;

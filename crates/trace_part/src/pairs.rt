@@ -174,7 +174,7 @@ pub fn pairs_left(
     requires left { (stays : Named → Option Old) × Leaves trace.now stays all.now }
     ensures { IfOk result (λ pairs. (stays : Named → Option Old) → Leaves trace.now stays all.now → pairs.items ≡ map (new_pair stays) (take 4096 (filter (is_told trace.now (ordered_by trace.now order.now) stays) (left_pairs trace.now stays)))) }
 {
-    trace.is_trace();
+    trace.recall_invariant();
     let groups = left_groups(alloc, trace, all)?;
     let told = told_pairs(alloc, order, groups.as_slice())?;
     let few = told.as_slice();

@@ -69,7 +69,7 @@ fn selected_part<'a>(alloc: Global, selection: &Selection<'a>) -> Result<TracePa
     ensures places { IfOk result (λ made. made.places ≡ map (left_places (stays_in selection.now)) selection.now.trace.now.processes) }
 {
     let trace = selection.trace;
-    trace.is_trace();
+    trace.recall_invariant();
     let left = all_left(alloc, selection)?;
     let processes = new_processes(alloc, trace, left.as_slice())?;
     let initial = initial_copied(alloc, trace)?;
@@ -92,7 +92,7 @@ pub fn part_by(
     ensures part { IfOk result (IsPart trace.now names.now) }
     ensures refused { IfErr result (IsRefusal (λ cause place. IsFirstFault (fault_of_choice trace.now) names.now place cause)) }
 {
-    trace.is_trace();
+    trace.recall_invariant();
     let set = chosen_ops(alloc, trace, names)?;
     let writers = writer_table(alloc, trace, &set)?;
     let selection = Selection {

@@ -14,18 +14,13 @@ use crate::left::Left;
 use std::alloc::{AllocError, Global};
 use trace_semantics::name::Name;
 use trace_semantics::operation::{Op, OpName, Origin};
+use trace_semantics::process_order::find_process;
 use trace_semantics::trace::{Operations, Process, Trace};
-
-fn place_of_process(processes: &[Process], name: &[u8]) -> Option<usize>
-    ensures { result ≡ position (λ (p : Listed). bytes_eq p.name name.now) processes.now }
-{
-    processes.iter().position(|p| p.name.as_bytes() == name)
-}
 
 fn left_at<'a>(processes: &[Process], all: &'a [Left], name: &[u8]) -> Option<&'a Left>
     ensures { option_copied result ≡ option_and_then (slice_get all.now) (position (λ (p : Listed). bytes_eq p.name name.now) processes.now) }
 {
-    match place_of_process(processes, name) {
+    match find_process(processes, name) {
         Some(k) => all.get(k),
         None => None,
     }

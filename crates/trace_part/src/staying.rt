@@ -7,17 +7,17 @@ ghost use Rattle.std.specs.Option.{option_copied, option_and_then};
 ghost use Rattle.trace_semantics.specs.declared.operation.OpName.{OpName as Named};
 ghost use Rattle.trace_semantics.specs.Operation.{written_value};
 ghost use Rattle.trace_semantics.specs.Trace.{at_place, process_named, operation_at};
-ghost use Rattle.trace_part.specs.Chosen.{has};
+ghost use Rattle.trace_semantics.specs.OpSet.{has};
 ghost use Rattle.part_law.specs.Part as part;
 ghost use Rattle.forced_order.specs.Rows.{numbered};
 ghost use Rattle.trace_part.specs.Selections.{IsSelection, ordered_in, chosen_in, stays_in};
 
-use crate::chosen_ops::ChosenOps;
 use crate::selection::Selection;
 use crate::sources::sources_chosen;
 use forced_order::numbered::OperationNumber;
 use std::alloc::{AllocError, Global};
 use trace_semantics::name::Name;
+use trace_semantics::op_set::OpSet;
 use trace_semantics::operation::{Op, OpName, Origin};
 use trace_semantics::trace::{Process, Trace};
 
@@ -46,14 +46,14 @@ fn is_writer(trace: &Trace, name: &OpName) -> bool
     }
 }
 
-fn is_chosen(set: &ChosenOps, name: &OpName) -> bool
+fn is_chosen(set: &OpSet, name: &OpName) -> bool
     ensures { result ≡ has set.now name.now }
 {
     set.contains(name.process.as_bytes(), name.place as usize)
 }
 
 /// Returns whether the operation of this name is chosen and writes.
-fn is_chosen_writer(trace: &Trace, set: &ChosenOps, name: &OpName) -> bool
+fn is_chosen_writer(trace: &Trace, set: &OpSet, name: &OpName) -> bool
     ensures { result ≡ (has set.now name.now && is_some (option_and_then written_value (operation_at trace.now name.now))) }
 {
     is_chosen(set, name) && is_writer(trace, name)
@@ -70,7 +70,7 @@ fn are_sources_selected<'a>(
     requires selection { IsSelection selection.now }
     ensures { IfOk result (λ all. (n : Named) → IsSome (operation_at selection.now.trace.now n) → numbered selection.now.trace.now.processes n ≡ reader → all ≡ list_all (chosen_in selection.now) (part.sources selection.now.trace.now (ordered_in selection.now) n location.now value)) }
 {
-    selection.trace.is_trace();
+    selection.trace.recall_invariant();
     let writers = selection.writers.writers_at(location);
     sources_chosen(alloc, &selection.order, writers, reader, value)
 }
@@ -232,7 +232,7 @@ pub fn stays_at<'a>(
     requires few { length process.now.operations ≤ 4096 }
     ensures { IfOk result (λ left. left ≡ stays_in selection.now (record { process = process.now.name; place = k + 1 })) }
 {
-    selection.trace.is_trace();
+    selection.trace.recall_invariant();
     if !selection.set.contains(process.name.as_bytes(), k + 1) {
         return Ok(None);
     }

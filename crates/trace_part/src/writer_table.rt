@@ -2,14 +2,14 @@
 
 ghost use Rattle.std.specs.Prelude.{◌≡◌, ◌||◌, ℕ, List, IfOk, OnOk};
 ghost use Rattle.std.specs.List.{list_any};
-ghost use Rattle.trace_part.specs.Chosen.{has};
+ghost use Rattle.trace_semantics.specs.OpSet.{has};
 ghost use Rattle.trace_part.specs.WriterTables.{IsSoundTable, IsTable, has_location, works_on};
 
-use crate::chosen_ops::ChosenOps;
 use crate::writers::{ChosenWriter, writers_of};
 use std::alloc::{AllocError, Global};
 use std::marker::Model;
 use trace_semantics::name_table::NameTable;
+use trace_semantics::op_set::OpSet;
 use trace_semantics::operation::Op;
 use trace_semantics::trace::{Process, Trace};
 
@@ -50,7 +50,7 @@ impl<'a> WriterTable<'a> {
     ghost use Rattle.std.specs.Str.{bytes_eq};
     ghost use Rattle.trace_semantics.specs.declared.operation.OpName.{OpName};
     ghost use Rattle.trace_semantics.specs.Trace.{TraceValue};
-    ghost use Rattle.trace_part.specs.Chosen.{has};
+    ghost use Rattle.trace_semantics.specs.OpSet.{has};
     ghost use Rattle.std.specs.List.{slice_get};
     ghost use Rattle.std.specs.Option.{option_copied, option_and_then};
     ghost use Rattle.trace_semantics.specs.NameNumbers.{number_of};
@@ -72,7 +72,7 @@ impl<'a> WriterTable<'a> {
         &mut self,
         alloc: Global,
         trace: &'a Trace,
-        set: &ChosenOps<'a>,
+        set: &OpSet<'a>,
         location: &'a [u8],
     ) -> Result<(), AllocError>
         requires sound { IsSoundTable trace.now (has set.now) self.old }
@@ -91,7 +91,7 @@ impl<'a> WriterTable<'a> {
         &mut self,
         alloc: Global,
         trace: &'a Trace,
-        set: &ChosenOps<'a>,
+        set: &OpSet<'a>,
         location: &'a [u8],
     ) -> Result<(), AllocError>
         requires sound { IsSoundTable trace.now (has set.now) self.old }
@@ -138,7 +138,7 @@ fn note_ops<'a>(
     alloc: Global,
     table: &mut WriterTable<'a>,
     trace: &'a Trace,
-    set: &ChosenOps<'a>,
+    set: &OpSet<'a>,
     ops: &'a [Op],
 ) -> Result<(), AllocError>
     requires sound { IsSoundTable trace.now (has set.now) table.old }
@@ -155,11 +155,11 @@ fn note_ops<'a>(
 pub fn writer_table<'a>(
     alloc: Global,
     trace: &'a Trace,
-    set: &ChosenOps<'a>,
+    set: &OpSet<'a>,
 ) -> Result<WriterTable<'a>, AllocError>
     ensures { IfOk result (IsTable trace.now (has set.now)) }
 {
-    trace.is_trace();
+    trace.recall_invariant();
     let processes = trace.processes();
     let mut table = WriterTable::new(alloc);
     for k in 0..processes.len() {

@@ -1,12 +1,13 @@
 //! The writers of a location by numbers.
 
 ghost use Rattle.std.specs.Prelude.{◌≡◌, ◌<◌, ◌≤◌, ◌+◌, ◌++◌, length, IfOk, OnOk};
-ghost use Rattle.trace_part.specs.Chosen.{has};
-ghost use Rattle.trace_part.specs.Rows.{left_there, row_in, rows_in, rows_of};
+ghost use Rattle.trace_semantics.specs.OpSet.{has};
+ghost use Rattle.restriction.specs.Restriction.{left_by};
+ghost use Rattle.trace_part.specs.Rows.{row_in, rows_in, rows_of};
 
-use crate::chosen_ops::ChosenOps;
 use forced_order::numbered::OperationNumber;
 use std::alloc::{AllocError, Global};
+use trace_semantics::op_set::OpSet;
 use trace_semantics::operation::Op;
 use trace_semantics::trace::{Process, Trace};
 
@@ -20,7 +21,7 @@ pub struct ChosenWriter {
 
 /// Returns what the operation leaves at the location, if it writes there.
 fn left_at(op: &Op, location: &[u8]) -> Option<u64>
-    ensures { result ≡ left_there location.now op.now }
+    ensures { result ≡ left_by location.now op.now }
 {
     if op.location().as_bytes() == location {
         op.written_value()
@@ -31,7 +32,7 @@ fn left_at(op: &Op, location: &[u8]) -> Option<u64>
 
 /// Returns the operation at a place as a row, if it writes the location.
 fn row_at<'a>(
-    set: &ChosenOps<'a>,
+    set: &OpSet<'a>,
     process: &'a Process,
     number: u16,
     k: usize,
@@ -57,7 +58,7 @@ fn row_at<'a>(
 /// Appends the rows of a process.
 fn push_rows<'a>(
     rows: &mut Vec<ChosenWriter>,
-    set: &ChosenOps<'a>,
+    set: &OpSet<'a>,
     process: &'a Process,
     number: u16,
     location: &[u8],
@@ -77,12 +78,12 @@ fn push_rows<'a>(
 pub fn writers_of<'a>(
     alloc: Global,
     trace: &'a Trace,
-    set: &ChosenOps<'a>,
+    set: &OpSet<'a>,
     location: &[u8],
 ) -> Result<Vec<ChosenWriter>, AllocError>
     ensures { IfOk result (λ rows. rows.items ≡ rows_of trace.now (has set.now) location.now) }
 {
-    trace.is_trace();
+    trace.recall_invariant();
     let processes = trace.processes();
     let mut rows = Vec::new(alloc);
     for k in 0..processes.len() {

@@ -25,3 +25,7 @@ pub record IsLegal (t : TraceValue) (names : List OpName) : Type 0 where
   pub interleaving : IsInterleaving t names
   pub reads : (before : List OpName) (n : OpName) (after : List OpName) (op : Op) → names ≡ before ++ n ∷ after → operation_at t n ≡ Some op → ReadsRight t before op
   pub finals : (location : List ℕ) (d : ℕ) → value_of t.final_values location ≡ Some d → value_after t location names ≡ Some d
+
+-- no list of names is a legal schedule of the trace
+abbrev pub HasNoSchedule : TraceValue → Type 0
+HasNoSchedule t = (names : List OpName) → IsLegal t names → ⊥

@@ -5,6 +5,7 @@ pub mod Legal
 pub mod Locations
 pub mod NameNumbers
 pub mod Names
+pub mod OpSet
 pub mod Operation
 pub mod PairOrder
 pub mod Place

@@ -11,6 +11,7 @@ pub mod limits;
 pub mod name;
 pub mod name_key;
 pub mod name_table;
+pub mod op_set;
 pub mod operation;
 pub mod place;
 pub mod process_order;

@@ -85,8 +85,8 @@ impl Trace {
         }
     }
 
-    /// It is a trace. This says what each trace keeps, and does nothing.
-    pub fn is_trace(&self)
+    /// Hands its caller, in proofs alone, what each trace keeps: that it is one. Does nothing when run.
+    pub fn recall_invariant(&self)
         ensures { IsTrace self.now }
     {
         let _ = &self.processes;

@@ -32,10 +32,6 @@ pub skipped_first : (words : List (List ℕ)) → is_skipped (take 8 words) ≡ 
 skipped_first [] = refl
 skipped_first (w ∷ ws) = refl
 
-pub skipped_of_three : (words : List (List ℕ)) → is_skipped (take 3 words) ≡ is_skipped words
-skipped_of_three [] = refl
-skipped_of_three (w ∷ ws) = refl
-
 -- the kept lines with one more
 kept_by : (b : Bool) (words : List (List ℕ)) → cond (not b) (words ∷ []) [] ≡ (if b then [] else words ∷ [])
 kept_by true words = refl
@@ -89,15 +85,6 @@ line_taken two before ss line new a s h t =
       };
       progress = t.progress;
     }
-
--- a skipped line
-pub line_skipped : (two : Bool) (before : List (List ℕ)) (ss : List Statement) (line : List ℕ) (reader : TraceReader) → AreSaid two before ss → IsProgress ss reader → is_skipped (words_of line) ≡ true → TakesLine two before line reader
-line_skipped two before ss line reader a p s = record {
-  faultless = ap (λ b. if b then None else if list_any is_high line then Some NotAscii else words_fault (kept before) (words_of line)) s;
-  ss = ss;
-  said = record { kept_lines = kept_more before line true s ∙ append-nil (kept before) ∙ a.kept_lines; said = a.said; faultless = a.faultless };
-  progress = p;
-}
 
 -- what is read so far, of which this is left
 pub record IsReadSoFar (text : List ℕ) (two : Bool) (next : ℕ) (rest : List ℕ) (reader : TraceReader) : Type 0 where
@@ -154,40 +141,9 @@ header_read text two next rest reader h p = record {
   room = h.room;
 }
 
--- all lines are read
-pub all_read : (text : List ℕ) (two : Bool) (next : ℕ) (rest : List ℕ) (reader : TraceReader) → IsReadSoFar text two next rest reader → lines_of rest ≡ [] → IsAllRead text two reader
-all_read text two next rest reader so_far e =
-    let all : lines_of text ≡ so_far.lines = so_far.parts ∙ ap (λ l. so_far.lines ++ l) e ∙ append-nil so_far.lines in
-    record {
-      ss = so_far.ss;
-      said = subst (λ l. AreSaid two l so_far.ss) (sym all) so_far.said;
-      faultless = subst (λ l. IsFaultless trace_line_fault l) (sym all) so_far.faultless;
-      progress = so_far.progress;
-    }
-
--- the tests of a header
-is_pair : (a b c d : List ℕ) (x y : Bool) → bytes_eq a c ≡ x → bytes_eq b d ≡ y → (x && (y && true)) ≡ true → a ∷ b ∷ [] ≡ c ∷ d ∷ []
-is_pair a b c d true true e f h = λ i. (bytes_eq-Decides a c).0 e i ∷ (bytes_eq-Decides b d).0 f i ∷ []
-is_pair a b c d true false e f h = absurd (cc)
-is_pair a b c d false y e f h = absurd (cc)
-
 -- the words are those of a text's header where the test says so
 pub pointwise_pair : (words texts : List (List ℕ)) → pointwise bytes_eq words texts ≡ true → words ≡ texts
 pointwise_pair words texts h = (slice_eq-Decides bytes_eq-Decides words texts true (sym h)).0 refl
-
--- three words suffice to see whether a line is a header
-pub header_first : (words : List (List ℕ)) → is_header (take 3 words) ≡ is_header words
-header_first [] = refl
-header_first (a ∷ []) = refl
-header_first (a ∷ b ∷ []) = refl
-header_first (a ∷ b ∷ c ∷ ws) = refl
-
--- the first three words are a header's two
-pub header_whole : (two : Bool) (words : List (List ℕ)) → take 3 words ≡ header_line two → words ≡ header_line two
-header_whole two [] h = h
-header_whole two (a ∷ []) h = h
-header_whole two (a ∷ b ∷ []) h = h
-header_whole two (a ∷ b ∷ c ∷ ws) h = absurd (cc)
 
 pub header_passes : (two : Bool) → is_header (header_line two) ≡ true
 header_passes true = refl
@@ -231,12 +187,3 @@ header_line_read text next rest line after two b e l h =
       header = kept_more b.lines line false unskipped ∙ (λ i. b.none i ++ h.words i ∷ []);
       room = omega (arith, b.room, l);
     }
-
-pub header_refused : (text : List ℕ) (next : ℕ) (rest line after : List ℕ) (refusal : PlainFault TraceCause) → IsBeforeHeader text next rest → lines_of rest ≡ line ∷ lines_of after → IsRefusedFor (header_fault line) refusal → IsRefusal (HasTraceFault text) (fault_at refusal next)
-header_refused text next rest line after refusal b e r = fault_here text next b.lines rest line after refusal b.counted b.parts b.faultless e
-    (subst (λ f. IsRefusedFor f refusal) (ap (λ k. if is_skipped (words_of line) then None else if list_any is_high line then Some NotAscii else words_fault k (words_of line)) (sym b.none)) r)
-
-pub header_missing : (text : List ℕ) (next : ℕ) (rest : List ℕ) → IsBeforeHeader text next rest → lines_of rest ≡ [] → HasTraceFault text Header next
-header_missing text next rest b e =
-    let all : lines_of text ≡ b.lines = b.parts ∙ ap (λ l. b.lines ++ l) e ∙ append-nil b.lines in
-    inr (inl (record { faultless = subst (λ l. IsFaultless trace_line_fault l) (sym all) b.faultless; empty = ap kept all ∙ b.none }, refl, b.counted ∙ ap (λ l. length l + 1) (sym all)))

@@ -43,24 +43,6 @@ one_more_looked_at two processes text next rest line after h e l f = record {
   room = omega (arith, h.room, l);
 }
 
-pub refused_looking : (two : Bool) (processes : List Process) (text : List ℕ) (next : ℕ) (rest line after : List ℕ) (refusal : PlainFault TraceCause) → IsLookedAt two processes text next rest → lines_of rest ≡ line ∷ lines_of after →
-    IsRefusedFor (fault_of_line two processes line) refusal → IsRefusedByReferences two processes text (fault_at refusal next)
-refused_looking two processes text next rest line after OutOfMemory h e r = tt
-refused_looking two processes text next rest line after (For cause) h e r = record {
-  before = h.lines;
-  item = line;
-  after = lines_of after;
-  parts = h.parts ∙ ap (λ ls. h.lines ++ ls) e;
-  counted = h.counted;
-  faulty = r;
-  first = h.faultless;
-}
-
-pub all_looked_at : (two : Bool) (processes : List Process) (text : List ℕ) (next : ℕ) (rest : List ℕ) → IsLookedAt two processes text next rest → lines_of rest ≡ [] → IsFaultless (λ (before : List (List ℕ)) (here : List ℕ). fault_of_line two processes here) (lines_of text)
-all_looked_at two processes text next rest h e =
-    let all : lines_of text ≡ h.lines = h.parts ∙ ap (λ l. h.lines ++ l) e ∙ append-nil h.lines in
-    subst (λ (l : List (List ℕ)). IsFaultless (λ (before : List (List ℕ)) (here : List ℕ). fault_of_line two processes here) l) (sym all) h.faultless
-
 -- the fault of a line, by what its first words say
 pub fault_named : (two : Bool) (processes : List Process) (line : List ℕ) (s : Statement) → is_skipped (words_of line) ≡ false → Some s ≡ statement_of two (take 8 (words_of line)) → fault_of_line two processes line ≡ fault_of_references processes (Some s)
 fault_named two processes line s h e =

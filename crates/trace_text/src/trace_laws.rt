@@ -1,4 +1,7 @@
 //! Laws of a trace's text.
+//!
+//! A law's body is empty, or calls other laws: what it says is proved in the folder of its name in `proofs/trace_laws`, or needs no
+//! answer. Who calls it has what it says in proofs; the call does nothing when run.
 
 ghost use Rattle.std.specs.Prelude.{◌≡◌, ◌⊎◌, ℕ, List};
 ghost use Rattle.trace_text.specs.declared.trace_fault.TraceCause.{TraceCause};

@@ -14,6 +14,7 @@ use Rattle.trace_semantics.specs.Operation.{location_of, written_value}
 use Rattle.trace_semantics.specs.Trace.{TraceValue, operation_at, operation_count}
 use Rattle.trace_semantics.specs.ValueAfter.{value_left_at}
 use Rattle.trace_semantics.proofs.NameLemmas.{bytes_turned}
+use Rattle.restriction.specs.Restriction.{left_by}
 use Rattle.var_layout.specs.Numbers.{in_one_process, name_at, left_at, op_at, others, other_writers, writers}
 use Rattle.var_layout.specs.Split.{are_in_conflict, is_split}
 
@@ -28,10 +29,6 @@ in_range a (suc l) j low high = here (a == j) refl (λ apart. in_range (a + 1) l
     here : (b : Bool) → (a == j) ≡ b → (a ≢ j → list_any (λ w. w == j) (range_with_len (a + 1) l) ≡ true) → (b || list_any (λ w. w == j) (range_with_len (a + 1) l)) ≡ true
     here true e behind = refl
     here false e behind = behind (λ same. (let clash : true ≡ false = sym (eq-eqb a j same) ∙ e in absurd (cc)))
-
--- what an operation leaves at a location
-abbrev left_by : List ℕ → Op → Option ℕ
-left_by location op = if bytes_eq (location_of op) location then written_value op else None
 
 left_is : (t : TraceValue) (location : List ℕ) (j : ℕ) → left_at t location j ≡ option_and_then (left_by location) (op_at t j)
 left_is t location j = at (name_at t j)

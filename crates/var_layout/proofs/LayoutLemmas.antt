@@ -167,16 +167,6 @@ leaders_tell t i j a b h k =
     let second = some_leader t j b (name_at t j) refl k in
     (λ s. eqb (sym first.2 s) (sym second.2 s)) ∙ leaders_by t i j first.0 second.0 (bytes_eq first.0.process second.0.process) first.1 second.1 refl ∙ (λ s. share_process (sym first.1 s) (sym second.1 s))
 
-pub not_first : (t : TraceValue) (i j : ℕ) → leader_at t i ≡ None → false ≡ in_one_process t i j
-not_first t i j h = sym (ap (λ o. share_process o (name_at t j)) (no_leader t i (name_at t i) refl h))
-
-pub not_second : (t : TraceValue) (i j : ℕ) → leader_at t j ≡ None → false ≡ in_one_process t i j
-not_second t i j h = sym (ap (share_process (name_at t i)) (no_leader t j (name_at t j) refl h) ∙ nobody (name_at t i))
-  where
-    nobody : (o : Option OpName) → share_process o None ≡ false
-    nobody None = refl
-    nobody (Some n) = refl
-
 -- how many there are
 pub ops_counted : (t s : TraceValue) (ops : List OpTableValue) → ops ≡ map (op_table t) (numbers t) → t ≡ s → length ops ≡ operation_count s
 ops_counted t s ops e same = ap length e ∙ length-map-range_with_len (op_table t) 0 (operation_count t) ∙ ap operation_count same

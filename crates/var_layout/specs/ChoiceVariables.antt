@@ -24,6 +24,7 @@ first_choice t r = order_count (operation_count t) + sum_by (choice_count t) (ra
 abbrev pub choices : TraceValue → ℕ → List ReadsFromChoice
 choices t r = map (λ (numbered : ℕ × Candidate). record { candidate = numbered.1; variable = numbered.0 }) (enumerate_from (first_choice t r) (candidates t r))
 
--- the void variable of a reading operation without a candidate
+-- The void variable of a reading operation without a candidate: one clause says that it is true and one that it is false, so the formula has
+-- no model.
 abbrev pub void_choice : TraceValue → ℕ → Option ℕ
 void_choice t r = if is_some (read_at t r) && (length (candidates t r) == 0) then Some (first_choice t r) else None

@@ -34,7 +34,8 @@ final_choices t k entry = map (λ (numbered : ℕ × ℕ). record { writer = num
 abbrev pub finals : TraceValue → ℕ → List FinalChoice
 finals t k = option_map_or (final_choices t k) (slice_get t.final_values k) []
 
--- the void variable of a final value that no operation leaves and that is not there from the start
+-- The void variable of a final value that no operation leaves and that is not there from the start: one clause says that it is true and one
+-- that it is false, so the formula has no model.
 abbrev pub void_of : TraceValue → ℕ → List ℕ × ℕ → Option ℕ
 void_of t k entry = if not (is_untouched t entry) && (length (final_candidates t entry) == 0) then Some (first_final t k) else None
 

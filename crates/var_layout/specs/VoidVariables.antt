@@ -1,4 +1,4 @@
--- The void variable of a reading operation or of a final value.
+-- The void variable of a reading operation or of a final value, which two clauses contradict: without a candidate there is no model.
 use Rattle.std.specs.Prelude.{ℕ, Option}
 use Rattle.trace_semantics.specs.Trace.{TraceValue}
 use Rattle.var_layout.specs.declared.layout.ReadsFromOwner.{ReadsFromOwner}

@@ -140,7 +140,7 @@ pub(crate) fn final_tables(
     ensures tables { IfOk result (λ made. made.0.items ≡ map (tables.final_table trace.now) (range_with_len 0 (length trace.now.final_values))) }
     ensures next { IfOk result (λ made. made.1 ≡ finals.variable_count trace.now + 1) }
 {
-    trace.is_trace();
+    trace.recall_invariant();
     let initial = NameTable::of_values(alloc, trace.initial())?;
     let values = trace.final_values();
     let mut made = Vec::with_capacity(alloc, values.len())?;

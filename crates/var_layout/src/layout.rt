@@ -63,7 +63,7 @@ impl Layout {
     {
         let trace = reduced.kept();
         let numbering = Numbering::of(alloc, trace)?;
-        numbering.is_trace();
+        numbering.recall_invariant();
         let (operations, next) = op_tables(alloc, &numbering, trace)?;
         let (final_values, next) = final_tables(alloc, &numbering, trace, next)?;
         let before = before_numbers(alloc, &numbering, trace.before())?;
@@ -107,9 +107,9 @@ impl Layout {
         }
     }
 
-    /// Its trace is one, with at most 160 operations. This says what each layout keeps, and does nothing.
+    /// Hands its caller, in proofs alone, what each layout keeps: its trace is one, with at most 160 operations. Does nothing when run.
     #[inline]
-    pub fn is_layout(&self)
+    pub fn recall_limits(&self)
         ensures trace { IsTrace self.now }
         ensures few { operation_count self.now ≤ 160 }
     {
@@ -132,7 +132,7 @@ impl Layout {
         requires second { j < operation_count self.now }
         ensures { result ≡ order.order_lit (operation_count self.now) i j }
     {
-        self.is_layout();
+        self.recall_limits();
         order_lit(self.operations(), i, j)
     }
 

@@ -96,7 +96,7 @@ impl<'a> Numbering<'a> {
     pub fn of(alloc: Global, trace: &'a Trace) -> Result<Numbering<'a>, AllocError>
         ensures { IfOk result (λ numbering. numbering ≡ trace.now) }
     {
-        trace.is_trace();
+        trace.recall_invariant();
         let processes = trace.processes();
         let mut operations = Vec::new(alloc);
         for process in processes {
@@ -108,8 +108,8 @@ impl<'a> Numbering<'a> {
         })
     }
 
-    /// Its trace is one. This says what each trace keeps, and does nothing.
-    pub fn is_trace(&self)
+    /// Hands its caller, in proofs alone, what each numbering keeps: its trace is one. Does nothing when run.
+    pub fn recall_invariant(&self)
         ensures { IsTrace self.now }
     {
         let _ = &self.operations;

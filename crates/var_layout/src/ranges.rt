@@ -1,4 +1,7 @@
 //! Laws of the numbers of variables: each is from 1 to their count, and that is no more than a formula may have.
+//!
+//! A law's body is empty, or calls other laws: what it says is proved in the folder of its name in `proofs/ranges`, or needs no
+//! answer. Who calls it has what it says in proofs; the call does nothing when run.
 
 ghost use Rattle.std.specs.Prelude.{◌≡◌, ◌≢◌, ◌<◌, ◌≤◌, ℕ, List, Some, false, IsTrue, slice_get};
 ghost use Rattle.std.specs.List.{Contains};

@@ -30,7 +30,7 @@ fn push_splits(variables: &mut Vec<u32>, layout: &Layout, i: usize) -> Result<()
     requires { i < operation_count layout.now }
     ensures { OnOk result (variables.new.items ≡ variables.old.items ++ split.splits_among layout.now (map (λ j. (i, j)) (numbers_above (operation_count layout.now) i))) }
 {
-    layout.is_layout();
+    layout.recall_limits();
     let count = layout.operations();
     for j in i + 1..count {
         if is_split(layout, i, j) {

@@ -4,8 +4,8 @@ use crate::sourceless_finals::{explain_final_value, may_be_final, writers_of_loc
 use crate::sourceless_reads::PlacedRead;
 use note_text::{Notes, decimal};
 use std::alloc::{AllocError, Global};
-use trace_part::chosen_ops::ChosenOps;
 use trace_part::writer_table::{WriterTable, writer_table};
+use trace_semantics::op_set::OpSet;
 use trace_semantics::trace::{Process, Trace};
 
 /// The most reads, and the most final values, that are named.
@@ -42,7 +42,7 @@ fn explain_process<'t>(
 
 /// Notes which reads have no source, and how many there are.
 fn explain_reads(alloc: Global, notes: &mut Notes, trace: &Trace) -> Result<u64, AllocError> {
-    let set = ChosenOps::new(alloc);
+    let set = OpSet::new(alloc);
     let table = writer_table(alloc, trace, &set)?;
     let processes = trace.processes();
     let mut count = 0;

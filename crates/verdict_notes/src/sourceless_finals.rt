@@ -4,9 +4,9 @@ use crate::held_value::initial_value;
 use crate::sentence::Sentence;
 use note_text::Notes;
 use std::alloc::{AllocError, Global};
-use trace_part::chosen_ops::ChosenOps;
 use trace_part::sources::leaves;
 use trace_part::writers::{ChosenWriter, writers_of};
+use trace_semantics::op_set::OpSet;
 use trace_semantics::trace::Trace;
 
 /// Whether one of these writers leaves the value.
@@ -53,6 +53,6 @@ pub fn writers_of_location<'t>(
     trace: &'t Trace,
     location: &[u8],
 ) -> Result<Vec<ChosenWriter>, AllocError> {
-    let set = ChosenOps::new(alloc);
+    let set = OpSet::new(alloc);
     writers_of(alloc, trace, &set, location)
 }

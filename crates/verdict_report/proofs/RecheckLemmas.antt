@@ -14,6 +14,7 @@ use Rattle.reducer.specs.declared.reduce_fault.ReduceCause.TheVariants.{StillToo
 use Rattle.text_lines.specs.Fault.{IsRefusal}
 use Rattle.text_lines.specs.declared.fault.PlacedFault.{PlacedFault as PartFault}
 use Rattle.text_lines.specs.declared.fault.PlacedFault.TheVariants.{OutOfMemory as NoPartMemory, At}
+use Rattle.trace_semantics.specs.Legal.{HasNoSchedule}
 use Rattle.trace_semantics.specs.Trace.{TraceValue, IsTrace, operation_count}
 use Rattle.trace_text.specs.TraceText.{SpellsTrace}
 use Rattle.verdict_report.specs.declared.fault.Fault.{Fault}
@@ -22,7 +23,7 @@ use Rattle.verdict_report.specs.Admitted.{Admits}
 use Rattle.verdict_report.specs.Fault.{fault_of_part}
 use Rattle.verdict_report.specs.Runs.{SourceRun, HandsOut}
 use Rattle.verdict_report.specs.declared.status.Status.{Status}
-use Rattle.verdict_report.specs.RecheckEngine.{HasNoSchedule, Refutes, IsRecheckedFor, AreRechecked, IsSaidOfCertificate, InputHasNoLegalSchedule}
+use Rattle.verdict_report.specs.RecheckEngine.{Refutes, IsRecheckedFor, AreRechecked, IsSaidOfCertificate, InputHasNoLegalSchedule}
 use Rattle.verdict_report.proofs.MeaningLemmas.{model_of_schedule}
 
 module _ (r : ReducedValue) (ok : IsReduced r) (certificate : Certificate) where

@@ -9,8 +9,7 @@ use Rattle.clause_blocks.specs.Clauses.{clauses_of}
 use Rattle.reducer.specs.Reduced.{ReducedValue}
 use Rattle.reducer.specs.Reduction.{kept_trace}
 use Rattle.reducer.specs.declared.reduce_fault.ReduceCause.TheVariants.{StillTooLarge}
-use Rattle.trace_semantics.specs.declared.operation.OpName.{OpName}
-use Rattle.trace_semantics.specs.Legal.{IsLegal}
+use Rattle.trace_semantics.specs.Legal.{HasNoSchedule}
 use Rattle.trace_semantics.specs.Trace.{TraceValue, IsTrace}
 use Rattle.trace_text.specs.TraceFault.{HasTraceFault}
 use Rattle.trace_text.specs.TraceText.{SpellsTrace}
@@ -21,10 +20,6 @@ use Rattle.verdict_report.specs.declared.status.Status.TheVariants.{Yes}
 use Rattle.verdict_report.specs.Admitted.{Admits, IsTooLarge}
 use Rattle.verdict_report.specs.Engine.{AtOnce, IsRunOfEngine, of_two}
 use Rattle.verdict_report.specs.Runs.{SourceRun, SinkRun, HandsOut}
-
--- no list of names is a legal schedule of the trace
-abbrev pub HasNoSchedule : TraceValue → Type 0
-HasNoSchedule value = (names : List OpName) → IsLegal value names → ⊥
 
 -- The certificate, of this number of cubes, is accepted for the clause list of what is kept of the trace. So the whole trace has no legal
 -- schedule.

@@ -20,5 +20,5 @@ returns-clause-accepted g c =
 
 pub returns-clause-sound : goal.returns-clause-sound
 returns-clause-sound g c =
-    no_model_anywhere (g.L.ClauseList.formula c.args.clauses.now) c.args.certificate.now c.leaves-count.result c.is_formula.ensures.formula c.covers.ensures.tree.variables
-    (subst (λ (xs : List Section). are_sections_of_clauses xs ≡ true) c.as_slice.ensures c.are_clauses.ensures) (returns-clause-accepted g c)
+    no_model_anywhere (g.L.ClauseList.formula c.args.clauses.now) c.args.certificate.now c.leaves-count.result c.recall_invariant.ensures.formula c.recall_cover.ensures.tree.variables
+    (subst (λ (xs : List Section). are_sections_of_clauses xs ≡ true) c.as_slice.ensures c.recall_clauses.ensures) (returns-clause-accepted g c)

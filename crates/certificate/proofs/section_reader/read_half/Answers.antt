@@ -8,15 +8,15 @@ use Rattle.certificate.specs.declared.certificate.Section.{Section}
 use Rattle.certificate.proofs.SectionReadLemmas.{IsReadSoFar, turn_silent, turn_section, refused_between, refusal_inside, handed_on, refused_at_end, read_up_to}
 use Rattle.certificate.proofs.section_reader.read_half.Goals as goal
 
-pub loop-line-preserved-then-is_silent_line : goal.loop-line-preserved-then-is_silent_line
-loop-line-preserved-then-is_silent_line c =
+pub loop-line-preserved-then-is_dimacs_skipped_line : goal.loop-line-preserved-then-is_dimacs_skipped_line
+loop-line-preserved-then-is_dimacs_skipped_line c =
     turn_silent c.args.text.now c.args.before c.loop-line.number c.loop-line.rest.now c.loop-line.sections.items c.in-Some.line.now c.in-Some.after.now c.loop-line.invariant c.in-Some.ensures.lines c.in-Some.ensures.shorter
-    (sym c.is_silent_line.ensures ∙ c.if-is_silent_line.true)
+    (sym c.is_dimacs_skipped_line.ensures ∙ c.if-is_dimacs_skipped_line.true)
 
 pub returns-in_default-read_begin-clause-faulty : goal.returns-in_default-read_begin-clause-faulty
 returns-in_default-read_begin-clause-faulty c =
     refused_between c.args.text.now c.args.before c.loop-line.number c.loop-line.rest.now c.loop-line.sections.items c.in-Some.line.now c.in-Some.after.now c.loop-line.invariant c.in-Some.ensures.lines
-    (sym c.is_silent_line.ensures ∙ c.if-is_silent_line.false) (sym c.read_begin.ensures ∙ c.in_default-read_begin.is)
+    (sym c.is_dimacs_skipped_line.ensures ∙ c.if-is_dimacs_skipped_line.false) (sym c.read_begin.ensures ∙ c.in_default-read_begin.is)
 
 pub returns-in_err-derivation-clause-faulty : goal.returns-in_err-derivation-clause-faulty
 returns-in_err-derivation-clause-faulty c =

@@ -7,5 +7,5 @@ use Rattle.clause_blocks.proofs.final_clauses.push_clauses_of_final.Goals as goa
 pub push_void-requires : goal.push_void-requires
 push_void-requires c =
     let t = c.args.layout.now in
-    fits_formula t c.is_layout.ensures.trace c.is_layout.ensures.few c.in-Some.variable
+    fits_formula t c.recall_limits.ensures.trace c.recall_limits.ensures.few c.in-Some.variable
     (void_over t (Final c.args.k) c.in-Some.variable (sym c.void_var.ensures ∙ c.in-Some.is))

@@ -9,7 +9,7 @@ returns-then-is_empty c =
     sym (append-nil _) ∙ ap (λ l. c.args.clauses.now.items ++ l) (sym (empty_finals c.args.layout.now c.args.k c.finals-finals.result.now c.finals-finals.ensures c.requires.not_void (zero_from_test _ (c.if-is_empty.ensures))))
 
 pub literals_of-requires : goal.literals_of-requires
-literals_of-requires c = finals_are_variables c.args.layout.now c.is_layout.ensures.trace c.is_layout.ensures.few c.args.k c.finals-finals.result.now c.finals-finals.ensures
+literals_of-requires c = finals_are_variables c.args.layout.now c.recall_limits.ensures.trace c.recall_limits.ensures.few c.args.k c.finals-finals.result.now c.finals-finals.ensures
 
 pub push_writes_last-requires : goal.push_writes_last-requires
 push_writes_last-requires c =
@@ -18,7 +18,7 @@ push_writes_last-requires c =
     record {
       writers = writers_are_operations t _ c.final_writers-writers.result.now c.final_writers-writers.ensures;
       writer = finals_are_operations t c.args.k fs c.finals-finals.ensures c.loop-choice.choice-index _ c.loop-choice-test.true;
-      variable = finals_are_variables t c.is_layout.ensures.trace c.is_layout.ensures.few c.args.k fs c.finals-finals.ensures c.loop-choice.choice-index _ c.loop-choice-test.true;
+      variable = finals_are_variables t c.recall_limits.ensures.trace c.recall_limits.ensures.few c.args.k fs c.finals-finals.ensures c.loop-choice.choice-index _ c.loop-choice-test.true;
     }
 
 pub returns : goal.returns

@@ -11,4 +11,4 @@ new-requires g c =
     let made : c.in_ok-made.made.items ≡ clauses_of t = c.in_ok-made.ensures in
     let got : FormulaValue = record { variables = c.count.result; clauses = c.in_ok-made.made.items } in
     let same : got ≡ formula_of t = λ p. record { variables = variables p; clauses = made p } in
-    ap is_formula same ∙ c.formula_is_over_its_variables.ensures t c.is_clause_list.ensures.trace
+    ap is_formula same ∙ c.formula_is_over_its_variables.ensures t c.recall_limits.ensures.trace

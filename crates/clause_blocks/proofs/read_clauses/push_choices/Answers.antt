@@ -2,7 +2,7 @@ use Rattle.clause_blocks.proofs.ReadLemmas.{reader_within, choices_are_variables
 use Rattle.clause_blocks.proofs.read_clauses.push_choices.Goals as goal
 
 pub literals_of-requires : goal.literals_of-requires
-literals_of-requires c = choices_are_variables c.args.layout.now c.is_layout.ensures.trace c.is_layout.ensures.few c.args.r c.choices-choices.result.now c.choices-choices.ensures
+literals_of-requires c = choices_are_variables c.args.layout.now c.recall_limits.ensures.trace c.recall_limits.ensures.few c.args.r c.choices-choices.result.now c.choices-choices.ensures
 
 pub others_after-requires : goal.others_after-requires
 others_after-requires c = reader_within c.args.layout.now c.args.r c.requires
@@ -11,4 +11,4 @@ pub push_reads_from-requires-clause-source : goal.push_reads_from-requires-claus
 push_reads_from-requires-clause-source c = choices_are_sources c.args.layout.now c.args.r (reader_within c.args.layout.now c.args.r c.requires) c.choices-choices.result.now c.choices-choices.ensures c.loop-choice.choice-index _ c.loop-choice-test.true
 
 pub push_reads_from-requires-clause-variable : goal.push_reads_from-requires-clause-variable
-push_reads_from-requires-clause-variable c = choices_are_variables c.args.layout.now c.is_layout.ensures.trace c.is_layout.ensures.few c.args.r c.choices-choices.result.now c.choices-choices.ensures c.loop-choice.choice-index _ c.loop-choice-test.true
+push_reads_from-requires-clause-variable c = choices_are_variables c.args.layout.now c.recall_limits.ensures.trace c.recall_limits.ensures.few c.args.r c.choices-choices.result.now c.choices-choices.ensures c.loop-choice.choice-index _ c.loop-choice-test.true

@@ -13,7 +13,7 @@ pub overflow_add-count : goal.overflow_add-count
 overflow_add-count c =
     let t = c.args.pieces.now in
     let count : c.count.result ≡ operation_count t + 4 = c.count.ensures ∙ piece_count t in
-    omega (arith, count, c.are_of_trace.ensures.few)
+    omega (arith, count, c.recall_limits.ensures.few)
 
 pub overflow_cast-before : goal.overflow_cast-before
 overflow_cast-before c =
@@ -21,7 +21,7 @@ overflow_cast-before c =
     let low : c.loop-k.k + 1 ≤ length (pieces t) = search rules in
     let more = counted_upto (piece_at t) c.loop-k.k in
     let few = before_within t (c.loop-k.k + 1) low in
-    let most = c.few_clauses.ensures t c.are_of_trace.ensures.trace c.are_of_trace.ensures.few in
+    let most = c.few_clauses.ensures t c.recall_limits.ensures.trace c.recall_limits.ensures.few in
     omega (arith, more, few, most, c.clauses_of_piece.ensures)
 
 pub overflow_add-before : goal.overflow_add-before
@@ -30,7 +30,7 @@ overflow_add-before c =
     let low : c.loop-k.k + 1 ≤ length (pieces t) = search rules in
     let more = counted_upto (piece_at t) c.loop-k.k in
     let few = before_within t (c.loop-k.k + 1) low in
-    let most = c.few_clauses.ensures t c.are_of_trace.ensures.trace c.are_of_trace.ensures.few in
+    let most = c.few_clauses.ensures t c.recall_limits.ensures.trace c.recall_limits.ensures.few in
     omega (arith, more, few, most, c.clauses_of_piece.ensures, c.loop-k.invariant.so_far)
 
 pub loop-k-preserved : goal.loop-k-preserved

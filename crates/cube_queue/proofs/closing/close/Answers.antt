@@ -3,7 +3,7 @@ use Rattle.std.specs.List.{All}
 use Rattle.cube_jobs.specs.declared.job.Settled.{Settled}
 use Rattle.cube_jobs.specs.Results.{AreResultsOf}
 use Rattle.job_board.specs.Accounts.{IsBalanced}
-use Rattle.job_board.specs.Hands.{ticket_in}
+use Rattle.job_board.specs.InFlight.{ticket_in}
 use Rattle.job_board.specs.Merge.{IsMergeOf}
 use Rattle.job_board.specs.Seats.{given_by, gathered_by}
 use Rattle.job_board.specs.declared.seats.WorkerSeat.{WorkerSeat}

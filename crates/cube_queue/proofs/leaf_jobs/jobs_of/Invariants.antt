@@ -1,5 +1,5 @@
 use Rattle.std.proofs.Common.{take}
-use Rattle.cube_queue.specs.Crew.{AreJobsOf}
+use Rattle.cube_queue.specs.Participants.{AreJobsOf}
 use Rattle.cube_queue.proofs.leaf_jobs.jobs_of.Given as goal
 
 abbrev pub invariant-loop-leaf : goal.invariant-loop-leaf

@@ -1,4 +1,4 @@
-use Rattle.cube_queue.proofs.CrewLemmas.{opened}
+use Rattle.cube_queue.proofs.ParticipantLemmas.{opened}
 use Rattle.cube_queue.proofs.opening.open.Goals as goal
 
 pub returns-clause-crew : goal.returns-clause-crew

@@ -1,6 +1,6 @@
 use Rattle.std.proofs.Common.{◌≡◌, ◌++◌, length}
 use Rattle.std.specs.Vec.Iter.{into_iter_items, into_iter_len}
-use Rattle.cube_queue.specs.Crew.{seats_of, stops_of}
+use Rattle.cube_queue.specs.Participants.{seats_of, stops_of}
 use Rattle.cube_queue.proofs.opening.paired.Given as goal
 
 abbrev pub invariant-loop-seat : goal.invariant-loop-seat

@@ -2,7 +2,7 @@ use Rattle.std.proofs.Common.{◌≡◌, ◌<◌, ℤ, List, length, get_or, sym
 use Rattle.cube_jobs.specs.declared.job.Job.{Job}
 use Rattle.std.proofs.lemmas.Result.{err_from_is_err_and}
 use Rattle.cube_tree.specs.CubeTree.{cubes_of}
-use Rattle.cube_queue.specs.Crew.{AreJobsOf}
+use Rattle.cube_queue.specs.Participants.{AreJobsOf}
 use Rattle.cube_queue.proofs.FaultLemmas.{fault_of}
 use Rattle.cube_queue.proofs.JobLemmas.{jobs_rise, jobs_low}
 use Rattle.cube_queue.proofs.JoinLemmas.{all_returned, honest_run}

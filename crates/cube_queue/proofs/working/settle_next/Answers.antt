@@ -1,5 +1,5 @@
 use Rattle.std.proofs.Common.{ap}
-use Rattle.job_board.specs.Hands.{ticket_in}
+use Rattle.job_board.specs.InFlight.{ticket_in}
 use Rattle.job_board.specs.Seats.{given_by}
 use Rattle.cube_queue.proofs.WorkerLemmas.{honest_more}
 use Rattle.cube_queue.proofs.working.settle_next.Goals as goal

@@ -1,5 +1,5 @@
 use Rattle.std.proofs.Common.{◌≡◌, None}
-use Rattle.job_board.specs.Hands.{ticket_in}
+use Rattle.job_board.specs.InFlight.{ticket_in}
 use Rattle.job_board.specs.Seats.{given_by, IsWorkerAt}
 use Rattle.cube_queue.specs.Workers.{IsHonest}
 use Rattle.cube_queue.proofs.working.work.Given as goal

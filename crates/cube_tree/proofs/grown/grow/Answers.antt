@@ -8,4 +8,4 @@ use Rattle.cube_tree.proofs.grown.grow.Goals as goal
 pub full_tree_of-requires-clause-variables : goal.full_tree_of-requires-clause-variables
 full_tree_of-requires-clause-variables c =
     ap (list_all is_variable) (c.as_slice.ensures.value ∙ c.in_ok-variables.ensures)
-    ∙ front_of_variables c.args.depth (splits c.args.layout.now) (splits_are_variables c.args.layout.now c.is_layout.ensures.few)
+    ∙ front_of_variables c.args.depth (splits c.args.layout.now) (splits_are_variables c.args.layout.now c.recall_limits.ensures.few)

@@ -6,5 +6,5 @@ pub returns-clause-few : goal.returns-clause-few
 returns-clause-few c =
     let long = ap length c.in_ok-cubes.ensures in
     let count = c.a_cube_for_each_leaf.ensures c.args.tree.now in
-    let few : leaves c.args.tree.now ≤ 1024 = c.covers.ensures.tree.few in
+    let few : leaves c.args.tree.now ≤ 1024 = c.recall_cover.ensures.tree.few in
     omega (arith, long, count, few)

@@ -8,4 +8,4 @@ use Rattle.forced_order.proofs.pairs.number.Goals as goal
 pub overflow_cast-result : goal.overflow_cast-result
 overflow_cast-result c =
     let most : order_of c.args.processes.now c.as_bytes.result.now ≤ length c.args.processes.now = prefix_len-le-length (λ (p : Process). not (bytes_eq p.name c.as_bytes.result.now)) c.args.processes.now in
-    omega (arith, most, c.requires.few, c.order_of_name.ensures)
+    omega (arith, most, c.requires.few, c.order_of.ensures)

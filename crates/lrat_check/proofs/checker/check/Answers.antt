@@ -36,8 +36,8 @@ returns-then-branch-clause-sound g c =
     let next : drop c.loop-i.i steps ≡ step ∷ drop (c.loop-i.i + 1) steps = next_step steps c.loop-i.i step (omega arith) c.index-steps-i.is in
     let right = c.in_ok-take_step.ensures c.loop-i.invariant.1 in
     no_model formula.clauses c.args.cube.now c.args.derivation.now
-    (formula_no_zero formula.variables formula.clauses c.is_formula.ensures.formula)
-    (cube_no_zero c.args.cube.now c.are_literals.ensures)
+    (formula_no_zero formula.variables formula.clauses c.recall_invariant.ensures.formula)
+    (cube_no_zero c.args.cube.now c.recall_literals.ensures)
     (ap are_steps (sym c.steps-steps.ensures.steps) ∙ c.steps-steps.ensures.clauses)
     (walk_ends (at_start formula.clauses c.args.cube.now) c.args.derivation.now (clause_at formula.clauses c.loop-i.active.clauses) (c.loop-i.i + 1) (drop c.loop-i.i steps) step (drop (c.loop-i.i + 1) steps)
     c.loop-i.invariant.0 next right.0 (sym right.1 ∙ c.if-branch.true))

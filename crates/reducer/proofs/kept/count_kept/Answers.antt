@@ -9,7 +9,7 @@ overflow_sub-count c =
 
 pub overflow_add-count : goal.overflow_add-count
 overflow_add-count c =
-    let few = few_so_far c.args.trace.now c.is_trace.ensures c.args.all.now c.requires c.loop-bounds.bounds-index c.loop-bounds.count c.bounds-item.result c.loop-bounds-test.true c.bounds-item.is c.loop-bounds.invariant in
+    let few = few_so_far c.args.trace.now c.recall_invariant.ensures c.args.all.now c.requires c.loop-bounds.bounds-index c.loop-bounds.count c.bounds-item.result c.loop-bounds-test.true c.bounds-item.is c.loop-bounds.invariant in
     omega (arith, few, ap length c.as_slice.ensures)
 
 pub returns : goal.returns

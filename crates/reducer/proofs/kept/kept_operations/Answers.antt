@@ -16,8 +16,8 @@ pub new_op-requires-clause-known : goal.new_op-requires-clause-known
 new_op-requires-clause-known c =
     let t = c.args.trace.now in
     let at = op_here t c.args.process.now c.args.places.now c.loop-k.k c.requires.places c.loop-k-test.true in
-    origin_here t c.is_trace.ensures at.name c.index-old-places.result
-    (op_is t c.is_trace.ensures c.args.process.now c.requires.listed c.args.places.now c.loop-k.k at c.as_slice-old.result.now c.index-old-places.result c.as_slice-old.ensures c.index-old-places.is)
+    origin_here t c.recall_invariant.ensures at.name c.index-old-places.result
+    (op_is t c.recall_invariant.ensures c.args.process.now c.requires.listed c.args.places.now c.loop-k.k at c.as_slice-old.result.now c.index-old-places.result c.as_slice-old.ensures c.index-old-places.is)
 
 pub loop-k-preserved : goal.loop-k-preserved
 loop-k-preserved c =
@@ -26,7 +26,7 @@ loop-k-preserved c =
     c.in_ok-push.ensures.items
     ∙ (λ i. c.loop-k.invariant i ++ c.in_ok-new_op.ensures i ∷ [])
     ∙ sym (one_more_op t c.args.process.now c.args.places.now c.loop-k.k at c.index-old-places.result
-    (op_is t c.is_trace.ensures c.args.process.now c.requires.listed c.args.places.now c.loop-k.k at c.as_slice-old.result.now c.index-old-places.result c.as_slice-old.ensures c.index-old-places.is))
+    (op_is t c.recall_invariant.ensures c.args.process.now c.requires.listed c.args.places.now c.loop-k.k at c.as_slice-old.result.now c.index-old-places.result c.as_slice-old.ensures c.index-old-places.is))
 
 pub returns : goal.returns
 returns c = c.loop-k.invariant ∙ all_ops c.args.trace.now c.args.process.now c.args.places.now c.loop-k.k c.requires.places c.loop-k-test.false

@@ -12,4 +12,4 @@ new-requires c =
       final_values = sym (c.in_ok-final_values.ensures ∙ c.final_values.ensures) i;
       before = sym c.in_ok-before.ensures i;
     })
-    (kept_is_trace c.args.trace.now c.is_trace.ensures)
+    (kept_is_trace c.args.trace.now c.recall_invariant.ensures)

@@ -4,7 +4,7 @@ use Rattle.trace_semantics.specs.declared.operation.Op.{Op}
 use Rattle.trace_semantics.specs.declared.operation.OpName.{OpName}
 use Rattle.trace_semantics.specs.declared.trace.Process.{Process}
 use Rattle.trace_semantics.specs.Operation.{origin_of}
-use Rattle.reducer.specs.Named.{has}
+use Rattle.trace_semantics.specs.OpSet.{has}
 use Rattle.reducer.specs.Reduction.{is_from}
 use Rattle.reducer.proofs.named.note_all_origins.Given as goal
 

@@ -3,7 +3,7 @@ use Rattle.std.specs.List.{list_any}
 use Rattle.trace_semantics.specs.declared.operation.Op.{Op}
 use Rattle.trace_semantics.specs.declared.operation.OpName.{OpName}
 use Rattle.trace_semantics.specs.Operation.{origin_of}
-use Rattle.reducer.specs.Named.{has}
+use Rattle.trace_semantics.specs.OpSet.{has}
 use Rattle.reducer.specs.Reduction.{is_from}
 use Rattle.reducer.proofs.named.note_origins.Given as goal
 

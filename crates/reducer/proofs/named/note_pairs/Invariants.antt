@@ -2,7 +2,7 @@ use Rattle.std.proofs.Common.{◌≡◌, ◌||◌, take}
 use Rattle.std.specs.List.{list_any}
 use Rattle.trace_semantics.specs.declared.operation.OpName.{OpName}
 use Rattle.trace_semantics.specs.Operation.{same_op}
-use Rattle.reducer.specs.Named.{has}
+use Rattle.trace_semantics.specs.OpSet.{has}
 use Rattle.reducer.proofs.named.note_pairs.Given as goal
 
 abbrev pub invariant-loop-pair : goal.invariant-loop-pair

@@ -15,4 +15,4 @@ returns-clause-ordered c = λ given.
 
 pub returns-clause-legal : goal.returns-clause-legal
 returns-clause-legal c = λ given.
-    model_legal (value_of c.args.assignment.now) c.args.reduced.now.kept c.new.result (subst IsTrace c.kept-trace.ensures.trace c.is_trace.ensures) given.model (returns-clause-ordered c given)
+    model_legal (value_of c.args.assignment.now) c.args.reduced.now.kept c.new.result (subst IsTrace c.kept-trace.ensures.trace c.recall_invariant.ensures) given.model (returns-clause-ordered c given)

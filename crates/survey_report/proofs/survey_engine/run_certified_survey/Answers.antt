@@ -1,10 +1,10 @@
-use Rattle.std.proofs.Common.{refl, rules, [], ◌∷◌}
+use Rattle.std.proofs.Common.{refl, rules, [], ◌∷◌, ℕ, List, subst}
 use Rattle.std.proofs.lemmas.Result.{err_from_is_err_and}
 use Rattle.verdict_report.specs.Engine.{InPieces, of_one}
 use Rattle.verdict_report.specs.Runs.{SourceRun, SinkRun, source_run, sink_run}
 use Rattle.verdict_report.proofs.EngineLemmas.{unread, refused}
-use Rattle.survey_report.specs.SurveyEngine.{IsSaidOfSurvey, status_of_survey, texts_with_core}
-use Rattle.survey_report.proofs.SurveyLemmas.{cert_cut_off, certified, consistent, names_cut_off, part_cut_off, report_written, silent, undecided}
+use Rattle.survey_report.specs.SurveyEngine.{FollowsFromText, IsSaidOfSurvey, status_of_survey, texts_with_core}
+use Rattle.survey_report.proofs.SurveyLemmas.{answered, cert_cut_off, certified, consistent, names_cut_off, part_cut_off, report_written, silent, undecided}
 use Rattle.survey_report.proofs.survey_engine.run_certified_survey.Goals as goal
 
 pub returns-clause-run : goal.returns-clause-run
@@ -36,7 +36,7 @@ returns-clause-certified g c =
     let names : SinkRun = sink_run g.N.Sink.written g.N.Sink.failures c.args.names.now c.write_names.new.names in
     let part : SinkRun = sink_run g.P.Sink.written g.P.Sink.failures c.args.part.now c.write_core_part.new.part in
     let out : SinkRun = sink_run g.W.Sink.written g.W.Sink.failures c.args.out.now c.write_report.new.out in
-    certified trace cert names part c.in_ok-text.text.items (search rules) c.args.options.now c.certificate_is_accepted.ensures.spelled c.certificate_is_accepted.ensures.accepted c.core_certificate_is_accepted.ensures c.core_part_spells.ensures
+    certified trace cert names part c.in_ok-text.text.items (search rules) c.args.options.now c.certificate_is_accepted.ensures.spelled c.certificate_is_accepted.ensures.accepted c.core_certificate_is_accepted.ensures c.core_part_spells.ensures c.core_names_spell.ensures c.core_part_is_a_trace.ensures
     c.in_ok-surveyed.surveyed (search rules) c.in_ok-write_survey_certificate.ensures.whole c.in_ok-write_names.ensures.whole c.in_ok-write_core_part.ensures.whole out c.write_report.result c.write_report.ensures
 
 pub returns-clause-silent : goal.returns-clause-silent
@@ -96,3 +96,10 @@ returns-in_err-write_core_part-clause-run g c =
     let out : SinkRun = sink_run g.W.Sink.written g.W.Sink.failures c.args.out.now c.args.out.now in
     let p = err_from_is_err_and c.from_residual-in_err-write_core_part.result c.from_residual-in_err-write_core_part.ensures.1 in
     rw (p.1, p.2) (part_cut_off trace cert names part out c.in_ok-text.text.items (search rules) c.args.options.now c.in_ok-surveyed.surveyed (search rules) (c.in_ok-write_survey_certificate.ensures.whole, c.in_ok-write_survey_certificate.ensures.well) (c.in_ok-write_names.ensures.whole, c.in_ok-write_names.ensures.well) c.in_err-write_core_part.field-0.0 c.in_err-write_core_part.ensures.front c.in_err-write_core_part.ensures.failed (refl, refl))
+
+pub returns-clause-answered : goal.returns-clause-answered
+returns-clause-answered g c =
+    let trace : SourceRun = source_run g.T.Source.handed_out g.T.Source.is_at_end g.T.Source.failures c.args.trace.now c.read_text.new.source in
+    let out : SinkRun = sink_run g.W.Sink.written g.W.Sink.failures c.args.out.now c.write_report.new.out in
+    answered (g.S.Surveyor.finds c.args.surveyor.now) trace c.in_ok-text.text.items (search rules) c.args.options.now out c.in_ok-surveyed.surveyed
+    (subst (λ (read : List ℕ). FollowsFromText c.args.options.now (g.S.Surveyor.finds c.args.surveyor.now) read c.in_ok-surveyed.surveyed) c.as_slice.ensures.value c.in_ok-surveyed.ensures.follows) c.write_report.result c.write_report.ensures

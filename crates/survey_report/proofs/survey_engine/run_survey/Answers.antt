@@ -1,11 +1,11 @@
-use Rattle.std.proofs.Common.{refl, rules, [], ◌∷◌}
+use Rattle.std.proofs.Common.{refl, rules, [], ◌∷◌, ℕ, List, subst}
 use Rattle.std.proofs.lemmas.Result.{err_from_is_err_and}
 use Rattle.survey_verdict.specs.Surveyed.{survey_report}
 use Rattle.verdict_report.specs.Engine.{AtOnce, of_one}
 use Rattle.verdict_report.specs.Runs.{SourceRun, SinkRun, source_run, sink_run}
 use Rattle.verdict_report.proofs.EngineLemmas.{unread, refused, written}
-use Rattle.survey_report.specs.SurveyEngine.{IsSaidOfSurvey, status_of_survey, texts_of_survey}
-use Rattle.survey_report.proofs.SurveyLemmas.{consistent, inconsistent, undecided}
+use Rattle.survey_report.specs.SurveyEngine.{FollowsFromText, IsSaidOfSurvey, status_of_survey, texts_of_survey}
+use Rattle.survey_report.proofs.SurveyLemmas.{answered, consistent, inconsistent, undecided}
 use Rattle.survey_report.proofs.survey_engine.run_survey.Goals as goal
 
 pub returns-clause-run : goal.returns-clause-run
@@ -45,3 +45,10 @@ returns-clause-unknown g c =
     let trace : SourceRun = source_run g.T.Source.handed_out g.T.Source.is_at_end g.T.Source.failures c.args.trace.now c.read_text.new.source in
     let out : SinkRun = sink_run g.W.Sink.written g.W.Sink.failures c.args.out.now c.write_report.new.out in
     undecided trace c.in_ok-text.text.items (search rules) c.args.options.now out c.written_schedule_spells.ensures c.in_ok-surveyed.surveyed (search rules) c.write_report.result c.write_report.ensures
+
+pub returns-clause-answered : goal.returns-clause-answered
+returns-clause-answered g c =
+    let trace : SourceRun = source_run g.T.Source.handed_out g.T.Source.is_at_end g.T.Source.failures c.args.trace.now c.read_text.new.source in
+    let out : SinkRun = sink_run g.W.Sink.written g.W.Sink.failures c.args.out.now c.write_report.new.out in
+    answered (g.S.Surveyor.finds c.args.surveyor.now) trace c.in_ok-text.text.items (search rules) c.args.options.now out c.in_ok-surveyed.surveyed
+    (subst (λ (read : List ℕ). FollowsFromText c.args.options.now (g.S.Surveyor.finds c.args.surveyor.now) read c.in_ok-surveyed.surveyed) c.as_slice.ensures.value c.in_ok-surveyed.ensures.follows) c.write_report.result c.write_report.ensures

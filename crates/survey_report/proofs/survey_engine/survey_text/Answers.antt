@@ -3,10 +3,20 @@ use Rattle.survey_report.proofs.SurveyLemmas.{unsearched}
 use Rattle.survey_report.proofs.survey_engine.survey_text.Goals as goal
 
 pub returns-clause-said : goal.returns-clause-said
-returns-clause-said g c = (c.args.options.now, record { value = c.in_ok-trace.trace; is_trace = c.in_ok-trace.ensures.trace; spelled = c.in_ok-trace.ensures.spelled; decided = c.in_ok-decide_by_survey.ensures })
+returns-clause-said g c = (c.args.options.now, record { value = c.in_ok-trace.trace; is_trace = c.in_ok-trace.ensures.trace; spelled = c.in_ok-trace.ensures.spelled; decided = c.in_ok-decide_by_survey.ensures.decided })
 
 pub returns-clause-surveyed : goal.returns-clause-surveyed
-returns-clause-surveyed g c = record { value = c.in_ok-trace.trace; is_trace = c.in_ok-trace.ensures.trace; spelled = c.in_ok-trace.ensures.spelled; decided = c.in_ok-decide_by_survey.ensures }
+returns-clause-surveyed g c = record { value = c.in_ok-trace.trace; is_trace = c.in_ok-trace.ensures.trace; spelled = c.in_ok-trace.ensures.spelled; decided = c.in_ok-decide_by_survey.ensures.decided }
+
+pub returns-clause-follows : goal.returns-clause-follows
+returns-clause-follows g c =
+    record {
+      value = c.in_ok-trace.trace;
+      is_trace = c.in_ok-trace.ensures.trace;
+      spelled = c.in_ok-trace.ensures.spelled;
+      decided = c.in_ok-decide_by_survey.ensures.decided;
+      follows = c.in_ok-decide_by_survey.ensures.follows;
+    }
 
 pub returns-in_err-decide_by_survey-clause-said : goal.returns-in_err-decide_by_survey-clause-said
 returns-in_err-decide_by_survey-clause-said g c =

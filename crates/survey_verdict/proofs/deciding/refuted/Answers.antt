@@ -1,7 +1,14 @@
-use Rattle.trace_decision.specs.declared.decision.Decision.TheVariants.{Inconsistent}
-use Rattle.survey_verdict.proofs.SurveyedLemmas.{decided_of}
+use Rattle.std.proofs.Common.{inl, subst, sym}
+use Rattle.std.specs.Prelude.{Option}
+use Rattle.survey_verdict.proofs.SurveyedLemmas.{decided_so, refuted_by, too_long}
+use Rattle.survey_verdict.specs.Surveyed.{IsRefutedIfShort}
+use Rattle.trace_decision.specs.declared.refutation.Refutation.{Refutation}
 use Rattle.survey_verdict.proofs.deciding.refuted.Goals as goal
 
-pub returns-in-Inconsistent : goal.returns-in-Inconsistent
-returns-in-Inconsistent g c = decided_of c.args.options.now c.args.trace.now c.in_ok-reduced.field-0 c.in-Some.reduced c.in-Some.is c.in_ok-reduced.ensures
-    c.in_ok-refutation.field-0 (Inconsistent c.in-Inconsistent.refutation) c.in-Inconsistent.is c.in_ok-refutation.ensures
+pub returns-in-Some : goal.returns-in-Some
+returns-in-Some g c =
+    subst (λ (r : Option Refutation). IsRefutedIfShort c.args.options.now c.args.trace.now r) (sym c.refutation_of.ensures)
+    (refuted_by c.args.options.now c.args.trace.now c.in-Some.decision (decided_so c.args.options.now c.args.trace.now c.in_ok-decided.decided c.in_ok-decided.ensures c.in-Some.decision c.in-Some.is))
+
+pub returns-in-None : goal.returns-in-None
+returns-in-None g c = inl (too_long c.args.options.now c.args.trace.now c.in_ok-decided.decided c.in_ok-decided.ensures c.in-None.is)

@@ -1,5 +1,5 @@
 use Rattle.std.proofs.Common.{◌≡◌, None}
-use Rattle.job_board.specs.Hands.{ticket_in}
+use Rattle.job_board.specs.InFlight.{ticket_in}
 use Rattle.job_board.specs.Seats.{IsWorkerAt}
 use Rattle.tests_workers.proofs.boards.work.Given as goal
 

@@ -25,17 +25,17 @@ cubes_of_leaves-requires c =
 pub returns-in_ok-derivations-in-Inconsistent-clause-decided : goal.returns-in_ok-derivations-in-Inconsistent-clause-decided
 returns-in_ok-derivations-in-Inconsistent-clause-decided c =
     let d = c.args.decided in
-    inconsistent c.args.reduced.now c.kept-kept.ensures.reduced (formula_of c.args.clauses.now) (ap formula_of c.requires.clauses) c.is_formula.ensures.formula
-    d.tree d.ledger c.requires.cubes c.has_clauses.ensures c.covers.ensures.covers c.args._options.now
-    c.in-Inconsistent.field-0 c.in_ok-derivations-in-Inconsistent.derivations c.covers.ensures.tree c.in_ok-derivations-in-Inconsistent.ensures
+    inconsistent c.args.reduced.now c.kept-kept.ensures.reduced (formula_of c.args.clauses.now) (ap formula_of c.requires.clauses) c.recall_invariant.ensures.formula
+    d.tree d.ledger c.requires.cubes c.recall_clauses.ensures c.recall_cover.ensures.covers c.args._options.now
+    c.in-Inconsistent.field-0 c.in_ok-derivations-in-Inconsistent.derivations c.recall_cover.ensures.tree c.in_ok-derivations-in-Inconsistent.ensures
     (subst (λ (v : Verdict). IsVerdict (clauses_of c.args.clauses.now) d.ledger v) c.in-Inconsistent.is c.requires.ended.verdict_is)
 
 pub returns-in_ok-cubes-in-Unknown-clause-decided : goal.returns-in_ok-cubes-in-Unknown-clause-decided
 returns-in_ok-cubes-in-Unknown-clause-decided c =
     let d = c.args.decided in
-    unknown c.args.reduced.now c.kept-kept.ensures.reduced (formula_of c.args.clauses.now) (ap formula_of c.requires.clauses) c.is_formula.ensures.formula
-    d.tree d.ledger c.requires.cubes c.has_clauses.ensures c.covers.ensures.covers c.args._options.now
-    c.covers.ensures.tree d.verdict c.in-Unknown.leaves c.in-Unknown.is (subst (λ (t : TraceValue). HaveEnded t c.args._options.now d.ledger d.verdict) c.requires.clauses c.requires.ended) c.requires.ended.verdict_is
+    unknown c.args.reduced.now c.kept-kept.ensures.reduced (formula_of c.args.clauses.now) (ap formula_of c.requires.clauses) c.recall_invariant.ensures.formula
+    d.tree d.ledger c.requires.cubes c.recall_clauses.ensures c.recall_cover.ensures.covers c.args._options.now
+    c.recall_cover.ensures.tree d.verdict c.in-Unknown.leaves c.in-Unknown.is (subst (λ (t : TraceValue). HaveEnded t c.args._options.now d.ledger d.verdict) c.requires.clauses c.requires.ended) c.requires.ended.verdict_is
     c.in_ok-cubes-in-Unknown.cubes
     (subst (λ (listed : List ℕ). AreCubesOf d.ledger listed c.in_ok-cubes-in-Unknown.cubes) c.as_slice.ensures c.in_ok-cubes-in-Unknown.ensures)
 

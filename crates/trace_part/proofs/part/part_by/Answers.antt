@@ -4,7 +4,7 @@ use Rattle.trace_semantics.specs.Judgement.{has_come}
 use Rattle.trace_semantics.specs.Trace.{TraceValue}
 use Rattle.forced_order.specs.Rows.{ordered_by}
 use Rattle.part_law.specs.Part.{stays, part}
-use Rattle.trace_part.specs.Chosen.{has}
+use Rattle.trace_semantics.specs.OpSet.{has}
 use Rattle.trace_part.specs.TraceParts.{left_places}
 use Rattle.trace_part.proofs.ForwardLemmas.{forward_among}
 use Rattle.trace_part.proofs.part.part_by.Goals as goal
@@ -14,7 +14,7 @@ selected_part-requires c = record {
   selection = record {
     table = c.in_ok-writers.ensures;
     closed = c.requires.forward;
-    forward = λ location. forward_among c.args.trace.now c.is_trace.ensures c.args.order c.requires.forward (has c.in_ok-set.set) location;
+    forward = λ location. forward_among c.args.trace.now c.recall_invariant.ensures c.args.order c.requires.forward (has c.in_ok-set.set) location;
   };
 }
 

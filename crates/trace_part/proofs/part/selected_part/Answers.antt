@@ -36,7 +36,7 @@ new-trace-requires c =
     let second = c.in_ok-before.ensures left (subst (λ (l : List LeftValue). Leaves t left l) (sym c.as_slice-2.ensures.value) given) in
     let same : part t ordered (chosen_in c.args.selection.now) ≡ record { processes = c.in_ok-processes.processes.items; initial = c.in_ok-initial.initial.items; final_values = c.in_ok-finals.finals.items; before = c.in_ok-before.before.items } =
     λ i. record { processes = sym first i; initial = sym c.in_ok-initial.ensures i; final_values = sym c.in_ok-finals.ensures i; before = sym second i } in
-    subst IsTrace same (part_is_trace t c.is_trace.ensures ordered (chosen_in c.args.selection.now))
+    subst IsTrace same (part_is_trace t c.recall_invariant.ensures ordered (chosen_in c.args.selection.now))
 
 pub returns-clause-places : goal.returns-clause-places
 returns-clause-places c =

@@ -18,4 +18,4 @@ returns c =
     IfOk-weaker c.sources_chosen.result _ _ (λ all e n known same.
     e
     ∙ ap (λ (l : List ChosenWriter). list_all (λ (w : ChosenWriter). w.chosen || not (row_is_source c.args.selection.now.order l c.args.reader c.args.value w)) l) (c.writers_at-writers.ensures ∙ c.requires.selection.table c.args.location.now)
-    ∙ sources_are c.args.selection.now.trace.now c.args.selection.now.order (chosen_in c.args.selection.now) c.args.location.now c.is_trace.ensures n c.args.reader c.args.value known same) c.sources_chosen.ensures
+    ∙ sources_are c.args.selection.now.trace.now c.args.selection.now.order (chosen_in c.args.selection.now) c.args.location.now c.recall_invariant.ensures n c.args.reader c.args.value known same) c.sources_chosen.ensures

@@ -1,6 +1,6 @@
 use Rattle.std.proofs.Common.{◌≡◌, ◌||◌, ℕ, List, take}
 use Rattle.std.specs.List.{list_any}
-use Rattle.trace_part.specs.Chosen.{has}
+use Rattle.trace_semantics.specs.OpSet.{has}
 use Rattle.trace_part.specs.WriterTables.{IsSoundTable, has_location, works_on}
 use Rattle.trace_part.proofs.writer_table.note_ops.Given as goal
 

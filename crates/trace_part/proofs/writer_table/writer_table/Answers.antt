@@ -1,6 +1,6 @@
 use Rattle.std.proofs.Common.{arith, ap, sym, ◌∙◌}
 use Rattle.trace_semantics.specs.declared.trace.Process.{Process}
-use Rattle.trace_part.specs.Chosen.{has}
+use Rattle.trace_semantics.specs.OpSet.{has}
 use Rattle.trace_part.proofs.WriterTableLemmas.{process_noted, all_noted}
 use Rattle.trace_part.proofs.writer_table.writer_table.Goals as goal
 
@@ -12,4 +12,4 @@ loop-k-preserved c = (
 
 pub returns : goal.returns
 returns c =
-    all_noted c.args.trace.now c.is_trace.ensures (has c.args.set.now) c.loop-k.table c.processes-processes.result.now c.loop-k.k c.processes-processes.ensures (omega (arith, c.loop-k.auto.k-end, c.loop-k-test.false)) c.loop-k.invariant.0 c.loop-k.invariant.1
+    all_noted c.args.trace.now c.recall_invariant.ensures (has c.args.set.now) c.loop-k.table c.processes-processes.result.now c.loop-k.k c.processes-processes.ensures (omega (arith, c.loop-k.auto.k-end, c.loop-k-test.false)) c.loop-k.invariant.0 c.loop-k.invariant.1

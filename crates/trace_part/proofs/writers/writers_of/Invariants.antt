@@ -1,6 +1,6 @@
 use Rattle.std.proofs.Common.{◌≡◌, map, take}
 use Rattle.std.specs.List.{filter, flat_map}
-use Rattle.trace_part.specs.Chosen.{has}
+use Rattle.trace_semantics.specs.OpSet.{has}
 use Rattle.restriction.specs.Left.{names_of}
 use Rattle.part_law.specs.Part.{writes_at}
 use Rattle.trace_part.specs.Rows.{row_of}

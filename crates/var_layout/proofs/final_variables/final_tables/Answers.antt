@@ -15,7 +15,7 @@ overflow_add-next c =
     let within : c.loop-k.k < length t.final_values = omega (arith, c.loop-k-test.true, ap length c.final_values-values.ensures) in
     let here : entry ≡ get_or t.final_values c.loop-k.k entry = c.index-values-k.is ∙ ap (λ l. get_or l c.loop-k.k entry) c.final_values-values.ensures in
     let next : c.loop-k.next + c.count_of-next.result ≡ first_final t (c.loop-k.k + 1) = next_final_is t c.loop-k.k c.loop-k.next c.count_of-next.result entry c.in_ok-table.table within here c.loop-k.invariant.next c.in_ok-table.ensures c.count_of-next.ensures in
-    omega (arith, next, few_first_final t (c.loop-k.k + 1) c.is_trace.ensures c.requires.few)
+    omega (arith, next, few_first_final t (c.loop-k.k + 1) c.recall_invariant.ensures c.requires.few)
 
 pub loop-k-preserved : goal.loop-k-preserved
 loop-k-preserved c =

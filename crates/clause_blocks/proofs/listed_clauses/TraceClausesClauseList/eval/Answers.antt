@@ -18,7 +18,7 @@ overflow_add-result c =
     let high : c.loop-k.k < length (pieces t) = search rules in
     let there : IsFirstFalse value (clauses_of t) (c.start.result + found) = subst (λ m. IsFirstFalse value (clauses_of t) (m + found)) (sym c.start.ensures)
     (first_in_piece t value c.loop-k.k found high c.loop-k.invariant (subst (λ l. IsFirstFalse value l found) same c.in-Err.ensures.first)) in
-    let few : length (clauses_of t) ≤ 16777216 = c.few_clauses.ensures t c.is_clause_list.ensures.trace c.is_clause_list.ensures.few in
+    let few : length (clauses_of t) ≤ 16777216 = c.few_clauses.ensures t c.recall_limits.ensures.trace c.recall_limits.ensures.few in
     omega (arith, few, first_within value (clauses_of t) (c.start.result + found) there)
 
 pub returns-in-Err-clause-model : goal.returns-in-Err-clause-model

@@ -13,4 +13,4 @@ pub returns-clause-few : goal.returns-clause-few
 returns-clause-few c =
     let t = c.args.self.now in
     let all : c.start.result ≡ length (clauses_of t) = c.start.ensures ∙ ap (clauses_before t) c.pieces.ensures ∙ ap length (all_pieces t) in
-    omega (arith, all, c.few_clauses.ensures t c.is_clause_list.ensures.trace c.is_clause_list.ensures.few)
+    omega (arith, all, c.few_clauses.ensures t c.recall_limits.ensures.trace c.recall_limits.ensures.few)

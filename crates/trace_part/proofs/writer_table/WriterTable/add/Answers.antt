@@ -1,5 +1,5 @@
 use Rattle.std.proofs.Common.{◌≡◌, length, rules}
-use Rattle.trace_part.specs.Chosen.{has}
+use Rattle.trace_semantics.specs.OpSet.{has}
 use Rattle.trace_part.proofs.WriterTableLemmas.{added_sound}
 use Rattle.trace_part.proofs.writer_table.WriterTable.add.Goals as goal
 

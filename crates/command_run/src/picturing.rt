@@ -1,0 +1,90 @@
+//! The picture of an answer.
+ghost use Rattle.command_run.specs.CommandRun.{Adds, ReopensGiven, Takes};
+ghost use Rattle.command_run.specs.Inputs.{inputs_of};
+ghost use Rattle.verdict_report.specs.Runs.{sink_run};
+
+use crate::explaining::read_again;
+use crate::host::Host;
+use crate::inputs::inputs_of;
+use command_line::Line;
+use dimacs::{Sink, write_whole};
+use picture::draw_verdict;
+use std::alloc::Global;
+use survey::BySaturation;
+use trace_text::trace_reader::read_trace;
+
+/// The steps that the survey for a picture of `verify` may take: a fraction of a second.
+const PICTURE_STEPS: u64 = 20_000_000;
+
+/// The survey for the picture of the line, or none if it has no picture.
+fn surveyor_of(line: Line<'_>) -> Option<BySaturation> {
+    match line {
+        Line::Verify { .. } => Some(BySaturation {
+            budget: PICTURE_STEPS,
+        }),
+        Line::Survey { numbers, .. } => Some(BySaturation {
+            budget: numbers.budget,
+        }),
+        _ => None,
+    }
+}
+
+/// Whether the trace is consistent by this exit status, if that says so.
+fn verdict_of(status: u8) -> Option<bool> {
+    match status {
+        0 => Some(true),
+        1 => Some(false),
+        _ => None,
+    }
+}
+
+/// The picture of the trace in these bytes, or no bytes.
+fn picture_of(alloc: Global, line: Line<'_>, status: u8, bytes: &[u8]) -> Vec<u8> {
+    let Some(is_consistent) = verdict_of(status) else {
+        return Vec::new(alloc);
+    };
+    let Some(surveyor) = surveyor_of(line) else {
+        return Vec::new(alloc);
+    };
+    let Ok(trace) = read_trace(alloc, bytes) else {
+        return Vec::new(alloc);
+    };
+    match draw_verdict(alloc, &trace, &surveyor, is_consistent) {
+        Ok(picture) => picture,
+        Err(_) => Vec::new(alloc),
+    }
+}
+
+/// Writes the bytes, or a prefix of them if the file fails.
+fn add_picture<W: Sink>(picture: &[u8], file: &mut W)
+    ensures { Takes (sink_run W.written W.failures file.old file.new) picture.now }
+{
+    // A picture that could not be written whole changes no answer.
+    let _ = write_whole(file, picture);
+}
+
+/// Writes the picture, if there is one.
+fn write_picture<W: Sink>(picture: &[u8], file: &mut W)
+    ensures { Adds (sink_run W.written W.failures file.old file.new) }
+{
+    add_picture(picture, file);
+}
+
+/// Draws the outcome of this status into the file, by the trace that the line reads, which is read once more for that.
+pub(crate) fn draw_outcome<'p, H: Host<'p>, W: Sink>(
+    alloc: Global,
+    host: &mut H,
+    line: Line<'p>,
+    status: u8,
+    file: &mut W,
+)
+    ensures reopens { ReopensGiven H.calls host.old (inputs_of line.entry).first host.new }
+    ensures adds { Adds (sink_run W.written W.failures file.old file.new) }
+{
+    let paths = inputs_of(line);
+    let picture = match read_again(alloc, host, paths.first) {
+        Some(bytes) => picture_of(alloc, line, status, bytes.as_slice()),
+        None => Vec::new(alloc),
+    };
+    write_picture(picture.as_slice(), file);
+}

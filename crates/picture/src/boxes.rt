@@ -1,0 +1,88 @@
+//! Boxes and titles of columns.
+
+use crate::found_order::FoundOrder;
+use crate::item::PictureItem;
+use crate::operation_text::BoxText;
+use crate::placement::{Placement, text_width};
+use crate::svg_text::SvgText;
+use std::alloc::{AllocError, Global};
+
+/// The class of the box of this number.
+fn class_of(found: &FoundOrder, item: &PictureItem<'_>, number: usize) -> &'static [u8] {
+    if found.is_lacking(number) {
+        b"lacking"
+    } else if found.is_in_cycle(number) {
+        b"marked"
+    } else if item.is_operation() {
+        b"operation"
+    } else {
+        b"value"
+    }
+}
+
+/// Draws what is written into a box, in its middle.
+fn draw_text(
+    svg: &mut SvgText,
+    text: &BoxText,
+    center: u64,
+    baseline: u64,
+) -> Result<(), AllocError> {
+    let left = center.saturating_sub(text_width(text.length()) / 2);
+    svg.add(&[b"<text class=\"code\" xml:space=\"preserve\""])?;
+    svg.at(left, baseline)?;
+    svg.add(&[b"><tspan class=\"position\">"])?;
+    svg.escaped(&[text.position.as_slice()])?;
+    svg.add(&[b"</tspan><tspan class=\"name\">"])?;
+    svg.escaped(&[text.name.as_slice()])?;
+    svg.add(&[b"</tspan>"])?;
+    svg.escaped(&[text.words.as_slice()])?;
+    svg.add(&[b"</text>\n"])
+}
+
+/// Draws the box of this number.
+fn draw_box(
+    alloc: Global,
+    svg: &mut SvgText,
+    placement: &Placement<'_>,
+    class: &[u8],
+    item: &PictureItem<'_>,
+    has_position: bool,
+) -> Result<(), AllocError> {
+    let edges = placement.edges_of(item);
+    svg.add(&[b"<rect class=\"", class, b"\" rx=\"5\""])?;
+    svg.at(edges.left, edges.top)?;
+    svg.attribute(b"width", edges.width())?;
+    svg.attribute(b"height", edges.height())?;
+    svg.add(&[b"/>\n"])?;
+    let text = BoxText::of(alloc, item, has_position)?;
+    let baseline = edges.middle().saturating_add(4);
+    draw_text(svg, &text, edges.center(), baseline)
+}
+
+/// Draws all boxes.
+pub(crate) fn draw_boxes(
+    alloc: Global,
+    svg: &mut SvgText,
+    placement: &Placement<'_>,
+    items: &[PictureItem<'_>],
+    found: &FoundOrder,
+    has_position: bool,
+) -> Result<(), AllocError> {
+    for number in 0..items.len() {
+        let item = &items[number];
+        let class = class_of(found, item, number);
+        draw_box(alloc, svg, placement, class, item, has_position)?;
+    }
+    Ok(())
+}
+
+/// Draws the titles of the columns.
+pub(crate) fn draw_titles(svg: &mut SvgText, placement: &Placement<'_>) -> Result<(), AllocError> {
+    for column in &placement.columns {
+        if column.width > 0 {
+            let center = column.left.saturating_add(column.width / 2);
+            svg.line_of_text(b"column", center, placement.title_line(), &[column.title])?;
+        }
+    }
+    Ok(())
+}

@@ -1,0 +1,98 @@
+//! What stands in a box of a picture.
+
+use trace_semantics::operation::{Op, Origin};
+
+/// What a box is of.
+#[derive(Clone, Copy)]
+pub(crate) enum ItemKind {
+    /// The initial value of a location.
+    Initial,
+    /// An operation.
+    Operation,
+    /// The final value of a location.
+    Final,
+}
+
+/// A box of a picture: an operation, or an initial or a final value, which is seen as a write or a read.
+#[derive(Clone, Copy)]
+pub(crate) struct PictureItem<'t> {
+    pub kind: ItemKind,
+    pub location: &'t [u8],
+    /// The value that it reads.
+    pub read: Option<u64>,
+    /// The value that it leaves.
+    pub left: Option<u64>,
+    /// The number of its column. That of the initial values is 0.
+    pub column: usize,
+    /// The number of its row, counted from 0.
+    pub row: usize,
+    /// The name of its process, if it is an operation.
+    pub process: &'t [u8],
+    /// The operation's place in its process, counted from 1.
+    pub place: u64,
+    pub op: Option<&'t Op>,
+}
+
+impl<'t> PictureItem<'t> {
+    /// Whether it is an initial value.
+    pub fn is_initial(&self) -> bool {
+        match self.kind {
+            ItemKind::Initial => true,
+            ItemKind::Operation => false,
+            ItemKind::Final => false,
+        }
+    }
+
+    /// Whether it is a final value.
+    pub fn is_final(&self) -> bool {
+        match self.kind {
+            ItemKind::Initial => false,
+            ItemKind::Operation => false,
+            ItemKind::Final => true,
+        }
+    }
+
+    /// Whether it is an operation.
+    pub fn is_operation(&self) -> bool {
+        self.op.is_some()
+    }
+
+    /// Whether it is the operation at this place of the process.
+    pub fn is_named(&self, process: &[u8], place: u64) -> bool {
+        self.op.is_some() && self.place == place && self.process == process
+    }
+
+    /// Whether it leaves a value at the location.
+    pub fn writes_at(&self, location: &[u8]) -> bool {
+        self.left.is_some() && self.location == location
+    }
+
+    /// Where its line says that it reads from.
+    pub fn origin(&self) -> Option<&'t Origin> {
+        match self.op? {
+            Op::Read { origin, .. } => Some(origin),
+            Op::Write { .. } => None,
+            Op::Update { origin, .. } => Some(origin),
+        }
+    }
+
+    /// Whether its line lets it read from the other one.
+    fn allows(&self, writer: &PictureItem<'t>) -> bool {
+        match self.origin() {
+            Some(Origin::Any) => true,
+            Some(Origin::Initial) => writer.is_initial(),
+            Some(Origin::Operation(name)) => {
+                writer.is_named(name.process.as_bytes(), name.place as u64)
+            }
+            None => true,
+        }
+    }
+
+    /// Whether it may have its value from the other one, but for their order.
+    pub fn may_read_from(&self, writer: &PictureItem<'t>) -> bool {
+        self.read.is_some()
+            && self.read == writer.left
+            && self.location == writer.location
+            && self.allows(writer)
+    }
+}

@@ -1,0 +1,165 @@
+//! The places of the boxes of a picture, in pixels.
+
+use crate::item::PictureItem;
+use crate::items::count_rows;
+use crate::operation_text::BoxText;
+use std::alloc::{AllocError, Global};
+use trace_semantics::trace::Trace;
+
+/// What is left free at each side.
+pub(crate) const MARGIN: u64 = 24;
+
+/// The height of a box.
+const BOX_HEIGHT: u64 = 26;
+
+/// From the top of the picture to the first row.
+const TOP: u64 = 104;
+
+/// A column of boxes.
+#[derive(Clone, Copy)]
+pub(crate) struct PictureColumn<'t> {
+    /// What is written above it.
+    pub title: &'t [u8],
+    pub left: u64,
+    /// The width of its boxes, or 0 if it has none.
+    pub width: u64,
+}
+
+/// Columns and rows.
+#[derive(Drop)]
+pub(crate) struct Placement<'t> {
+    pub columns: Vec<PictureColumn<'t>>,
+    /// From one row to the next.
+    pub row_step: u64,
+    pub rows: u64,
+    /// Where the last column ends.
+    pub right: u64,
+}
+
+/// The edges of a box.
+#[derive(Clone, Copy)]
+pub(crate) struct BoxEdges {
+    pub left: u64,
+    pub right: u64,
+    pub top: u64,
+    pub bottom: u64,
+}
+
+impl BoxEdges {
+    /// The middle of its height.
+    pub fn middle(&self) -> u64 {
+        self.top.saturating_add(BOX_HEIGHT / 2)
+    }
+
+    /// The middle of its width.
+    pub fn center(&self) -> u64 {
+        self.left.saturating_add(self.width() / 2)
+    }
+
+    /// Its width.
+    pub fn width(&self) -> u64 {
+        self.right.saturating_sub(self.left)
+    }
+
+    /// Its height.
+    pub fn height(&self) -> u64 {
+        self.bottom.saturating_sub(self.top)
+    }
+}
+
+/// The width of this number of characters of the text in a box.
+pub(crate) fn text_width(characters: u64) -> u64 {
+    characters.saturating_mul(29) / 4
+}
+
+/// The title of the column of this number.
+fn title_of(trace: &Trace, number: usize) -> &[u8] {
+    if number == 0 {
+        return b"initial";
+    }
+    match trace.processes().get(number - 1) {
+        Some(process) => process.name.as_bytes(),
+        None => b"final",
+    }
+}
+
+/// The width of the column, or 0 if it has no box.
+fn width_of(
+    alloc: Global,
+    items: &[PictureItem<'_>],
+    column: usize,
+    title: &[u8],
+    has_position: bool,
+) -> Result<u64, AllocError> {
+    let mut most: u64 = 0;
+    for item in items {
+        if item.column == column {
+            let text = BoxText::of(alloc, item, has_position)?;
+            most = most.max(text.length()).max(title.len() as u64);
+        }
+    }
+    if most == 0 {
+        return Ok(0);
+    }
+    Ok(text_width(most).saturating_add(20))
+}
+
+impl<'t> Placement<'t> {
+    /// The places of the boxes, of which those of operations have a position or not.
+    pub fn of(
+        alloc: Global,
+        items: &[PictureItem<'t>],
+        trace: &'t Trace,
+        has_position: bool,
+    ) -> Result<Placement<'t>, AllocError> {
+        let mut columns = Vec::new(alloc);
+        let gap: u64 = if has_position { 72 } else { 96 };
+        let mut left = MARGIN;
+        let mut right = MARGIN;
+        for number in 0..trace.processes().len().saturating_add(2) {
+            let title = title_of(trace, number);
+            let width = width_of(alloc, items, number, title, has_position)?;
+            columns.push(PictureColumn { title, left, width })?;
+            if width > 0 {
+                right = left.saturating_add(width);
+                left = right.saturating_add(gap);
+            }
+        }
+        Ok(Placement {
+            columns,
+            row_step: if has_position { 38 } else { 56 },
+            rows: count_rows(items) as u64,
+            right,
+        })
+    }
+
+    /// The edges of the box.
+    pub fn edges_of(&self, item: &PictureItem<'_>) -> BoxEdges {
+        let (left, width) = match self.columns.get(item.column) {
+            Some(column) => (column.left, column.width),
+            None => (MARGIN, 0),
+        };
+        let top = self.top_of_row(item.row as u64);
+        BoxEdges {
+            left,
+            right: left.saturating_add(width),
+            top,
+            bottom: top.saturating_add(BOX_HEIGHT),
+        }
+    }
+
+    /// Where the boxes of the row begin.
+    pub fn top_of_row(&self, row: u64) -> u64 {
+        TOP.saturating_add(self.row_step.saturating_mul(row))
+    }
+
+    /// Where the titles of the columns stand.
+    pub fn title_line(&self) -> u64 {
+        TOP - 16
+    }
+
+    /// Where the last row ends.
+    pub fn bottom(&self) -> u64 {
+        TOP.saturating_add(self.row_step.saturating_mul(self.rows))
+    }
+}

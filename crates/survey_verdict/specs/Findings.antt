@@ -1,0 +1,62 @@
+-- What follows from what a surveyor finds.
+use Rattle.std.specs.Prelude.{◌≡◌, ◌⊎◌, ⊤, List, Option, Some, None}
+use Rattle.cube_jobs.specs.Options.{OptionsValue}
+use Rattle.surveyor.specs.declared.Extent.{Extent}
+use Rattle.surveyor.specs.declared.Finding.{Finding}
+use Rattle.surveyor.specs.declared.Finding.TheVariants.{Core, Nothing, Schedule}
+use Rattle.surveyor.specs.declared.Overview.{Overview}
+use Rattle.survey_verdict.specs.declared.surveyed.Surveyed.{Surveyed}
+use Rattle.survey_verdict.specs.declared.surveyed.Surveyed.TheVariants.{Decided, Refuted, Undecided}
+use Rattle.survey_verdict.specs.Surveyed.{IsSurveyed, IsUnrefutedChoice, core_of}
+use Rattle.trace_decision.specs.declared.decision.Decision.TheVariants.{Consistent}
+use Rattle.trace_semantics.specs.declared.operation.OpName.{OpName}
+use Rattle.trace_semantics.specs.Legal.{IsLegal}
+use Rattle.trace_semantics.specs.Trace.{TraceValue, operation_names}
+
+-- these names, if they are a legal schedule of the trace
+abbrev pub IsJudged : TraceValue → List OpName → Option (List OpName) → Type 0
+IsJudged t names (Some schedule) = (schedule ≡ names) × IsLegal t schedule
+IsJudged t names None = IsLegal t names → ⊥
+
+-- what is decided is this core
+abbrev pub HasCore : List OpName → Surveyed → Type 0
+HasCore names (Decided decision) = ⊥
+HasCore names (Refuted core) = core.names ≡ names
+HasCore names (Undecided extent) = ⊥
+
+-- what is decided is what was found: the schedule, or the core, in the order of the trace
+abbrev pub IsAsFound : TraceValue → Finding → Surveyed → Type 0
+IsAsFound t (Schedule names) surveyed = surveyed ≡ Decided (Consistent names.items)
+IsAsFound t (Core names) surveyed = HasCore (core_of t names.items) surveyed
+IsAsFound t Nothing surveyed = ⊥
+
+-- what was found shows nothing: the schedule is not legal, or the part of the core is not refuted by a search with these options
+abbrev pub ShowsNothing : OptionsValue → TraceValue → Finding → Type 0
+ShowsNothing options t (Schedule names) = IsLegal t names.items → ⊥
+ShowsNothing options t (Core names) = IsUnrefutedChoice options t (core_of t names.items)
+ShowsNothing options t Nothing = ⊤
+
+-- what is decided by what was found, or that it shows nothing
+abbrev pub IsShownBy : OptionsValue → TraceValue → Finding → Option Surveyed → Type 0
+IsShownBy options t finding (Some surveyed) = IsSurveyed options t surveyed × IsAsFound t finding surveyed
+IsShownBy options t finding None = ShowsNothing options t finding
+
+-- what is decided of the whole trace after a survey that came this far: the core has all operations, and what is not decided is left with
+-- the numbers of the survey
+abbrev pub IsOfWhole : TraceValue → Extent → Surveyed → Type 0
+IsOfWhole t extent (Decided decision) = ⊤
+IsOfWhole t extent (Refuted core) = core.names ≡ operation_names t
+IsOfWhole t extent (Undecided told) = told ≡ extent
+
+-- what is decided of the whole trace is so
+abbrev pub IsDecidedWhole : OptionsValue → TraceValue → Extent → Surveyed → Type 0
+IsDecidedWhole options t extent surveyed = IsSurveyed options t surveyed × IsOfWhole t extent surveyed
+
+-- what is decided is what was found, if that can be shown, and else what a search of the whole trace decides
+abbrev pub FollowsFrom : OptionsValue → TraceValue → Overview → Surveyed → Type 0
+FollowsFrom options t overview surveyed =
+    IsAsFound t overview.finding surveyed ⊎ (ShowsNothing options t overview.finding × IsOfWhole t overview.extent surveyed)
+
+-- what is decided follows from something that is found so
+abbrev pub FollowsFromSome : OptionsValue → TraceValue → (Overview → Type 0) → Surveyed → Type 0
+FollowsFromSome options t IsFound surveyed = (overview : Overview) × IsFound overview × FollowsFrom options t overview surveyed
