@@ -86,7 +86,7 @@ fn certifies_the_part_of_a_core(rt: HostRuntime) {
     );
 }
 
-const BACK: &str = "vsc 1\nproc P\nW x 1\nW x 2\nbefore P 2 P 1\n";
+const BACK: &str = "vsc 2\nproc P\nW x 1\nW x 2\nbefore P 2 P 1\n";
 
 // A pair that goes back in one process is in no part, so there is no core, and the certificate is one for the whole.
 #[test]
