@@ -30,7 +30,7 @@ use Rattle.trace_text.proofs.TraceClearLemmas.{never_both as trace_never_faulty}
 use Rattle.trace_text.specs.TraceText.{SpellsTrace}
 use Rattle.verdict_report.specs.declared.fault.Fault.{Fault}
 use Rattle.verdict_report.specs.declared.fault.Fault.TheVariants.{OutOfMemory, Device, InputTooLong, Trace, Schedule, Part, Model, Cnf, Lrat, Reduce, Decode, Check, Cert, Search}
-use Rattle.core_recheck.specs.CoreRecheck.{IsAcceptedForPart}
+use Rattle.core_recheck.specs.CoreRecheck.{IsAcceptedUnlessAnother}
 
 module _ (options : OptionsValue) (t : TraceValue) (core : RefutedCore) (trace_text : List ℕ) (ok : IsTrace t) (spelled : SpellsTrace trace_text t) (given : IsRefutedCore options t core)
     (certified : IsCertificateFor core.part.trace (survey_certificate (Refuted core))) (listed : SpellsSchedule (core_names (Refuted core)) core.names) where
@@ -52,7 +52,7 @@ module _ (options : OptionsValue) (t : TraceValue) (core : RefutedCore) (trace_t
       let first : IsFirstFault (fault_of_choice t) core.names f.faulty.place cause = subst (λ (n : List OpName). IsFirstFault (fault_of_choice t) n f.faulty.place cause) names_are here in
       none_is_some cause (sym (given.is_part.choice first.before first.item first.after first.parts) ∙ first.faulty)
 
-  pub rechecked : (result : Result ℕ Fault) → IsSaidByPart trace_text (survey_certificate (Refuted core)) (core_names (Refuted core)) result → IsAcceptedForPart trace_text (core_names (Refuted core)) core.part.trace result
+  pub rechecked : (result : Result ℕ Fault) → IsSaidByPart trace_text (survey_certificate (Refuted core)) (core_names (Refuted core)) result → IsAcceptedUnlessAnother trace_text (core_names (Refuted core)) core.part.trace result
   rechecked (Ok count) said = tt
   rechecked (Err OutOfMemory) said = tt
   rechecked (Err (Trace cause line)) said = absurd (trace_never_faulty trace_text t cause line ok spelled said)

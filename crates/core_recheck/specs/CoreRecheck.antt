@@ -13,7 +13,7 @@ pub record MakeUpAnother (trace_text names_text : List ℕ) (part : TraceValue) 
   pub another : made.trace ≡ part → ⊥
 
 -- the certificate is accepted, or memory runs out, or the part that is made is another than this
-abbrev pub IsAcceptedForPart : List ℕ → List ℕ → TraceValue → Result ℕ Fault → Type 0
-IsAcceptedForPart trace_text names_text part (Ok count) = ⊤
-IsAcceptedForPart trace_text names_text part (Err OutOfMemory) = ⊤
-IsAcceptedForPart trace_text names_text part (Err fault) = MakeUpAnother trace_text names_text part
+abbrev pub IsAcceptedUnlessAnother : List ℕ → List ℕ → TraceValue → Result ℕ Fault → Type 0
+IsAcceptedUnlessAnother trace_text names_text part (Ok count) = ⊤
+IsAcceptedUnlessAnother trace_text names_text part (Err OutOfMemory) = ⊤
+IsAcceptedUnlessAnother trace_text names_text part (Err fault) = MakeUpAnother trace_text names_text part

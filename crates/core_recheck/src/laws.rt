@@ -4,7 +4,7 @@
 //! answer. Who calls it has what it says in proofs; the call does nothing when run.
 
 ghost use Rattle.std.specs.Prelude.{ℕ, List, Result};
-ghost use Rattle.core_recheck.specs.CoreRecheck.{IsAcceptedForPart};
+ghost use Rattle.core_recheck.specs.CoreRecheck.{IsAcceptedUnlessAnother};
 ghost use Rattle.cube_jobs.specs.Options.{OptionsValue};
 ghost use Rattle.part_report.specs.PartRecheckEngine.{IsSaidByPart};
 ghost use Rattle.survey_verdict.specs.declared.surveyed.RefutedCore.{RefutedCore};
@@ -22,7 +22,7 @@ pub fn core_is_rechecked()
     ensures { (options : OptionsValue) (t : TraceValue) (core : RefutedCore) (trace_text : List ℕ) (result : Result ℕ Fault) →
         IsTrace t → SpellsTrace trace_text t → IsSurveyed options t (Refuted core) →
         IsSaidByPart trace_text (survey_certificate (Refuted core)) (core_names (Refuted core)) result →
-        IsAcceptedForPart trace_text (core_names (Refuted core)) core.part.trace result }
+        IsAcceptedUnlessAnother trace_text (core_names (Refuted core)) core.part.trace result }
 {
     core_certificate_is_accepted();
     core_names_spell();

@@ -204,9 +204,9 @@ impl Ledger {
         }
     }
 
-    /// The verdict that follows from the answers. Each model is tried on the formula, and each derivation is checked: no answer is
-    /// believed. One to eight workers check the derivations side by side, each in a thread of its own where one can be made; one worker
-    /// needs none. The verdict is the same for any number of them.
+    /// The verdict that follows from the answers. Each model is tried on the formula, and each derivation is checked, or is word for word
+    /// one that was and serves this leaf's cube too: no answer is believed. One to eight workers check the derivations side by side, each in
+    /// a thread of its own where one can be made; one worker needs none. The verdict is the same for any number of them.
     pub fn confirm<R: Threads + Sync, L: ClauseList + Sync>(
         &self,
         alloc: Global,

@@ -46,8 +46,8 @@ pub record FollowsFromText (options : OptionsValue) (IsFound : TraceValue → Ov
   pub decided : IsSurveyed options value surveyed
   pub follows : FollowsFromSome options value (IsFound value) surveyed
 
--- what is said of the text: what is decided of its trace, by some search, or why nothing is; a search that has no results refuses no other
--- texts
+-- what is said of the text: what is decided of its trace, by some search, or why nothing is; a search that was cut off is reported only of a
+-- text that spells a trace
 abbrev pub IsSaidOfSurvey : List ℕ → Result Surveyed Fault → Type 0
 IsSaidOfSurvey text (Ok surveyed) = (options : OptionsValue) × IsSurveyedFrom options text surveyed
 IsSaidOfSurvey text (Err OutOfMemory) = ⊤
@@ -80,7 +80,7 @@ IsRunOfCertifiedSurvey trace cert names part out =
     IsRunOfEngine InPieces (of_one IsSaidOfSurvey) texts_with_core status_of_survey (trace ∷ []) (cert ∷ names ∷ part ∷ out ∷ [])
 
 -- the source handed out the text of a trace, and the sink took the line that says how far the survey came; a search of the whole trace with
--- these options does not decide it
+-- these options need not decide it
 pub record TellsExtent (options : OptionsValue) (trace : SourceRun) (out : SinkRun) : Type 0 where
   pub text : List ℕ
   pub handed : HandsOut trace text
@@ -105,7 +105,7 @@ pub record AnswersSurvey (options : OptionsValue) (IsFound : TraceValue → Over
 -- The source handed out the text of a trace that has no legal schedule. One sink took the names of a core, one a line, by process and place,
 -- and this text spells them; one the text of the part that they make up, which spells that part, a trace, with the names of its operations in
 -- the whole; and one the text of a certificate, which is accepted for the clauses of what is kept of this part, at most 160 operations.
-pub record CertifiesCore (trace : SourceRun) (cert taken shown : SinkRun) : Type 0 where
+pub record CertifiesCore (trace : SourceRun) (cert names_sink part_sink : SinkRun) : Type 0 where
   pub text : List ℕ
   pub handed : HandsOut trace text
   pub value : TraceValue
@@ -113,13 +113,13 @@ pub record CertifiesCore (trace : SourceRun) (cert taken shown : SinkRun) : Type
   pub spelled : SpellsTrace text value
   pub names : List OpName
   pub in_order : names ≡ core_of value names
-  pub told : taken.now ≡ taken.before ++ canonical_schedule names
+  pub told : names_sink.now ≡ names_sink.before ++ canonical_schedule names
   pub names_spelled : SpellsSchedule (canonical_schedule names) names
   pub made : PartValue
   pub is_part : IsPart value names made
   pub part_is_trace : IsTrace made.trace
   pub few_left : operation_count (kept_trace made.trace) ≤ 160
-  pub part_told : shown.now ≡ shown.before ++ part_text true made
+  pub part_told : part_sink.now ≡ part_sink.before ++ part_text true made
   pub part_spelled : SpellsTrace (part_text true made) made.trace
   pub written : List ℕ
   pub whole : cert.now ≡ cert.before ++ written
@@ -127,7 +127,7 @@ pub record CertifiesCore (trace : SourceRun) (cert taken shown : SinkRun) : Type
   pub none_legal : HasNoSchedule value
 
 -- The source handed out the text of a trace that has no legal schedule, and the sink took the text of a certificate, which is accepted for
--- the clauses of what is kept of the whole trace. A search with these options does not refute the part that all operations make up.
+-- the clauses of what is kept of the whole trace. A search with these options need not refute the part that all operations make up.
 pub record CertifiesWhole (options : OptionsValue) (trace : SourceRun) (cert : SinkRun) : Type 0 where
   pub text : List ℕ
   pub handed : HandsOut trace text

@@ -34,9 +34,10 @@ use verdict_report::{Fault, Source, Status};
 
 /// Decides whether the trace that the source hands out, of whatever length a trace may have, has a legal schedule, and writes the report:
 /// CONSISTENT and a legal schedule of the whole trace, which was judged or is one by the search of the whole; INCONSISTENT and the names
-/// of a core, the part of which the search refutes, or INCONSISTENT alone if the search refutes the whole; or UNKNOWN and how far the
-/// survey came, if neither was shown. Nothing that the surveyor finds is taken on trust. If at most 160 operations are left of the whole
-/// trace, the search of the whole has the last word, so UNKNOWN is said of such a trace only if that search leaves cubes open.
+/// of a core, the part of which the search refutes, or INCONSISTENT alone if the search refutes the whole and no part; or UNKNOWN and how
+/// far the survey came, if neither was shown. Nothing that the surveyor finds is taken on trust. If at most 160 operations are left of the
+/// whole trace, the search of the whole has the last word, so UNKNOWN is said of such a trace only if a search with these options can leave
+/// cubes open.
 ///
 /// The first refusal stands: of a source that fails, an input past the limit, the trace's text, the search, lack of memory, or the sink.
 /// Before the last a prefix of the report may have been written, and before the others nothing.
@@ -73,8 +74,8 @@ pub fn run_survey<R: Threads + Wait + Sync, T: Source, S: Surveyor, G: Gate + Sy
 
 /// Does what [`run_survey`] does, and before the report writes three texts of an INCONSISTENT, each to a sink of its own: the certificate,
 /// the names of the core, and its part, as a trace's text with the names of its operations in the whole. The certificate is accepted for
-/// this part. If the search refutes the whole trace, there are no names and no part, and the certificate is that of the whole. With
-/// another report these sinks take nothing.
+/// this part. If the search refutes the whole trace and not the part of all its operations, there are no names and no part, and the
+/// certificate is that of the whole. With another report these sinks take nothing.
 ///
 /// If memory runs out or a sink fails while something is written, a prefix of the four texts may have been written: the certificate,
 /// the names, the part, and the report. Before the other refusals, which are those of `run_survey`, nothing was.

@@ -30,7 +30,7 @@ IsAsFound t (Schedule names) surveyed = surveyed ≡ Decided (Consistent names.i
 IsAsFound t (Core names) surveyed = HasCore (core_of t names.items) surveyed
 IsAsFound t Nothing surveyed = ⊥
 
--- what was found shows nothing: the schedule is not legal, or the part of the core is not refuted by a search with these options
+-- what was found shows nothing: the schedule is not legal, or a search with these options need not refute the part of the core
 abbrev pub ShowsNothing : OptionsValue → TraceValue → Finding → Type 0
 ShowsNothing options t (Schedule names) = IsLegal t names.items → ⊥
 ShowsNothing options t (Core names) = IsUnrefutedChoice options t (core_of t names.items)

@@ -36,8 +36,8 @@ abbrev pub IsReducedIfSmall : TraceValue → Option ReducedValue → Type 0
 IsReducedIfSmall t (Some reduced) = IsReduced reduced × (reduced.whole ≡ t)
 IsReducedIfSmall t None = IsTooLong t
 
--- A search with these options does not refute the trace: more operations are left of it than a search takes, or it has a legal schedule,
--- or the search leaves cubes open.
+-- A search with these options need not refute the trace: more operations are left of it than a search takes, or it has a legal schedule, or
+-- such a search can leave cubes open. No search is bound to find what there is.
 abbrev pub IsNotRefuted : OptionsValue → TraceValue → Type 0
 IsNotRefuted options t = IsTooLong t ⊎ (((schedule : List OpName) × IsLegal t schedule) ⊎ ((cubes : List (List ℤ)) × IsDecided options t (Unknown cubes)))
 
@@ -52,7 +52,7 @@ refutation_in (Consistent schedule) = None
 refutation_in (Inconsistent refutation) = Some refutation
 refutation_in (Unknown cubes) = None
 
--- what refutes the trace, of which no more than 160 operations are left, or that a search with these options does not refute it
+-- what refutes the trace, of which no more than 160 operations are left, or that a search with these options need not refute it
 abbrev pub IsRefutedIfShort : OptionsValue → TraceValue → Option Refutation → Type 0
 IsRefutedIfShort options t (Some refutation) = IsDecided options t (Inconsistent refutation) × (operation_count (kept_trace t) ≤ 160)
 IsRefutedIfShort options t None = IsNotRefuted options t
@@ -70,22 +70,22 @@ pub record IsRefutedCore (options : OptionsValue) (t : TraceValue) (core : Refut
   pub refuted : IsDecided options core.part.trace (Inconsistent core.refutation)
   pub none_legal : HasNoSchedule t
 
--- the names make up a part that a search with these options does not refute
+-- the names make up a part that a search with these options need not refute
 abbrev pub IsUnrefutedChoice : OptionsValue → TraceValue → List OpName → Type 0
 IsUnrefutedChoice options t names = (p : PartValue) × IsPart t names p × IsNotRefuted options p.trace
 
--- the core of these names, or that the part which they make up is not refuted
+-- the core of these names, or that the part which they make up need not be refuted
 abbrev pub IsRefutedChoice : OptionsValue → TraceValue → List OpName → Option RefutedCore → Type 0
 IsRefutedChoice options t names (Some core) = (core.names ≡ names) × IsRefutedCore options t core
 IsRefutedChoice options t names None = IsUnrefutedChoice options t names
 
--- a search of the whole trace does not decide it: too many operations are left, or a search with these options leaves cubes open
+-- a search of the whole trace need not decide it: too many operations are left, or a search with these options can leave cubes open
 abbrev pub IsLeftOpen : OptionsValue → TraceValue → Type 0
 IsLeftOpen options t = IsTooLong t ⊎ ((cubes : List (List ℤ)) × IsDecided options t (Unknown cubes))
 
 -- What is decided is so: it is a legal schedule of the whole trace; or the part of the core is refuted by a search with these options, and the
--- trace has no legal schedule; or such a search refutes the whole trace, and not the part of all its operations; or nothing is said, and a
--- search of the whole trace says no more.
+-- trace has no legal schedule; or such a search refutes the whole trace, and need not refute the part of all its operations; or nothing is said,
+-- and a search of the whole trace need not say more.
 abbrev pub IsSurveyed : OptionsValue → TraceValue → Surveyed → Type 0
 IsSurveyed options t (Decided (Consistent schedule)) = IsLegal t schedule
 IsSurveyed options t (Decided (Inconsistent refutation)) = IsDecided options t (Inconsistent refutation) × IsUnrefutedChoice options t (operation_names t)

@@ -276,8 +276,9 @@ fn decide_by_overview<R: Threads + Wait + Sync, G: Gate + Sync>(
 }
 
 /// Decides whether the trace has a legal schedule by what the survey finds, or else by the search of the whole, if few enough operations
-/// are left of that. So nothing stays undecided that the search decides. A legal schedule that the surveyor finds is the answer, and so is a
-/// core of its of which the search refutes the part.
+/// are left of that. A legal schedule that the surveyor finds is the answer. A core of its is the answer if the search refutes its part,
+/// and what that search decides of the whole does not stay undecided; but no search is bound to decide anything, so the clauses say only
+/// that one with these options can leave it open.
 pub fn decide_by_survey<R: Threads + Wait + Sync, S: Surveyor, G: Gate + Sync>(
     alloc: Global,
     rt: &R,
