@@ -1,7 +1,7 @@
 -- What a command does: the engine that it runs, on which files and with which options, what its standard streams take, and its exit
 -- status.
 use Rattle.std.specs.Borrow.{Bor}
-use Rattle.std.specs.Prelude.{◌≡◌, ◌||◌, ◌⊎◌, ℕ, Bool, false, true, not, List, [], ◌∷◌, Option, None, Some, Result, Ok, Err, IfSome, is_some}
+use Rattle.std.specs.Prelude.{◌≡◌, ◌||◌, ◌⊎◌, ◌≤◌, ℕ, Bool, false, true, not, List, [], ◌∷◌, Option, None, Some, Result, Ok, Err, IfSome, is_some}
 use Rattle.clap.specs.Words.{takes}
 use Rattle.clap.specs.declared.error.kind.ErrorKind.{ErrorKind}
 use Rattle.clap.specs.declared.error.kind.ErrorKind.TheVariants.{OutOfMemory as NoMemoryToRead}
@@ -295,8 +295,14 @@ abbrev pub EndsAsked : {H I O : Type 0} → Bool → HostCalls H I O → (I → 
 EndsAsked true calls read wrote from line out err status to = EndsExplained calls read wrote from line out err status to
 EndsAsked false calls read wrote from line out err status to = EndsRun calls read wrote from line out err status to
 
+-- What a picture's file took. After an answer that says whether there is a legal schedule, status 0 or 1, the trace was handed out once more,
+-- and the file took some text, of which nothing is said. After anything else nothing was asked of the host, and the file took nothing.
+abbrev pub Draws : {H I O : Type 0} → HostCalls H I O → H → Line → ℕ → SinkRun → H → Type 0
+Draws calls from line status file to =
+    ((status ≤ 1) × ReopensGiven calls from (inputs_of line).first to × Adds file) ⊎ ((2 ≤ status) × TakesNothing file × (to ≡ from))
+
 -- The file at this path was made or emptied, and then the line was run as without a picture: with the same status, and the same texts on the
--- standard streams. Then the trace was handed out once more, the file took some text, of which nothing is said, and it was given back.
+-- standard streams. Then its outcome was drawn into the file, and that was given back.
 pub record EndsWithPicture {H I O : Type 0} (calls : HostCalls H I O) (read : I → I → SourceRun) (wrote : O → O → SinkRun) (from : H) (path : List ℕ) (asked : CommandLine) (out err : SinkRun) (status : ℕ) (to : H) : Type 0 where
   pub before : O
   pub after : O
@@ -307,8 +313,7 @@ pub record EndsWithPicture {H I O : Type 0} (calls : HostCalls H I O) (read : I 
   pub ran : H
   pub ends : EndsAsked asked.explains calls read wrote made asked.line out err status ran
   pub drawn : H
-  pub reopens : ReopensGiven calls ran (inputs_of asked.line).first drawn
-  pub adds : Adds (wrote before after)
+  pub draws : Draws calls ran asked.line status (wrote before after) drawn
   pub closes : calls.closes drawn after to
 
 -- the file for the picture could not be made: the line was not run, and that is reported

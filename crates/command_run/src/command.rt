@@ -199,7 +199,8 @@ fn run_line<'p, R: Threads + Wait + Sync, G: Gate + Sync, H: Host<'p>, O: Sink, 
 /// The engine that the words name is run on the files at their paths and with their options. Standard output takes what the engine
 /// writes, standard error the line of a refusal, and nothing else goes to either of them. With `--progress` the gate `progress` is
 /// called before and after each cube, and what it writes to standard error it writes by itself. With `--explain` standard error then takes
-/// an explanation, and with `--picture` a further file a picture, of which nothing is said. Of words that ask for nothing, standard output takes the help or the version, or standard error what is wrong with them.
+/// an explanation, and with `--picture` a further file takes a picture after CONSISTENT or INCONSISTENT; of what these two are, nothing is
+/// said. Of words that ask for nothing, standard output takes the help or the version, or standard error what is wrong with them.
 pub fn run<'p, R: Threads + Wait + Sync, G: Gate + Sync, H: Host<'p>, O: Sink, E: Sink>(
     alloc: Global,
     rt: &R,

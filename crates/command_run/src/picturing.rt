@@ -1,5 +1,5 @@
 //! The picture of an answer.
-ghost use Rattle.command_run.specs.CommandRun.{Adds, ReopensGiven, Takes};
+ghost use Rattle.command_run.specs.CommandRun.{Adds, Draws, ReopensGiven, Takes};
 ghost use Rattle.command_run.specs.Inputs.{inputs_of};
 ghost use Rattle.verdict_report.specs.Runs.{sink_run};
 
@@ -29,20 +29,8 @@ fn surveyor_of(line: Line<'_>) -> Option<BySaturation> {
     }
 }
 
-/// Whether the trace is consistent by this exit status, if that says so.
-fn verdict_of(status: u8) -> Option<bool> {
-    match status {
-        0 => Some(true),
-        1 => Some(false),
-        _ => None,
-    }
-}
-
-/// The picture of the trace in these bytes, or no bytes.
-fn picture_of(alloc: Global, line: Line<'_>, status: u8, bytes: &[u8]) -> Vec<u8> {
-    let Some(is_consistent) = verdict_of(status) else {
-        return Vec::new(alloc);
-    };
+/// The picture of the trace in these bytes, of which it was answered whether it is consistent, or no bytes.
+fn picture_of(alloc: Global, line: Line<'_>, is_consistent: bool, bytes: &[u8]) -> Vec<u8> {
     let Some(surveyor) = surveyor_of(line) else {
         return Vec::new(alloc);
     };
@@ -70,12 +58,12 @@ fn write_picture<W: Sink>(picture: &[u8], file: &mut W)
     add_picture(picture, file);
 }
 
-/// Draws the outcome of this status into the file, by the trace that the line reads, which is read once more for that.
-pub(crate) fn draw_outcome<'p, H: Host<'p>, W: Sink>(
+/// Draws the answer, which says whether the trace is consistent, by the trace that the line reads, which is read once more for that.
+fn draw_answer<'p, H: Host<'p>, W: Sink>(
     alloc: Global,
     host: &mut H,
     line: Line<'p>,
-    status: u8,
+    is_consistent: bool,
     file: &mut W,
 )
     ensures reopens { ReopensGiven H.calls host.old (inputs_of line.entry).first host.new }
@@ -83,8 +71,23 @@ pub(crate) fn draw_outcome<'p, H: Host<'p>, W: Sink>(
 {
     let paths = inputs_of(line);
     let picture = match read_again(alloc, host, paths.first) {
-        Some(bytes) => picture_of(alloc, line, status, bytes.as_slice()),
+        Some(bytes) => picture_of(alloc, line, is_consistent, bytes.as_slice()),
         None => Vec::new(alloc),
     };
     write_picture(picture.as_slice(), file);
+}
+
+/// Draws the outcome of this status into the file, if it says whether there is a legal schedule.
+pub(crate) fn draw_outcome<'p, H: Host<'p>, W: Sink>(
+    alloc: Global,
+    host: &mut H,
+    line: Line<'p>,
+    status: u8,
+    file: &mut W,
+)
+    ensures { Draws H.calls host.old line.entry status (sink_run W.written W.failures file.old file.new) host.new }
+{
+    if status <= 1 {
+        draw_answer(alloc, host, line, status == 0, file);
+    }
 }

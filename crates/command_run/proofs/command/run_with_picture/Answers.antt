@@ -12,7 +12,6 @@ returns-clause-ends g c = inr (record {
   ran = c.run_asked-status.new.host;
   ends = c.run_asked-status.ensures.ends;
   drawn = c.draw_outcome.new.host;
-  reopens = c.draw_outcome.ensures.reopens;
-  adds = c.draw_outcome.ensures.adds;
+  draws = c.draw_outcome.ensures;
   closes = c.close.ensures;
 })
