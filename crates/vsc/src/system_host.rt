@@ -5,6 +5,7 @@ use command_run::{Host, SearchRequest};
 use dimacs::{Failed, FailureCount};
 use std::fs::metadata;
 use std::os::unix::fs::MetadataExt;
+use std::path::Path;
 
 /// The path at which the system shows what standard input is.
 const INPUT_DEVICE: &str = "/dev/stdin";
@@ -13,6 +14,24 @@ const INPUT_DEVICE: &str = "/dev/stdin";
 fn is_same(rt: &HostRuntime, first: &str, second: &str) -> bool {
     match (metadata(rt, first), metadata(rt, second)) {
         (Ok(first), Ok(second)) => first.dev() == second.dev() && first.ino() == second.ino(),
+        _ => false,
+    }
+}
+
+/// The folder of the path: the one in which the program was started if the path names none.
+fn folder_of(path: &str) -> &str {
+    match Path::new(path).parent() {
+        Some(folder) if !folder.as_str().is_empty() => folder.as_str(),
+        _ => ".",
+    }
+}
+
+/// Returns whether both paths give a file one name in one folder. A file that is still to be made has no other sign.
+fn is_same_place(rt: &HostRuntime, first: &str, second: &str) -> bool {
+    match (Path::new(first).file_name(), Path::new(second).file_name()) {
+        (Some(name), Some(other)) => {
+            name == other && is_same(rt, folder_of(first), folder_of(second))
+        }
         _ => false,
     }
 }
@@ -56,6 +75,7 @@ impl<'a> Host<'a> for SystemHost<'a> {
     fn is_same_file(&mut self, first: &str, second: &str) -> bool {
         // The path of standard input may also be that of a file that is written.
         is_same(self.rt, first, second)
+            || is_same_place(self.rt, first, second)
             || (second == STANDARD_INPUT && is_same(self.rt, first, INPUT_DEVICE))
     }
 
