@@ -5,7 +5,7 @@ use crate::kept_ops::KeptOp;
 use std::alloc::{AllocError, Global};
 
 /// The most steps in which a chain is taken apart.
-const MOST_STEPS: u64 = 2_000;
+const MAX_STEPS: u64 = 2_000;
 
 /// The operations from the first to the second, each of which stands before the next one for a reason that is no chain.
 pub fn chain_between(
@@ -18,7 +18,7 @@ pub fn chain_between(
     chain.push(first)?;
     let mut due = Vec::new(alloc);
     due.push((first, second))?;
-    for _ in 0..MOST_STEPS {
+    for _ in 0..MAX_STEPS {
         let Some((from, to)) = due.pop() else {
             break;
         };

@@ -14,10 +14,10 @@ use std::alloc::{AllocError, Global};
 use trace_semantics::trace::Trace;
 
 /// The most hints of a derivation that is said clause by clause.
-const MOST_HINTS: u64 = 60;
+const MAX_HINTS: u64 = 60;
 
 /// The most steps of a derivation that is said clause by clause.
-const MOST_STEPS: u64 = 5;
+const MAX_STEPS: u64 = 5;
 
 /// A search for a derivation that the clauses of a trace contradict each other. Nothing is promised but that the call returns: what it
 /// answers may be no derivation.
@@ -65,7 +65,7 @@ fn explain_derived(
     };
     let rests = Rests::of(alloc, clauses, &needed)?;
     let story = Story::new(alloc, ops);
-    if needed.count() > MOST_STEPS || needed.hints() > MOST_HINTS {
+    if needed.count() > MAX_STEPS || needed.hints() > MAX_HINTS {
         rests.explain(notes, &story, needed.count())?;
         return Ok(false);
     }

@@ -70,12 +70,12 @@ fn largest_id(steps: &[Step]) -> u64 {
 }
 
 /// The most ids of steps that are looked at.
-const MOST_IDS: u64 = 50_000_000;
+const MAX_IDS: u64 = 50_000_000;
 
 /// Room for marks of the ids above `count`, or nothing if there are too many.
 fn wanted_among(alloc: Global, steps: &[Step], count: u64) -> Result<Option<Wanted>, AllocError> {
     let span = largest_id(steps).saturating_sub(count);
-    if span > MOST_IDS {
+    if span > MAX_IDS {
         return Ok(None);
     }
     let marks = vec![in alloc; false; span as usize + 1]?;

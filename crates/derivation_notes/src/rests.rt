@@ -9,7 +9,7 @@ use note_text::{Notes, decimal};
 use std::alloc::{AllocError, Global};
 
 /// The most operations that are named.
-const MOST_NAMED: u64 = 40;
+const MAX_NAMED: u64 = 40;
 
 /// The clauses and the operations on which a derivation rests.
 #[derive(Drop)]
@@ -152,7 +152,7 @@ impl Rests {
         let named = count(self.operations.as_slice());
         let number = decimal(named);
         let all = decimal(self.operations.len() as u64);
-        if named > MOST_NAMED {
+        if named > MAX_NAMED {
             return notes.note(&[
                 b"they speak of ",
                 number.as_slice(),

@@ -12,7 +12,7 @@ use verdict_notes::{
     SearchEffort, explain_by_survey, explain_certificate_length, explain_illegal,
     explain_sourceless, explain_undecided,
 };
-use verdict_report::{INPUT_LIMIT, Status};
+use verdict_report::{MAX_INPUT_BYTES, Status};
 
 /// The steps that a survey may take: a fraction of a second.
 const SURVEY_STEPS: u64 = 20_000_000;
@@ -130,7 +130,7 @@ fn explain_decided(
 /// Notes how a certificate gets shorter that is too long to be read.
 fn explain_length(notes: &mut Notes, length: Option<u64>) -> Result<(), AllocError> {
     match length {
-        Some(length) => explain_certificate_length(notes, length, INPUT_LIMIT as u64),
+        Some(length) => explain_certificate_length(notes, length, MAX_INPUT_BYTES as u64),
         None => Ok(()),
     }
 }

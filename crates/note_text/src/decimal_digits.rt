@@ -1,7 +1,7 @@
 //! Numbers as words.
 
 /// The most digits that a number of 64 bits has.
-const MOST: usize = 20;
+const MAX_DIGITS: usize = 20;
 
 /// A number in decimal.
 #[derive(Drop)]
@@ -23,9 +23,9 @@ impl Digits {
 /// Writes the number in decimal.
 pub fn decimal(number: u64) -> Digits {
     let mut digits = [b'0'; 20];
-    let mut start = MOST;
+    let mut start = MAX_DIGITS;
     let mut rest = number;
-    for place in (0..MOST).rev() {
+    for place in (0..MAX_DIGITS).rev() {
         digits[place] = b'0' + (rest % 10) as u8;
         rest /= 10;
         start = place;

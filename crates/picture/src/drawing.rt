@@ -9,7 +9,7 @@ use crate::legend::{LegendEntries, draw_legend};
 use crate::placement::{MARGIN, Placement};
 use crate::saturation::DrawnPart;
 use crate::schedule_sources::order_of_schedule;
-use crate::subject::{MOST_DRAWN, PictureSubject};
+use crate::subject::{MAX_DRAWN, PictureSubject};
 use crate::svg_text::SvgText;
 use note_text::decimal;
 use std::alloc::{AllocError, Global};
@@ -210,7 +210,7 @@ fn draw_body(
     draw_boxes(alloc, svg, placement, items, found, is_schedule)
 }
 
-/// The picture, as an SVG document, or no bytes if it would have more than [`MOST_DRAWN`] operations.
+/// The picture, as an SVG document, or no bytes if it would have more than [`MAX_DRAWN`] operations.
 ///
 /// # Errors
 ///
@@ -222,7 +222,7 @@ pub fn draw(
 ) -> Result<Vec<u8>, AllocError> {
     let items = items_of(alloc, trace, subject)?;
     let drawn = count_operations(items.as_slice());
-    if drawn > MOST_DRAWN as u64 {
+    if drawn > MAX_DRAWN as u64 {
         return Ok(Vec::new(alloc));
     }
     let is_schedule = subject.is_in_order();

@@ -22,5 +22,5 @@ mod svg_text;
 mod verdict_picture;
 
 pub use drawing::draw;
-pub use subject::{MOST_DRAWN, PictureSubject};
+pub use subject::{MAX_DRAWN, PictureSubject};
 pub use verdict_picture::draw_verdict;

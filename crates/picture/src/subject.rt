@@ -3,7 +3,7 @@
 use trace_semantics::operation::OpName;
 
 /// The most operations that are drawn.
-pub const MOST_DRAWN: usize = 100;
+pub const MAX_DRAWN: usize = 100;
 
 /// The operations of a trace that a picture is of, and in which order they are drawn.
 #[derive(Clone, Copy)]

@@ -1,17 +1,17 @@
 //! The picture of a verdict.
 
 use crate::drawing::{count_all, draw};
-use crate::subject::{MOST_DRAWN, PictureSubject};
+use crate::subject::{MAX_DRAWN, PictureSubject};
 use std::alloc::{AllocError, Global};
 use surveyor::{Finding, Surveyor};
 use trace_semantics::trace::Trace;
 
 /// The most operations of a trace that is drawn whole where no core of it is found.
-const MOST_OF_WHOLE: u64 = 60;
+const MAX_OF_WHOLE: u64 = 60;
 
 /// Draws the trace whole, if it is small.
 fn draw_whole(alloc: Global, trace: &Trace) -> Result<Vec<u8>, AllocError> {
-    if count_all(trace) > MOST_OF_WHOLE {
+    if count_all(trace) > MAX_OF_WHOLE {
         return Ok(Vec::new(alloc));
     }
     draw(alloc, trace, &PictureSubject::Whole)
@@ -29,7 +29,7 @@ pub fn draw_verdict<S: Surveyor>(
     surveyor: &S,
     is_consistent: bool,
 ) -> Result<Vec<u8>, AllocError> {
-    if is_consistent && count_all(trace) > MOST_DRAWN as u64 {
+    if is_consistent && count_all(trace) > MAX_DRAWN as u64 {
         return Ok(Vec::new(alloc));
     }
     let overview = surveyor.survey(alloc, trace)?;

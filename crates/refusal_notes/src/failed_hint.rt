@@ -8,7 +8,7 @@ use note_text::{Notes, decimal};
 use std::alloc::{AllocError, Global};
 
 /// The most hints that are followed.
-const MOST_FOLLOWED: usize = 200;
+const MAX_FOLLOWED: usize = 200;
 
 /// What a clause is worth, by the literals that are true.
 #[derive(Clone, Copy)]
@@ -224,7 +224,7 @@ fn follow_hints(
         trues.push(literal.negated())?;
     }
     let mut place: u64 = 0;
-    for hint in hints.get(..MOST_FOLLOWED).unwrap_or(hints) {
+    for hint in hints.get(..MAX_FOLLOWED).unwrap_or(hints) {
         place = place.saturating_add(1);
         if *hint <= 0 {
             return Ok(());

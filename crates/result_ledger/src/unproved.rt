@@ -66,7 +66,7 @@ fn without_proof_in<L: ClauseList>(
     without_proof_between(alloc, formula, slots, from, end)
 }
 
-/// The leaves of all pieces, where these are those of each piece, in order. What the pieces are of is named in clauses alone.
+/// The leaves of all pieces, in order, given those of each piece. The formula stands here for the clauses, which name it.
 fn joined<L: ClauseList>(
     alloc: Global,
     _formula: &L,

@@ -84,7 +84,7 @@ impl<'a> Memory<'a> {
         name_at(names, self.writers.get(location))
     }
 
-    /// Whether the location was last written by whom the origin says.
+    /// Whether the origin names what last wrote the location.
     fn is_from(&self, names: &'a [OpName], location: &'a [u8], origin: &'a Origin) -> bool
         ensures { result ≡ judgement.is_right_source (writer_of names.now self.now location.now) origin.now }
     {

@@ -9,7 +9,7 @@ use trace_semantics::operation::OpName;
 use trace_semantics::trace::Trace;
 
 /// The most operations of a core that are shown.
-const MOST_SHOWN: u64 = 40;
+const MAX_SHOWN: u64 = 40;
 
 /// Notes a few operations by which a survey finds that the trace has no legal schedule. The survey is not trusted, and its core is not
 /// refuted again.
@@ -82,7 +82,7 @@ fn explain_core(
 ) -> Result<(), AllocError> {
     let number = names.len() as u64;
     let count = decimal(number);
-    if number > MOST_SHOWN {
+    if number > MAX_SHOWN {
         return notes.note(&[
             b"a survey finds ",
             count.as_slice(),

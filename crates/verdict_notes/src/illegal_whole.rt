@@ -9,7 +9,7 @@ use trace_semantics::operation::OpName;
 use trace_semantics::trace::{Process, Trace};
 
 /// The most missing operations that are named.
-const MOST_NAMED: u64 = 5;
+const MAX_NAMED: u64 = 5;
 
 /// Notes which operations of the process are missing, after `found` missing ones, and how many there are by then.
 fn explain_missing_of(
@@ -23,7 +23,7 @@ fn explain_missing_of(
     for k in 0..process.operations.as_slice().len() {
         let place = place_after(k);
         if !has_come(names, process.name.as_bytes(), place) {
-            if count < MOST_NAMED {
+            if count < MAX_NAMED {
                 let mut sentence = Sentence::new(alloc);
                 sentence.add_name(process.name.as_bytes(), place)?;
                 notes.note(&[sentence.as_slice(), b" is not in the schedule"])?;
@@ -45,8 +45,8 @@ pub fn explain_missing(
     for process in trace.processes() {
         count = explain_missing_of(alloc, notes, process, names, count)?;
     }
-    let rest = decimal(count.saturating_sub(MOST_NAMED));
-    if count > MOST_NAMED {
+    let rest = decimal(count.saturating_sub(MAX_NAMED));
+    if count > MAX_NAMED {
         notes.note(&[b"missing beside these: ", rest.as_slice()])?;
     }
     Ok(())

@@ -10,7 +10,7 @@ use trace_semantics::trace::Trace;
 use var_layout::layout::Layout;
 
 /// The most open cubes that are shown.
-const MOST_SHOWN: u64 = 5;
+const MAX_SHOWN: u64 = 5;
 
 /// The words after `open` of a line that begins so.
 fn literals_of(line: &[u8]) -> Option<&[u8]> {
@@ -97,7 +97,7 @@ fn explain_of_reduced(
             break;
         };
         if let Some(literals) = literals_of(line) {
-            if shown < MOST_SHOWN {
+            if shown < MAX_SHOWN {
                 orders.explain(alloc, notes, literals)?;
                 shown += 1;
             }

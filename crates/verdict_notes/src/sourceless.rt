@@ -9,7 +9,7 @@ use trace_semantics::op_set::OpSet;
 use trace_semantics::trace::{Process, Trace};
 
 /// The most reads, and the most final values, that are named.
-const MOST_NAMED: u64 = 5;
+const MAX_NAMED: u64 = 5;
 
 /// Notes which reads of the process have no source, after `found` ones, and how many there are by then.
 fn explain_process<'t>(
@@ -31,7 +31,7 @@ fn explain_process<'t>(
             op: &ops[k],
         };
         if let Some(missing) = reader.missing_source(table) {
-            if count < MOST_NAMED {
+            if count < MAX_NAMED {
                 reader.explain(alloc, notes, missing)?;
             }
             count = count.saturating_add(1);
@@ -60,7 +60,7 @@ fn explain_finals(alloc: Global, notes: &mut Notes, trace: &Trace) -> Result<u64
         let location = entry.0.as_bytes();
         let writers = writers_of_location(alloc, trace, location)?;
         if !may_be_final(trace, writers.as_slice(), location, entry.1) {
-            if count < MOST_NAMED {
+            if count < MAX_NAMED {
                 explain_final_value(alloc, notes, trace, writers.as_slice(), location, entry.1)?;
             }
             count = count.saturating_add(1);
@@ -71,10 +71,10 @@ fn explain_finals(alloc: Global, notes: &mut Notes, trace: &Trace) -> Result<u64
 
 /// Notes how many more there are than were named.
 fn explain_rest(notes: &mut Notes, what: &[u8], count: u64) -> Result<(), AllocError> {
-    if count <= MOST_NAMED {
+    if count <= MAX_NAMED {
         return Ok(());
     }
-    let rest = decimal(count - MOST_NAMED);
+    let rest = decimal(count - MAX_NAMED);
     notes.note(&[what, rest.as_slice()])
 }
 

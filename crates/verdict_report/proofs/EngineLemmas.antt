@@ -11,7 +11,7 @@ use Rattle.verdict_report.specs.declared.fault.Fault.{Fault}
 use Rattle.verdict_report.specs.declared.fault.Fault.TheVariants.{OutOfMemory, Device, InputTooLong, Trace, Schedule, Part, Model, Cnf, Lrat, Reduce, Decode, Check, Cert, Search}
 use Rattle.verdict_report.specs.declared.reading.ReadFault.{ReadFault}
 use Rattle.verdict_report.specs.declared.reading.ReadFault.TheVariants.{OutOfMemory as NoReadMemory, Device as SourceFails, TooLong}
-use Rattle.verdict_report.specs.declared.reading.TheConstants.{INPUT_LIMIT}
+use Rattle.verdict_report.specs.declared.reading.TheConstants.{MAX_INPUT_BYTES}
 use Rattle.verdict_report.specs.declared.status.Status.{Status}
 use Rattle.verdict_report.specs.Engine.{AreUnfailing, AreUntouched, HandOut, FailsWithinLimit, PassesLimit, StopsReading, IsStopOfReading, TakeNothing, Writing, AtOnce, InPieces, Reads, LacksMemory, IsRunOfEngine, IsRunOfWriting}
 use Rattle.verdict_report.specs.Fault.{fault_of_reading, fault_of_sink}
@@ -28,13 +28,13 @@ unfailing (source ∷ sources) [] h = absurd h
 unfailing (source ∷ sources) (text ∷ texts) h = (h.0.1, unfailing sources texts h.1)
 
 -- one source is read
-pub one_handed : (source : SourceRun) (read : Result (Vec ℕ) ReadFault) → IfOk read (λ t. source.now ≡ source.before ++ t.items) → OnOk read (IsTrue source.is_at_end) → IfOk read (λ t. vec_len t ≤ INPUT_LIMIT) →
+pub one_handed : (source : SourceRun) (read : Result (Vec ℕ) ReadFault) → IfOk read (λ t. source.now ≡ source.before ++ t.items) → OnOk read (IsTrue source.is_at_end) → IfOk read (λ t. vec_len t ≤ MAX_INPUT_BYTES) →
     CountsFailures read source.failures_before source.failures_now → IfOk read (λ t. HandOut (source ∷ []) (t.items ∷ []))
 one_handed source (Ok t) handed ended within counts = ((record { handed = handed; ended = ended; within_limit = omega (arith, within, t.ok.0) }, counts), tt)
 one_handed source (Err fault) handed ended within counts = tt
 
 pub one_stopped : {T : Type 0} (source : SourceRun) (read : Result T ReadFault) → CountsFailures read source.failures_before source.failures_now →
-    (read ≡ Err TooLong → AppendsMoreThan INPUT_LIMIT source.before source.now) → (read ≡ Err SourceFails → AppendsAtMost INPUT_LIMIT source.before source.now) →
+    (read ≡ Err TooLong → AppendsMoreThan MAX_INPUT_BYTES source.before source.now) → (read ≡ Err SourceFails → AppendsAtMost MAX_INPUT_BYTES source.before source.now) →
     IfErr read (λ fault. IsStopOfReading (source ∷ []) fault)
 one_stopped source (Ok t) counts long within = tt
 one_stopped source (Err NoReadMemory) counts long within = (counts, tt)

@@ -6,7 +6,7 @@ use Rattle.verdict_report.specs.declared.fault.Fault.{Fault}
 use Rattle.verdict_report.specs.declared.fault.Fault.TheVariants.{OutOfMemory, Device, InputTooLong}
 use Rattle.verdict_report.specs.declared.reading.ReadFault.{ReadFault}
 use Rattle.verdict_report.specs.declared.reading.ReadFault.TheVariants.{OutOfMemory as NoReadMemory, Device as SourceFails, TooLong}
-use Rattle.verdict_report.specs.declared.reading.TheConstants.{INPUT_LIMIT}
+use Rattle.verdict_report.specs.declared.reading.TheConstants.{MAX_INPUT_BYTES}
 use Rattle.verdict_report.specs.declared.status.Status.{Status}
 use Rattle.verdict_report.specs.Reading.{AppendsMoreThan, AppendsAtMost}
 use Rattle.verdict_report.specs.Runs.{SourceRun, SinkRun, HandsOut, IsUntouched}
@@ -33,11 +33,11 @@ HandOut sources texts = ⊥
 
 -- the source failed, within the limit
 abbrev pub FailsWithinLimit : SourceRun → Type 0
-FailsWithinLimit source = (source.failures_now ≡ source.failures_before + 1) × AppendsAtMost INPUT_LIMIT source.before source.now
+FailsWithinLimit source = (source.failures_now ≡ source.failures_before + 1) × AppendsAtMost MAX_INPUT_BYTES source.before source.now
 
 -- the source handed out more than the limit, and did not fail
 abbrev pub PassesLimit : SourceRun → Type 0
-PassesLimit source = AppendsMoreThan INPUT_LIMIT source.before source.now × IsUnfailing source
+PassesLimit source = AppendsMoreThan MAX_INPUT_BYTES source.before source.now × IsUnfailing source
 
 -- reading stopped at a source of which this is so: those before it handed out their texts, and those after it were not touched
 abbrev pub StopsReading : (SourceRun → Type 0) → List SourceRun → Type 0

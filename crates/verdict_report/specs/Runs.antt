@@ -1,6 +1,6 @@
 -- What sources and sinks did in a call.
 use Rattle.std.specs.Prelude.{◌≡◌, ◌≤◌, ℕ, List, ◌++◌, length, Bool, true}
-use Rattle.verdict_report.specs.declared.reading.TheConstants.{INPUT_LIMIT}
+use Rattle.verdict_report.specs.declared.reading.TheConstants.{MAX_INPUT_BYTES}
 
 -- what a source did in a call: the bytes that it had handed out before and has now, whether it was at its end before and is now, and
 -- its failures before and now
@@ -43,7 +43,7 @@ sink_run written failures old new = record {
 pub record HandsOut (source : SourceRun) (text : List ℕ) : Type 0 where
   pub handed : source.now ≡ source.before ++ text
   pub ended : source.is_at_end ≡ true
-  pub within_limit : length text ≤ INPUT_LIMIT
+  pub within_limit : length text ≤ MAX_INPUT_BYTES
 
 -- the source handed out nothing, is at its end exactly if it was before, and did not fail
 abbrev pub IsUntouched : SourceRun → Type 0

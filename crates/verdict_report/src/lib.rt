@@ -24,7 +24,7 @@ pub use fault::Fault;
 pub use inputs::{read_three, read_two};
 pub use judge_engine::run_judge;
 pub use lrat_engine::run_lrat;
-pub use reading::{INPUT_LIMIT, ReadFault, read_whole};
+pub use reading::{MAX_INPUT_BYTES, ReadFault, read_whole};
 pub use recheck_engine::{recheck_reduced, run_recheck, write_count};
 pub use refusal_line::{fault_line, write_fault};
 pub use refused_parts::FaultArea;

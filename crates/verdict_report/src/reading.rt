@@ -17,7 +17,7 @@ pub enum ReadFault {
 }
 
 /// The most bytes that one input may have.
-pub const INPUT_LIMIT: usize = 268_435_456;
+pub const MAX_INPUT_BYTES: usize = 268_435_456;
 
 /// The room for the bytes of one call.
 const CHUNK: usize = 16_384;
@@ -38,11 +38,11 @@ fn blank(alloc: Global, size: usize) -> Result<Vec<u8>, AllocError>
 pub fn read_whole<S: Source>(alloc: Global, source: &mut S) -> Result<Vec<u8>, ReadFault>
     ensures text { IfOk result (λ text. S.handed_out source.new ≡ S.handed_out source.old ++ text.items) }
     ensures end { OnOk result (IsTrue (S.is_at_end source.new)) }
-    ensures within_limit { IfOk result (λ text. vec_len text ≤ INPUT_LIMIT) }
+    ensures within_limit { IfOk result (λ text. vec_len text ≤ MAX_INPUT_BYTES) }
     ensures too_long { result ≡ Err ReadFault.TooLong →
-        AppendsMoreThan INPUT_LIMIT (S.handed_out source.old) (S.handed_out source.new) }
+        AppendsMoreThan MAX_INPUT_BYTES (S.handed_out source.old) (S.handed_out source.new) }
     ensures device { result ≡ Err ReadFault.Device →
-        AppendsAtMost INPUT_LIMIT (S.handed_out source.old) (S.handed_out source.new) }
+        AppendsAtMost MAX_INPUT_BYTES (S.handed_out source.old) (S.handed_out source.new) }
     ensures failures { CountsFailures result (S.failures source.old) (S.failures source.new) }
 {
     let Ok(mut chunk) = blank(alloc, CHUNK) else {
@@ -58,7 +58,7 @@ pub fn read_whole<S: Source>(alloc: Global, source: &mut S) -> Result<Vec<u8>, R
         if count == 0 {
             return Ok(text);
         }
-        if count > INPUT_LIMIT - text.len() {
+        if count > MAX_INPUT_BYTES - text.len() {
             return Err(ReadFault::TooLong);
         }
         if text.extend_from_slice(&chunk.as_slice()[..count]).is_err() {
