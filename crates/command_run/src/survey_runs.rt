@@ -1,4 +1,8 @@
 //! The engine that decides long traces, on the files of a line.
+//!
+//! Each of three files may be asked for: the certificate, the names of a core, and its part, which is the trace of these operations alone. Each
+//! has a sink of a type of its own, a file or [`NoFile`]. So there are a function with the file, one without, and one that chooses, for each of the
+//! three, and they call each other in the order in which the files are made: certificate, names, part. Then the trace is opened.
 ghost use Rattle.std.specs.Prelude.{◌≡◌, None, Ok, Some};
 ghost use Rattle.command_run.specs.CommandRun.{CertifiesSurveyed, RunsSurvey, RunsSurveyed, TakesCore, TakesNamesAndPart, TakesPart, takes_none};
 ghost use Rattle.survey_report.specs.SurveyEngine.{IsRunOfCertifiedSurvey, IsRunOfSurvey, TellsExtent};
@@ -54,7 +58,7 @@ fn survey<'p, R: Threads + Wait + Sync, G: Gate + Sync, H: Host<'p>, W: Sink>(
     }
 }
 
-/// Does the same, with a certificate, the names of a core, and its part.
+/// Does what [`survey`] does, with a certificate, the names of a core, and its part.
 fn certify<
     'p,
     R: Threads + Wait + Sync,
@@ -119,7 +123,7 @@ fn survey_opened<'p, R: Threads + Wait + Sync, G: Gate + Sync, H: Host<'p>, W: S
     survey(alloc, rt, progress, host, &mut trace, search, out)
 }
 
-/// The same, with sinks for the certificate, the names and the part.
+/// Does so with sinks for the certificate, the names and the part.
 fn certify_opened<
     'p,
     R: Threads + Wait + Sync,
@@ -155,7 +159,7 @@ fn certify_opened<
     )
 }
 
-/// The same, where no file takes the part.
+/// Does so with two sinks, and no file for the part.
 fn part_nowhere<
     'p,
     R: Threads + Wait + Sync,
@@ -189,7 +193,7 @@ fn part_nowhere<
     )
 }
 
-/// The same, with a file for the part. It is made or emptied first, and `Device` is answered if that is not possible.
+/// Does so with two sinks, and a file for the part. It is made or emptied first, and `Device` is answered if that is not possible.
 fn part_in_file<
     'p,
     R: Threads + Wait + Sync,
@@ -228,7 +232,7 @@ fn part_in_file<
     outcome
 }
 
-/// The same, with a file for the part if there is a path for it.
+/// Does so with two sinks, and a file for the part if there is a path for it.
 fn with_part<'p, R: Threads + Wait + Sync, G: Gate + Sync, H: Host<'p>, C: Sink, N: Sink, W: Sink>(
     alloc: Global,
     rt: &R,
@@ -257,7 +261,7 @@ fn with_part<'p, R: Threads + Wait + Sync, G: Gate + Sync, H: Host<'p>, C: Sink,
     }
 }
 
-/// The same, where no file takes the names.
+/// Does so with the certificate's sink, and no file for the names.
 fn names_nowhere<'p, R: Threads + Wait + Sync, G: Gate + Sync, H: Host<'p>, C: Sink, W: Sink>(
     alloc: Global,
     rt: &R,
@@ -282,7 +286,7 @@ fn names_nowhere<'p, R: Threads + Wait + Sync, G: Gate + Sync, H: Host<'p>, C: S
     )
 }
 
-/// The same, with a file for the names, which is made or emptied before that for the part.
+/// Does so with the certificate's sink, and a file for the names, which is made or emptied before that for the part.
 fn names_in_file<'p, R: Threads + Wait + Sync, G: Gate + Sync, H: Host<'p>, C: Sink, W: Sink>(
     alloc: Global,
     rt: &R,
@@ -312,7 +316,7 @@ fn names_in_file<'p, R: Threads + Wait + Sync, G: Gate + Sync, H: Host<'p>, C: S
     outcome
 }
 
-/// The same, with a file for the names if there is a path for it.
+/// Does so with the certificate's sink, and a file for the names if there is a path for it.
 fn with_names<'p, R: Threads + Wait + Sync, G: Gate + Sync, H: Host<'p>, C: Sink, W: Sink>(
     alloc: Global,
     rt: &R,
@@ -340,7 +344,7 @@ fn with_names<'p, R: Threads + Wait + Sync, G: Gate + Sync, H: Host<'p>, C: Sink
     }
 }
 
-/// The same, where no file takes the certificate.
+/// Does so with no file for the certificate.
 fn cert_nowhere<'p, R: Threads + Wait + Sync, G: Gate + Sync, H: Host<'p>, W: Sink>(
     alloc: Global,
     rt: &R,
@@ -364,7 +368,7 @@ fn cert_nowhere<'p, R: Threads + Wait + Sync, G: Gate + Sync, H: Host<'p>, W: Si
     )
 }
 
-/// The same, with a file for the certificate, which is made or emptied before the others.
+/// Does so with a file for the certificate, which is made or emptied before the others.
 fn cert_in_file<'p, R: Threads + Wait + Sync, G: Gate + Sync, H: Host<'p>, W: Sink>(
     alloc: Global,
     rt: &R,
@@ -393,7 +397,7 @@ fn cert_in_file<'p, R: Threads + Wait + Sync, G: Gate + Sync, H: Host<'p>, W: Si
     outcome
 }
 
-/// The same, with a file for each that there is a path for.
+/// Does so with a file for each that there is a path for.
 fn with_cert<'p, R: Threads + Wait + Sync, G: Gate + Sync, H: Host<'p>, W: Sink>(
     alloc: Global,
     rt: &R,

@@ -25,7 +25,7 @@ fn push_line(text: &mut Vec<u8>, front: &[u8], words: &[&[u8]]) -> Result<(), Al
     Ok(())
 }
 
-/// Appends the name and the number of a line, and the line.
+/// Appends the line as `note: NAME:NUMBER: LINE`. A mark below it counts these columns.
 fn push_numbered(
     text: &mut Vec<u8>,
     name: &str,
@@ -48,7 +48,10 @@ fn push_mark(text: &mut Vec<u8>, name: &str, number: u64, front: &[u8]) -> Resul
     push_blanks(text, name.as_bytes())?;
     push_blanks(text, decimal(number).as_slice())?;
     push_blanks(text, b":: ")?;
-    push_blanks(text, front)?;
+    // Each byte of the line is shown as one character.
+    for _byte in front {
+        text.push(b' ')?;
+    }
     text.extend_from_slice(b"^\n")?;
     Ok(())
 }

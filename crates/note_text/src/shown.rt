@@ -17,7 +17,7 @@ fn shown_byte(byte: u8) -> u8 {
     }
 }
 
-/// Appends what is shown of the bytes, and two dots if these are more than `most`.
+/// Appends one character for each of the first `most` bytes, and ` ..` if there are more. A mark below the line stands by this count.
 fn push_shown(text: &mut Vec<u8>, bytes: &[u8], most: usize) -> Result<(), AllocError> {
     for byte in bytes.get(..most).unwrap_or(bytes) {
         text.push(shown_byte(*byte))?;

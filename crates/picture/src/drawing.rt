@@ -5,7 +5,7 @@ use crate::boxes::{draw_boxes, draw_titles};
 use crate::found_order::FoundOrder;
 use crate::item::PictureItem;
 use crate::items::items_of;
-use crate::legend::{LegendEntries, draw_legend};
+use crate::legend::{LEGEND_STEP, LegendEntries, draw_legend};
 use crate::placement::{MARGIN, Placement};
 use crate::saturation::DrawnPart;
 use crate::schedule_sources::order_of_schedule;
@@ -170,7 +170,7 @@ fn draw_heading(
 
 /// Draws a band behind every other row.
 fn draw_bands(svg: &mut SvgText, placement: &Placement<'_>, width: u64) -> Result<(), AllocError> {
-    for half in 0..placement.rows / 2 {
+    for half in 0..placement.rows.saturating_add(1) / 2 {
         let row = half.saturating_mul(2);
         svg.add(&[b"<rect class=\"band\" x=\"0\""])?;
         svg.attribute(b"y", placement.top_of_row(row).saturating_sub(6))?;
@@ -206,6 +206,7 @@ fn draw_body(
 ) -> Result<(), AllocError> {
     draw_titles(svg, placement)?;
     draw_arrows(svg, placement, items, found, false)?;
+    // Those of a cycle lie on top.
     draw_arrows(svg, placement, items, found, true)?;
     draw_boxes(alloc, svg, placement, items, found, is_schedule)
 }
@@ -230,7 +231,7 @@ pub fn draw(
     let placement = Placement::of(alloc, items.as_slice(), trace, is_schedule)?;
     let entries = LegendEntries::of(items.as_slice(), &found, is_schedule);
     let legend = placement.bottom().saturating_add(20);
-    let height = legend.saturating_add(entries.count().saturating_mul(22));
+    let height = legend.saturating_add(entries.count().saturating_mul(LEGEND_STEP));
     let width = placement.right.saturating_add(MARGIN * 2).max(LEAST_WIDTH);
     let mut svg = SvgText::new(alloc);
     begin_document(&mut svg, width, height.saturating_add(8))?;

@@ -7,6 +7,9 @@ use crate::placement::MARGIN;
 use crate::svg_text::SvgText;
 use std::alloc::AllocError;
 
+/// The height of a line of the legend.
+pub(crate) const LEGEND_STEP: u64 = 22;
+
 /// What occurs in a picture, and what of it the legend has.
 #[derive(Clone, Copy)]
 pub(crate) struct LegendEntries {
@@ -95,7 +98,7 @@ impl LegendLine {
     /// Draws the words beside what they say the meaning of, and goes to the next line.
     fn end(&mut self, svg: &mut SvgText, words: &[u8]) -> Result<(), AllocError> {
         svg.line_of_text(b"note", MARGIN + 52, self.y.saturating_add(4), &[words])?;
-        self.y = self.y.saturating_add(22);
+        self.y = self.y.saturating_add(LEGEND_STEP);
         Ok(())
     }
 

@@ -1,4 +1,5 @@
-//! What each cause for which a trace is refused means.
+//! What each cause for which a trace is refused means: a note below the refusal, which gives the rule or the fault. Limits stand here in
+//! words, as in `trace_text` in numbers.
 
 use crate::meanings::Explained;
 use trace_text::trace_fault::TraceCause;

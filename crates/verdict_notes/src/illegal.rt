@@ -124,7 +124,8 @@ fn add_early(sentence: &mut Sentence, before: &[OpName], name: &OpName) -> Resul
     Ok(())
 }
 
-/// Adds what the operation reads and what its location holds.
+/// Adds what the operation reads and what its location holds. The judge finds this cause only at an operation of the trace that reads, so
+/// nothing is left out.
 fn add_wrong_read(
     sentence: &mut Sentence,
     trace: &Trace,

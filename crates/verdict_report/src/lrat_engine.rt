@@ -45,7 +45,7 @@ fn check_texts(alloc: Global, cnf_text: &[u8], proof_text: &[u8]) -> Result<Acce
     Ok(check(alloc, &formula, &[], &derivation)?)
 }
 
-/// Writes that the proof is accepted.
+/// Writes that the proof is accepted. What `check` gave is not looked at: it is taken so that nothing writes this line without a check.
 fn write_accepted<W: Sink>(_accepted: Accepted, out: &mut W) -> Result<Status, Fault>
     ensures { IsRunOfWriting (accepted_line _accepted) (accepted_status _accepted)
         (sink_run W.written W.failures out.old out.new)
