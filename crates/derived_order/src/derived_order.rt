@@ -256,10 +256,12 @@ impl<'a> DerivedOrder<'a> {
         }
         for place in from..self.log.length(process).wrapping_add(1) {
             let number = self.log.number(process, place);
-            self.budget.spend(self.rows.width() as u64);
-            if !self.rows.raise(number)? {
+            self.budget.spend(1);
+            if self.rows.is_raised(number) {
                 break;
             }
+            self.budget.spend(self.rows.width() as u64);
+            self.rows.raise(number)?;
             self.concern(number);
         }
         Ok(())
@@ -274,10 +276,12 @@ impl<'a> DerivedOrder<'a> {
         }
         for back in 0..from {
             let number = self.log.number(process, from.wrapping_sub(back));
-            self.budget.spend(self.rows.width() as u64);
-            if !self.rows.lower(number)? {
+            self.budget.spend(1);
+            if self.rows.is_lowered(number) {
                 break;
             }
+            self.budget.spend(self.rows.width() as u64);
+            self.rows.lower(number)?;
             self.concern(number);
         }
         Ok(())

@@ -161,7 +161,11 @@ impl<'a> DerivedOrder<'a> {
             let after = self.rows.after(reader, process);
             let mut high = at(self.highs.as_slice(), process, FAR);
             if high < after {
-                let next = self.writers.next(self.log, process, location, from);
+                // A writer from there on would be no news to the reader.
+                let mut next = from;
+                if from < after {
+                    next = self.writers.next(self.log, process, location, from);
+                }
                 if self.log.number(process, next) == reader {
                     // An update does not stand before itself.
                     high = self.log.length(process).wrapping_add(1);
@@ -203,6 +207,9 @@ impl<'a> DerivedOrder<'a> {
         let location = self.log.operation(reader).location;
         for process in 0..self.rows.width() {
             let before = self.rows.before(reader, process);
+            if before <= self.rows.before(only, process) {
+                continue;
+            }
             let place = self.writers.previous(process, location, before);
             if place != 0 {
                 let writer = self.log.number(process, place);

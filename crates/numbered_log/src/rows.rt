@@ -34,7 +34,26 @@ pub struct Rows {
     floor: Vec<u16>,
     /// The entries that all operations before a new pair have as what stands after them, as upper limits.
     ceiling: Vec<u16>,
+    /// The process and the place of a new pair's first operation, and of its second one.
+    pair: PairPlaces,
 }
+
+/// Where the operations of a pair stand.
+#[derive(Clone, Copy)]
+struct PairPlaces {
+    first_process: u32,
+    first_place: u32,
+    second_process: u32,
+    second_place: u32,
+}
+
+/// The places of no pair.
+const NO_PLACES: PairPlaces = PairPlaces {
+    first_process: 0,
+    first_place: 0,
+    second_process: 0,
+    second_place: 0,
+};
 
 /// The place as an entry of a row. A process has at most 4,096 operations, so 16 bits are enough, and the rows take half the memory.
 #[inline(always)]
@@ -55,6 +74,7 @@ impl Rows {
             keeps_changes: false,
             floor: vec![in alloc; 0; width as usize]?,
             ceiling: vec![in alloc; 0; width as usize]?,
+            pair: NO_PLACES,
         };
         for number in 0..log.count() {
             rows.set_program_order(log, number);
@@ -124,12 +144,30 @@ impl Rows {
             second.process,
             entry_of(second.place),
         );
+        self.pair = PairPlaces {
+            first_process: first.process,
+            first_place: first.place,
+            second_process: second.process,
+            second_place: second.place,
+        };
     }
 
-    /// Raises what stands before this operation, which stands after the new pair. Returns whether anything changed.
-    pub fn raise(&mut self, number: u32) -> Result<bool, AllocError> {
+    /// Returns whether the new pair says nothing of what stands before this operation, which stands after it. Rows are closed, so one that
+    /// has the pair's first operation has all of its row: one entry tells what else would be a look at each.
+    #[inline(always)]
+    pub fn is_raised(&self, number: u32) -> bool {
+        self.before(number, self.pair.first_process) >= self.pair.first_place
+    }
+
+    /// Returns whether the new pair says nothing of what stands after this operation, which stands before it.
+    #[inline(always)]
+    pub fn is_lowered(&self, number: u32) -> bool {
+        self.after(number, self.pair.second_process) <= self.pair.second_place
+    }
+
+    /// Raises what stands before this operation, which stands after the new pair.
+    pub fn raise(&mut self, number: u32) -> Result<(), AllocError> {
         let base = number.wrapping_mul(self.width);
-        let mut has_changed = false;
         for process in 0..self.width {
             let entry = base.wrapping_add(process);
             let old = at(self.before.as_slice(), entry, 0);
@@ -144,16 +182,14 @@ impl Rows {
                     })?;
                 }
                 put(self.before.as_mut_slice(), entry, floor);
-                has_changed = true;
             }
         }
-        Ok(has_changed)
+        Ok(())
     }
 
-    /// Lowers what stands after this operation, which stands before the new pair. Returns whether anything changed.
-    pub fn lower(&mut self, number: u32) -> Result<bool, AllocError> {
+    /// Lowers what stands after this operation, which stands before the new pair.
+    pub fn lower(&mut self, number: u32) -> Result<(), AllocError> {
         let base = number.wrapping_mul(self.width);
-        let mut has_changed = false;
         for process in 0..self.width {
             let entry = base.wrapping_add(process);
             let old = at(self.after.as_slice(), entry, 0);
@@ -168,10 +204,9 @@ impl Rows {
                     })?;
                 }
                 put(self.after.as_mut_slice(), entry, ceiling);
-                has_changed = true;
             }
         }
-        Ok(has_changed)
+        Ok(())
     }
 
     /// Returns whether there is no room for a further change.
