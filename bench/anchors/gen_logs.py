@@ -1,12 +1,15 @@
 #!/usr/bin/env python3
 """Writes logs of hundreds to thousands of operations as traces: recorded runs, runs of weaker memories, and runs with one fault.
 
-usage: gen_logs.py [--seed N] [--values N] [--sizes N,N,..] OUTDIR
+usage: gen_logs.py [--seed N] [--values N] [--rounds N] [--sizes N,N,..] OUTDIR
 
 Each is written to OUTDIR/KIND-SIZE-PROCESSES-LOCATIONS.vsc. Kinds: `sc` a recorded run; `tso` store buffers of depth 8; `pso` buffers that keep
 order per location alone; `mut` one read has the value of another write of its location; `near` one read has the value before its own;
 `counter` and `lost` a counter by updates, right and with one lost update; `passing` and `stale` messages, right and with one stale read. Without
-`--values` each write has a value of its own. Nothing here depends on the version of `random`: the numbers are those of a xorshift.
+`--values` each write has a value of its own. With `--rounds` the kinds `sc`, `tso` and `mut` are made alone, of up to 16 processes, and a
+barrier comes after each so many operations: all buffers are empty then, the next operation is one of the first process, and the pairs of the
+trace say that it comes after all operations before the barrier and before all others behind it. Nothing here depends on the version of
+`random`: the numbers are those of a xorshift.
 """
 
 import argparse
@@ -15,6 +18,10 @@ import os
 WORD = 2**64 - 1
 SHAPES = ((2, 1), (4, 4), (8, 1), (8, 8), (16, 16), (64, 4), (64, 64), (4, 64))
 FAULTS = ("sc", "tso", "pso", "mut", "near")
+# A smaller log has too few operations for many processes and locations: it is made of shapes alone of which the product is no larger.
+SMALL = 200
+ROUND_SHAPES = ((2, 1), (4, 4), (8, 1), (8, 8), (16, 16))
+ROUND_FAULTS = ("sc", "tso", "mut")
 
 
 class Rng:
@@ -40,14 +47,15 @@ class Rng:
         return self.below(1000) < per_mille
 
 
-def text(initial, final, processes):
+def text(initial, final, processes, pairs=()):
     """The text of a trace."""
-    lines = ["vsc 1"]
+    lines = ["vsc 2" if pairs else "vsc 1"]
     lines += [f"init {name} {initial[name]}" for name in sorted(initial)]
     lines += [f"final {name} {final[name]}" for name in sorted(final)]
     for number, ops in enumerate(processes):
         lines.append(f"proc P{number}")
         lines += [" ".join(map(str, op)) for op in ops]
+    lines += [f"before P{p} {i} P{q} {j}" for (p, i), (q, j) in pairs]
     return "\n".join(lines) + "\n"
 
 
@@ -87,37 +95,70 @@ class Machine:
         return old
 
 
-def recorded(seed, kind, size, processes, locations, values, updates=50, reads=500, depth=8):
-    """A run of exactly so many operations. `values` 0: each write has its own."""
-    rng = Rng(seed)
-    machine = Machine(rng, kind, processes, locations)
-    logs = [[] for _ in range(processes)]
-    quota = [size // processes + (1 if p < size % processes else 0) for p in range(processes)]
-    fresh, done = 0, 0
-    while done < size:
-        p = rng.below(processes)
-        buffer = machine.buffers[p]
-        if buffer and (len(buffer) >= depth or rng.chance(300)):
-            machine.flush(p)
-            continue
-        if len(logs[p]) >= quota[p]:
-            continue
-        name = machine.names[rng.below(locations)]
-        if rng.chance(reads):
-            logs[p].append(("R", name, machine.read(p, name)))
+class Recording:
+    """A run, as the logs of its processes. `values` 0: each write has its own."""
+
+    def __init__(self, seed, kind, processes, locations, values):
+        self.rng = Rng(seed)
+        self.machine = Machine(self.rng, kind, processes, locations)
+        self.values, self.fresh = values, 0
+        self.logs = [[] for _ in range(processes)]
+        self.pairs = []
+
+    def operate(self, p, updates=50, reads=500):
+        """One more operation of a process."""
+        name = self.machine.names[self.rng.below(len(self.machine.names))]
+        if self.rng.chance(reads):
+            self.logs[p].append(("R", name, self.machine.read(p, name)))
+            return
+        self.fresh += 1
+        value = self.rng.below(self.values) if self.values else self.fresh
+        if self.rng.chance(updates):
+            self.logs[p].append(("U", name, self.machine.update(p, name, value), value))
         else:
-            fresh += 1
-            value = rng.below(values) if values else fresh
-            if rng.chance(updates):
-                logs[p].append(("U", name, machine.update(p, name, value), value))
-            else:
-                machine.write(p, name, value)
-                logs[p].append(("W", name, value))
-        done += 1
-    for p in range(processes):
-        while machine.buffers[p]:
-            machine.flush(p)
-    return {name: 0 for name in machine.names}, dict(machine.memory), logs
+            self.machine.write(p, name, value)
+            self.logs[p].append(("W", name, value))
+
+    def empty(self, p):
+        while self.machine.buffers[p]:
+            self.machine.flush(p)
+
+    def go_on(self, size, depth=8):
+        """So many operations more, and then all buffers are emptied."""
+        processes, starts = len(self.logs), [len(log) for log in self.logs]
+        until = [start + size // processes + (1 if p < size % processes else 0) for p, start in enumerate(starts)]
+        end = sum(starts) + size
+        if any(starts):
+            self.operate(0)
+            self.empty(0)
+        while sum(map(len, self.logs)) < end:
+            p = self.rng.below(processes)
+            buffer = self.machine.buffers[p]
+            if buffer and (len(buffer) >= depth or self.rng.chance(300)):
+                self.machine.flush(p)
+            elif len(self.logs[p]) < until[p]:
+                self.operate(p)
+        for p in range(processes):
+            self.empty(p)
+        self.set_apart(starts)
+
+    def set_apart(self, starts):
+        """The pairs of a barrier. The first process's operation behind it is the one that stands between all others."""
+        middle = 0, starts[0] + 1
+        for p, start in enumerate(starts):
+            if p and start:
+                self.pairs.append(((p, start), middle))
+                if len(self.logs[p]) > start:
+                    self.pairs.append((middle, (p, start + 1)))
+
+
+def recorded(seed, kind, size, processes, locations, values, rounds):
+    """A run of exactly so many operations. `rounds`: as many of them up to a barrier."""
+    recording = Recording(seed, kind, processes, locations, values)
+    for start in range(0, size, rounds):
+        recording.go_on(min(rounds, size - start))
+    machine = recording.machine
+    return {name: 0 for name in machine.names}, dict(machine.memory), recording.logs, recording.pairs
 
 
 def left_by(op):
@@ -199,19 +240,23 @@ def messages(seed, processes, size, channels, stale):
     return initial, {}, logs
 
 
-def logs_of(size, seed, values):
+def logs_of(size, seed, values, rounds):
     """The name and the trace of each log of this size."""
-    for processes, locations in SHAPES:
-        for kind in FAULTS:
+    for processes, locations in ROUND_SHAPES if rounds else SHAPES:
+        if size < SMALL and processes * locations > size:
+            continue
+        for kind in ROUND_FAULTS if rounds else FAULTS:
             if kind == "near" and values:
                 continue
             seed += 1
-            initial, final, logs = recorded(seed, kind, size, processes, locations, values)
+            initial, final, logs, pairs = recorded(seed, kind, size, processes, locations, values, rounds or size)
             if kind == "mut":
                 with_other_value(logs, seed)
             if kind == "near":
                 with_value_before(logs, seed)
-            yield f"{kind}-{size}-{processes}-{locations}", text(initial, final, logs)
+            yield f"{kind}-{size}-{processes}-{locations}", text(initial, final, logs, pairs)
+    if rounds:
+        return
     for kind in ("counter", "lost"):
         yield f"{kind}-{size}-16-1", text(*counter(seed + 101, 16, size, kind == "lost"))
     for kind in ("passing", "stale"):
@@ -222,12 +267,13 @@ def main():
     parser = argparse.ArgumentParser(description=__doc__.split("\n", maxsplit=1)[0])
     parser.add_argument("--seed", type=int, default=1)
     parser.add_argument("--values", type=int, default=0, help="so many values; 0: each write has its own")
+    parser.add_argument("--rounds", type=int, default=0, help="so many operations up to a barrier; 0: no barrier")
     parser.add_argument("--sizes", default="200,500,1000,2000,4096")
     parser.add_argument("outdir")
     options = parser.parse_args()
     os.makedirs(options.outdir, exist_ok=True)
     for size in map(int, options.sizes.split(",")):
-        for name, trace in logs_of(size, options.seed + size, options.values):
+        for name, trace in logs_of(size, options.seed + size, options.values, options.rounds):
             with open(f"{options.outdir}/{name}.vsc", "w", encoding="ascii") as out:
                 out.write(trace)
 

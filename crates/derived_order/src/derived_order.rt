@@ -256,11 +256,13 @@ impl<'a> DerivedOrder<'a> {
         }
         for place in from..self.log.length(process).wrapping_add(1) {
             let number = self.log.number(process, place);
-            self.budget.spend(self.rows.width() as u64);
-            if !self.rows.raise(number)? {
+            self.budget.spend(1);
+            if self.rows.is_raised(number) {
                 break;
             }
-            self.concern(number);
+            self.budget.spend(self.rows.news() as u64);
+            self.rows.raise(number)?;
+            self.concern_raised(number);
         }
         Ok(())
     }
@@ -274,20 +276,41 @@ impl<'a> DerivedOrder<'a> {
         }
         for back in 0..from {
             let number = self.log.number(process, from.wrapping_sub(back));
-            self.budget.spend(self.rows.width() as u64);
-            if !self.rows.lower(number)? {
+            self.budget.spend(1);
+            if self.rows.is_lowered(number) {
                 break;
             }
-            self.concern(number);
+            self.budget.spend(self.rows.news() as u64);
+            self.rows.lower(number)?;
+            self.concern_lowered(number);
         }
         Ok(())
     }
 
-    /// The row of the operation has changed, so each reader whose sources depend on it waits for another turn. A reader that is left out
-    /// here makes saturation end too early.
+    /// More stands before the operation, so it waits for another turn if it reads, as does each reader that has it as one of several possible
+    /// sources. A reader of which it is the only one already stands after it, so its own row has changed too. A reader that is left out here
+    /// makes saturation end too early.
     #[inline(always)]
-    fn concern(&mut self, number: u32) {
+    fn concern_raised(&mut self, number: u32) {
         if self.sources.is_bound(number) {
+            self.waiting.add(number);
+        }
+        let begin = self.concerned.begin(number);
+        let end = self.concerned.begin(number.wrapping_add(1));
+        self.budget.spend(end.saturating_sub(begin) as u64);
+        for place in begin..end {
+            let reader = self.concerned.reader(place);
+            if self.sources.has_several(reader) {
+                self.waiting.add(reader);
+            }
+        }
+    }
+
+    /// More stands after the operation, so each reader that has it as a possible source waits for another turn, and the operation itself if
+    /// it is not known what it reads: some of its possible sources may come too late now.
+    #[inline(always)]
+    fn concern_lowered(&mut self, number: u32) {
+        if self.sources.has_several(number) {
             self.waiting.add(number);
         }
         let begin = self.concerned.begin(number);

@@ -50,6 +50,11 @@ impl<'a> DerivedOrder<'a> {
         if reader >= self.log.count() {
             return self.look_at_last(reader);
         }
+        if let Some(only) = self.sources.only(reader) {
+            if only != NOBODY {
+                return self.follow_source(reader, only);
+            }
+        }
         self.drop_sources(reader)?;
         if self.sources.living(reader) == 0 {
             self.contradiction = OrderContradiction::NoSource(reader);
@@ -60,9 +65,8 @@ impl<'a> DerivedOrder<'a> {
         }
         self.find_bounds(reader);
         self.add_bounds(reader)?;
-        if let Some(only) = self.sources.only(reader) {
-            self.put_writers_before(reader, only)?;
-            self.take_from_others(reader, only)?;
+        if self.sources.only(reader) == Some(NOBODY) {
+            self.take_from_others(reader, NOBODY)?;
         }
         Ok(())
     }
@@ -161,7 +165,7 @@ impl<'a> DerivedOrder<'a> {
             let after = self.rows.after(reader, process);
             let mut high = at(self.highs.as_slice(), process, FAR);
             if high < after {
-                let next = self.writers.next(self.log, process, location, from);
+                let next = self.next_writer(process, location, from, after);
                 if self.log.number(process, next) == reader {
                     // An update does not stand before itself.
                     high = self.log.length(process).wrapping_add(1);
@@ -173,6 +177,17 @@ impl<'a> DerivedOrder<'a> {
             is_useful |= low > self.rows.before(reader, process) || high < after;
         }
         is_useful
+    }
+
+    /// The place of the process's next writer of the location, from one place up to another, or some place from the latter on: what is no news
+    /// is not looked for.
+    #[inline(always)]
+    fn next_writer(&self, process: u32, location: u32, from: u32, to: u32) -> u32 {
+        if from < to {
+            self.writers.next(self.log, process, location, from)
+        } else {
+            from
+        }
     }
 
     /// Adds what the bounds say.
@@ -195,20 +210,61 @@ impl<'a> DerivedOrder<'a> {
         Ok(())
     }
 
-    /// The writers that stand before the reader stand before its only source.
-    fn put_writers_before(&mut self, reader: u32, only: u32) -> Result<(), Halt> {
-        if only == NOBODY {
-            return Ok(());
+    /// Derives what follows for a reader of which the only source is a writer. That no writer comes between the two needs no look: one that
+    /// does would stand before the source, which is a cycle.
+    fn follow_source(&mut self, reader: u32, only: u32) -> Result<(), Halt> {
+        if !self.stands_before(only, reader) {
+            self.add(only, reader, EdgeReason::BeforeSources(reader))?;
         }
         let location = self.log.operation(reader).location;
         for process in 0..self.rows.width() {
-            let before = self.rows.before(reader, process);
-            let place = self.writers.previous(process, location, before);
-            if place != 0 {
-                let writer = self.log.number(process, place);
-                if writer != only && !self.stands_before(writer, only) {
-                    self.add(writer, only, EdgeReason::BeforeOnlySource(reader))?;
-                }
+            self.put_writer_before(reader, only, process, location)?;
+            self.put_writer_after(reader, only, process, location)?;
+        }
+        self.take_from_others(reader, only)?;
+        Ok(())
+    }
+
+    /// The process's last writer that stands before the reader stands before its only source.
+    #[inline(always)]
+    fn put_writer_before(
+        &mut self,
+        reader: u32,
+        only: u32,
+        process: u32,
+        location: u32,
+    ) -> Result<(), Halt> {
+        let before = self.rows.before(reader, process);
+        if before <= self.rows.before(only, process) {
+            return Ok(());
+        }
+        let place = self.writers.previous(process, location, before);
+        if place != 0 {
+            let writer = self.log.number(process, place);
+            if writer != only && !self.stands_before(writer, only) {
+                self.add(writer, only, EdgeReason::BeforeOnlySource(reader))?;
+            }
+        }
+        Ok(())
+    }
+
+    /// The process's first writer that stands after the only source stands after the reader.
+    #[inline(always)]
+    fn put_writer_after(
+        &mut self,
+        reader: u32,
+        only: u32,
+        process: u32,
+        location: u32,
+    ) -> Result<(), Halt> {
+        let from = self.rows.after(only, process);
+        let after = self.rows.after(reader, process);
+        let place = self.next_writer(process, location, from, after);
+        if place < after {
+            let writer = self.log.number(process, place);
+            // An update does not stand before itself.
+            if writer != reader {
+                self.add(reader, writer, EdgeReason::AfterSources(reader))?;
             }
         }
         Ok(())

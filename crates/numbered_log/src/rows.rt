@@ -30,16 +30,44 @@ pub struct Rows {
     before: Vec<u16>,
     changes: Vec<Change>,
     keeps_changes: bool,
-    /// The entries that all operations after a new pair have at least as what stands before them.
-    floor: Vec<u16>,
-    /// The entries that all operations before a new pair have as what stands after them, as upper limits.
-    ceiling: Vec<u16>,
+    /// What a new pair says of what stands before its second operation, where that is news.
+    floors: Vec<Bound>,
+    floor_count: u32,
+    /// What it says of what stands after its first operation.
+    ceilings: Vec<Bound>,
+    ceiling_count: u32,
+    /// The first operation of the pair.
+    first: Bound,
+    /// The second operation.
+    second: Bound,
 }
+
+/// A place of a process.
+#[derive(Clone, Copy)]
+struct Bound {
+    process: u32,
+    place: u16,
+}
+
+/// No place.
+const NO_BOUND: Bound = Bound {
+    process: 0,
+    place: 0,
+};
 
 /// The place as an entry of a row. A process has at most 4,096 operations, so 16 bits are enough, and the rows take half the memory.
 #[inline(always)]
 fn entry_of(place: u32) -> u16 {
     (place & 0xffff) as u16
+}
+
+/// Where the operation stands.
+fn bound_of(log: &NumberedLog, number: u32) -> Bound {
+    let operation = log.operation(number);
+    Bound {
+        process: operation.process,
+        place: entry_of(operation.place),
+    }
 }
 
 impl Rows {
@@ -53,8 +81,12 @@ impl Rows {
             before: vec![in alloc; 0; entries]?,
             changes: Vec::new(alloc),
             keeps_changes: false,
-            floor: vec![in alloc; 0; width as usize]?,
-            ceiling: vec![in alloc; 0; width as usize]?,
+            floors: vec![in alloc; NO_BOUND; width as usize]?,
+            floor_count: 0,
+            ceilings: vec![in alloc; NO_BOUND; width as usize]?,
+            ceiling_count: 0,
+            first: NO_BOUND,
+            second: NO_BOUND,
         };
         for number in 0..log.count() {
             rows.set_program_order(log, number);
@@ -104,37 +136,64 @@ impl Rows {
         self.width
     }
 
-    /// Notes what a new pair says of the operations around it.
+    /// Notes what a new pair says that is news. Rows grow along the order, so what is no news to the pair's second operation is none to those
+    /// after it, and what is none to the first is none to those before it.
     pub fn begin_pair(&mut self, log: &NumberedLog, first: u32, second: u32) {
+        self.first = bound_of(log, first);
+        self.second = bound_of(log, second);
+        self.floor_count = 0;
+        self.ceiling_count = 0;
         for process in 0..self.width {
-            let before = entry_of(self.before(first, process));
-            put(self.floor.as_mut_slice(), process, before);
-            let after = entry_of(self.after(second, process));
-            put(self.ceiling.as_mut_slice(), process, after);
+            let mut floor = self.before(first, process);
+            if process == self.first.process {
+                floor = self.first.place as u32;
+            }
+            if floor > self.before(second, process) {
+                self.add_floor(process, entry_of(floor));
+            }
+            let mut ceiling = self.after(second, process);
+            if process == self.second.process {
+                ceiling = self.second.place as u32;
+            }
+            if ceiling < self.after(first, process) {
+                self.add_ceiling(process, entry_of(ceiling));
+            }
         }
-        let first = log.operation(first);
-        put(
-            self.floor.as_mut_slice(),
-            first.process,
-            entry_of(first.place),
-        );
-        let second = log.operation(second);
-        put(
-            self.ceiling.as_mut_slice(),
-            second.process,
-            entry_of(second.place),
-        );
     }
 
-    /// Raises what stands before this operation, which stands after the new pair. Returns whether anything changed.
-    pub fn raise(&mut self, number: u32) -> Result<bool, AllocError> {
+    fn add_floor(&mut self, process: u32, place: u16) {
+        let bound = Bound { process, place };
+        put(self.floors.as_mut_slice(), self.floor_count, bound);
+        self.floor_count = self.floor_count.wrapping_add(1);
+    }
+
+    fn add_ceiling(&mut self, process: u32, place: u16) {
+        let bound = Bound { process, place };
+        put(self.ceilings.as_mut_slice(), self.ceiling_count, bound);
+        self.ceiling_count = self.ceiling_count.wrapping_add(1);
+    }
+
+    /// Returns whether the new pair says nothing of what stands before this operation, which stands after the pair. Rows are closed, so one
+    /// that has the pair's first operation has all of its row too: a look at one entry tells.
+    #[inline(always)]
+    pub fn is_raised(&self, number: u32) -> bool {
+        self.before(number, self.first.process) >= self.first.place as u32
+    }
+
+    /// Returns whether the new pair says nothing of what stands after this operation, which stands before the pair.
+    #[inline(always)]
+    pub fn is_lowered(&self, number: u32) -> bool {
+        self.after(number, self.second.process) <= self.second.place as u32
+    }
+
+    /// Raises what stands before this operation, which stands after the new pair.
+    pub fn raise(&mut self, number: u32) -> Result<(), AllocError> {
         let base = number.wrapping_mul(self.width);
-        let mut has_changed = false;
-        for process in 0..self.width {
-            let entry = base.wrapping_add(process);
+        for place in 0..self.floor_count {
+            let floor = at(self.floors.as_slice(), place, NO_BOUND);
+            let entry = base.wrapping_add(floor.process);
             let old = at(self.before.as_slice(), entry, 0);
-            let floor = at(self.floor.as_slice(), process, 0);
-            if old < floor {
+            if old < floor.place {
                 if self.keeps_changes {
                     let is_after = false;
                     self.changes.push(Change {
@@ -143,22 +202,20 @@ impl Rows {
                         is_after,
                     })?;
                 }
-                put(self.before.as_mut_slice(), entry, floor);
-                has_changed = true;
+                put(self.before.as_mut_slice(), entry, floor.place);
             }
         }
-        Ok(has_changed)
+        Ok(())
     }
 
-    /// Lowers what stands after this operation, which stands before the new pair. Returns whether anything changed.
-    pub fn lower(&mut self, number: u32) -> Result<bool, AllocError> {
+    /// Lowers what stands after this operation, which stands before the new pair.
+    pub fn lower(&mut self, number: u32) -> Result<(), AllocError> {
         let base = number.wrapping_mul(self.width);
-        let mut has_changed = false;
-        for process in 0..self.width {
-            let entry = base.wrapping_add(process);
+        for place in 0..self.ceiling_count {
+            let ceiling = at(self.ceilings.as_slice(), place, NO_BOUND);
+            let entry = base.wrapping_add(ceiling.process);
             let old = at(self.after.as_slice(), entry, 0);
-            let ceiling = at(self.ceiling.as_slice(), process, 0);
-            if old > ceiling {
+            if old > ceiling.place {
                 if self.keeps_changes {
                     let is_after = true;
                     self.changes.push(Change {
@@ -167,11 +224,16 @@ impl Rows {
                         is_after,
                     })?;
                 }
-                put(self.after.as_mut_slice(), entry, ceiling);
-                has_changed = true;
+                put(self.after.as_mut_slice(), entry, ceiling.place);
             }
         }
-        Ok(has_changed)
+        Ok(())
+    }
+
+    /// The number of entries of a row of which the new pair says something, before it or after it.
+    #[inline(always)]
+    pub fn news(&self) -> u32 {
+        self.floor_count.max(self.ceiling_count)
     }
 
     /// Returns whether there is no room for a further change.

@@ -179,6 +179,13 @@ impl Sources {
         living > 1 && living != UNBOUND
     }
 
+    /// Returns whether the reader has more than one possible source.
+    #[inline(always)]
+    pub fn has_several(&self, reader: u32) -> bool {
+        let living = self.living(reader);
+        living > 1 && living < UNTOLD
+    }
+
     /// The number of places that must be looked at for one of the reader's sources.
     #[inline(always)]
     pub fn span(&self, reader: u32) -> u64 {

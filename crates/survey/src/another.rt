@@ -14,6 +14,10 @@ pub const SMALL: u32 = 10;
 /// The largest number of other contradictions that are looked for. Each costs a saturation of the whole trace.
 const MAX_TRIES: u32 = 60;
 
+/// The number of steps that the search for others may take in any case. Beyond it, it takes at most as many as the first core did: what
+/// makes a core somewhat smaller is not worth more than what found it.
+const LEAST_FOR_ANOTHER: u64 = 10_000_000;
+
 /// A core that is found in a part of the trace. What the part loses, no part of it finds again, so the core is one of the whole.
 fn core_within<'a>(
     alloc: Global,
@@ -45,9 +49,23 @@ fn core_within<'a>(
     Ok(Some(core))
 }
 
-/// Looks for other contradictions as long as the core has more than ten operations: leaves out one of its operations from the whole
-/// trace, and goes on from a smaller core.
+/// Looks for other contradictions, as long as the core has more than ten operations, with no more steps than the `spent` ones of the first
+/// core, or some.
 pub fn smaller_core<'a>(
+    alloc: Global,
+    forced: &'a DerivedOrder<'a>,
+    core: Core<'a>,
+    spent: u64,
+    budget: &mut Budget,
+) -> Result<Core<'a>, AllocError> {
+    let mut share = budget.share(spent.max(LEAST_FOR_ANOTHER));
+    let smaller = without_each(alloc, forced, core, &mut share)?;
+    budget.give_back(share);
+    Ok(smaller)
+}
+
+/// Leaves out one of the core's operations from the whole trace, looks for a core there, and goes on from a smaller one.
+fn without_each<'a>(
     alloc: Global,
     forced: &'a DerivedOrder<'a>,
     core: Core<'a>,

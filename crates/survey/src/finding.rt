@@ -36,7 +36,8 @@ impl Surveyor for BySaturation {
         let log = log_of(alloc, trace)?;
         let mut budget = Budget::new(self.budget);
         let walked = walk_over(alloc, &log, &mut budget)?;
-        let finding = finding_of(alloc, trace, &log, walked.numbers, &mut budget)?;
+        let spent = self.budget.saturating_sub(budget.left());
+        let finding = finding_of(alloc, trace, &log, walked.numbers, spent, &mut budget)?;
         Ok(Overview {
             finding,
             extent: walked.extent,
@@ -44,12 +45,13 @@ impl Surveyor for BySaturation {
     }
 }
 
-/// The finding, by names. A core is made smaller.
+/// The finding, by names. A core, which took the `spent` steps, is made smaller.
 fn finding_of(
     alloc: Global,
     trace: &Trace,
     log: &NumberedLog,
     numbers: NumberedFinding,
+    spent: u64,
     budget: &mut Budget,
 ) -> Result<Finding, AllocError> {
     match numbers {
@@ -58,7 +60,7 @@ fn finding_of(
             Ok(Finding::Schedule(names))
         }
         NumberedFinding::Core(operations) => {
-            let core = smallest_core(alloc, log, operations, budget)?;
+            let core = smallest_core(alloc, log, operations, spent, budget)?;
             let names = names_of(alloc, trace, log, core.as_slice())?;
             Ok(Finding::Core(names))
         }
@@ -96,6 +98,7 @@ fn smallest_core(
     alloc: Global,
     log: &NumberedLog,
     operations: Vec<u32>,
+    spent: u64,
     budget: &mut Budget,
 ) -> Result<Vec<u32>, AllocError> {
     let forced = DerivedOrder::new(alloc, log, *budget)?;
@@ -108,7 +111,7 @@ fn smallest_core(
     core.close(budget)?;
     if core.is_refuted(budget)? {
         core.shrink(budget)?;
-        let core = smaller_core(alloc, &forced, core, budget)?;
+        let core = smaller_core(alloc, &forced, core, spent, budget)?;
         return Vec::from_slice(alloc, core.operations());
     }
     core.refute_by_walks();
