@@ -56,7 +56,7 @@ pub fn trace_argument<'a>(alloc: Global) -> Arg<'a>
         alloc,
         "trace",
         "TRACE",
-        "A file with a trace: what each process wrote and read, in its order",
+        "A file with a trace: what each process wrote and read",
     )
 }
 
@@ -82,7 +82,7 @@ pub fn picture_argument<'a>(alloc: Global) -> Arg<'a>
         alloc,
         "picture",
         "FILE",
-        "Draws the schedule, or a few operations that contradict each other, into FILE, as SVG",
+        "Draws the answer into FILE, as SVG for a browser",
     )
 }
 

@@ -37,9 +37,7 @@ pub fn command_of_two<'a>(
     ensures app { IfOk result (λ c. app_of c ≡ with_rule (with_rule (new_app name.entry.now) (rule_of first.entry)) (rule_of second.entry)) }
     ensures local { IfOk result (λ c. (out-Command c).has_globals ≡ false) }
 {
-    let command = Command::new(alloc, name)
-        .about(about)
-        .after_long_help(example);
+    let command = Command::new(alloc, name).about(about).after_help(example);
     with_two(command, first, second)
 }
 

@@ -15,9 +15,8 @@ use std::alloc::{AllocError, Global};
 
 const ABOUT: &str = "Writes the formula of a trace as DIMACS text";
 
-const EXAMPLE: &str =
-    "The DIMACS text of the trace's clause list goes to standard output. The trace alone fixes it: one thread
-makes it, whatever --workers says. If TRACE is '-', standard input is read.
+const EXAMPLE: &str = "The text goes to standard output. The trace alone fixes it. If TRACE is '-',
+standard input is read.
 
 Example, which can be pasted:
     printf 'vsc 1\\nproc P\\nW x 1\\nproc Q\\nR x 1\\n' | vsc cnf -

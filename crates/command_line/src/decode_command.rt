@@ -15,19 +15,17 @@ use std::alloc::{AllocError, Global};
 const ABOUT: &str = "Turns a model of a trace's clause list into a schedule of the trace";
 
 const EXAMPLE: &str =
-    "The schedule goes to standard output, the name of one operation a line, as 'vsc judge' reads it. One of the two
-files may be '-', standard input.
+    "The schedule goes to standard output, one name a line, as 'vsc judge' reads it.
+One of the two files may be '-', standard input.
 
-Example, which can be pasted, with a model of the formula that 'vsc cnf' writes of the trace:
+Example, which can be pasted, with a model of the formula of 'vsc cnf':
     printf 'vsc 1\\nproc P\\nW x 1\\nproc Q\\nR x 1\\n' > hand-off.trace
     printf 'v 1 2 0\\n' | vsc decode hand-off.trace -
-The answer is:
-    P.1
-    Q.1
+The answer is P.1, and below it Q.1.
 
 Exit status:
     0  the schedule was written
-    2  the command line or a file is refused, also where the answer is no model
+    2  the command line or a file is refused, also if the answer is no model
     4  a file or a standard stream failed";
 
 /// The command, as `clap` takes it.

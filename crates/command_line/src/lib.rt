@@ -9,6 +9,7 @@ mod judge_command;
 mod line;
 mod line_fault;
 mod lrat_command;
+mod number_option;
 mod numbers;
 mod part_command;
 mod program;

@@ -128,10 +128,8 @@ fn matches_of<'a>(alloc: Global, words: &'a [&'a str]) -> Result<ArgMatches<'a>,
     new_program(alloc)?.try_get_matches_from(words)
 }
 
-/// Reads the words of a command line, of which the first is the program's name.
-///
-/// A fault is what `clap` finds wrong with the words, a request for help or for the version, or that memory ran out.
-pub fn read_line<'a>(alloc: Global, words: &'a [&'a str]) -> Result<CommandLine<'a>, LineFault>
+// What the words ask for, or the fault as `clap` reports it.
+fn asked_line<'a>(alloc: Global, words: &'a [&'a str]) -> Result<CommandLine<'a>, LineFault>
     ensures line { IfOk result (Asks (texts words.now)) }
     ensures ranges { IfOk result (λ asked. IsWithinRanges asked.line) }
     ensures faultless { OnOk result (IsFaultless (texts words.now)) }
@@ -168,4 +166,22 @@ pub fn read_line<'a>(alloc: Global, words: &'a [&'a str]) -> Result<CommandLine<
         return Ok(refusals_line(refusals));
     }
     unreachable!()
+}
+
+/// Reads the words of a command line, of which the first is the program's name.
+///
+/// A fault is what `clap` finds wrong with the words, a request for help or for the version, or that memory ran out. Of an option without a
+/// number of its range the fault reports that range.
+pub fn read_line<'a>(alloc: Global, words: &'a [&'a str]) -> Result<CommandLine<'a>, LineFault>
+    ensures line { IfOk result (Asks (texts words.now)) }
+    ensures ranges { IfOk result (λ asked. IsWithinRanges asked.line) }
+    ensures faultless { OnOk result (IsFaultless (texts words.now)) }
+    ensures fault { IfErr result (IsFaultOf (texts words.now)) }
+    ensures memory { IfErr result (λ kind. takes vsc_app (texts words.now) ≡ true
+        → kind ≡ ErrorKind.OutOfMemory) }
+{
+    match asked_line(alloc, words) {
+        Ok(asked) => Ok(asked),
+        Err(fault) => Err(fault.with_range(words)),
+    }
 }

@@ -5,6 +5,7 @@ ghost use Rattle.clap.specs.Words.{kind_of};
 ghost use Rattle.clap.specs.declared.error.kind.ErrorKind.{ErrorKind};
 ghost use Rattle.command_line.specs.LineFault.{is_answer, status_of, text_on_memory};
 
+use crate::number_option::{NumberOption, missed_number};
 use clap::Error;
 use clap::error::ErrorKind;
 use std::fmt;
@@ -15,6 +16,8 @@ use std::marker::Model;
 #[derive(Debug, Drop)]
 pub struct LineFault {
     error: Error,
+    // The option that has no number of its range, if that is the fault.
+    missed: Option<NumberOption>,
 }
 
 // Contracts see a fault as its kind.
@@ -25,6 +28,17 @@ impl Model for LineFault {
 }
 
 impl LineFault {
+    /// The same fault of these words, which reports the range of the option that has no number of it, if that is the fault.
+    pub(crate) fn with_range(self, words: &[&str]) -> LineFault
+        ensures { result ≡ self }
+    {
+        let missed = missed_number(words, self.error.kind());
+        LineFault {
+            error: self.error,
+            missed,
+        }
+    }
+
     /// What kind of fault it is.
     pub fn kind(&self) -> ErrorKind
         ensures { result ≡ self.now }
@@ -55,7 +69,10 @@ impl From<Error> for LineFault {
     ghost from_gives = { λ error kind. kind ≡ kind_of error };
 
     fn from(error: Error) -> LineFault {
-        LineFault { error }
+        LineFault {
+            error,
+            missed: None,
+        }
     }
 }
 
@@ -65,7 +82,10 @@ impl fmt::Display for LineFault {
     fn fmt<W: fmt::Write>(&self, f: &mut fmt::Formatter<W>) -> fmt::Result {
         match self.error.kind() {
             ErrorKind::OutOfMemory => f.write_str("refused: memory\n"),
-            _ => self.error.fmt(f),
+            _ => match self.missed {
+                Some(option) => write!(f, "error: {option}\n"),
+                None => self.error.fmt(f),
+            },
         }
     }
 }

@@ -53,7 +53,7 @@ pub fn split_argument<'a>(alloc: Global) -> Arg<'a>
         "3",
         0,
         10,
-        "On how many variables the search is split at first, 0 to 10: N variables give 2^N cubes",
+        "Splits first into 2^N cubes, 0 to 10",
     )
 }
 
@@ -68,7 +68,7 @@ pub fn budget_argument<'a>(alloc: Global) -> Arg<'a>
         "100000",
         0,
         1_000_000_000,
-        "Most conflicts of a cube, and steps of a proof by counting, 0 to 1000000000",
+        "Most conflicts a cube, 0 to 1000000000",
     )
 }
 
@@ -83,7 +83,7 @@ pub fn steps_argument<'a>(alloc: Global) -> Arg<'a>
         "1000000000",
         0,
         1_000_000_000,
-        "Most steps of the survey, 0 to 1000000000",
+        "Most steps, 0 to 1000000000",
     )
 }
 
@@ -98,7 +98,7 @@ pub fn rounds_argument<'a>(alloc: Global) -> Arg<'a>
         "1",
         1,
         4,
-        "Most rounds, 1 to 4; open cubes are split between two rounds",
+        "Most rounds of the search, 1 to 4",
     )
 }
 

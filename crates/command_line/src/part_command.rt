@@ -17,21 +17,15 @@ use std::alloc::{AllocError, Global};
 const ABOUT: &str = "Writes the part of a trace that some of its operations make up";
 
 const EXAMPLE: &str =
-    "NAMES has names of operations of TRACE, one a line, in any order. The part of TRACE that they make up goes to
-standard output, as a trace. If the part has no legal schedule, TRACE has none, whatever was chosen. A read
-is left out, and an update becomes a write, if an operation from which the value may be is not named.
-One of the two files may be '-', standard input.
+    "The part goes to standard output, as a trace. If it has no legal schedule, TRACE
+has none, whatever was chosen. A read is left out, and an update becomes a
+write, if an operation from which the value may be is not named. One of the two
+files may be '-', standard input.
 
 Example, which can be pasted:
     printf 'vsc 1\\nproc P\\nW x 1\\nW y 1\\nproc Q\\nR y 1\\nR x 2\\n' > whole.trace
     printf 'Q.2\\nP.1\\n' | vsc part whole.trace -
-The answer is:
-    vsc 1
-    proc P
-    W x 1
-    proc Q
-    R x 2
-With --names a comment stands before each operation, '# Q.2' before the last one.
+The answer is, line by line: vsc 1, proc P, W x 1, proc Q, R x 2.
 
 Exit status:
     0  the part was written
@@ -47,7 +41,7 @@ fn show_names_argument<'a>(alloc: Global) -> Arg<'a>
         alloc,
         "show-names",
         "names",
-        "Writes a comment before each operation of the part, with its name in TRACE",
+        "Writes '# Q.2', the name in TRACE, before each operation",
     )
 }
 
@@ -61,7 +55,7 @@ pub fn new_part_command<'a>(alloc: Global) -> Result<Command<'a>, AllocError>
         alloc,
         "names",
         "NAMES",
-        "A file with names of operations of TRACE, one a line, in any order",
+        "A file with names of operations, one a line, in any order",
     );
     let shows_names = show_names_argument(alloc);
     command_of_three(alloc, "part", ABOUT, EXAMPLE, trace, names, shows_names)

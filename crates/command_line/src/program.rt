@@ -20,12 +20,20 @@ use std::alloc::{AllocError, Global};
 
 const VERSION: &str = "0.1.0";
 
-const ABOUT: &str =
-    "Checks memory traces against sequential consistency: whether one order of all operations explains what each process read.";
+const ABOUT: &str = "Checks memory traces against sequential consistency: whether one order of all
+operations explains what each process read.";
 
 const AFTER_HELP: &str =
-    "'vsc <COMMAND> --help' says what the files of a command are, with an example. '-' in place of a file that is
-read is standard input. With --explain a command also says, on standard error, why it answers as it does.";
+    "'vsc COMMAND --help' says what the files of a command are, with an example.
+'-' in place of a file that is read is standard input. With --explain a command
+also says, on standard error, why it answers as it does.
+
+Exit status:
+    0  CONSISTENT, LEGAL or ACCEPTED, or a text was written
+    1  INCONSISTENT or ILLEGAL
+    2  the command line or a file is refused
+    3  UNKNOWN
+    4  a file or a standard stream failed";
 
 // The program without its commands.
 fn bare_program<'a>(alloc: Global) -> Result<Command<'a>, AllocError>

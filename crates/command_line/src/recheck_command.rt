@@ -17,22 +17,19 @@ use std::alloc::{AllocError, Global};
 const ABOUT: &str = "Checks a certificate that a trace has no legal schedule";
 
 const EXAMPLE: &str =
-    "The certificate is checked without a search: whoever wrote it is not trusted. One of the files may be '-', standard
-input.
+    "Nothing is searched for, and whoever wrote CERT is not trusted. With --part it
+is one of the part that 'vsc part TRACE NAMES' writes. ACCEPTED always says that
+TRACE itself has no legal schedule. One of the files may be '-', standard input.
 
 Example, which can be pasted:
-    printf 'vsc 1\\nproc P\\nR x 1\\n' > unread.trace
-    printf 'vsc-cert 1\\nleaf\\nproof 0\\n3 0 1 2 0\\nend\\n' | vsc recheck unread.trace -
-The answer is ACCEPTED cubes=1. The clauses that 'vsc cnf' writes of the trace are 1 and -1: nothing writes
-what P reads. There is one case, and its proof takes both.
-
-With --part the certificate is one of the part that 'vsc part TRACE NAMES' writes, as 'vsc verify --cert'
-writes it of that part, or 'vsc survey --cert' with the names of its --names. The part is made anew, and the
-answer ACCEPTED says that TRACE itself has no legal schedule. TRACE may be larger than 'vsc verify' takes.
+    printf 'vsc 1\\nproc P\\nR x 1\\n' > unread
+    printf 'vsc-cert 1\\nleaf\\nproof 0\\n3 0 1 2 0\\nend\\n' | vsc recheck unread -
+The answer is ACCEPTED cubes=1: there is one case, and its proof takes the
+clauses 1 and -1 of the trace, since nothing writes what P reads.
 
 Exit status:
     0  the answer is ACCEPTED
-    2  the command line or a file is refused, also where a case has no proof or one that is wrong
+    2  the command line or a file is refused, or a proof is wrong or missing
     4  a file or a standard stream failed";
 
 // `--part NAMES`.
@@ -44,7 +41,7 @@ fn part_argument<'a>(alloc: Global) -> Arg<'a>
         alloc,
         "part",
         "NAMES",
-        "Takes CERT as one of the part of TRACE that the operations make up which NAMES names",
+        "Takes CERT as one of the part of TRACE that NAMES names",
     )
 }
 

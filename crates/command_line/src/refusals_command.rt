@@ -14,8 +14,9 @@ use std::alloc::{AllocError, Global};
 const ABOUT: &str = "Lists all refusals, with a sentence on each";
 
 const EXAMPLE: &str =
-    "A refusal is one line on standard error: 'refused: ', the file or the step that it concerns, a number, a name,
-and mostly 'at' and the number of a line. The list goes to standard output, and no file is read.
+    "A refusal is one line on standard error: 'refused: ', the file or the step that
+it concerns, a number, a name, and mostly 'at' and the number of a line. The
+list goes to standard output, and no file is read.
 
 Example, which can be pasted:
     vsc refusals | grep 'trace 4'
@@ -32,7 +33,7 @@ pub fn new_refusals_command<'a>(alloc: Global) -> Result<Command<'a>, AllocError
 {
     let command = Command::new(alloc, "refusals")
         .about(ABOUT)
-        .after_long_help(EXAMPLE);
+        .after_help(EXAMPLE);
     Ok(command)
 }
 

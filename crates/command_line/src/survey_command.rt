@@ -17,19 +17,16 @@ use crate::numbers::{budget_of, steps_argument, workers_argument, workers_of};
 use clap::{Arg, ArgMatches, Command};
 use std::alloc::{AllocError, Global};
 
-const ABOUT: &str =
-    "Decides whether a long trace is sequentially consistent, with the help of a survey";
+const ABOUT: &str = "Decides whether a long trace is sequentially consistent, by a survey";
 
-const EXAMPLE: &str =
-    "TRACE may have up to 4096 operations; if it is '-', standard input is read. The answer is
-    CONSISTENT, and a schedule of all operations that is legal, one name a line;
-    INCONSISTENT operations=N cubes=M, and the N names of a core: the part that they make up has no legal
-        schedule, so TRACE has none, and each of M cases has a checked proof of that;
-    INCONSISTENT cubes=M alone, if no core was found and the search of the whole trace refuted it;
-    UNKNOWN placed=N undecided=M: neither was shown, and this is how far the survey came.
-What the survey finds is not trusted: a schedule is judged, and a part refuted as 'vsc verify' does it. The
-files are made or emptied before TRACE is opened, and stay empty unless the answer is INCONSISTENT. That of
---picture takes an SVG document, which a browser shows, after CONSISTENT of at most 100 operations too.
+const EXAMPLE: &str = "TRACE has up to 4096 operations; if it is '-', standard input is read.
+The answer is one of
+    CONSISTENT, and a legal schedule of all operations, one name a line;
+    INCONSISTENT operations=N cubes=M, and the N names of a core: the part that
+        they make up, and so TRACE, has no legal schedule, as M proofs show;
+    INCONSISTENT cubes=M alone: no core was found, but a search refuted TRACE;
+    UNKNOWN placed=N undecided=M: nothing is shown, and the survey came so far.
+A FILE is made or emptied first, and stays empty if nothing belongs there.
 
 Example, which can be pasted:
     printf 'vsc 1\\nproc P\\nW x 1\\nW y 1\\nproc Q\\nR y 1\\nR x 2\\n' > whole.trace

@@ -22,22 +22,17 @@ use std::alloc::{AllocError, Global};
 
 const ABOUT: &str = "Decides whether a trace is sequentially consistent";
 
-const EXAMPLE: &str = "The answer is
-    CONSISTENT, and a schedule of all operations that is legal, one name a line;
-    INCONSISTENT cubes=N: there is no legal schedule, and each of N cases has a checked proof of that;
-    UNKNOWN open=N: the search was given up. A legal schedule can only be in one of the N cubes below,
-        which are literals of the clauses that 'vsc cnf' writes.
-With --cert the proofs of INCONSISTENT go to FILE, for 'vsc recheck'. FILE is made or emptied first, and
-stays empty after any other answer. If TRACE is '-', standard input is read.
-With --picture FILE takes an SVG document, which a browser shows: of the schedule of at most 100 operations,
-or of a few operations that contradict each other. It stays empty if there is nothing to be drawn.
+const EXAMPLE: &str = "The answer is one of
+    CONSISTENT, and a legal schedule of all operations, one name a line;
+    INCONSISTENT cubes=N: there is none; each of N cases has a checked proof;
+    UNKNOWN open=N: the search was given up. A legal schedule can only be in one
+        of the N cubes below, which are literals of the clauses of 'vsc cnf'.
+If TRACE is '-', standard input is read. A FILE is made or emptied first, and
+stays empty if nothing belongs there.
 
 Example, which can be pasted:
     printf 'vsc 1\\nproc P\\nW x 1\\nproc Q\\nR x 1\\n' | vsc verify -
-The answer is:
-    CONSISTENT
-    P.1
-    Q.1
+The answer is CONSISTENT, and below it P.1 and Q.1.
 
 Exit status:
     0  the answer is CONSISTENT
@@ -55,7 +50,7 @@ fn cert_argument<'a>(alloc: Global) -> Arg<'a>
         alloc,
         "cert",
         "FILE",
-        "Writes the proofs to FILE where the answer is INCONSISTENT",
+        "Writes proofs of INCONSISTENT to FILE, for 'vsc recheck'",
     )
 }
 

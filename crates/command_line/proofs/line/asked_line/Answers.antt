@@ -16,8 +16,8 @@ use Rattle.command_line.proofs.RecheckLemmas.{recheck_reads}
 use Rattle.command_line.proofs.RefusalsLemmas.{refusals_reads}
 use Rattle.command_line.proofs.SurveyLemmas.{survey_reads}
 use Rattle.command_line.proofs.VerifyLemmas.{verify_reads}
-use Rattle.command_line.proofs.line.read_line.Goals as goal
-use Rattle.command_line.proofs.line.read_line.Goals.{In-Some, In-Some-subcommand_matches, In-Some-subcommand_matches-2, In-Some-subcommand_matches-3, In-Some-subcommand_matches-4, In-Some-subcommand_matches-5, In-Some-subcommand_matches-6, In-Some-subcommand_matches-7, In-Some-subcommand_matches-8}
+use Rattle.command_line.proofs.line.asked_line.Goals as goal
+use Rattle.command_line.proofs.line.asked_line.Goals.{In-Some, In-Some-subcommand_matches, In-Some-subcommand_matches-2, In-Some-subcommand_matches-3, In-Some-subcommand_matches-4, In-Some-subcommand_matches-5, In-Some-subcommand_matches-6, In-Some-subcommand_matches-7, In-Some-subcommand_matches-8}
 
 -- ---- judge
 
