@@ -174,7 +174,7 @@ impl Rows {
     }
 
     /// Returns whether the new pair says nothing of what stands before this operation, which stands after the pair. Rows are closed, so one
-    /// that has the pair's first operation has all of its row too: a look at one entry tells.
+    /// that has the pair's first operation has all of its row too: a look at one entry is enough.
     #[inline(always)]
     pub fn is_raised(&self, number: u32) -> bool {
         self.before(number, self.first.process) >= self.first.place as u32
