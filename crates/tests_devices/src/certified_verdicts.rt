@@ -3,7 +3,7 @@
 use crate::devices::{failing_at, sink_failing_at, source_of};
 use crate::expectations::expect;
 use crate::rechecks::assert_accepted;
-use crate::verdicts::{VERDICTS, Verdict, options_of};
+use crate::verdicts::{DECIDED_TRACES, DecidedTrace, options_of};
 use cube_jobs::OpenGate;
 use dimacs::{MemorySink, ShortSink};
 use std::alloc::Global;
@@ -28,7 +28,7 @@ const LINES: [&[u8]; CERTIFIED] = [b"ACCEPTED cubes=2\n", b"ACCEPTED cubes=1\n"]
 fn whole_certificate<R: Threads + Wait + Abort + Sync>(
     alloc: Global,
     rt: &R,
-    verdict: &Verdict,
+    verdict: &DecidedTrace,
 ) -> MemorySink {
     let options = options_of(rt, verdict);
     let mut trace = source_of(verdict.trace);
@@ -54,7 +54,7 @@ struct Devices<'a> {
 fn assert_certifies<R: Threads + Wait + Abort + Sync>(
     alloc: Global,
     rt: &R,
-    verdict: &Verdict,
+    verdict: &DecidedTrace,
     devices: Devices<'_>,
     answer: Result<Status, Fault>,
     certificate: &[u8],
@@ -78,7 +78,7 @@ fn assert_certifies<R: Threads + Wait + Abort + Sync>(
 #[test]
 fn writes_certificates_that_are_accepted(rt: HostRuntime) {
     for number in 0..CERTIFIED {
-        let verdict = &VERDICTS[number];
+        let verdict = &DECIDED_TRACES[number];
         let whole = whole_certificate(rt.alloc(), &rt, verdict);
         expect(&rt, whole.as_slice().starts_with(HEADS[number]), number);
         assert_accepted(
@@ -95,7 +95,7 @@ fn writes_certificates_that_are_accepted(rt: HostRuntime) {
 fn assert_certifies_none<R: Threads + Wait + Abort + Sync>(
     alloc: Global,
     rt: &R,
-    verdict: &Verdict,
+    verdict: &DecidedTrace,
     call: usize,
 ) {
     let devices = Devices {
@@ -109,7 +109,7 @@ fn assert_certifies_none<R: Threads + Wait + Abort + Sync>(
 
 #[test]
 fn writes_nothing_if_the_source_fails(rt: HostRuntime) {
-    for verdict in &VERDICTS {
+    for verdict in &DECIDED_TRACES {
         for call in 1..=verdict.trace.len() + 1 {
             assert_certifies_none(rt.alloc(), &rt, verdict, call);
         }
@@ -120,7 +120,7 @@ fn writes_nothing_if_the_source_fails(rt: HostRuntime) {
 fn assert_certificate<R: Threads + Wait + Abort + Sync>(
     alloc: Global,
     rt: &R,
-    verdict: &Verdict,
+    verdict: &DecidedTrace,
     call: usize,
     answer: Result<Status, Fault>,
     certificate: &[u8],
@@ -145,7 +145,7 @@ fn assert_certificate<R: Threads + Wait + Abort + Sync>(
 
 #[test]
 fn writes_no_report_if_the_sink_of_the_certificate_fails(rt: HostRuntime) {
-    for verdict in &VERDICTS[..CERTIFIED] {
+    for verdict in &DECIDED_TRACES[..CERTIFIED] {
         let sink = whole_certificate(rt.alloc(), &rt, verdict);
         let whole = sink.as_slice();
         for count in 0..whole.len() {
@@ -158,7 +158,7 @@ fn writes_no_report_if_the_sink_of_the_certificate_fails(rt: HostRuntime) {
 
 #[test]
 fn asks_nothing_of_the_sink_of_the_certificate_for_another_report(rt: HostRuntime) {
-    for verdict in &VERDICTS[CERTIFIED..] {
+    for verdict in &DECIDED_TRACES[CERTIFIED..] {
         let answer = Ok(verdict.status);
         assert_certificate(rt.alloc(), &rt, verdict, 1, answer, b"", verdict.report);
     }
@@ -168,7 +168,7 @@ fn asks_nothing_of_the_sink_of_the_certificate_for_another_report(rt: HostRuntim
 fn assert_report<R: Threads + Wait + Abort + Sync>(
     alloc: Global,
     rt: &R,
-    verdict: &Verdict,
+    verdict: &DecidedTrace,
     certificate: &[u8],
     prefix: &[u8],
     answer: Result<Status, Fault>,
@@ -193,7 +193,7 @@ fn assert_report<R: Threads + Wait + Abort + Sync>(
 
 #[test]
 fn writes_the_whole_certificate_before_the_report(rt: HostRuntime) {
-    for verdict in &VERDICTS[..CERTIFIED] {
+    for verdict in &DECIDED_TRACES[..CERTIFIED] {
         let sink = whole_certificate(rt.alloc(), &rt, verdict);
         let whole = sink.as_slice();
         let report = verdict.report;

@@ -12,7 +12,7 @@ use std::thread::Threads;
 use verdict_report::{Fault, ShortSource, Status, run_verify};
 
 /// A trace, the numbers of a search by one worker, and the verdict.
-pub struct Verdict {
+pub struct DecidedTrace {
     pub trace: &'static str,
     pub split: u32,
     pub budget: u64,
@@ -21,9 +21,9 @@ pub struct Verdict {
     pub report: &'static [u8],
 }
 
-/// A verdict of each kind. Store buffering splits on variable 3 first.
-pub static VERDICTS: [Verdict; 4] = [
-    Verdict {
+/// A trace for each kind of verdict. Store buffering splits on variable 3 first.
+pub static DECIDED_TRACES: [DecidedTrace; 4] = [
+    DecidedTrace {
         trace: STORE_BUFFERING,
         split: 1,
         budget: 100,
@@ -31,7 +31,7 @@ pub static VERDICTS: [Verdict; 4] = [
         status: Status::No,
         report: b"INCONSISTENT cubes=2\n",
     },
-    Verdict {
+    DecidedTrace {
         trace: UNWRITTEN,
         split: 0,
         budget: 100,
@@ -39,7 +39,7 @@ pub static VERDICTS: [Verdict; 4] = [
         status: Status::No,
         report: b"INCONSISTENT cubes=1\n",
     },
-    Verdict {
+    DecidedTrace {
         trace: HAND_OFF,
         split: 1,
         budget: 100,
@@ -47,7 +47,7 @@ pub static VERDICTS: [Verdict; 4] = [
         status: Status::Yes,
         report: b"CONSISTENT\nP.1\nQ.1\n",
     },
-    Verdict {
+    DecidedTrace {
         trace: STORE_BUFFERING,
         split: 0,
         budget: 0,
@@ -58,7 +58,7 @@ pub static VERDICTS: [Verdict; 4] = [
 ];
 
 /// The numbers of the search for the verdict.
-pub fn options_of(rt: &impl Abort, verdict: &Verdict) -> Options {
+pub fn options_of(rt: &impl Abort, verdict: &DecidedTrace) -> Options {
     let options = Options::new(1, verdict.split, verdict.budget, verdict.rounds);
     ample(rt, options)
 }
@@ -67,7 +67,7 @@ pub fn options_of(rt: &impl Abort, verdict: &Verdict) -> Options {
 fn assert_verifies<R: Threads + Wait + Abort + Sync>(
     alloc: Global,
     rt: &R,
-    verdict: &Verdict,
+    verdict: &DecidedTrace,
     mut trace: ShortSource<'_>,
     mut out: ShortSink,
     answer: Result<Status, Fault>,
@@ -84,7 +84,7 @@ fn assert_verifies<R: Threads + Wait + Abort + Sync>(
 fn assert_prefix<R: Threads + Wait + Abort + Sync>(
     alloc: Global,
     rt: &R,
-    verdict: &Verdict,
+    verdict: &DecidedTrace,
     prefix: &[u8],
 ) {
     let call = prefix.len().wrapping_add(1);
@@ -100,7 +100,7 @@ fn assert_prefix<R: Threads + Wait + Abort + Sync>(
 
 #[test]
 fn reports_of_single_bytes_what_it_reports_of_whole_texts(rt: HostRuntime) {
-    for verdict in &VERDICTS {
+    for verdict in &DECIDED_TRACES {
         for size in SIZES {
             let trace = ShortSource::new(verdict.trace.as_bytes(), size);
             let out = ShortSink::new(rt.alloc(), size);
@@ -121,7 +121,7 @@ fn reports_of_single_bytes_what_it_reports_of_whole_texts(rt: HostRuntime) {
 
 #[test]
 fn reports_nothing_if_the_source_fails(rt: HostRuntime) {
-    for verdict in &VERDICTS {
+    for verdict in &DECIDED_TRACES {
         for call in 1..=verdict.trace.len() + 1 {
             let trace = failing_at(verdict.trace, call);
             let out = ShortSink::new(rt.alloc(), 1);
@@ -133,7 +133,7 @@ fn reports_nothing_if_the_source_fails(rt: HostRuntime) {
 
 #[test]
 fn reports_a_prefix_if_the_sink_fails(rt: HostRuntime) {
-    for verdict in &VERDICTS {
+    for verdict in &DECIDED_TRACES {
         for count in 0..=verdict.report.len() {
             assert_prefix(rt.alloc(), &rt, verdict, &verdict.report[..count]);
         }
