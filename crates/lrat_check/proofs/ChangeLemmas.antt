@@ -1,15 +1,15 @@
 -- By what the counts of the active clauses differ from the formula's, with one clause more or less.
-use Rattle.std.proofs.Common.{◌≡◌, ℕ, zero, suc, ◌+◌, ◌-◌, ◌<◌, ◌≤◌, Bool, true, false, cond, not, eqb, ◌||◌, List, [], ◌∷◌, ◌++◌, length, map, take, get_or, refl, ap, sym, ◌∙◌, subst, inl, inr, append_assoc, append-nil, rules, arith}
+use Rattle.std.proofs.Common.{◌≡◌, ℕ, zero, suc, ◌+◌, ◌-◌, ◌<◌, ◌≤◌, cond, not, eqb, List, [], ◌∷◌, ◌++◌, length, map, take, get_or, refl, ap, sym, ◌∙◌, subst, inl, inr, append_assoc, append-nil, arith}
 use Rattle.std.specs.Prelude.{ℤ, Option, Some, None, slice_index_or}
-use Rattle.std.specs.List.{filter, slice_get}
+use Rattle.std.specs.List.{slice_get}
 use Rattle.std.specs.Option.{option_map, unwrap_or}
-use Rattle.std.proofs.lemmas.Bool.{cases_eq, cond-true, cond-false, eq-eqb, ne_eqb}
+use Rattle.std.proofs.lemmas.Bool.{cases_eq, cond-false, eq-eqb, ne_eqb}
 use Rattle.std.proofs.Math.Seq.{take-length}
 use Rattle.std.proofs.lemmas.List.{take_more}
 use Rattle.std.proofs.lemmas.List.Filters.{length-filter_both}
 use Rattle.lrat_check.specs.Active.{numbered, at_start, with_clause, without}
 use Rattle.lrat_check.specs.Counted.{AreChanges}
-use Rattle.lrat_check.specs.Counts.{times, times_at, repeats, IsCount, AreCounts, count_of}
+use Rattle.lrat_check.specs.Counts.{times, repeats, IsCount, AreCounts, count_of}
 use Rattle.lrat_check.specs.declared.count_changes.CountChanges.{CountChanges}
 use Rattle.lrat_check.specs.declared.literal_counts.LiteralCounts.{LiteralCounts}
 use Rattle.lrat_check.proofs.ActiveLemmas.{unit_of}

@@ -1,12 +1,12 @@
 -- Ids that are hidden, and the clauses without them.
-use Rattle.std.proofs.Common.{◌≡◌, ℕ, zero, suc, ◌+◌, ◌<◌, ◌≤◌, Bool, true, false, cond, eqb, leb, ◌||◌, List, [], ◌∷◌, length, refl, ap, sym, ◌∙◌, inl, inr, le-leb, rules, arith}
-use Rattle.std.specs.Prelude.{ℤ, Option, Some, None, slice_index_or}
+use Rattle.std.proofs.Common.{◌≡◌, ℕ, zero, suc, ◌<◌, ◌≤◌, Bool, true, false, cond, eqb, leb, ◌||◌, List, [], ◌∷◌, length, refl, ap, sym, ◌∙◌, inl, inr, le-leb, arith}
+use Rattle.std.specs.Prelude.{ℤ, Option, None, slice_index_or}
 use Rattle.std.specs.BTreeMap.{is_at}
 use Rattle.std.specs.Cmp.{unsigned_tied}
 use Rattle.std.specs.BTreeSet.{contains}
 use Rattle.std.specs.List.{list_any, IsDistinct, AllByRecursion}
 use Rattle.std.specs.Ordering.{nat_cmp}
-use Rattle.std.proofs.lemmas.Bool.{cases_Bool, cases_eq, cases_lt, cond-true, cond-false, eqb-true, eq-eqb, ne_eqb, leb-true, lt-leb, or_left, or_parts, false≢true, true≢false}
+use Rattle.std.proofs.lemmas.Bool.{cases_Bool, cases_eq, cases_lt, cond-true, cond-false, eqb-true, eq-eqb, ne_eqb, leb-true, or_left, or_parts, false≢true, true≢false}
 use Rattle.lrat_check.specs.Hidden.{is_hidden, near_kept_at, passed_by}
 use Rattle.lrat_check.specs.Marks.{marked_at}
 use Rattle.lrat_check.specs.declared.hidden_ids.HiddenIds.{HiddenIds}

@@ -1,4 +1,4 @@
-use Rattle.std.proofs.Common.{sym, subst, Option}
+use Rattle.std.proofs.Common.{subst, Option}
 use Rattle.std.proofs.lemmas.Result.{IfOk-weaker}
 use Rattle.lrat_check.specs.ClauseAt.{clause_at}
 use Rattle.lrat_check.specs.Counted.{AreRightChanges}
