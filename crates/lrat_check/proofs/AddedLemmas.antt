@@ -48,25 +48,25 @@ row_changed first place id other old new o e changed = elim (cases_lt first othe
         ∙ (λ i. cond (same_row above i) o (sym (cond-true (leb first other) (in_row old (other - first)) None b) i))
 
 -- a clause is put into a row, or into the tree, or is taken away
-pub put_before : (b : Bool) (row late : Option (List ℤ)) (clause : List ℤ) → option_or (cond b (Some clause) row) late ≡ cond b (Some clause) (option_or row late)
-put_before true row late clause = refl
-put_before false row late clause = refl
+pub put_before : (b : Bool) (row in_tree : Option (List ℤ)) (clause : List ℤ) → option_or (cond b (Some clause) row) in_tree ≡ cond b (Some clause) (option_or row in_tree)
+put_before true row in_tree clause = refl
+put_before false row in_tree clause = refl
 
-pub put_after : (b : Bool) (row late : Option (List ℤ)) (clause : List ℤ) → (b ≡ true → row ≡ None) → option_or row (cond b (Some clause) late) ≡ cond b (Some clause) (option_or row late)
-put_after true row late clause h = ap (λ o. option_or o (Some clause)) (h refl)
-put_after false row late clause h = refl
+pub put_after : (b : Bool) (row in_tree : Option (List ℤ)) (clause : List ℤ) → (b ≡ true → row ≡ None) → option_or row (cond b (Some clause) in_tree) ≡ cond b (Some clause) (option_or row in_tree)
+put_after true row in_tree clause h = ap (λ o. option_or o (Some clause)) (h refl)
+put_after false row in_tree clause h = refl
 
-pub taken : (b : Bool) (row late : Option (List ℤ)) → option_or (cond b None row) (cond b None late) ≡ cond (b || false) None (option_or row late)
-taken true row late = refl
-taken false row late = refl
+pub taken : (b : Bool) (row in_tree : Option (List ℤ)) → option_or (cond b None row) (cond b None in_tree) ≡ cond (b || false) None (option_or row in_tree)
+taken true row in_tree = refl
+taken false row in_tree = refl
 
 -- what a tree finds by the order of ids it finds by their equality
 pub by_id : (id : ℕ) (entries : List (ℕ × Bor (List ℤ))) → lookup (is_at (nat_cmp id)) entries ≡ lookup (λ other. eqb id other) entries
 by_id id entries = λ i. lookup (λ other. unsigned_tied id other i) entries
 
-pub late_changed : (id other : ℕ) (clause : Option (Bor (List ℤ))) (old new : List (ℕ × Bor (List ℤ))) → lookup (is_at (nat_cmp other)) new ≡ cond (is_at (nat_cmp id) other) clause (lookup (is_at (nat_cmp other)) old) →
+pub in_tree_changed : (id other : ℕ) (clause : Option (Bor (List ℤ))) (old new : List (ℕ × Bor (List ℤ))) → lookup (is_at (nat_cmp other)) new ≡ cond (is_at (nat_cmp id) other) clause (lookup (is_at (nat_cmp other)) old) →
     option_map shown (lookup (λ k. eqb other k) new) ≡ cond (eqb id other) (option_map shown clause) (option_map shown (lookup (λ k. eqb other k) old))
-late_changed id other clause old new h =
+in_tree_changed id other clause old new h =
     ap (option_map shown) (sym (by_id other new) ∙ h ∙ (λ i. cond (unsigned_tied id other i) clause (by_id other old i))) ∙ mapped (eqb id other) clause (lookup (λ k. eqb other k) old)
   where
     mapped : (b : Bool) (x y : Option (Bor (List ℤ))) → option_map shown (cond b x y) ≡ cond b (option_map shown x) (option_map shown y)

@@ -120,11 +120,6 @@ count_less f g id z n m same less (ids, each, many) = (
   (let both = length-filter_both (λ k. eqb k id) (λ k. not (eqb k id)) (λ k. refl) ids in let here = each id in omega (arith, both, here, many, less)),
 )
 
-pub are_less : (f g : ℕ → Option (List ℤ)) (id : ℕ) (clause : List ℤ) (old new : LiteralCounts) → f id ≡ Some clause → ((other : ℕ) → g other ≡ cond (eqb id other || false) None (f other)) →
-    ((z : ℤ) → count_of new z ≡ count_of old z - times clause z) → AreCounts f old → AreCounts g new
-are_less f g id clause old new known same less h = λ z.
-    count_less f g id z (count_of old z) (count_of new z) same (less z ∙ ap (λ o. count_of old z - shown z o) (sym known)) (h z)
-
 -- the same clauses
 pub count_same : (f g : ℕ → Option (List ℤ)) (z : ℤ) (n : ℕ) → ((id : ℕ) → g id ≡ f id) → IsCount f z n → IsCount g z n
 count_same f g z n h k = subst (λ (active : ℕ → Option (List ℤ)). IsCount active z n) (sym (same_active g f h)) k
@@ -146,17 +141,10 @@ place_same x z = elim (cases_Bool (int_eq x z)) [
   | inr apart ↦ ne_eqb (place_of x) (place_of z) (place_apart x z apart) ∙ sym apart
 ]
 
--- counts that go up and down with each literal
+-- counts that go up with each literal
 pub raised : (old new first place : ℕ) (clause : List ℤ) (i : ℕ) (x z : ℤ) → i < length clause → x ≡ get_or clause i x → place ≡ place_of x → new ≡ old + cond (eqb place (place_of z)) 1 0 →
     old ≡ first + times (take i clause) z → new ≡ first + times (take (i + 1) clause) z
 raised old new first place clause i x z h e at now before =
     let by : new ≡ old + cond (int_eq x z) 1 0 = now ∙ ap (λ n. old + cond (eqb n (place_of z)) 1 0) at ∙ ap (λ b. old + cond b 1 0) (place_same x z) in
-    let more = times_more clause i x z h e in
-    omega (arith, by, before, more)
-
-pub lowered : (old new first place : ℕ) (clause : List ℤ) (i : ℕ) (x z : ℤ) → i < length clause → x ≡ get_or clause i x → place ≡ place_of x → new ≡ old - cond (eqb place (place_of z)) 1 0 →
-    old ≡ first - times (take i clause) z → new ≡ first - times (take (i + 1) clause) z
-lowered old new first place clause i x z h e at now before =
-    let by : new ≡ old - cond (int_eq x z) 1 0 = now ∙ ap (λ n. old - cond (eqb n (place_of z)) 1 0) at ∙ ap (λ b. old - cond b 1 0) (place_same x z) in
     let more = times_more clause i x z h e in
     omega (arith, by, before, more)

@@ -1,6 +1,6 @@
 -- Counts in a table and in a tree, by their places.
-use Rattle.std.proofs.Common.{◌≡◌, ℕ, zero, suc, ◌<◌, ◌≤◌, Bool, true, false, cond, eqb, List, [], ◌∷◌, length, refl, ap, sym, ◌∙◌, inl, inr, arith}
-use Rattle.std.specs.Prelude.{Option, Some, None, slice_index_or}
+use Rattle.std.proofs.Common.{◌≡◌, ℕ, zero, suc, ◌≤◌, Bool, true, false, cond, eqb, List, [], ◌∷◌, length, refl, ap, sym, ◌∙◌, inl, inr, arith}
+use Rattle.std.specs.Prelude.{Option, Some, slice_index_or}
 use Rattle.std.specs.BTreeMap.{is_at}
 use Rattle.std.specs.Cmp.{unsigned_tied}
 use Rattle.std.specs.Map.{lookup}
@@ -41,10 +41,3 @@ put_past near place k count old new past h = ap (slice_index_or near k) (changed
   | inr apart ↦ (let b = ne_eqb place k apart in
       ap (slice_index_or near k) (cond-false (eqb place k) count (found old k) b) ∙ sym (cond-false (eqb place k) count (slice_index_or near k (found old k)) b))
 ]
-
--- a count that is not 0 stands there
-pub stands : (near : List ℕ) (place : ℕ) (entries : List (ℕ × ℕ)) → length near ≤ place → 0 < slice_index_or near place (unwrap_or (lookup (λ other. eqb place other) entries) 0) →
-    lookup (is_at (nat_cmp place)) entries ≡ None → ⊥
-stands near place entries past counted none =
-    let zero_there : slice_index_or near place (found entries place) ≡ 0 = past_table near place (found entries place) past ∙ ap (λ o. unwrap_or o 0) (sym (by_place place entries) ∙ none) in
-    omega (arith, counted, zero_there)

@@ -1,5 +1,5 @@
 -- The clauses that are counted so far, where all are counted.
-use Rattle.std.proofs.Common.{◌≡◌, ℕ, zero, suc, ◌+◌, ◌-◌, ◌<◌, ◌≤◌, Bool, length, true, false, cond, eqb, leb, rules, ◌||◌, List, [], ◌∷◌, refl, ap, sym, ◌∙◌, subst, inl, inr, le-leb, arith}
+use Rattle.std.proofs.Common.{◌≡◌, ℕ, ◌+◌, ◌-◌, ◌≤◌, Bool, length, true, false, cond, eqb, leb, rules, ◌||◌, List, [], ◌∷◌, refl, ap, sym, ◌∙◌, subst, inl, inr, le-leb, arith}
 use Rattle.std.specs.Prelude.{ℤ, Option, Some, None}
 use Rattle.std.specs.Borrow.{Bor}
 use Rattle.std.specs.List.{list_any, IsDistinct, AllByRecursion}
@@ -7,54 +7,16 @@ use Rattle.std.specs.Map.{keys_of, lookup}
 use Rattle.std.specs.Option.{option_map, option_or, is_some}
 use Rattle.std.proofs.lemmas.Bool.{cond-true, cond-false, eqb-true, eq-eqb, ne_eqb, leb-true, or_cases, or_left, or_parts, false≢true, true≢false, cases_eq, cases_lt, lt-leb}
 use Rattle.lrat_check.specs.AddedAt.{in_row}
-use Rattle.lrat_check.specs.ClauseAt.{up_to}
-use Rattle.lrat_check.specs.Counted.{AreRightCounts}
-use Rattle.lrat_check.specs.Counts.{times, count_of, AreCounts}
-use Rattle.lrat_check.specs.declared.literal_counts.LiteralCounts.{LiteralCounts}
+use Rattle.lrat_check.specs.Active.{with_clause}
+use Rattle.lrat_check.specs.Counted.{AreChanges, AreRightChanges}
+use Rattle.lrat_check.specs.declared.count_changes.CountChanges.{CountChanges}
 use Rattle.lrat_check.proofs.AddedLemmas.{past_rows, same_none}
 use Rattle.lrat_check.proofs.CheckLemmas.{same_active}
-use Rattle.lrat_check.proofs.CountLemmas.{are_more, are_same_counts}
-
-next_same : (id last : ℕ) → (id ≡ last + 1 → ⊥) → leb id (last + 1) ≡ leb id last
-next_same id last apart = elim (cases_lt last id) [
-  | inl more ↦ (let past : last + 1 < id = omega (arith, more, apart) in lt-leb id (last + 1) past ∙ sym (lt-leb id last more))
-  | inr low ↦ le-leb id (last + 1) (omega (arith, low)) ∙ sym (le-leb id last low)
-]
-
-one_on : (f : ℕ → Option (List ℤ)) (last id : ℕ) (o : Option (List ℤ)) → f (last + 1) ≡ o → up_to (last + 1) f id ≡ cond (eqb (last + 1) id) o (up_to last f id)
-one_on f last id o e = elim (cases_eq (last + 1) id) [
-  | inl same ↦ ap (λ n. up_to (last + 1) f n) (sym same)
-      ∙ cond-true (leb (last + 1) (last + 1)) (f (last + 1)) None (le-leb (last + 1) (last + 1) (omega arith)) ∙ e
-      ∙ sym (ap (λ n. cond (eqb (last + 1) n) o (up_to last f id)) (sym same) ∙ cond-true (eqb (last + 1) (last + 1)) o (up_to last f id) (search rules))
-  | inr apart ↦ ap (λ b. cond b (f id) None) (next_same id last (λ e. apart (sym e))) ∙ sym (cond-false (eqb (last + 1) id) o (up_to last f id) (ne_eqb (last + 1) id apart))
-]
-
-pub up_to_more : (f : ℕ → Option (List ℤ)) (last : ℕ) (clause : List ℤ) (old new : LiteralCounts) → f (last + 1) ≡ Some clause → ((z : ℤ) → count_of new z ≡ count_of old z + times clause z) →
-    AreCounts (up_to last f) old → AreCounts (up_to (last + 1) f) new
-up_to_more f last clause old new known more h =
-    are_more (up_to last f) (up_to (last + 1) f) (last + 1) clause old new (cond-false (leb (last + 1) last) (f (last + 1)) None (lt-leb (last + 1) last (omega arith))) (λ id. one_on f last id (Some clause) known) more h
+use Rattle.lrat_check.proofs.ChangeLemmas.{changes_same}
 
 none_on : (b : Bool) (o : Option (List ℤ)) → (b ≡ true → o ≡ None) → cond b None o ≡ o
 none_on true o h = sym (h refl)
 none_on false o h = refl
-
-pub up_to_same : (f : ℕ → Option (List ℤ)) (last : ℕ) (counts : LiteralCounts) → f (last + 1) ≡ None → AreCounts (up_to last f) counts → AreCounts (up_to (last + 1) f) counts
-up_to_same f last counts none h =
-    are_same_counts (up_to last f) (up_to (last + 1) f) counts
-    (λ id. one_on f last id None none ∙ none_on (eqb (last + 1) id) (up_to last f id) (λ e. ap (λ n. up_to last f n) (sym (eqb-true (last + 1) id e)) ∙ cond-false (leb (last + 1) last) (f (last + 1)) None (lt-leb (last + 1) last (omega arith)))) h
-
-pub up_to_none : (f : ℕ → Option (List ℤ)) (counts : LiteralCounts) → f 0 ≡ None → AreCounts (λ id. None) counts → AreCounts (up_to 0 f) counts
-up_to_none f counts none h = are_same_counts (λ id. None) (up_to 0 f) counts first h
-  where
-    first : (id : ℕ) → up_to 0 f id ≡ None
-    first zero = cond-true (leb 0 0) (f 0) None (le-leb 0 0 (omega arith)) ∙ none
-    first (suc k) = cond-false (leb (suc k) 0) (f (suc k)) None (lt-leb (suc k) 0 (omega arith))
-
-pub up_to_all : (f : ℕ → Option (List ℤ)) (last : ℕ) (counts : LiteralCounts) → ((id : ℕ) → last < id → f id ≡ None) → AreCounts (up_to last f) counts → AreCounts f counts
-up_to_all f last counts none h = are_same_counts (up_to last f) f counts (λ id. elim (cases_lt last id) [
-  | inl more ↦ none id more ∙ sym (cond-false (leb id last) (f id) None (lt-leb id last more))
-  | inr low ↦ sym (cond-true (leb id last) (f id) None (le-leb id last low))
-]) h
 
 or_none : (o : Option (List ℤ)) → option_or o None ≡ o
 or_none None = refl
@@ -73,26 +35,26 @@ found_on : (b c : Bool) (kept added : Option (List ℤ)) (clause : List ℤ) →
 found_on true c kept added clause free known last = (λ i. option_or (free refl i) (cond (last refl i) None (known refl i)))
 found_on false c kept added clause free known last = refl
 
-pub passed_more : (kept added : ℕ → Option (List ℤ)) (id : ℕ) (clause : List ℤ) (left rest : ℕ → Bool) (old new : LiteralCounts) → ((other : ℕ) → left other ≡ (eqb id other || rest other)) →
-    kept id ≡ None → added id ≡ Some clause → rest id ≡ false → ((z : ℤ) → count_of new z ≡ count_of old z + times clause z) → AreCounts (passed kept added left) old → AreCounts (passed kept added rest) new
-passed_more kept added id clause left rest old new splits free known last more h =
-    are_more (passed kept added left) (passed kept added rest) id clause old new
-    ((λ i. option_or (free i) (cond (splits id i) None (added id))) ∙ cond-true (eqb id id || rest id) None (added id) (or_left (eqb id id) (rest id) (search rules)))
+pub passed_more : (clauses : List (List ℤ)) (kept added : ℕ → Option (List ℤ)) (id : ℕ) (clause : List ℤ) (left rest : ℕ → Bool) (old new : CountChanges) → ((other : ℕ) → left other ≡ (eqb id other || rest other)) →
+    kept id ≡ None → added id ≡ Some clause → rest id ≡ false →
+    ((active : ℕ → Option (List ℤ)) (id : ℕ) → active id ≡ None → AreChanges clauses active old → AreChanges clauses (with_clause id clause active) new) → AreChanges clauses (passed kept added left) old → AreChanges clauses (passed kept added rest) new
+passed_more clauses kept added id clause left rest old new splits free known last more h =
+    changes_same clauses (with_clause id clause (passed kept added left)) (passed kept added rest) new
     (λ other. found_on (eqb id other) (rest other) (kept other) (added other) clause
     (λ e. ap kept (sym (eqb-true id other e)) ∙ free)
     (λ e. ap added (sym (eqb-true id other e)) ∙ known)
     (λ e. ap rest (sym (eqb-true id other e)) ∙ last)
     ∙ (λ i. cond (eqb id other) (Some clause) (option_or (kept other) (cond (sym (splits other) i) None (added other)))))
-    more h
+    (more (passed kept added left) id ((λ i. option_or (free i) (cond (splits id i) None (added id))) ∙ cond-true (eqb id id || rest id) None (added id) (or_left (eqb id id) (rest id) (search rules))) h)
 
 shadowed : (b c : Bool) (kept added : Option (List ℤ)) (clause : List ℤ) → (b ≡ true → kept ≡ Some clause) → option_or kept (cond c None added) ≡ option_or kept (cond (b || c) None added)
 shadowed true c kept added clause h = (λ i. option_or (h refl i) (cond c None added)) ∙ (λ i. option_or (sym (h refl) i) None)
 shadowed false c kept added clause h = refl
 
-pub passed_same : (kept added : ℕ → Option (List ℤ)) (id : ℕ) (clause : List ℤ) (left rest : ℕ → Bool) (counts : LiteralCounts) → ((other : ℕ) → left other ≡ (eqb id other || rest other)) → kept id ≡ Some clause →
-    AreCounts (passed kept added left) counts → AreCounts (passed kept added rest) counts
-passed_same kept added id clause left rest counts splits known h =
-    are_same_counts (passed kept added left) (passed kept added rest) counts
+pub passed_same : (clauses : List (List ℤ)) (kept added : ℕ → Option (List ℤ)) (id : ℕ) (clause : List ℤ) (left rest : ℕ → Bool) (changes : CountChanges) → ((other : ℕ) → left other ≡ (eqb id other || rest other)) → kept id ≡ Some clause →
+    AreChanges clauses (passed kept added left) changes → AreChanges clauses (passed kept added rest) changes
+passed_same clauses kept added id clause left rest changes splits known h =
+    changes_same clauses (passed kept added left) (passed kept added rest) changes
     (λ k. shadowed (eqb id k) (rest k) (kept k) (added k) clause (λ e. ap kept (sym (eqb-true id k e)) ∙ known)
     ∙ (λ i. option_or (kept k) (cond (sym (splits k) i) None (added k)))) h
 
@@ -100,10 +62,10 @@ missing_on : (b c : Bool) (kept added : Option (List ℤ)) → (b ≡ true → a
 missing_on true c kept added h = (λ i. option_or kept (cond c None (h refl i))) ∙ ap (option_or kept) (same_none c)
 missing_on false c kept added h = refl
 
-pub passed_over : (kept added : ℕ → Option (List ℤ)) (id : ℕ) (left rest : ℕ → Bool) (counts : LiteralCounts) → ((other : ℕ) → left other ≡ (eqb id other || rest other)) → added id ≡ None →
-    AreCounts (passed kept added left) counts → AreCounts (passed kept added rest) counts
-passed_over kept added id left rest counts splits none h =
-    are_same_counts (passed kept added left) (passed kept added rest) counts
+pub passed_over : (clauses : List (List ℤ)) (kept added : ℕ → Option (List ℤ)) (id : ℕ) (left rest : ℕ → Bool) (changes : CountChanges) → ((other : ℕ) → left other ≡ (eqb id other || rest other)) → added id ≡ None →
+    AreChanges clauses (passed kept added left) changes → AreChanges clauses (passed kept added rest) changes
+passed_over clauses kept added id left rest changes splits none h =
+    changes_same clauses (passed kept added left) (passed kept added rest) changes
     (λ k. missing_on (eqb id k) (rest k) (kept k) (added k) (λ e. ap added (sym (eqb-true id k e)) ∙ none)
     ∙ (λ i. option_or (kept k) (cond (sym (splits k) i) None (added k)))) h
 
@@ -125,21 +87,21 @@ before_rows : (b : Bool) (kept row : Option (List ℤ)) → option_or kept (cond
 before_rows true kept row = or_none kept
 before_rows false kept row = or_none kept
 
-pub rows_start : (kept : ℕ → Option (List ℤ)) (first : ℕ) (rows : List (Option (Bor (List ℤ)))) (counts : LiteralCounts) → AreCounts kept counts →
-    AreCounts (passed kept (λ id. cond (leb first id) (in_row rows (id - first)) None) (leb first)) counts
-rows_start kept first rows counts h =
-    are_same_counts kept (passed kept (λ id. cond (leb first id) (in_row rows (id - first)) None) (leb first)) counts (λ id. before_rows (leb first id) (kept id) (in_row rows (id - first))) h
+pub rows_start : (clauses : List (List ℤ)) (kept : ℕ → Option (List ℤ)) (first : ℕ) (rows : List (Option (Bor (List ℤ)))) (changes : CountChanges) → AreChanges clauses kept changes →
+    AreChanges clauses (passed kept (λ id. cond (leb first id) (in_row rows (id - first)) None) (leb first)) changes
+rows_start clauses kept first rows changes h =
+    changes_same clauses kept (passed kept (λ id. cond (leb first id) (in_row rows (id - first)) None) (leb first)) changes (λ id. before_rows (leb first id) (kept id) (in_row rows (id - first))) h
 
 no_row : (first id : ℕ) (rows : List (Option (Bor (List ℤ)))) → leb (first + length rows) id ≡ true → cond (leb first id) (in_row rows (id - first)) None ≡ None
 no_row first id rows h =
     let far : first + length rows ≤ id = leb-true (first + length rows) id h in
     ap (λ o. cond (leb first id) o None) (past_rows rows (id - first) (omega (arith, far))) ∙ same_none (leb first id)
 
-pub rows_end : (kept : ℕ → Option (List ℤ)) (first : ℕ) (rows : List (Option (Bor (List ℤ)))) (counts : LiteralCounts) →
-    AreCounts (passed kept (λ id. cond (leb first id) (in_row rows (id - first)) None) (leb (first + length rows))) counts →
-    AreCounts (λ id. option_or (kept id) (cond (leb first id) (in_row rows (id - first)) None)) counts
-rows_end kept first rows counts h =
-    are_same_counts (passed kept (λ id. cond (leb first id) (in_row rows (id - first)) None) (leb (first + length rows))) (λ id. option_or (kept id) (cond (leb first id) (in_row rows (id - first)) None)) counts
+pub rows_end : (clauses : List (List ℤ)) (kept : ℕ → Option (List ℤ)) (first : ℕ) (rows : List (Option (Bor (List ℤ)))) (changes : CountChanges) →
+    AreChanges clauses (passed kept (λ id. cond (leb first id) (in_row rows (id - first)) None) (leb (first + length rows))) changes →
+    AreChanges clauses (λ id. option_or (kept id) (cond (leb first id) (in_row rows (id - first)) None)) changes
+rows_end clauses kept first rows changes h =
+    changes_same clauses (passed kept (λ id. cond (leb first id) (in_row rows (id - first)) None) (leb (first + length rows))) (λ id. option_or (kept id) (cond (leb first id) (in_row rows (id - first)) None)) changes
     (λ id. ap (option_or (kept id)) (sym (none_on (leb (first + length rows) id) (cond (leb first id) (in_row rows (id - first)) None) (no_row first id rows)))) h
 
 -- one after the other
@@ -147,9 +109,9 @@ or_or : (a b c : Option (List ℤ)) → option_or a (option_or b c) ≡ option_o
 or_or None b c = refl
 or_or (Some clause) b c = refl
 
-pub all_passed : (kept rows late : ℕ → Option (List ℤ)) (counts : LiteralCounts) → AreCounts (λ id. option_or (option_or (kept id) (rows id)) (late id)) counts → AreCounts (λ id. option_or (kept id) (option_or (rows id) (late id))) counts
-all_passed kept rows late counts h =
-    are_same_counts (λ id. option_or (option_or (kept id) (rows id)) (late id)) (λ id. option_or (kept id) (option_or (rows id) (late id))) counts (λ id. or_or (kept id) (rows id) (late id)) h
+pub all_passed : (clauses : List (List ℤ)) (kept rows in_tree : ℕ → Option (List ℤ)) (changes : CountChanges) → AreChanges clauses (λ id. option_or (option_or (kept id) (rows id)) (in_tree id)) changes → AreChanges clauses (λ id. option_or (kept id) (option_or (rows id) (in_tree id))) changes
+all_passed clauses kept rows in_tree changes h =
+    changes_same clauses (λ id. option_or (option_or (kept id) (rows id)) (in_tree id)) (λ id. option_or (kept id) (option_or (rows id) (in_tree id))) changes (λ id. or_or (kept id) (rows id) (in_tree id)) h
 
 -- at first no entry is passed, and at last each is
 no_entry : (entries : List (ℕ × Bor (List ℤ))) (id : ℕ) → is_left entries id ≡ false → lookup (λ other. eqb id other) entries ≡ None
@@ -162,12 +124,12 @@ only_kept : (b : Bool) (kept added : Option (List ℤ)) → (b ≡ false → add
 only_kept true kept added h = or_none kept
 only_kept false kept added h = ap (option_or kept) (h refl) ∙ or_none kept
 
-pub passed_none : (kept : ℕ → Option (List ℤ)) (entries rest : List (ℕ × Bor (List ℤ))) (counts : LiteralCounts) → rest ≡ entries → AreCounts kept counts →
-    AreCounts (passed kept (λ id. option_map (λ (clause : Bor (List ℤ)). clause.now) (lookup (λ other. eqb id other) entries)) (is_left rest)) counts
-passed_none kept entries rest counts e h =
+pub passed_none : (clauses : List (List ℤ)) (kept : ℕ → Option (List ℤ)) (entries rest : List (ℕ × Bor (List ℤ))) (changes : CountChanges) → rest ≡ entries → AreChanges clauses kept changes →
+    AreChanges clauses (passed kept (λ id. option_map (λ (clause : Bor (List ℤ)). clause.now) (lookup (λ other. eqb id other) entries)) (is_left rest)) changes
+passed_none clauses kept entries rest changes e h =
     let added : ℕ → Option (List ℤ) = λ id. option_map (λ (clause : Bor (List ℤ)). clause.now) (lookup (λ other. eqb id other) entries) in
-    subst (λ (l : List (ℕ × Bor (List ℤ))). AreCounts (passed kept added (is_left l)) counts) (sym e)
-    (are_same_counts kept (passed kept added (is_left entries)) counts (λ id. only_kept (is_left entries id) (kept id) (added id) (λ none. ap (option_map (λ (clause : Bor (List ℤ)). clause.now)) (no_entry entries id none))) h)
+    subst (λ (l : List (ℕ × Bor (List ℤ))). AreChanges clauses (passed kept added (is_left l)) changes) (sym e)
+    (changes_same clauses kept (passed kept added (is_left entries)) changes (λ id. only_kept (is_left entries id) (kept id) (added id) (λ none. ap (option_map (λ (clause : Bor (List ℤ)). clause.now)) (no_entry entries id none))) h)
 
 -- no two entries have one id
 pub distinct_rest : (id : ℕ) (ids : List ℕ) → IsDistinct eqb (id ∷ ids) → IsDistinct eqb ids
@@ -198,5 +160,5 @@ without_none active id h other = none_on (eqb id other || false) (active other) 
   | inr never ↦ absurd (false≢true never)
 ])
 
-pub right_same : (f g : ℕ → Option (List ℤ)) (counts : Option LiteralCounts) → ((id : ℕ) → g id ≡ f id) → AreRightCounts f counts → AreRightCounts g counts
-right_same f g counts h k = subst (λ (active : ℕ → Option (List ℤ)). AreRightCounts active counts) (sym (same_active g f h)) k
+pub right_same : (clauses : List (List ℤ)) (f g : ℕ → Option (List ℤ)) (changes : Option CountChanges) → ((id : ℕ) → g id ≡ f id) → AreRightChanges clauses f changes → AreRightChanges clauses g changes
+right_same clauses f g changes h k = subst (λ (active : ℕ → Option (List ℤ)). AreRightChanges clauses active changes) (sym (same_active g f h)) k

@@ -7,6 +7,8 @@ pub mod OtherCubeLemmas
 pub mod AddedLemmas
 pub mod CheckLemmas
 pub mod CountLemmas
+pub mod ChangeLemmas
+pub mod HiddenLemmas
 pub mod KeptLemmas
 pub mod GroupLemmas
 pub mod OpposeLemmas

@@ -1,23 +1,22 @@
 -- An accepted derivation that does not rest on the cube is accepted for other cubes.
-use Rattle.std.proofs.Common.{◌≡◌, ◌⊎◌, ℕ, zero, suc, ◌+◌, ◌-◌, ◌<◌, ◌≤◌, Bool, true, false, not, cond, List, [], ◌∷◌, ◌++◌, map, length, refl, ap, sym, ◌∙◌, subst, inl, inr, ◌||◌, ◌&&◌, arith}
+use Rattle.std.proofs.Common.{◌≡◌, ◌⊎◌, ℕ, zero, suc, ◌+◌, ◌-◌, ◌<◌, ◌≤◌, Bool, true, false, not, cond, List, [], ◌∷◌, ◌++◌, map, length, refl, ap, sym, ◌∙◌, inl, inr, ◌||◌, ◌&&◌, arith}
 use Rattle.std.specs.Prelude.{ℤ, pos, negsuc, neg_ℤ, nat_abs, nat_le, nat_lt, Option, Some, None, ◌==◌}
 use Rattle.std.specs.List.{list_any, list_all, slice_get}
 use Rattle.std.specs.Ordering.{int_eq}
-use Rattle.std.proofs.lemmas.Bool.{cases_lt, le-leb, leb-true, lt-ltb, ltb-true}
-use Rattle.std.proofs.lemmas.Bool.{cases_Bool, or_cases, or_left, or_right, or_parts, and_parts, true≢false, false≢true, false_from_ne_true, not-true, or_from, eqb-true}
+use Rattle.std.proofs.lemmas.Bool.{cases_lt, le-leb, leb-true, ltb-true}
+use Rattle.std.proofs.lemmas.Bool.{cases_Bool, or_cases, or_left, or_right, and_parts, true≢false, false≢true, false_from_ne_true, or_from, eqb-true}
 use Rattle.std.proofs.lemmas.Option.{same_Some, none-some}
-use Rattle.lrat_check.specs.Active.{numbered, at_start, with_clause, without, after}
-use Rattle.lrat_check.specs.Checked.{IsRight, ends, Accepts, IsAccepted}
+use Rattle.lrat_check.specs.Active.{at_start, after}
+use Rattle.lrat_check.specs.Checked.{IsRight, Accepts, IsAccepted}
 use Rattle.lrat_check.specs.Hints.{Group, has_group, first_hints, groups_of}
-use Rattle.lrat_check.specs.Justified.{IsImplied, IsJustified}
+use Rattle.lrat_check.specs.Justified.{IsJustified}
 use Rattle.lrat_check.specs.OtherCubes.{is_outside, names_outside, opposes_pivot, opposes_no_more, AreServed}
-use Rattle.lrat_check.specs.Propagation.{has, IsUnit}
-use Rattle.lrat_check.specs.Rat.{Reaches, others, IsSettled, AreSettled, HasAllGroups, IsRat}
+use Rattle.lrat_check.specs.Propagation.{has}
+use Rattle.lrat_check.specs.Rat.{Reaches, others, IsSettled, AreSettled, HasAllGroups}
 use Rattle.lrat_check.specs.Refuted.{Refutes, negated}
 use Rattle.lrat_check.specs.declared.derivation.Step.{Step}
 use Rattle.lrat_check.specs.declared.derivation.Step.TheVariants.{Addition, Deletion}
 use Rattle.lrat_check.proofs.ActiveLemmas.{behind, nothing_at, unit_of}
-use Rattle.lrat_check.proofs.PropagationLemmas.{int_same}
 
 -- the same clauses are active under the ids that are outside
 abbrev Agree : (ℕ → Bool) → (ℕ → Option (List ℤ)) → (ℕ → Option (List ℤ)) → Type 0

@@ -14,9 +14,9 @@ abbrev pub row_at : AddedClauses → ℕ → Option (List ℤ)
 row_at added id = if nat_le added.first id then in_row added.rows.items (id - added.first) else None
 
 -- the clause of this id in the tree, if there is one
-abbrev pub late_at : AddedClauses → ℕ → Option (List ℤ)
-late_at added id = option_map (λ clause. clause.now) (lookup (λ other. id == other) added.late.entries)
+abbrev pub in_tree_at : AddedClauses → ℕ → Option (List ℤ)
+in_tree_at added id = option_map (λ clause. clause.now) (lookup (λ other. id == other) added.in_tree.entries)
 
 -- the clause of this id, if there is one
 abbrev pub held_at : AddedClauses → ℕ → Option (List ℤ)
-held_at added id = option_or (row_at added id) (late_at added id)
+held_at added id = option_or (row_at added id) (in_tree_at added id)

@@ -3,12 +3,12 @@ use Rattle.std.specs.Prelude.{ℕ, ℤ, List, Option, None, nat_le, if◌then◌
 use Rattle.std.specs.Option.{option_or}
 use Rattle.lrat_check.specs.Active.{at_start}
 use Rattle.lrat_check.specs.AddedAt.{held_at, row_at}
-use Rattle.lrat_check.specs.Marks.{marked_at}
+use Rattle.lrat_check.specs.Hidden.{is_hidden}
 use Rattle.lrat_check.specs.declared.active_clauses.ActiveClauses.{ActiveClauses}
 
 -- the clause that was active under an id at the start, where it is not hidden
 abbrev pub kept_at : List (List ℤ) → ActiveClauses → ℕ → Option (List ℤ)
-kept_at clauses active id = if marked_at active.hidden.items id then None else at_start clauses active.cube.now id
+kept_at clauses active id = if is_hidden active.hidden id then None else at_start clauses active.cube.now id
 
 -- the clause that a step has added under an id, if one has
 abbrev pub added_at : ActiveClauses → ℕ → Option (List ℤ)
@@ -17,10 +17,6 @@ added_at active = held_at active.added
 -- the clause that is active under an id beside this formula's clauses, if one is
 abbrev pub clause_at : List (List ℤ) → ActiveClauses → ℕ → Option (List ℤ)
 clause_at clauses active id = option_or (kept_at clauses active id) (added_at active id)
-
--- of these clauses those whose id is at most this one
-abbrev pub up_to : ℕ → (ℕ → Option (List ℤ)) → ℕ → Option (List ℤ)
-up_to last active id = if nat_le id last then active id else None
 
 -- the clause that is active under an id and does not stand in the tree of those added, with an id before this one if a step added it
 abbrev pub early_at : List (List ℤ) → ActiveClauses → ℕ → ℕ → Option (List ℤ)

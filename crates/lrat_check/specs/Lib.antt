@@ -5,6 +5,7 @@ pub mod ClauseAt
 pub mod Counted
 pub mod Counts
 pub mod Derivation
+pub mod Hidden
 pub mod HintNumbers
 pub mod Hints
 pub mod Justified

@@ -1,5 +1,5 @@
 -- The text of a derivation (LRAT, CADE 2017).
-use Rattle.std.specs.Prelude.{◌≡◌, ℕ, ℤ, pos, nat_abs, Bool, true, not, List, [], ◌∷◌, ◌++◌, map, Some, ◌&&◌, nat_lt, nat_le, codes}
+use Rattle.std.specs.Prelude.{◌≡◌, ℕ, ℤ, pos, nat_abs, Bool, true, List, [], ◌∷◌, ◌++◌, map, Some, ◌&&◌, nat_lt, nat_le, codes}
 use Rattle.std.specs.List.{list_all, AllZip}
 use Rattle.dimacs.specs.Literal.{is_clause}
 use Rattle.text_lines.specs.Kept.{dimacs_kept}

@@ -1,13 +1,16 @@
 //! The active clauses of a derivation.
 
-ghost use Rattle.std.specs.Prelude.{◌≡◌, ◌+◌, ℕ, ℤ, List, Some, None, MatchOption, OnOk, is_some, [], ◌∷◌};
-ghost use Rattle.lrat_check.specs.Active.{at_start, with_clause, without};
-ghost use Rattle.lrat_check.specs.ClauseAt.{clause_at, early_at, in_front, kept_at, up_to};
-ghost use Rattle.lrat_check.specs.Counts.{AreCounts};
+ghost use Rattle.std.specs.Prelude.{◌≡◌, ◌+◌, ◌==◌, ◌||◌, ℕ, ℤ, Bool, List, Option, Some, None, true, false, MatchOption, OnOk, is_some, [], ◌∷◌};
+ghost use Rattle.std.specs.BTreeSet.{contains};
+ghost use Rattle.std.specs.Ordering.{nat_cmp};
+ghost use Rattle.lrat_check.specs.Active.{at_start, numbered, with_clause, without};
+ghost use Rattle.lrat_check.specs.ClauseAt.{clause_at, early_at, in_front, kept_at};
+ghost use Rattle.lrat_check.specs.Counted.{AreChanges};
+ghost use Rattle.lrat_check.specs.Hidden.{far_left, near_from, near_kept_at};
 
 use crate::added_clauses::AddedClauses;
-use crate::literal_counts::LiteralCounts;
-use crate::marks::{make_room, marked_at};
+use crate::count_changes::CountChanges;
+use crate::hidden_ids::HiddenIds;
 use dimacs::{Clause, ClauseList, ListedClause, Lit};
 use std::alloc::{AllocError, Global};
 
@@ -17,7 +20,7 @@ use std::alloc::{AllocError, Global};
 #[derive(Drop)]
 pub struct ActiveClauses<'a> {
     cube: &'a [Lit],
-    hidden: Vec<bool>,
+    hidden: HiddenIds,
     added: AddedClauses<'a>,
 }
 
@@ -45,6 +48,32 @@ fn clause_at_start<'b, F: ClauseList>(
     None
 }
 
+/// Counts the cube's literals as clauses, where those of the formula alone are active.
+fn count_cube(cube: &[Lit], changes: &mut CountChanges) -> Result<(), AllocError>
+    ensures { OnOk result ((clauses : List (List ℤ)) → AreChanges clauses (numbered clauses) changes.old → AreChanges clauses (at_start clauses cube.now) changes.new) }
+{
+    for literal in cube {
+        changes.add(ListedClause::unit(*literal).as_slice())?;
+    }
+    Ok(())
+}
+
+/// Takes the clause that was active under this id at the start off the counts, if there is one.
+fn count_out<F: ClauseList>(
+    formula: &F,
+    cube: &[Lit],
+    id: u64,
+    changes: &mut CountChanges,
+) -> Result<(), AllocError>
+    ensures { OnOk result ((active : ℕ → Option (List ℤ)) → active id ≡ at_start (F.formula formula.now).clauses cube.now id →
+        AreChanges (F.formula formula.now).clauses active changes.old → AreChanges (F.formula formula.now).clauses (without (id ∷ []) active) changes.new) }
+{
+    match clause_at_start(formula, cube, id) {
+        Some(clause) => changes.remove(clause.as_slice()),
+        None => Ok(()),
+    }
+}
+
 impl<'a> ActiveClauses<'a> {
     /// The clauses of a formula, and the literals of the cube as clauses.
     pub fn at_start(alloc: Global, cube: &'a [Lit]) -> ActiveClauses<'a>
@@ -52,7 +81,7 @@ impl<'a> ActiveClauses<'a> {
     {
         ActiveClauses {
             cube,
-            hidden: Vec::new(alloc),
+            hidden: HiddenIds::new(alloc),
             added: AddedClauses::new(alloc),
         }
     }
@@ -63,10 +92,16 @@ impl<'a> ActiveClauses<'a> {
             (kept_at (F.formula formula.now).clauses self.now id ≡ None)
             (λ clause. kept_at (F.formula formula.now).clauses self.now id ≡ Some clause) }
     {
-        if marked_at(self.hidden.as_slice(), id as usize) {
-            return None;
+        match clause_at_start(formula, self.cube, id) {
+            Some(clause) => {
+                if self.hidden.has(id as usize) {
+                    None
+                } else {
+                    Some(clause)
+                }
+            }
+            None => None,
         }
-        clause_at_start(formula, self.cube, id)
     }
 
     /// The clause that is active under this id, if one is.
@@ -98,9 +133,7 @@ impl<'a> ActiveClauses<'a> {
         ensures added { OnOk result (self.new.added ≡ self.old.added) }
     {
         if clause_at_start(formula, self.cube, id).is_some() {
-            let place = id as usize;
-            make_room(&mut self.hidden, place)?;
-            self.hidden[place] = true;
+            self.hidden.add(id as usize)?;
         }
         Ok(())
     }
@@ -136,37 +169,81 @@ impl<'a> ActiveClauses<'a> {
         self.kept(formula, id).is_some()
     }
 
-    /// Counts the clause that was active under this id at the start, if it is not hidden, where those before it are counted.
-    fn count_next<'b, F: ClauseList>(
-        &'b self,
-        formula: &'b F,
-        id: u64,
-        counts: &mut LiteralCounts,
+    /// Takes the clause of this id off the counts, if the table of hidden ids hides it, where those before it are looked at.
+    fn count_near_id<F: ClauseList>(
+        &self,
+        formula: &F,
+        id: usize,
+        changes: &mut CountChanges,
     ) -> Result<(), AllocError>
-        ensures { OnOk result ((last : ℕ) → id ≡ last + 1 →
-            AreCounts (up_to last (kept_at (F.formula formula.now).clauses self.now)) counts.old → AreCounts (up_to id (kept_at (F.formula formula.now).clauses self.now)) counts.new) }
+        ensures { OnOk result (AreChanges (F.formula formula.now).clauses (near_from self.now.hidden (at_start (F.formula formula.now).clauses self.now.cube.now) id) changes.old →
+            AreChanges (F.formula formula.now).clauses (near_from self.now.hidden (at_start (F.formula formula.now).clauses self.now.cube.now) (id + 1)) changes.new) }
     {
-        match self.kept(formula, id) {
-            Some(clause) => counts.add(clause.as_slice()),
-            None => Ok(()),
+        if self.hidden.is_near(id) {
+            return count_out(formula, self.cube, id as u64, changes);
         }
+        Ok(())
     }
 
-    /// Counts the clauses that were active at the start and are not hidden. Nothing is counted before.
+    /// Takes the clauses off the counts that the table of hidden ids hides, where none is hidden.
+    fn count_near<F: ClauseList>(
+        &self,
+        formula: &F,
+        changes: &mut CountChanges,
+    ) -> Result<(), AllocError>
+        ensures { OnOk result (AreChanges (F.formula formula.now).clauses (at_start (F.formula formula.now).clauses self.now.cube.now) changes.old →
+            AreChanges (F.formula formula.now).clauses (near_kept_at self.now.hidden (at_start (F.formula formula.now).clauses self.now.cube.now)) changes.new) }
+    {
+        for id in 0..self.hidden.near.len() {
+            (&*self).count_near_id(&*formula, id, changes)?;
+        }
+        Ok(())
+    }
+
+    /// Takes the clause of this id off the counts, which stands in the tree of hidden ids, if the table does not reach to it.
+    fn count_far_id<F: ClauseList>(
+        &self,
+        formula: &F,
+        id: usize,
+        changes: &mut CountChanges,
+    ) -> Result<(), AllocError>
+        ensures { OnOk result ((left rest : ℕ → Bool) → ((other : ℕ) → left other ≡ (id == other || rest other)) → rest id ≡ false → contains nat_cmp self.now.hidden.far id ≡ true →
+            AreChanges (F.formula formula.now).clauses (far_left self.now.hidden (at_start (F.formula formula.now).clauses self.now.cube.now) left) changes.old →
+            AreChanges (F.formula formula.now).clauses (far_left self.now.hidden (at_start (F.formula formula.now).clauses self.now.cube.now) rest) changes.new) }
+    {
+        if self.hidden.reaches(id) {
+            return Ok(());
+        }
+        count_out(formula, self.cube, id as u64, changes)
+    }
+
+    /// Takes the clauses off the counts that the tree of hidden ids hides, where those of the table are hidden.
+    fn count_far<F: ClauseList>(
+        &self,
+        formula: &F,
+        changes: &mut CountChanges,
+    ) -> Result<(), AllocError>
+        ensures { OnOk result (AreChanges (F.formula formula.now).clauses (near_kept_at self.now.hidden (at_start (F.formula formula.now).clauses self.now.cube.now)) changes.old →
+            AreChanges (F.formula formula.now).clauses (kept_at (F.formula formula.now).clauses self.now) changes.new) }
+    {
+        for id in self.hidden.far.iter() {
+            (&*self).count_far_id(&*formula, *id, changes)?;
+        }
+        Ok(())
+    }
+
+    /// Counts the cube and takes the clauses off that are hidden, where those of the formula alone are active.
     pub fn count_kept<F: ClauseList>(
         &self,
         formula: &F,
-        counts: &mut LiteralCounts,
+        changes: &mut CountChanges,
     ) -> Result<(), AllocError>
-        ensures { OnOk result (AreCounts (λ _. None) counts.old → AreCounts (kept_at (F.formula formula.now).clauses self.now) counts.new) }
+        ensures { OnOk result (AreChanges (F.formula formula.now).clauses (numbered (F.formula formula.now).clauses) changes.old →
+            AreChanges (F.formula formula.now).clauses (kept_at (F.formula formula.now).clauses self.now) changes.new) }
     {
-        let Some(last) = formula.count().checked_add(self.cube.len()) else {
-            return Err(AllocError);
-        };
-        for place in 0..last {
-            (&*self).count_next(&*formula, place as u64 + 1, counts)?;
-        }
-        Ok(())
+        count_cube(self.cube, changes)?;
+        self.count_near(formula, changes)?;
+        self.count_far(formula, changes)
     }
 
     /// Whether a clause is active under this id that does not stand in the tree of those added.
@@ -181,11 +258,11 @@ impl<'a> ActiveClauses<'a> {
         &self,
         formula: &F,
         place: usize,
-        counts: &mut LiteralCounts,
+        changes: &mut CountChanges,
     ) -> Result<(), AllocError>
         ensures { OnOk result (
-            AreCounts (early_at (F.formula formula.now).clauses self.now (self.now.added.first + place)) counts.old →
-            AreCounts (early_at (F.formula formula.now).clauses self.now (self.now.added.first + place + 1)) counts.new) }
+            AreChanges (F.formula formula.now).clauses (early_at (F.formula formula.now).clauses self.now (self.now.added.first + place)) changes.old →
+            AreChanges (F.formula formula.now).clauses (early_at (F.formula formula.now).clauses self.now (self.now.added.first + place + 1)) changes.new) }
     {
         let Some(id) = self.added.first.checked_add(place as u64) else {
             return Err(AllocError);
@@ -194,7 +271,7 @@ impl<'a> ActiveClauses<'a> {
             return Ok(());
         }
         match self.added.row(id) {
-            Some(clause) => counts.add(clause.as_slice()),
+            Some(clause) => changes.add(clause.as_slice()),
             None => Ok(()),
         }
     }
@@ -203,27 +280,27 @@ impl<'a> ActiveClauses<'a> {
     fn count_rows<F: ClauseList>(
         &self,
         formula: &F,
-        counts: &mut LiteralCounts,
+        changes: &mut CountChanges,
     ) -> Result<(), AllocError>
-        ensures { OnOk result (AreCounts (kept_at (F.formula formula.now).clauses self.now) counts.old → AreCounts (in_front (F.formula formula.now).clauses self.now) counts.new) }
+        ensures { OnOk result (AreChanges (F.formula formula.now).clauses (kept_at (F.formula formula.now).clauses self.now) changes.old → AreChanges (F.formula formula.now).clauses (in_front (F.formula formula.now).clauses self.now) changes.new) }
     {
         for place in 0..self.added.rows.len() {
-            (&*self).count_row(&*formula, place, counts)?;
+            (&*self).count_row(&*formula, place, changes)?;
         }
         Ok(())
     }
 
     /// Counts the clauses that stand in the tree, where the others are counted.
-    fn count_late<F: ClauseList>(
+    fn count_in_tree<F: ClauseList>(
         &self,
         formula: &F,
-        counts: &mut LiteralCounts,
+        changes: &mut CountChanges,
     ) -> Result<(), AllocError>
-        ensures { OnOk result (AreCounts (in_front (F.formula formula.now).clauses self.now) counts.old → AreCounts (clause_at (F.formula formula.now).clauses self.now) counts.new) }
+        ensures { OnOk result (AreChanges (F.formula formula.now).clauses (in_front (F.formula formula.now).clauses self.now) changes.old → AreChanges (F.formula formula.now).clauses (clause_at (F.formula formula.now).clauses self.now) changes.new) }
     {
-        for (id, clause) in self.added.late.iter() {
+        for (id, clause) in self.added.in_tree.iter() {
             if !self.is_in_front(&*formula, *id) {
-                counts.add(clause.as_slice())?;
+                changes.add(clause.as_slice())?;
             }
         }
         Ok(())
@@ -233,11 +310,11 @@ impl<'a> ActiveClauses<'a> {
     pub fn count_added<F: ClauseList>(
         &self,
         formula: &F,
-        counts: &mut LiteralCounts,
+        changes: &mut CountChanges,
     ) -> Result<(), AllocError>
-        ensures { OnOk result (AreCounts (kept_at (F.formula formula.now).clauses self.now) counts.old → AreCounts (clause_at (F.formula formula.now).clauses self.now) counts.new) }
+        ensures { OnOk result (AreChanges (F.formula formula.now).clauses (kept_at (F.formula formula.now).clauses self.now) changes.old → AreChanges (F.formula formula.now).clauses (clause_at (F.formula formula.now).clauses self.now) changes.new) }
     {
-        self.count_rows(formula, counts)?;
-        self.count_late(formula, counts)
+        self.count_rows(formula, changes)?;
+        self.count_in_tree(formula, changes)
     }
 }

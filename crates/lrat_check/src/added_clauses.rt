@@ -2,7 +2,7 @@
 
 ghost use Rattle.std.specs.Prelude.{◌≡◌, ◌+◌, ◌<◌, ◌==◌, ℕ, Some, None, [], ◌∷◌, MatchOption, OnOk, vec_len, if◌then◌else◌};
 ghost use Rattle.lrat_check.specs.Active.{with_clause, without};
-ghost use Rattle.lrat_check.specs.AddedAt.{held_at, in_row, late_at, row_at};
+ghost use Rattle.lrat_check.specs.AddedAt.{held_at, in_row, in_tree_at, row_at};
 
 use dimacs::Clause;
 use std::alloc::{AllocError, Global};
@@ -18,7 +18,7 @@ const ROWS_FOR_EACH: usize = 8;
 pub struct AddedClauses<'a> {
     pub first: u64,
     pub rows: Vec<Option<&'a Clause>>,
-    pub late: BTreeMap<u64, &'a Clause>,
+    pub in_tree: BTreeMap<u64, &'a Clause>,
     count: usize,
 }
 
@@ -63,7 +63,7 @@ impl<'a> AddedClauses<'a> {
         AddedClauses {
             first: 0,
             rows: Vec::new(alloc),
-            late: BTreeMap::new(alloc),
+            in_tree: BTreeMap::new(alloc),
             count: 0,
         }
     }
@@ -84,10 +84,10 @@ impl<'a> AddedClauses<'a> {
     }
 
     /// The clause of this id in the tree, if there is one.
-    fn late(&self, id: u64) -> Option<&'a Clause>
-        ensures { MatchOption result (late_at self.now id ≡ None) (λ clause. late_at self.now id ≡ Some clause.now) }
+    fn in_tree(&self, id: u64) -> Option<&'a Clause>
+        ensures { MatchOption result (in_tree_at self.now id ≡ None) (λ clause. in_tree_at self.now id ≡ Some clause.now) }
     {
-        match self.late.get(&id) {
+        match self.in_tree.get(&id) {
             Some(clause) => Some(*clause),
             None => None,
         }
@@ -100,7 +100,7 @@ impl<'a> AddedClauses<'a> {
         if let Some(clause) = self.row(id) {
             return Some(clause);
         }
-        self.late(id)
+        self.in_tree(id)
     }
 
     /// Lets the rows begin with this id, if there are none.
@@ -136,7 +136,7 @@ impl<'a> AddedClauses<'a> {
         match self.place_for(id) {
             Some(place) => put_in_row(&mut self.rows, place, clause),
             None => {
-                self.late.insert(id, clause)?;
+                self.in_tree.insert(id, clause)?;
                 Ok(())
             }
         }
@@ -145,7 +145,7 @@ impl<'a> AddedClauses<'a> {
     /// Takes the clause out of the row of this id, if there is one.
     fn clear(&mut self, id: u64)
         ensures rows { (other : ℕ) → row_at self.new other ≡ (if id == other then None else row_at self.old other) }
-        ensures late { self.new.late ≡ self.old.late }
+        ensures in_tree { self.new.in_tree ≡ self.old.in_tree }
     {
         if self.first <= id {
             clear_row(&mut self.rows, (id - self.first) as usize);
@@ -157,6 +157,6 @@ impl<'a> AddedClauses<'a> {
         ensures { (other : ℕ) → held_at self.new other ≡ without (id ∷ []) (held_at self.old) other }
     {
         self.clear(id);
-        let _clause = self.late.remove(&id);
+        let _clause = self.in_tree.remove(&id);
     }
 }

@@ -4,12 +4,13 @@ ghost use Rattle.std.specs.Prelude.{◌≡◌, ℕ, IfOk, IfErr, MatchResult};
 ghost use Rattle.lrat_check.specs.Active.{after};
 ghost use Rattle.lrat_check.specs.Checked.{IsRight, IsWrong, ends, IsAccepted, IsRefused};
 ghost use Rattle.lrat_check.specs.ClauseAt.{clause_at};
-ghost use Rattle.lrat_check.specs.Counted.{IsCounted};
+ghost use Rattle.lrat_check.specs.Counted.{AreFormulaCounts, IsCounted};
 ghost use Rattle.dimacs.specs.Models.{HasNoModelIn};
 ghost use Rattle.text_lines.specs.Fault.{IsRefusal, IsRefusalAt};
 
 use crate::counted_clauses::CountedClauses;
 use crate::derivation::{Derivation, Step};
+use crate::formula_counts::FormulaCounts;
 use crate::justification::justify;
 use crate::refusal::{Refusal, StepFault};
 use crate::true_literals::TrueLiterals;
@@ -24,13 +25,15 @@ pub struct Accepted;
 fn take_step<'a, F: ClauseList>(
     alloc: Global,
     formula: &F,
+    counts: &mut FormulaCounts,
     active: &mut CountedClauses<'a>,
     trues: &mut TrueLiterals,
     room: &mut Vec<i64>,
     step: &'a Step,
     number: usize,
 ) -> Result<bool, Refusal>
-    ensures { IsCounted (F.formula formula.now).clauses active.old → MatchResult result
+    ensures formula { AreFormulaCounts (F.formula formula.now).clauses counts.old → AreFormulaCounts (F.formula formula.now).clauses counts.new }
+    ensures step { AreFormulaCounts (F.formula formula.now).clauses counts.old → IsCounted (F.formula formula.now).clauses active.old → MatchResult result
         (λ ended. IsRight (clause_at (F.formula formula.now).clauses active.old.clauses) step.now × (ended ≡ ends step.now) × ((id : ℕ) → clause_at (F.formula formula.now).clauses active.new.clauses id ≡ after (clause_at (F.formula formula.now).clauses active.old.clauses) step.now id) × IsCounted (F.formula formula.now).clauses active.new)
         (λ refusal. IsRefusalAt (λ fault. IsWrong (clause_at (F.formula formula.now).clauses active.old.clauses) step.now fault) number refusal) }
 {
@@ -51,6 +54,7 @@ fn take_step<'a, F: ClauseList>(
             justify(
                 alloc,
                 formula,
+                counts,
                 active,
                 trues,
                 literals.as_slice(),
@@ -63,14 +67,17 @@ fn take_step<'a, F: ClauseList>(
     }
 }
 
-/// Checks whether the derivation (LRAT, CADE 2017) shows that no model of the formula makes all literals of the cube
-/// true. If not, the first step that fails.
-pub fn check<F: ClauseList>(
+/// Checks as `check` does, where the counts of the formula's literals are shared by all derivations that are checked against it: they
+/// are made at the first RAT step of all, and a derivation then costs what it touches itself.
+pub fn check_with<F: ClauseList>(
     alloc: Global,
     formula: &F,
+    counts: &mut FormulaCounts,
     cube: &[Lit],
     derivation: &Derivation,
 ) -> Result<Accepted, Refusal>
+    requires { AreFormulaCounts (F.formula formula.now).clauses counts.old }
+    ensures formula { AreFormulaCounts (F.formula formula.now).clauses counts.new }
     ensures accepted { IfOk result (λ _. IsAccepted (F.formula formula.now).clauses cube.now derivation.now) }
     ensures sound { IfOk result (λ _. HasNoModelIn (F.formula formula.now).clauses cube.now) }
     ensures refused { IfErr result (λ refusal. IsRefusal (IsRefused (F.formula formula.now).clauses cube.now derivation.now) refusal) }
@@ -85,6 +92,7 @@ pub fn check<F: ClauseList>(
         if take_step(
             alloc,
             formula,
+            counts,
             &mut active,
             &mut trues,
             &mut room,
@@ -95,4 +103,20 @@ pub fn check<F: ClauseList>(
         }
     }
     Err(Refusal::At(StepFault::NoEmptyClause, steps.len() + 1))
+}
+
+/// Checks whether the derivation (LRAT, CADE 2017) shows that no model of the formula makes all literals of the cube
+/// true. If not, the first step that fails.
+pub fn check<F: ClauseList>(
+    alloc: Global,
+    formula: &F,
+    cube: &[Lit],
+    derivation: &Derivation,
+) -> Result<Accepted, Refusal>
+    ensures accepted { IfOk result (λ _. IsAccepted (F.formula formula.now).clauses cube.now derivation.now) }
+    ensures sound { IfOk result (λ _. HasNoModelIn (F.formula formula.now).clauses cube.now) }
+    ensures refused { IfErr result (λ refusal. IsRefusal (IsRefused (F.formula formula.now).clauses cube.now derivation.now) refusal) }
+{
+    let mut counts = FormulaCounts::new();
+    check_with(alloc, formula, &mut counts, cube, derivation)
 }

@@ -3,59 +3,62 @@
 ghost use Rattle.std.specs.Prelude.{◌≡◌, [], ◌∷◌, ℕ, ℤ, List, Option, None, IfOk, OnOk};
 ghost use Rattle.lrat_check.specs.Active.{at_start, with_clause, without};
 ghost use Rattle.lrat_check.specs.ClauseAt.{clause_at};
-ghost use Rattle.lrat_check.specs.Counted.{AreRightCounts, IsCounted};
-ghost use Rattle.lrat_check.specs.Counts.{AreCounts, IsCount};
+ghost use Rattle.lrat_check.specs.Counted.{AreChanges, AreFormulaCounts, AreRightChanges, IsCounted};
+ghost use Rattle.lrat_check.specs.Counts.{IsCount};
 
 use crate::active_clauses::ActiveClauses;
-use crate::literal_counts::LiteralCounts;
+use crate::count_changes::CountChanges;
+use crate::formula_counts::FormulaCounts;
 use dimacs::{Clause, ClauseList, Lit};
 use std::alloc::{AllocError, Global};
 
-/// The active clauses and, once one was asked for, the counts of their literals.
+/// The active clauses and, once a count was asked for, by what the counts of their literals differ from the formula's.
 #[derive(Drop)]
 pub struct CountedClauses<'a> {
     pub clauses: ActiveClauses<'a>,
-    counts: Option<LiteralCounts>,
+    changes: Option<CountChanges>,
 }
 
 /// Counts a clause that becomes active, if clauses are counted.
-fn count_in(counts: &mut Option<LiteralCounts>, clause: &Clause) -> Result<(), AllocError>
-    ensures { OnOk result ((active : ℕ → Option (List ℤ)) (id : ℕ) → active id ≡ None → AreRightCounts active counts.old → AreRightCounts (with_clause id clause.now active) counts.new) }
+fn count_in(changes: &mut Option<CountChanges>, clause: &Clause) -> Result<(), AllocError>
+    ensures { OnOk result ((clauses : List (List ℤ)) (active : ℕ → Option (List ℤ)) (id : ℕ) → active id ≡ None → AreRightChanges clauses active changes.old → AreRightChanges clauses (with_clause id clause.now active) changes.new) }
 {
-    if let Some(counts) = counts {
-        counts.add(clause.as_slice())?;
+    if let Some(changes) = changes {
+        changes.add(clause.as_slice())?;
     }
     Ok(())
 }
 
 /// Takes the clause of this id off the counts, if clauses are counted and one is active.
 fn count_out<F: ClauseList>(
-    counts: &mut Option<LiteralCounts>,
+    changes: &mut Option<CountChanges>,
     formula: &F,
     clauses: &ActiveClauses,
     id: u64,
-)
-    ensures { AreRightCounts (clause_at (F.formula formula.now).clauses clauses.now) counts.old → AreRightCounts (without (id ∷ []) (clause_at (F.formula formula.now).clauses clauses.now)) counts.new }
+) -> Result<(), AllocError>
+    ensures { OnOk result (AreRightChanges (F.formula formula.now).clauses (clause_at (F.formula formula.now).clauses clauses.now) changes.old →
+        AreRightChanges (F.formula formula.now).clauses (without (id ∷ []) (clause_at (F.formula formula.now).clauses clauses.now)) changes.new) }
 {
-    if let Some(counts) = counts {
+    if let Some(changes) = changes {
         if let Some(clause) = clauses.get(formula, id) {
-            counts.remove(clause.as_slice());
+            changes.remove(clause.as_slice())?;
         }
     }
+    Ok(())
 }
 
-/// The counts of the literals of the active clauses.
-fn counts_of<F: ClauseList>(
+/// By what the counts of the literals of the active clauses differ from the formula's.
+fn changes_of<F: ClauseList>(
     alloc: Global,
     formula: &F,
     clauses: &ActiveClauses,
-) -> Result<LiteralCounts, AllocError>
-    ensures { IfOk result (λ counts. AreCounts (clause_at (F.formula formula.now).clauses clauses.now) counts) }
+) -> Result<CountChanges, AllocError>
+    ensures { IfOk result (λ changes. AreChanges (F.formula formula.now).clauses (clause_at (F.formula formula.now).clauses clauses.now) changes) }
 {
-    let mut counts = LiteralCounts::new(alloc);
-    clauses.count_kept(formula, &mut counts)?;
-    clauses.count_added(formula, &mut counts)?;
-    Ok(counts)
+    let mut changes = CountChanges::new(alloc);
+    clauses.count_kept(formula, &mut changes)?;
+    clauses.count_added(formula, &mut changes)?;
+    Ok(changes)
 }
 
 impl<'a> CountedClauses<'a> {
@@ -66,7 +69,7 @@ impl<'a> CountedClauses<'a> {
     {
         CountedClauses {
             clauses: ActiveClauses::at_start(alloc, cube),
-            counts: None,
+            changes: None,
         }
     }
 
@@ -81,7 +84,7 @@ impl<'a> CountedClauses<'a> {
             clause_at (F.formula formula.now).clauses self.new.clauses other ≡ with_clause id clause.now (clause_at (F.formula formula.now).clauses self.old.clauses) other) }
         ensures counted { OnOk result (clause_at (F.formula formula.now).clauses self.old.clauses id ≡ None → IsCounted (F.formula formula.now).clauses self.old → IsCounted (F.formula formula.now).clauses self.new) }
     {
-        count_in(&mut self.counts, clause)?;
+        count_in(&mut self.changes, clause)?;
         self.clauses.insert(formula, id, clause)
     }
 
@@ -91,7 +94,7 @@ impl<'a> CountedClauses<'a> {
             clause_at (F.formula formula.now).clauses self.new.clauses other ≡ without (id ∷ []) (clause_at (F.formula formula.now).clauses self.old.clauses) other) }
         ensures counted { OnOk result (IsCounted (F.formula formula.now).clauses self.old → IsCounted (F.formula formula.now).clauses self.new) }
     {
-        count_out(&mut self.counts, formula, &self.clauses, id);
+        count_out(&mut self.changes, formula, &self.clauses, id)?;
         self.clauses.remove(formula, id)
     }
 
@@ -107,24 +110,28 @@ impl<'a> CountedClauses<'a> {
         Ok(())
     }
 
-    /// The number of times that the literal stands in the active clauses. All literals are counted when this is first
-    /// asked, since a derivation without RAT steps needs no counts.
+    /// The number of times that the literal stands in the active clauses. What differs from the formula is counted when this is
+    /// first asked, since a derivation without RAT steps needs no counts.
     pub fn count_of<F: ClauseList>(
         &mut self,
         alloc: Global,
         formula: &F,
+        counts: &mut FormulaCounts,
         literal: Lit,
     ) -> Result<usize, AllocError>
         ensures same { self.new.clauses ≡ self.old.clauses }
+        ensures formula { AreFormulaCounts (F.formula formula.now).clauses counts.old → AreFormulaCounts (F.formula formula.now).clauses counts.new }
         ensures counted { IsCounted (F.formula formula.now).clauses self.old → IsCounted (F.formula formula.now).clauses self.new }
-        ensures count { IfOk result (λ count. IsCounted (F.formula formula.now).clauses self.old → IsCount (clause_at (F.formula formula.now).clauses self.old.clauses) literal count) }
+        ensures count { IfOk result (λ count. AreFormulaCounts (F.formula formula.now).clauses counts.old → IsCounted (F.formula formula.now).clauses self.old →
+            IsCount (clause_at (F.formula formula.now).clauses self.old.clauses) literal count) }
     {
-        if let Some(counts) = &self.counts {
-            return Ok(counts.of(literal));
+        let base = counts.of(alloc, formula, literal)?;
+        if let Some(changes) = &self.changes {
+            return changes.applied(literal, base);
         }
-        let counts = counts_of(alloc, formula, &self.clauses)?;
-        let count = counts.of(literal);
-        self.counts = Some(counts);
+        let changes = changes_of(alloc, formula, &self.clauses)?;
+        let count = changes.applied(literal, base)?;
+        self.changes = Some(changes);
         Ok(count)
     }
 }

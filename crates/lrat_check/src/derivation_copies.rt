@@ -5,7 +5,7 @@ ghost use Rattle.lrat_check.specs.declared.derivation.Step.TheVariants.{Addition
 
 use crate::derivation::{Derivation, Step};
 use crate::hints::Hints;
-use dimacs::{Clause, Lit};
+use dimacs::Clause;
 use std::alloc::{AllocError, Global};
 
 /// A copy of the step.
@@ -45,13 +45,6 @@ pub fn copied(alloc: Global, derivation: &Derivation) -> Result<Derivation, Allo
     Ok(Derivation::new(copies))
 }
 
-/// Returns whether these are the same literals in the same order.
-fn are_same_literals(first: &[Lit], second: &[Lit]) -> bool
-    ensures { IsTrue result ↔ (first.now ≡ second.now) }
-{
-    first == second
-}
-
 /// Returns whether these are the same ids in the same order.
 fn are_same_ids(first: &[u64], second: &[u64]) -> bool
     ensures { IsTrue result ↔ (first.now ≡ second.now) }
@@ -70,7 +63,7 @@ fn is_addition(id: u64, literals: &Clause, hints: &Hints, step: &Step) -> bool
             hints: other_hints,
         } => {
             id == *other_id
-                && are_same_literals(literals.as_slice(), other_literals.as_slice())
+                && dimacs::are_same(literals.as_slice(), other_literals.as_slice())
                 && hints.are_same(other_hints)
         }
         Step::Deletion { .. } => false,

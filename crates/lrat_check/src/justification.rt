@@ -3,13 +3,14 @@
 
 ghost use Rattle.std.specs.Prelude.{◌≡◌, [], ℕ, ℤ, List, Option, OnOk, MatchResult};
 ghost use Rattle.lrat_check.specs.ClauseAt.{clause_at};
-ghost use Rattle.lrat_check.specs.Counted.{IsCounted};
+ghost use Rattle.lrat_check.specs.Counted.{AreFormulaCounts, IsCounted};
 ghost use Rattle.lrat_check.specs.Hints.{groups_of};
 ghost use Rattle.lrat_check.specs.Justified.{IsJustified, IsUnjustified};
 ghost use Rattle.lrat_check.specs.Rat.{IsRat, IsNoRat, missing};
 ghost use Rattle.text_lines.specs.Fault.{IsRefusalAt};
 
 use crate::counted_clauses::CountedClauses;
+use crate::formula_counts::FormulaCounts;
 use crate::groups::{check_candidates, has_all};
 use crate::hint_groups::cut_group;
 use crate::propagation::is_implied;
@@ -42,6 +43,7 @@ fn without_group(hints: &[i64]) -> StepFault
 fn check_rat<F: ClauseList>(
     alloc: Global,
     formula: &F,
+    counts: &mut FormulaCounts,
     active: &mut CountedClauses,
     trues: &mut TrueLiterals,
     clause: &[Lit],
@@ -49,8 +51,9 @@ fn check_rat<F: ClauseList>(
     number: usize,
 ) -> Result<(), Refusal>
     ensures same { active.new.clauses ≡ active.old.clauses }
+    ensures formula { AreFormulaCounts (F.formula formula.now).clauses counts.old → AreFormulaCounts (F.formula formula.now).clauses counts.new }
     ensures counted { IsCounted (F.formula formula.now).clauses active.old → IsCounted (F.formula formula.now).clauses active.new }
-    ensures rat { IsCounted (F.formula formula.now).clauses active.old → MatchResult result
+    ensures rat { AreFormulaCounts (F.formula formula.now).clauses counts.old → IsCounted (F.formula formula.now).clauses active.old → MatchResult result
         (λ _. IsRat (clause_at (F.formula formula.now).clauses active.old.clauses) clause.now (groups_of hints.now) trues.old)
         (λ refusal. IsRefusalAt (λ fault. IsNoRat (clause_at (F.formula formula.now).clauses active.old.clauses) clause.now (groups_of hints.now) trues.old fault) number refusal) }
 {
@@ -59,7 +62,7 @@ fn check_rat<F: ClauseList>(
     }
     let pivot = clause[0];
     check_candidates(formula, &active.clauses, trues, pivot, hints, number)?;
-    let count = active.count_of(alloc, formula, pivot.negated())?;
+    let count = active.count_of(alloc, formula, counts, pivot.negated())?;
     if has_all(alloc, formula, &active.clauses, pivot, count, hints)? {
         Ok(())
     } else {
@@ -71,6 +74,7 @@ fn check_rat<F: ClauseList>(
 pub fn justify<F: ClauseList>(
     alloc: Global,
     formula: &F,
+    counts: &mut FormulaCounts,
     active: &mut CountedClauses,
     trues: &mut TrueLiterals,
     clause: &[Lit],
@@ -78,13 +82,14 @@ pub fn justify<F: ClauseList>(
     number: usize,
 ) -> Result<(), Refusal>
     ensures same { active.new.clauses ≡ active.old.clauses }
+    ensures formula { AreFormulaCounts (F.formula formula.now).clauses counts.old → AreFormulaCounts (F.formula formula.now).clauses counts.new }
     ensures counted { IsCounted (F.formula formula.now).clauses active.old → IsCounted (F.formula formula.now).clauses active.new }
-    ensures justified { IsCounted (F.formula formula.now).clauses active.old → MatchResult result
+    ensures justified { AreFormulaCounts (F.formula formula.now).clauses counts.old → IsCounted (F.formula formula.now).clauses active.old → MatchResult result
         (λ _. IsJustified (clause_at (F.formula formula.now).clauses active.old.clauses) clause.now hints.now)
         (λ refusal. IsRefusalAt (λ fault. IsUnjustified (clause_at (F.formula formula.now).clauses active.old.clauses) clause.now hints.now fault) number refusal) }
 {
     if is_implied(formula, &active.clauses, trues, clause, hints, number)? {
         return Ok(());
     }
-    check_rat(alloc, formula, active, trues, clause, hints, number)
+    check_rat(alloc, formula, counts, active, trues, clause, hints, number)
 }

@@ -5,10 +5,13 @@
 mod active_clauses;
 mod added_clauses;
 pub mod checker;
+mod count_changes;
 mod counted_clauses;
 pub mod derivation;
 pub mod derivation_copies;
+pub mod formula_counts;
 mod groups;
+mod hidden_ids;
 mod hint_groups;
 pub mod hints;
 pub mod ids;

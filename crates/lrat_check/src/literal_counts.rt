@@ -1,6 +1,6 @@
 //! How often literals stand in clauses.
 
-ghost use Rattle.std.specs.Prelude.{◌≡◌, ◌+◌, ◌-◌, ◌==◌, ◌<◌, ◌≤◌, ℕ, ℤ, vec_len, if◌then◌else◌, OnOk};
+ghost use Rattle.std.specs.Prelude.{◌≡◌, ◌+◌, ◌==◌, ◌<◌, ◌≤◌, ℕ, ℤ, vec_len, if◌then◌else◌, OnOk};
 ghost use Rattle.lrat_check.specs.Counts.{count_at, count_of, far_count, times};
 
 use crate::marks::{is_paid, place_of};
@@ -90,8 +90,8 @@ impl LiteralCounts {
         Ok(())
     }
 
-    /// Counts one more at this place. More than a `usize` holds there never are, and would be answered as memory that is not
-    /// there.
+    /// Counts one more at this place. Memory runs out long before a count is larger than a `usize` holds, so such a count would be
+    /// answered as memory that ran out.
     fn raise(&mut self, place: usize) -> Result<(), AllocError>
         ensures { OnOk result ((k : ℕ) → count_at self.new k ≡ count_at self.old k + (if place == k then 1 else 0)) }
     {
@@ -103,37 +103,6 @@ impl LiteralCounts {
             self.put_near(place, more)
         } else {
             self.put_far(place, more)
-        }
-    }
-
-    /// Puts the count in the place of one in the tree.
-    fn replace_far(&mut self, place: usize, count: usize)
-        requires past { vec_len self.old.near ≤ place }
-        requires counted { 0 < count_at self.old place }
-        ensures { (k : ℕ) → count_at self.new k ≡ (if place == k then count else count_at self.old k) }
-    {
-        let _replaced = self.far.insert(place, count);
-    }
-
-    /// Puts the count in the place of another.
-    fn replace(&mut self, place: usize, count: usize)
-        requires { 0 < count_at self.old place }
-        ensures { (k : ℕ) → count_at self.new k ≡ (if place == k then count else count_at self.old k) }
-    {
-        if place < self.near.len() {
-            self.near[place] = count;
-        } else {
-            self.replace_far(place, count);
-        }
-    }
-
-    /// Counts one less at this place.
-    fn lower(&mut self, place: usize)
-        ensures { (k : ℕ) → count_at self.new k ≡ count_at self.old k - (if place == k then 1 else 0) }
-    {
-        let count = self.at(place);
-        if count > 0 {
-            self.replace(place, count - 1);
         }
     }
 
@@ -152,14 +121,5 @@ impl LiteralCounts {
             self.raise(place_of(*literal))?;
         }
         Ok(())
-    }
-
-    /// Removes a clause from the counts.
-    pub fn remove(&mut self, clause: &[Lit])
-        ensures { (z : ℤ) → count_of self.new z ≡ count_of self.old z - times clause.now z }
-    {
-        for literal in clause {
-            self.lower(place_of(*literal));
-        }
     }
 }

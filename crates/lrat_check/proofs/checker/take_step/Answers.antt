@@ -6,8 +6,8 @@ use Rattle.lrat_check.specs.declared.active_clauses.ActiveClauses.{ActiveClauses
 use Rattle.lrat_check.proofs.CheckLemmas.{step_added}
 use Rattle.lrat_check.proofs.checker.take_step.Goals as goal
 
-pub returns-in_ok-insert-in-Addition : goal.returns-in_ok-insert-in-Addition
-returns-in_ok-insert-in-Addition g c = λ h.
+pub returns-in_ok-insert-in-Addition-clause-step : goal.returns-in_ok-insert-in-Addition-clause-step
+returns-in_ok-insert-in-Addition-clause-step g c = λ base h.
     let clauses = (g.F.ClauseList.formula c.args.formula.now).clauses in
     let old = clause_at clauses c.args.active.now.clauses in
     let between = c.justify.new.active in

@@ -8,13 +8,13 @@ use Rattle.lrat_check.proofs.OpposeLemmas.{rat_shows, rat_lacks, rat_empty}
 use Rattle.lrat_check.proofs.justification.check_rat.Goals as goal
 
 pub returns-then-is_empty-clause-rat : goal.returns-then-is_empty-clause-rat
-returns-then-is_empty-clause-rat g c = λ h.
+returns-then-is_empty-clause-rat g c = λ base h.
     let active = clause_at (g.F.ClauseList.formula c.args.formula.now).clauses c.args.active.now.clauses in
     let none : length c.args.clause.now ≡ 0 = search rules in
     (rat_empty active (groups_of c.args.hints.now) c.args.trues.now c.args.clause.now c.without_pivot.result none (c.without_pivot.ensures active c.args.trues.now), refl)
 
 pub returns-then-branch-clause-rat : goal.returns-then-branch-clause-rat
-returns-then-branch-clause-rat g c = λ h.
+returns-then-branch-clause-rat g c = λ base h.
     let clauses = (g.F.ClauseList.formula c.args.formula.now).clauses in
     let active = clause_at clauses c.args.active.now.clauses in
     let groups = groups_of c.args.hints.now in
@@ -22,7 +22,7 @@ returns-then-branch-clause-rat g c = λ h.
     let long : 0 < length c.args.clause.now = search rules in
     let settled : AreSettled active pivot c.args.trues.now groups = c.in_ok-check_candidates.ensures in
     let negation : c.negated.result ≡ neg_ℤ pivot = search rules in
-    let count = subst (λ (z : ℤ). IsCount active z c.in_ok-count.count) negation (c.in_ok-count.ensures.count h) in
+    let count = subst (λ (z : ℤ). IsCount active z c.in_ok-count.count) negation (c.in_ok-count.ensures.count base h) in
     let decided : MatchBool c.in_ok-has_all.field-0 (HasAllGroups active pivot groups) (LacksGroup active pivot groups) =
     subst (λ (k : ActiveClauses). IsCount (clause_at clauses k) (neg_ℤ pivot) c.in_ok-count.count → MatchBool c.in_ok-has_all.field-0 (HasAllGroups (clause_at clauses k) pivot groups) (LacksGroup (clause_at clauses k) pivot groups))
     c.count_of.ensures.same c.in_ok-has_all.ensures count in
@@ -30,7 +30,7 @@ returns-then-branch-clause-rat g c = λ h.
     rat_shows active groups c.args.trues.now c.args.clause.now pivot long c.index-clause-0.is settled all
 
 pub returns-else-branch-clause-rat : goal.returns-else-branch-clause-rat
-returns-else-branch-clause-rat g c = λ h.
+returns-else-branch-clause-rat g c = λ base h.
     let clauses = (g.F.ClauseList.formula c.args.formula.now).clauses in
     let active = clause_at clauses c.args.active.now.clauses in
     let groups = groups_of c.args.hints.now in
@@ -38,7 +38,7 @@ returns-else-branch-clause-rat g c = λ h.
     let long : 0 < length c.args.clause.now = search rules in
     let settled : AreSettled active pivot c.args.trues.now groups = c.in_ok-check_candidates.ensures in
     let negation : c.negated.result ≡ neg_ℤ pivot = search rules in
-    let count = subst (λ (z : ℤ). IsCount active z c.in_ok-count.count) negation (c.in_ok-count.ensures.count h) in
+    let count = subst (λ (z : ℤ). IsCount active z c.in_ok-count.count) negation (c.in_ok-count.ensures.count base h) in
     let decided : MatchBool c.in_ok-has_all.field-0 (HasAllGroups active pivot groups) (LacksGroup active pivot groups) =
     subst (λ (k : ActiveClauses). IsCount (clause_at clauses k) (neg_ℤ pivot) c.in_ok-count.count → MatchBool c.in_ok-has_all.field-0 (HasAllGroups (clause_at clauses k) pivot groups) (LacksGroup (clause_at clauses k) pivot groups))
     c.count_of.ensures.same c.in_ok-has_all.ensures count in

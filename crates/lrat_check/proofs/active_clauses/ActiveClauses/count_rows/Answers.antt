@@ -1,6 +1,6 @@
 use Rattle.std.proofs.Common.{◌≡◌, ◌+◌, subst, ℕ, length, arith, rules}
 use Rattle.lrat_check.specs.ClauseAt.{kept_at, early_at}
-use Rattle.lrat_check.specs.Counts.{AreCounts}
+use Rattle.lrat_check.specs.Counted.{AreChanges}
 use Rattle.lrat_check.proofs.KeptLemmas.{rows_start, rows_end}
 use Rattle.lrat_check.proofs.active_clauses.ActiveClauses.count_rows.Goals as goal
 
@@ -8,15 +8,15 @@ pub loop-place-init : goal.loop-place-init
 loop-place-init g c = λ h.
     let clauses = (g.F.ClauseList.formula c.args.formula.now).clauses in
     let first = c.args.self.now.added.first in
-    subst (λ (n : ℕ). AreCounts (early_at clauses c.args.self.now n) c.args.counts.now) (omega arith)
-    (rows_start (kept_at clauses c.args.self.now) first c.args.self.now.added.rows.items c.args.counts.now h)
+    subst (λ (n : ℕ). AreChanges clauses (early_at clauses c.args.self.now n) c.args.changes.now) (omega arith)
+    (rows_start clauses (kept_at clauses c.args.self.now) first c.args.self.now.added.rows.items c.args.changes.now h)
 
 pub loop-place-preserved : goal.loop-place-preserved
 loop-place-preserved g c = λ h.
     let clauses = (g.F.ClauseList.formula c.args.formula.now).clauses in
     let first = c.args.self.now.added.first in
     let next : first + c.loop-place.place + 1 ≡ first + (c.loop-place.place + 1) = omega arith in
-    subst (λ (n : ℕ). AreCounts (early_at clauses c.args.self.now n) c.count_row.new.counts) next (c.in_ok-count_row.ensures (c.loop-place.invariant h))
+    subst (λ (n : ℕ). AreChanges clauses (early_at clauses c.args.self.now n) c.count_row.new.changes) next (c.in_ok-count_row.ensures (c.loop-place.invariant h))
 
 pub returns : goal.returns
 returns g c = λ h.
@@ -24,5 +24,5 @@ returns g c = λ h.
     let first = c.args.self.now.added.first in
     let rows = c.args.self.now.added.rows.items in
     let last : c.loop-place.place ≡ length rows = search rules in
-    rows_end (kept_at clauses c.args.self.now) first rows c.loop-place.counts
-    (subst (λ (n : ℕ). AreCounts (early_at clauses c.args.self.now (first + n)) c.loop-place.counts) last (c.loop-place.invariant h))
+    rows_end clauses (kept_at clauses c.args.self.now) first rows c.loop-place.changes
+    (subst (λ (n : ℕ). AreChanges clauses (early_at clauses c.args.self.now (first + n)) c.loop-place.changes) last (c.loop-place.invariant h))

@@ -9,5 +9,5 @@ returns-clause-counted g c =
     let clauses = (g.F.ClauseList.formula c.args.formula.now).clauses in
     let old = clause_at clauses c.args.self.now.clauses in
     on_ok_weaker c.insert.result
-    (λ same free h. right_same (with_clause c.args.id c.args.clause.now old) (clause_at clauses c.insert.new.self) c.count_in.new.counts same (c.in_ok-count_in.ensures old c.args.id free h))
+    (λ same free h. right_same clauses (with_clause c.args.id c.args.clause.now old) (clause_at clauses c.insert.new.self) c.count_in.new.changes same (c.in_ok-count_in.ensures clauses old c.args.id free h))
     c.insert.ensures

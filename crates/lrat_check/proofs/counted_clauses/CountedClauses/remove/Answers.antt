@@ -10,5 +10,5 @@ returns-clause-counted g c =
     let clauses = (g.F.ClauseList.formula c.args.formula.now).clauses in
     let old = clause_at clauses c.args.self.now.clauses in
     on_ok_weaker c.remove.result
-    (λ same h. right_same (without (c.args.id ∷ []) old) (clause_at clauses c.remove.new.self) c.count_out.new.counts same (c.count_out.ensures h))
+    (λ same h. right_same clauses (without (c.args.id ∷ []) old) (clause_at clauses c.remove.new.self) c.count_out.new.changes same (c.in_ok-count_out.ensures h))
     c.remove.ensures

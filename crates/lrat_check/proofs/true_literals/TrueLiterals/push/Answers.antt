@@ -1,4 +1,4 @@
-use Rattle.std.proofs.Common.{◌≡◌, ◌∙◌, ℕ, eqb, cond, sym, subst, not, true, List, rules}
+use Rattle.std.proofs.Common.{◌≡◌, ◌∙◌, eqb, cond, sym, subst, not, true, List, rules}
 use Rattle.lrat_check.specs.Marks.{place_of, is_marked}
 use Rattle.lrat_check.specs.Trail.{IsTrail}
 use Rattle.lrat_check.specs.declared.true_literals.TrueLiteral.{TrueLiteral}

@@ -1,0 +1,110 @@
+//! The ids under which a clause was active at the start and is so no more.
+
+ghost use Rattle.std.specs.Prelude.{◌≡◌, ◌==◌, ◌<◌, ◌≤◌, ℕ, true, false, nat_lt, vec_len, if◌then◌else◌, OnOk};
+ghost use Rattle.std.specs.BTreeSet.{contains};
+ghost use Rattle.std.specs.Ordering.{nat_cmp};
+ghost use Rattle.lrat_check.specs.Hidden.{is_hidden};
+ghost use Rattle.lrat_check.specs.Marks.{marked_at};
+
+use crate::marks::{is_paid, marked_at};
+use std::alloc::{AllocError, Global};
+use std::collections::BTreeSet;
+
+/// The ids that are hidden. A table has the ids that those hidden before pay for, so what is hidden near the end of a large formula
+/// costs no table as long as the formula; ids past the table stand in a tree.
+#[derive(Drop)]
+pub struct HiddenIds {
+    pub near: Vec<bool>,
+    pub far: BTreeSet<usize>,
+    hidden: usize,
+}
+
+impl HiddenIds {
+    /// No id is hidden.
+    pub fn new(alloc: Global) -> HiddenIds
+        ensures { (k : ℕ) → is_hidden result k ≡ false }
+    {
+        HiddenIds {
+            near: Vec::new(alloc),
+            far: BTreeSet::new(alloc),
+            hidden: 0,
+        }
+    }
+
+    /// Whether the table reaches to the id.
+    pub fn reaches(&self, id: usize) -> bool
+        ensures { result ≡ nat_lt id (vec_len self.now.near) }
+    {
+        id < self.near.len()
+    }
+
+    /// Whether the table hides the id.
+    pub fn is_near(&self, id: usize) -> bool
+        ensures { result ≡ marked_at self.now.near.items id }
+    {
+        marked_at(self.near.as_slice(), id)
+    }
+
+    /// Whether the id stands in the tree.
+    fn is_far(&self, id: usize) -> bool
+        ensures { result ≡ contains nat_cmp self.now.far id }
+    {
+        if self.far.is_empty() {
+            return false;
+        }
+        self.far.contains(&id)
+    }
+
+    /// Whether the id is hidden.
+    pub fn has(&self, id: usize) -> bool
+        ensures { result ≡ is_hidden self.now id }
+    {
+        if id < self.near.len() {
+            self.near[id]
+        } else {
+            self.is_far(id)
+        }
+    }
+
+    /// Makes the table reach to this id. What is hidden stays so.
+    fn reach(&mut self, id: usize) -> Result<(), AllocError>
+        ensures room { OnOk result (id < vec_len self.new.near) }
+        ensures same { (k : ℕ) → is_hidden self.new k ≡ is_hidden self.old k }
+    {
+        while self.near.len() <= id {
+            let next = self.is_far(self.near.len());
+            self.near.push(next)?;
+        }
+        Ok(())
+    }
+
+    /// Puts the id into the table.
+    fn add_near(&mut self, id: usize) -> Result<(), AllocError>
+        ensures { OnOk result ((k : ℕ) → is_hidden self.new k ≡ (if id == k then true else is_hidden self.old k)) }
+    {
+        self.reach(id)?;
+        self.near[id] = true;
+        Ok(())
+    }
+
+    /// Puts the id into the tree.
+    fn add_far(&mut self, id: usize) -> Result<(), AllocError>
+        requires { vec_len self.old.near ≤ id }
+        ensures { OnOk result ((k : ℕ) → is_hidden self.new k ≡ (if id == k then true else is_hidden self.old k)) }
+    {
+        self.far.insert(id)?;
+        Ok(())
+    }
+
+    /// Hides the id.
+    pub fn add(&mut self, id: usize) -> Result<(), AllocError>
+        ensures { OnOk result ((k : ℕ) → is_hidden self.new k ≡ (if id == k then true else is_hidden self.old k)) }
+    {
+        self.hidden = self.hidden.saturating_add(1);
+        if id < self.near.len() || is_paid(id, self.hidden) {
+            self.add_near(id)
+        } else {
+            self.add_far(id)
+        }
+    }
+}
