@@ -5,6 +5,7 @@ ghost use Rattle.std.specs.List.{list_any};
 ghost use Rattle.cube_tree.specs.CubeTree.{leaves, cubes_of};
 ghost use Rattle.dimacs.specs.Models.{IsModel};
 ghost use Rattle.lrat_check.specs.Checked.{IsAccepted, IsRefused};
+ghost use Rattle.lrat_check.specs.Counted.{AreFormulaCounts};
 ghost use Rattle.lrat_check.specs.declared.refusal.StepFault.{StepFault};
 ghost use Rattle.text_lines.specs.Fault.{IsRefusal};
 ghost use Rattle.certificate.specs.Rechecked.{is_of, section_fault, AreRight, IsFirstWrong, HaveSections, IsFirstOf, IsFirstMissing, IsFirstRefused, AreProvedBelow, IsRechecked, HasRecheckFault, are_sections_of_clauses};
@@ -14,8 +15,9 @@ use crate::certificate::{Certificate, Section};
 use cube_tree::cubes;
 use cube_tree::laws::a_cube_for_each_leaf;
 use dimacs::{ClauseList, Cube, Lit};
-use lrat_check::checker::check;
+use lrat_check::checker::check_with;
 use lrat_check::derivation::Derivation;
+use lrat_check::formula_counts::FormulaCounts;
 use lrat_check::refusal::Refusal;
 use std::alloc::{AllocError, Global};
 
@@ -80,20 +82,23 @@ fn section_of(sections: &[Section], leaf: u32) -> Option<&Section>
 fn is_accepted<L: ClauseList>(
     alloc: Global,
     clauses: &L,
+    counts: &mut FormulaCounts,
     cube: &[Lit],
     derivation: &Derivation,
 ) -> Result<bool, AllocError>
+    requires { AreFormulaCounts (L.formula clauses.now).clauses counts.old }
+    ensures formula { AreFormulaCounts (L.formula clauses.now).clauses counts.new }
     ensures accepted { IfOk result (λ accepted. accepted ≡ true → IsAccepted (L.formula clauses.now).clauses cube.now derivation.now) }
     ensures refused { IfOk result (λ accepted. accepted ≡ false → (fault : StepFault) × (step : ℕ) × IsRefused (L.formula clauses.now).clauses cube.now derivation.now fault step) }
 {
-    match check(alloc, clauses, cube, derivation) {
+    match check_with(alloc, clauses, counts, cube, derivation) {
         Ok(_) => Ok(true),
         Err(Refusal::At(_, _)) => Ok(false),
         Err(Refusal::OutOfMemory) => Err(AllocError),
     }
 }
 
-/// The lowest leaf whose derivation is refused.
+/// The lowest leaf whose derivation is refused. The formula's literals are counted once for all leaves.
 fn first_refused<L: ClauseList>(
     alloc: Global,
     clauses: &L,
@@ -107,11 +112,18 @@ fn first_refused<L: ClauseList>(
         (AreProvedBelow (L.formula clauses.now).clauses cubes.now sections.now (length cubes.now))
         (λ leaf. IsFirstRefused (L.formula clauses.now).clauses cubes.now sections.now leaf)) }
 {
+    let mut counts = FormulaCounts::new();
     for leaf in 0..cubes.len() {
         let Some(section) = section_of(sections, leaf as u32) else {
             continue;
         };
-        if !is_accepted(alloc, clauses, cubes[leaf].as_slice(), &section.derivation)? {
+        if !is_accepted(
+            alloc,
+            clauses,
+            &mut counts,
+            cubes[leaf].as_slice(),
+            &section.derivation,
+        )? {
             return Ok(Some(leaf as u32));
         }
     }
