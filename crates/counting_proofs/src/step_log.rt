@@ -86,12 +86,10 @@ impl StepLog {
         let id = self.next_id;
         self.next_id = id.wrapping_add(1);
         let literals = literals_of(self.alloc, literals)?;
-        let mut numbers = Vec::with_capacity(self.alloc, hints.len())?;
-        numbers.extend_from_slice(hints)?;
         self.push(Step::Addition {
             id: u64::from(id),
             literals: Clause::from_slice(self.alloc, literals.as_slice())?,
-            hints: Hints::new(numbers),
+            hints: Hints::compact(self.alloc, hints)?,
         })?;
         Ok(id)
     }

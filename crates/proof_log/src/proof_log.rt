@@ -131,7 +131,7 @@ impl ProofLog {
         Ok(Step::Addition {
             id: u64::from(self.first.wrapping_add(addition)),
             literals: Clause::from_slice(alloc, literals.as_slice())?,
-            hints: Hints::new(ids),
+            hints: Hints::compact(alloc, ids.as_slice())?,
         })
     }
 

@@ -3,7 +3,7 @@
 use crate::wanted::wanted_variables;
 use crate::whole::WholeRefutation;
 use clause_database::{EncodingHints, FormulaLoader, SmallClauses, number_of};
-use dimacs::{ClauseList, Lit};
+use dimacs::{Assignment, ClauseList, Lit};
 use std::alloc::{AllocError, Global};
 
 /// The clauses of a formula in the form in which every search of one of its cubes begins. It is made once and then only read, so all cubes
@@ -25,8 +25,12 @@ pub struct PreparedFormula<'a> {
     pub(crate) small: SmallClauses,
     /// The variables that can be decided.
     pub(crate) wanted: Vec<u32>,
-    /// What refutes the formula itself, if that was found by counting.
-    pub(crate) whole: Option<WholeRefutation>,
+    /// The variables that are decided first.
+    pub(crate) leading: Vec<u32>,
+    /// What refutes the formula itself, if that was found before its cubes are searched.
+    pub(crate) refutation: Option<WholeRefutation>,
+    /// A model of the formula, if one was found before its cubes are searched.
+    pub(crate) model: Option<Assignment>,
 }
 
 impl<'a> PreparedFormula<'a> {
@@ -59,7 +63,9 @@ impl<'a> PreparedFormula<'a> {
             loader,
             small,
             wanted,
-            whole: None,
+            leading: Vec::new(alloc),
+            refutation: None,
+            model: None,
         })
     }
 

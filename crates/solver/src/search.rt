@@ -33,6 +33,8 @@ pub struct Search<'a> {
     // What is true, and what is decided next.
     pub trail: OrderedTrail<'a>,
     pub activities: Activities,
+    /// Variables that are decided before all others, each as true first.
+    pub leading: Vec<u32>,
     /// If it is there, decisions follow a schedule first.
     pub schedule: Option<ScheduleHeuristic>,
 
@@ -98,6 +100,7 @@ impl<'a> Search<'a> {
             conflict: None,
             trail: OrderedTrail::new(alloc, variables, prepared.encoding)?,
             activities: Activities::new(alloc, variables, prepared.wanted.as_slice())?,
+            leading: prepared.leading.clone()?,
             schedule: None,
             learned: Vec::new(alloc),
             hints: Vec::new(alloc),
@@ -201,8 +204,23 @@ impl<'a> Search<'a> {
         Ok(())
     }
 
-    /// Picks the next decision: along the schedule if there is one, else the most active open variable with its saved phase.
+    /// Picks the next of the leading variables.
+    fn decide_leading(&self) -> Option<u32> {
+        for variable in &self.leading {
+            let literal = variable.wrapping_mul(2);
+            if self.trail.value(literal) == OPEN {
+                return Some(literal);
+            }
+        }
+        None
+    }
+
+    /// Picks the next decision: a leading variable, else along the schedule if there is one, else the most active open variable with its
+    /// saved phase.
     fn decide(&mut self) -> Option<u32> {
+        if let Some(literal) = self.decide_leading() {
+            return Some(literal);
+        }
         if let Some(schedule) = &mut self.schedule
             && let Some(literal) = schedule.decide(&self.trail)
         {

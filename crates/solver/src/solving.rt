@@ -34,20 +34,16 @@ pub(crate) fn begin<'a>(
     Ok(search)
 }
 
-/// Looks for a model of the formula that was prepared which makes all literals of the cube true, or for a derivation that there is none:
-/// as `solve`, for one of many cubes.
-pub fn solve_cube(
+/// Searches the prepared formula in the cube of these literals: counts, and then takes turns. The first step of a derivation has this number.
+pub(crate) fn search_cube(
     alloc: Global,
     prepared: &PreparedFormula<'_>,
     cube: &[Lit],
+    first_id: u32,
     budget: u64,
 ) -> Result<Answer, AllocError>
     ensures { IfOk result (λ answer. IsWithin budget answer) }
 {
-    if let Some(known) = prepared.known_answer(alloc, cube, budget)? {
-        return Ok(known);
-    }
-    let first_id = prepared.id_in_cube(cube.len());
     let mut search = begin(alloc, prepared, cube)?;
     if let Some(counted) = search.count_sources(first_id, budget)? {
         return Ok(counted);
@@ -70,6 +66,28 @@ pub fn solve_cube(
     let mut second = Attempt::new(alloc, other, first_id);
     let answer = take_turns(&mut second, &mut first, left)?;
     Ok(answer)
+}
+
+/// Looks for a model of the formula that was prepared which makes all literals of the cube true, or for a derivation that there is none:
+/// as `solve`, for one of many cubes. What is known of the formula itself is the answer, if there is any.
+pub fn solve_cube(
+    alloc: Global,
+    prepared: &PreparedFormula<'_>,
+    cube: &[Lit],
+    budget: u64,
+) -> Result<Answer, AllocError>
+    ensures { IfOk result (λ answer. IsWithin budget answer) }
+{
+    if let Some(known) = prepared.known_answer(alloc, cube, budget)? {
+        return Ok(known);
+    }
+    search_cube(
+        alloc,
+        prepared,
+        cube,
+        prepared.id_in_cube(cube.len()),
+        budget,
+    )
 }
 
 /// Looks for a model of the formula that makes all literals of the cube true, or for a derivation that there is none.

@@ -1,16 +1,19 @@
-//! What counting finds of the formula itself, before its cubes are searched.
+//! What is found of the formula itself, before its cubes are searched.
 
 ghost use Rattle.std.specs.Prelude.{◌≤◌, length, IfOk, IfSome};
 ghost use Rattle.proof_log.specs.Answers.{IsWithin};
 
 use crate::prepared_formula::PreparedFormula;
-use crate::solving::begin;
+use crate::solving::{begin, search_cube};
 use crate::source_count::has_updates;
-use dimacs::Lit;
+use dimacs::{Assignment, Lit};
 use lrat_check::derivation::Derivation;
 use lrat_check::derivation_copies::copied;
 use proof_log::{Answer, ProofLog, refuted_within};
 use std::alloc::{AllocError, Global};
+
+/// Conflicts of the search of the formula itself. Most traces take fewer, and one that takes more is searched cube by cube afterwards.
+const WHOLE_CONFLICTS: u64 = 4000;
 
 /// A derivation that the formula itself has no model.
 #[derive(Drop)]
@@ -18,6 +21,32 @@ pub(crate) struct WholeRefutation {
     /// The number of literals of the cubes that it serves. It leaves room for them: its ids begin after theirs.
     literals: usize,
     derivation: Derivation,
+}
+
+impl WholeRefutation {
+    /// Returns the answer for this cube, if it serves the cube and fits the budget.
+    fn answer(&self, alloc: Global, cube: &[Lit], budget: u64) -> Result<Option<Answer>, AllocError>
+        ensures { IfOk result (λ found. IfSome found (λ answer. IsWithin budget answer)) }
+    {
+        if self.literals != cube.len() {
+            return Ok(None);
+        }
+        let copy = copied(alloc, &self.derivation)?;
+        Ok(refuted_within(copy, budget))
+    }
+}
+
+/// Returns a copy of the model, if it makes the cube true.
+fn model_in(
+    alloc: Global,
+    model: &Assignment,
+    cube: &[Lit],
+) -> Result<Option<Assignment>, AllocError> {
+    if !model.makes(cube) {
+        return Ok(None);
+    }
+    let copy = model.copied(alloc)?;
+    Ok(Some(copy))
 }
 
 impl<'a> PreparedFormula<'a> {
@@ -48,7 +77,7 @@ impl<'a> PreparedFormula<'a> {
         }
         let first = self.id_in_cube(literals);
         if let Some(derivation) = self.refute_whole(alloc, first, budget)? {
-            self.whole = Some(WholeRefutation {
+            self.refutation = Some(WholeRefutation {
                 literals,
                 derivation,
             });
@@ -56,7 +85,40 @@ impl<'a> PreparedFormula<'a> {
         Ok(())
     }
 
-    /// Returns the answer for this cube that follows from the derivation for the formula itself, if there is one.
+    /// Searches the formula itself. The first step of a derivation has this number.
+    fn answer_for_whole(&self, alloc: Global, first: u32) -> Result<Answer, AllocError> {
+        search_cube(alloc, self, &[], first, WHOLE_CONFLICTS)
+    }
+
+    /// Searches the formula itself, before its cubes over these variables, unless it was refuted by counting. These variables are decided
+    /// before all others, so it goes from leaf to leaf, and what it learns in one leaf serves the next. What is found is the answer for all
+    /// cubes. A budget below the conflicts of this search is left to the cubes.
+    pub fn search_whole(
+        &mut self,
+        alloc: Global,
+        splits: &[u32],
+        budget: u64,
+    ) -> Result<(), AllocError> {
+        if splits.is_empty() || budget < WHOLE_CONFLICTS || self.refutation.is_some() {
+            return Ok(());
+        }
+        self.leading = Vec::from_slice(alloc, splits)?;
+        let first = self.id_in_cube(splits.len());
+        match self.answer_for_whole(alloc, first)? {
+            Answer::Refuted(derivation) => {
+                self.refutation = Some(WholeRefutation {
+                    literals: splits.len(),
+                    derivation,
+                });
+            }
+            Answer::Model(model) => self.model = Some(model),
+            Answer::Open => {}
+        }
+        Ok(())
+    }
+
+    /// Returns the answer for this cube that follows from what is known of the formula itself, if there is one. A model settles the whole, so
+    /// cubes that it is not in stay open.
     pub(crate) fn known_answer(
         &self,
         alloc: Global,
@@ -65,13 +127,15 @@ impl<'a> PreparedFormula<'a> {
     ) -> Result<Option<Answer>, AllocError>
         ensures { IfOk result (λ found. IfSome found (λ answer. IsWithin budget answer)) }
     {
-        let Some(whole) = &self.whole else {
-            return Ok(None);
-        };
-        if whole.literals != cube.len() {
-            return Ok(None);
+        if let Some(model) = &self.model {
+            return match model_in(alloc, model, cube)? {
+                Some(copy) => Ok(Some(Answer::Model(copy))),
+                None => Ok(Some(Answer::Open)),
+            };
         }
-        let copy = copied(alloc, &whole.derivation)?;
-        Ok(refuted_within(copy, budget))
+        match &self.refutation {
+            Some(refutation) => refutation.answer(alloc, cube, budget),
+            None => Ok(None),
+        }
     }
 }

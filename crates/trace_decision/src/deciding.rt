@@ -114,6 +114,7 @@ pub fn decide<R: Threads + Wait + Sync, G: Gate + Sync>(
         .layout()
         .first_splits(alloc, options.split() as usize)?;
     prepared.count_whole(alloc, splits.len(), options.budget())?;
+    prepared.search_whole(alloc, splits.as_slice(), options.budget())?;
     let decided = search_in_rounds(alloc, rt, &clauses, &prepared, options, gate)?;
     Ok(decision_of(alloc, reduced, &clauses, options, decided)?)
 }

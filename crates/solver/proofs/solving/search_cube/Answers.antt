@@ -1,6 +1,6 @@
 use Rattle.std.proofs.Common.{◌≤◌, ◌+◌, ◌-◌, arith}
 use Rattle.proof_log.proofs.AnswerLemmas.{within_more}
-use Rattle.solver.proofs.solving.solve_cube.Goals as goal
+use Rattle.solver.proofs.solving.search_cube.Goals as goal
 
 pub returns : goal.returns
 returns c =
