@@ -1,11 +1,11 @@
 //! Another contradiction of the same trace, whose core may be smaller.
 
-use crate::part::{Chosen, part_of};
+use crate::contradiction::contradicting;
+use crate::part::Chosen;
 use crate::shrinking::Core;
-use derived_order::{DerivedOrder, Saturation};
+use derived_order::DerivedOrder;
 use numbered_log::Budget;
 use order_sets::tables::at;
-use order_walk::Explanation;
 use std::alloc::{AllocError, Global};
 
 /// Operations of a core that is small enough.
@@ -26,20 +26,9 @@ fn core_within<'a>(
     budget: &mut Budget,
 ) -> Result<Option<Core<'a>>, AllocError> {
     let operations = within.all(alloc)?;
-    let part = part_of(alloc, forced, operations.as_slice(), within, budget)?;
-    let mut order = DerivedOrder::new(alloc, &part.log, *budget)?;
-    let outcome = order.saturate()?;
-    *budget = order.budget();
-    if outcome != Saturation::Contradicted {
+    let Some(found) = contradicting(alloc, forced, operations.as_slice(), within, budget)? else {
         return Ok(None);
-    }
-    let mut explanation = Explanation::new(alloc, &order)?;
-    explanation.explain(&order)?;
-    budget.spend(explanation.steps());
-    let mut found = Vec::new(alloc);
-    for operation in &explanation.operations(alloc)? {
-        found.push(at(part.numbers.as_slice(), *operation, 0))?;
-    }
+    };
     let mut core = Core::new(alloc, forced, found)?;
     core.close(budget)?;
     if !core.is_refuted(budget)? {

@@ -5,6 +5,7 @@
 #![tactic(auto)]
 
 mod another;
+mod contradiction;
 mod finding;
 mod part;
 mod reading;
