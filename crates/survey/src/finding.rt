@@ -1,6 +1,7 @@
 //! What a survey finds.
 
 use crate::another::smaller_core;
+use crate::purse::Purse;
 use crate::reading::{log_of, names_of};
 use crate::shrinking::Core;
 use derived_order::DerivedOrder;
@@ -25,22 +26,29 @@ struct Walked {
     extent: Extent,
 }
 
-/// The survey that saturates an order and walks from the front. It takes as many steps as the budget has, more or less.
+/// The survey that saturates an order and walks from the front, until it has found something or its budget of steps is spent.
 #[derive(Clone, Copy)]
 pub struct BySaturation {
     pub budget: u64,
 }
 
 impl Surveyor for BySaturation {
+    ghost budget = { λ s. s.budget };
+
     fn survey(&self, alloc: Global, trace: &Trace) -> Result<Overview, AllocError> {
         let log = log_of(alloc, trace)?;
-        let mut budget = Budget::new(self.budget);
+        let mut purse = Purse::new(self.budget);
+        let mut budget = Budget::new(purse.left());
         let walked = walk_over(alloc, &log, &mut budget)?;
-        let spent = self.budget.saturating_sub(budget.left());
-        let finding = finding_of(alloc, trace, &log, walked.numbers, spent, &mut budget)?;
+        purse.settle(budget.left());
+        let first = purse.taken();
+        let mut budget = Budget::new(purse.left());
+        let finding = finding_of(alloc, trace, &log, walked.numbers, first, &mut budget)?;
+        purse.settle(budget.left());
         Ok(Overview {
             finding,
             extent: walked.extent,
+            steps: purse.taken(),
         })
     }
 }
@@ -110,7 +118,6 @@ fn smallest_core(
     }
     core.close(budget)?;
     if core.is_refuted(budget)? {
-        core.shrink(budget)?;
         let core = smaller_core(alloc, &forced, core, spent, budget)?;
         return Vec::from_slice(alloc, core.operations());
     }

@@ -8,6 +8,7 @@ mod another;
 mod contradiction;
 mod finding;
 mod part;
+mod purse;
 mod reading;
 mod shrinking;
 

@@ -3,7 +3,7 @@
 //! What is found is untrusted, so nothing is promised of it.
 #![tactic(auto)]
 
-ghost use Rattle.std.specs.Prelude.{IfOk};
+ghost use Rattle.std.specs.Prelude.{◌≤◌, ℕ, IfOk};
 ghost use Rattle.surveyor.specs.declared.Overview.{Overview as Answer};
 ghost use Rattle.trace_semantics.specs.Trace.{TraceValue};
 
@@ -31,20 +31,26 @@ pub enum Finding {
     Nothing,
 }
 
-/// The finding of a survey, and its progress.
+/// The finding of a survey, its progress, and its work.
 #[derive(Drop)]
 pub struct Overview {
     pub finding: Finding,
     pub extent: Extent,
+    /// The steps that it took.
+    pub steps: u64,
 }
 
-/// A surveyor: it looks over a trace for a schedule, or for operations by which it has none. Nothing is promised but that the call returns:
-/// what it finds may be wrong.
+/// A surveyor: it looks over a trace for a schedule, or for operations by which it has none. Nothing is promised but that the call returns,
+/// and that the steps which it reports are within its budget: what it finds may be wrong.
 pub trait Surveyor {
+    /// The most steps that it may take.
+    ghost budget: { Self → ℕ };
+
     /// Whether it may find this in a trace: anything, unless it says otherwise. Clauses say by it that a finding is one of this surveyor.
     ghost finds: { Self → TraceValue → Answer → Type 0 } = { λ _ _ _. Unit {0} };
 
     /// The finding.
     fn survey(&self, alloc: Global, trace: &Trace) -> Result<Overview, AllocError>
-        ensures { IfOk result (λ overview. finds self.now trace.now overview) };
+        ensures found { IfOk result (λ overview. finds self.now trace.now overview) }
+        ensures within { IfOk result (λ overview. overview.steps ≤ budget self.now) };
 }
