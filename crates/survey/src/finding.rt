@@ -23,7 +23,10 @@ enum NumberedFinding {
 #[derive(Drop)]
 struct Walked {
     numbers: NumberedFinding,
-    extent: Extent,
+    /// The most operations that were placed.
+    placed: u32,
+    /// The readers that have more than one possible source.
+    undecided: u32,
 }
 
 /// The survey that saturates an order and walks from the front, until it has found something or its budget of steps is spent.
@@ -47,8 +50,11 @@ impl Surveyor for BySaturation {
         purse.settle(budget.left());
         Ok(Overview {
             finding,
-            extent: walked.extent,
-            steps: purse.taken(),
+            extent: Extent {
+                placed: walked.placed,
+                undecided: walked.undecided,
+                steps: purse.taken(),
+            },
         })
     }
 }
@@ -93,10 +99,8 @@ fn walk_over(alloc: Global, log: &NumberedLog, budget: &mut Budget) -> Result<Wa
     walk.take_back_all();
     Ok(Walked {
         numbers,
-        extent: Extent {
-            placed: walk.most_placed(),
-            undecided: walk.order().undecided(),
-        },
+        placed: walk.most_placed(),
+        undecided: walk.order().undecided(),
     })
 }
 

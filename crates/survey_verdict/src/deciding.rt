@@ -267,11 +267,7 @@ fn decide_by_overview<R: Threads + Wait + Sync, G: Gate + Sync>(
     ensures decided { IfOk result (IsSurveyed options.now trace.now) }
     ensures follows { IfOk result (FollowsFrom options.now trace.now overview) }
 {
-    let Overview {
-        finding,
-        extent,
-        steps: _steps,
-    } = overview;
+    let Overview { finding, extent } = overview;
     let shown = shown(alloc, rt, trace, finding, options, gate)?;
     match shown {
         Some(surveyed) => Ok(surveyed),

@@ -11,13 +11,15 @@ use std::alloc::{AllocError, Global};
 use trace_semantics::operation::OpName;
 use trace_semantics::trace::Trace;
 
-/// The progress of a survey, as numbers of operations and readers.
+/// The progress of a survey, as numbers of operations, readers and steps.
 #[derive(Clone, Copy)]
 pub struct Extent {
     /// The most operations that were placed one after the other.
     pub placed: u32,
     /// The reads and final values that have more than one possible source.
     pub undecided: u32,
+    /// The steps that it took.
+    pub steps: u64,
 }
 
 /// A finding of a survey, which is untrusted. The caller judges the schedule, or refutes the part of the core.
@@ -31,13 +33,11 @@ pub enum Finding {
     Nothing,
 }
 
-/// The finding of a survey, its progress, and its work.
+/// The finding of a survey, and its progress.
 #[derive(Drop)]
 pub struct Overview {
     pub finding: Finding,
     pub extent: Extent,
-    /// The steps that it took.
-    pub steps: u64,
 }
 
 /// A surveyor: it looks over a trace for a schedule, or for operations by which it has none. Nothing is promised but that the call returns,
@@ -52,5 +52,5 @@ pub trait Surveyor {
     /// The finding.
     fn survey(&self, alloc: Global, trace: &Trace) -> Result<Overview, AllocError>
         ensures found { IfOk result (λ overview. finds self.now trace.now overview) }
-        ensures within { IfOk result (λ overview. overview.steps ≤ budget self.now) };
+        ensures within { IfOk result (λ overview. overview.extent.steps ≤ budget self.now) };
 }

@@ -53,8 +53,8 @@ impl Surveyor for Liar {
             extent: Extent {
                 placed: 7,
                 undecided: 3,
+                steps: 0,
             },
-            steps: 0,
         })
     }
 }
