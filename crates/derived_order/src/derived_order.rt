@@ -1,7 +1,7 @@
 //! What stands before what in each legal schedule.
 
 use crate::finding_sources::{hider, initial_numbers, later_writer, sources_of};
-use numbered_log::{Budget, NOBODY, NumberedLog, Rows, WriterPlaces};
+use numbered_log::{Budget, ClashingReads, NOBODY, NumberedLog, Rows, WriterPlaces};
 use order_sets::tables::{at, size};
 use source_reasons::{Concerned, Edge, EdgeReason, NO_EDGE, Reasons, Sources, Waiting};
 use std::alloc::{AllocError, Global};
@@ -57,6 +57,9 @@ pub struct DerivedOrder<'a> {
     pub(crate) log: &'a NumberedLog,
     pub(crate) rows: Rows,
     pub(crate) writers: WriterPlaces,
+    pub(crate) clashing: ClashingReads,
+    /// Whether reads of another value hide sources too.
+    pub(crate) heeds_reads: bool,
     pub(crate) sources: Sources,
     pub(crate) concerned: Concerned,
     pub(crate) reasons: Reasons,
@@ -84,6 +87,8 @@ impl<'a> DerivedOrder<'a> {
             log,
             rows: Rows::new(alloc, log)?,
             writers: WriterPlaces::new(alloc, log)?,
+            clashing: ClashingReads::new(alloc, log)?,
+            heeds_reads: false,
             sources: Sources::new(alloc),
             concerned: Concerned::none(alloc, readers)?,
             reasons: Reasons::new(alloc, log.count())?,
@@ -125,12 +130,25 @@ impl<'a> DerivedOrder<'a> {
         let initial = initial_numbers(alloc, self.log)?;
         self.concerned = Concerned::of(alloc, &self.sources, readers, initial.as_slice())?;
         self.budget.spend(self.sources.count() as u64);
-        for reader in 0..readers {
+        self.have_all_wait();
+        Ok(())
+    }
+
+    /// Has each reader wait for its turn.
+    fn have_all_wait(&mut self) {
+        for reader in 0..self.sources.readers() {
             if self.sources.is_bound(reader) {
                 self.waiting.add(reader);
             }
         }
-        Ok(())
+    }
+
+    /// From now on sources are dropped too which a read of another value comes after. A walk has fewer choices by it; a core grows, since such
+    /// a read says something only with all that it may read.
+    pub fn heed_reads(&mut self) {
+        self.heeds_reads = true;
+        self.budget.spend(self.sources.readers() as u64);
+        self.have_all_wait();
     }
 
     /// The log.

@@ -51,7 +51,7 @@ impl<'a> DerivedOrder<'a> {
             return self.look_at_last(reader);
         }
         if let Some(only) = self.sources.only(reader) {
-            if only != NOBODY {
+            if only != NOBODY && self.clashing_read(reader, only).is_none() {
                 return self.follow_source(reader, only);
             }
         }
@@ -93,9 +93,38 @@ impl<'a> DerivedOrder<'a> {
         Ok(())
     }
 
+    /// A plain read of another value that stands between the two operations, in the process of one of them. Those of other processes are
+    /// left to the writers that they read.
+    #[inline(always)]
+    fn clashing_read(&self, reader: u32, source: u32) -> Option<u32> {
+        if !self.heeds_reads {
+            return None;
+        }
+        let process = self.log.operation(reader).process;
+        let previous = self.clashing.previous(reader);
+        if source == NOBODY {
+            if previous != 0 {
+                return Some(self.log.number(process, previous));
+            }
+            return None;
+        }
+        if previous >= self.rows.after(source, process) {
+            return Some(self.log.number(process, previous));
+        }
+        let other = self.log.operation(source).process;
+        let next = self.clashing.next(source);
+        if next <= self.rows.before(reader, other) {
+            return Some(self.log.number(other, next));
+        }
+        None
+    }
+
     /// The reason why this is no source of the reading operation, if it is none.
     #[inline(always)]
     fn fate_of(&self, reader: u32, source: u32) -> Option<Fate> {
+        if let Some(read) = self.clashing_read(reader, source) {
+            return Some(Fate::Hidden(read));
+        }
         if source == NOBODY {
             return match self.earlier_writer(reader) {
                 Some(writer) => Some(Fate::Hidden(writer)),
@@ -305,6 +334,16 @@ impl<'a> DerivedOrder<'a> {
         Ok(())
     }
 
+    /// A writer of the location that stands after this one, or a plain read of another value after it in its process.
+    fn later_than_last(&self, location: u32, source: u32) -> Option<u32> {
+        let process = self.log.operation(source).process;
+        let next = self.clashing.next(source);
+        if self.heeds_reads && next <= self.log.length(process) {
+            return Some(self.log.number(process, next));
+        }
+        later_writer(self.log, &self.rows, &self.writers, location, source)
+    }
+
     /// Derives what follows from the writers that may be the last one of a location.
     fn look_at_last(&mut self, reader: u32) -> Result<(), Halt> {
         let location = reader.wrapping_sub(self.log.count());
@@ -312,15 +351,8 @@ impl<'a> DerivedOrder<'a> {
             let source = self.sources.source(place);
             if source.is_possible() {
                 self.budget.spend(self.rows.width() as u64);
-                let later = later_writer(
-                    self.log,
-                    &self.rows,
-                    &self.writers,
-                    location,
-                    source.operation,
-                );
-                if let Some(writer) = later {
-                    self.drop_source(reader, place, Fate::Hidden(writer))?;
+                if let Some(later) = self.later_than_last(location, source.operation) {
+                    self.drop_source(reader, place, Fate::Hidden(later))?;
                 }
             }
         }

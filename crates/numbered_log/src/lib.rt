@@ -5,12 +5,14 @@
 #![tactic(auto)]
 
 mod budget;
+mod clashing_reads;
 mod numbered_log;
 mod rows;
 mod writer_places;
 mod written_values;
 
 pub use budget::Budget;
+pub use clashing_reads::ClashingReads;
 pub use numbered_log::{NOBODY, NumberedLog, NumberedOrigin, NumberedPair, Operation};
 pub use rows::Rows;
 pub use writer_places::WriterPlaces;

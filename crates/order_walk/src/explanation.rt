@@ -477,7 +477,7 @@ impl Explanation {
             Fate::ComesLater => self.ask_order(reader, source.operation, source.time)?,
             Fate::Taken(update) => self.ask_drops(update, source.time)?,
             Fate::Hidden(writer) => {
-                self.need(writer);
+                self.need_between(order, writer);
                 if source.operation != NOBODY {
                     self.ask_order(source.operation, writer, source.time)?;
                 }
@@ -487,6 +487,20 @@ impl Explanation {
             }
         }
         Ok(())
+    }
+
+    /// Needs an operation that stands between a source and its reader. If it writes nothing it is a read of another value, so that all its
+    /// sources are needed too: a part that lacks one loses the read.
+    fn need_between(&mut self, order: &DerivedOrder<'_>, operation: u32) {
+        self.need(operation);
+        if order.log().operation(operation).writes {
+            return;
+        }
+        self.steps = self.steps.saturating_add(order.sources().span(operation));
+        for place in order.sources().begin(operation)..order.sources().end(operation) {
+            let source = order.sources().source(place);
+            self.need(source.operation);
+        }
     }
 
     /// A final value that no operation can have written is kept in a part that has some writer of the location.

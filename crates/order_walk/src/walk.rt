@@ -93,14 +93,23 @@ impl<'a> Walk<'a> {
     /// Saturates the order and then walks, as saturation before the first decision is cheap and what it derives is never taken back: until
     /// there is a schedule, a contradiction that rests on no decision, or no budget.
     pub fn run(&mut self) -> Result<WalkEnd, AllocError> {
-        match self.order.saturate()? {
-            Saturation::Saturated => {}
-            Saturation::Spent => return Ok(WalkEnd::GivenUp),
+        let mut before = self.order.saturate()?;
+        if before == Saturation::Saturated {
+            self.order.heed_reads();
+            before = self.order.saturate()?;
+        }
+        match before {
+            Saturation::Saturated => self.walk(),
+            Saturation::Spent => Ok(WalkEnd::GivenUp),
             Saturation::Contradicted => {
                 self.explain()?;
-                return Ok(WalkEnd::Contradicted);
+                Ok(WalkEnd::Contradicted)
             }
         }
+    }
+
+    /// Walks, and begins again after each contradiction, until there is an end.
+    fn walk(&mut self) -> Result<WalkEnd, AllocError> {
         for _ in 0..self.order.budget().left() {
             if let Turn::End(ending) = self.walk_from_front()? {
                 return Ok(ending);

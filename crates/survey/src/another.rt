@@ -1,11 +1,11 @@
 //! Another contradiction of the same trace, whose core may be smaller.
 
-use crate::part::{Chosen, part_of};
+use crate::contradiction::contradicting;
+use crate::part::Chosen;
 use crate::shrinking::Core;
-use derived_order::{DerivedOrder, Saturation};
+use derived_order::DerivedOrder;
 use numbered_log::Budget;
 use order_sets::tables::at;
-use order_walk::Explanation;
 use std::alloc::{AllocError, Global};
 
 /// Operations of a core that is small enough.
@@ -14,11 +14,15 @@ pub const SMALL: u32 = 10;
 /// The largest number of other contradictions that are looked for. Each costs a saturation of the whole trace.
 const MAX_TRIES: u32 = 60;
 
+/// The largest number of contradictions that are looked for apart from all before.
+const MAX_APART: u32 = 8;
+
 /// The number of steps that the search for others may take in any case. Beyond it, it takes at most as many as the first core did: what
 /// makes a core somewhat smaller is not worth more than what found it.
-const LEAST_FOR_ANOTHER: u64 = 10_000_000;
+const LEAST_FOR_ANOTHER: u64 = 4_000_000;
 
-/// A core that is found in a part of the trace. What the part loses, no part of it finds again, so the core is one of the whole.
+/// A core that is found in a part of the trace, before it is made smaller. What the part loses, no part of it finds again, so the core is
+/// one of the whole.
 fn core_within<'a>(
     alloc: Global,
     forced: &'a DerivedOrder<'a>,
@@ -26,31 +30,19 @@ fn core_within<'a>(
     budget: &mut Budget,
 ) -> Result<Option<Core<'a>>, AllocError> {
     let operations = within.all(alloc)?;
-    let part = part_of(alloc, forced, operations.as_slice(), within, budget)?;
-    let mut order = DerivedOrder::new(alloc, &part.log, *budget)?;
-    let outcome = order.saturate()?;
-    *budget = order.budget();
-    if outcome != Saturation::Contradicted {
+    let Some(found) = contradicting(alloc, forced, operations.as_slice(), within, budget)? else {
         return Ok(None);
-    }
-    let mut explanation = Explanation::new(alloc, &order)?;
-    explanation.explain(&order)?;
-    budget.spend(explanation.steps());
-    let mut found = Vec::new(alloc);
-    for operation in &explanation.operations(alloc)? {
-        found.push(at(part.numbers.as_slice(), *operation, 0))?;
-    }
+    };
     let mut core = Core::new(alloc, forced, found)?;
     core.close(budget)?;
     if !core.is_refuted(budget)? {
         return Ok(None);
     }
-    core.shrink(budget)?;
     Ok(Some(core))
 }
 
-/// Looks for other contradictions, as long as the core has more than ten operations, with no more steps than the `spent` ones of the first
-/// core, or some.
+/// The core made smaller, or another one. Others are looked for as long as it has more than ten operations, with no more steps than the
+/// `spent` ones that found it, or some. They come first since the price of making a core smaller grows with the square of its operations.
 pub fn smaller_core<'a>(
     alloc: Global,
     forced: &'a DerivedOrder<'a>,
@@ -59,9 +51,50 @@ pub fn smaller_core<'a>(
     budget: &mut Budget,
 ) -> Result<Core<'a>, AllocError> {
     let mut share = budget.share(spent.max(LEAST_FOR_ANOTHER));
+    let mut core = apart_from_each(alloc, forced, core, &mut share)?;
+    core.shrink(budget)?;
     let smaller = without_each(alloc, forced, core, &mut share)?;
     budget.give_back(share);
     Ok(smaller)
+}
+
+/// Returns a choice of all operations of the log.
+fn all_of(alloc: Global, forced: &DerivedOrder<'_>) -> Result<Chosen, AllocError> {
+    let mut within = Chosen::none(alloc, forced.log().count())?;
+    for operation in 0..forced.log().count() {
+        within.set(operation, true);
+    }
+    Ok(within)
+}
+
+/// The smallest of the core and others, each of which is looked for without all operations of those before it: a log that is wrong is mostly
+/// wrong in many places.
+fn apart_from_each<'a>(
+    alloc: Global,
+    forced: &'a DerivedOrder<'a>,
+    core: Core<'a>,
+    budget: &mut Budget,
+) -> Result<Core<'a>, AllocError> {
+    let mut within = all_of(alloc, forced)?;
+    for operation in core.operations() {
+        within.set(*operation, false);
+    }
+    let mut best = core;
+    for _ in 0..MAX_APART {
+        if best.count() <= SMALL || budget.is_spent() {
+            break;
+        }
+        let Some(core) = core_within(alloc, forced, &within, budget)? else {
+            break;
+        };
+        for operation in core.operations() {
+            within.set(*operation, false);
+        }
+        if core.count() < best.count() {
+            best = core;
+        }
+    }
+    Ok(best)
 }
 
 /// Leaves out one of the core's operations from the whole trace, looks for a core there, and goes on from a smaller one.
@@ -72,10 +105,7 @@ fn without_each<'a>(
     budget: &mut Budget,
 ) -> Result<Core<'a>, AllocError> {
     let mut best = core;
-    let mut within = Chosen::none(alloc, forced.log().count())?;
-    for operation in 0..forced.log().count() {
-        within.set(operation, true);
-    }
+    let mut within = all_of(alloc, forced)?;
     let mut place: u32 = 0;
     for _ in 0..MAX_TRIES {
         if place >= best.count() || best.count() <= SMALL || budget.is_spent() {
@@ -84,7 +114,8 @@ fn without_each<'a>(
         let operation = at(best.operations(), place, 0);
         within.set(operation, false);
         let mut is_smaller = false;
-        if let Some(core) = core_within(alloc, forced, &within, budget)? {
+        if let Some(mut core) = core_within(alloc, forced, &within, budget)? {
+            core.shrink(budget)?;
             if core.count() < best.count() {
                 best = core;
                 is_smaller = true;

@@ -1,6 +1,7 @@
 //! What a survey finds.
 
 use crate::another::smaller_core;
+use crate::purse::Purse;
 use crate::reading::{log_of, names_of};
 use crate::shrinking::Core;
 use derived_order::DerivedOrder;
@@ -22,25 +23,38 @@ enum NumberedFinding {
 #[derive(Drop)]
 struct Walked {
     numbers: NumberedFinding,
-    extent: Extent,
+    /// The most operations that were placed.
+    placed: u32,
+    /// The readers that have more than one possible source.
+    undecided: u32,
 }
 
-/// The survey that saturates an order and walks from the front. It takes as many steps as the budget has, more or less.
+/// The survey that saturates an order and walks from the front, until it has found something or its budget of steps is spent.
 #[derive(Clone, Copy)]
 pub struct BySaturation {
     pub budget: u64,
 }
 
 impl Surveyor for BySaturation {
+    ghost budget = { λ s. s.budget };
+
     fn survey(&self, alloc: Global, trace: &Trace) -> Result<Overview, AllocError> {
         let log = log_of(alloc, trace)?;
-        let mut budget = Budget::new(self.budget);
+        let mut purse = Purse::new(self.budget);
+        let mut budget = Budget::new(purse.left());
         let walked = walk_over(alloc, &log, &mut budget)?;
-        let spent = self.budget.saturating_sub(budget.left());
-        let finding = finding_of(alloc, trace, &log, walked.numbers, spent, &mut budget)?;
+        purse.settle(budget.left());
+        let first = purse.taken();
+        let mut budget = Budget::new(purse.left());
+        let finding = finding_of(alloc, trace, &log, walked.numbers, first, &mut budget)?;
+        purse.settle(budget.left());
         Ok(Overview {
             finding,
-            extent: walked.extent,
+            extent: Extent {
+                placed: walked.placed,
+                undecided: walked.undecided,
+                steps: purse.taken(),
+            },
         })
     }
 }
@@ -85,10 +99,8 @@ fn walk_over(alloc: Global, log: &NumberedLog, budget: &mut Budget) -> Result<Wa
     walk.take_back_all();
     Ok(Walked {
         numbers,
-        extent: Extent {
-            placed: walk.most_placed(),
-            undecided: walk.order().undecided(),
-        },
+        placed: walk.most_placed(),
+        undecided: walk.order().undecided(),
     })
 }
 
@@ -110,7 +122,6 @@ fn smallest_core(
     }
     core.close(budget)?;
     if core.is_refuted(budget)? {
-        core.shrink(budget)?;
         let core = smaller_core(alloc, &forced, core, spent, budget)?;
         return Vec::from_slice(alloc, core.operations());
     }

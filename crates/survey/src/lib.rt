@@ -5,8 +5,10 @@
 #![tactic(auto)]
 
 mod another;
+mod contradiction;
 mod finding;
 mod part;
+mod purse;
 mod reading;
 mod shrinking;
 

@@ -1,5 +1,6 @@
 //! Smaller cores.
 
+use crate::contradiction::contradicting;
 use crate::part::{Chosen, LogPart, has_all_sources, part_of};
 use derived_order::{DerivedOrder, Saturation};
 use numbered_log::{Budget, NumberedOrigin};
@@ -248,24 +249,50 @@ impl<'a> Core<'a> {
         false
     }
 
-    /// Leaves out these operations, if what is left is still refuted. Returns whether it is.
-    fn leave_out(&mut self, operations: &[u32], budget: &mut Budget) -> Result<bool, AllocError> {
-        if operations.is_empty() || budget.is_spent() {
-            return Ok(false);
+    /// Goes on from the operations from which the contradiction of the part follows, if these are fewer and their part is refuted too. They
+    /// are found at the price of two tries, and save those of all others.
+    fn refine(&mut self, budget: &mut Budget) -> Result<(), AllocError> {
+        if self.walks || budget.is_spent() {
+            return Ok(());
         }
-        for operation in operations {
+        let operations = self.operations.as_slice();
+        let Some(found) = contradicting(self.alloc, self.forced, operations, &self.chosen, budget)?
+        else {
+            return Ok(());
+        };
+        let mut core = Core::new(self.alloc, self.forced, found)?;
+        core.close(budget)?;
+        if core.count() < self.count() && core.is_refuted(budget)? {
+            let Core {
+                operations,
+                chosen,
+                ..
+            } = core;
+            self.operations = operations;
+            self.chosen = chosen;
+        }
+        Ok(())
+    }
+
+    /// Leaves out those of these operations that are in the core, if what is left is still refuted.
+    fn leave_out(&mut self, operations: &[u32], budget: &mut Budget) -> Result<(), AllocError> {
+        let group = self.chosen.among(self.alloc, operations)?;
+        if group.is_empty() || budget.is_spent() {
+            return Ok(());
+        }
+        for operation in &group {
             self.chosen.set(*operation, false);
         }
         let left = self.chosen.among(self.alloc, self.operations.as_slice())?;
         let all = std::mem::replace(&mut self.operations, left);
         if self.is_refuted(budget)? {
-            return Ok(true);
+            return self.refine(budget);
         }
-        for operation in operations {
+        for operation in &group {
             self.chosen.set(*operation, true);
         }
         self.operations = all;
-        Ok(false)
+        Ok(())
     }
 
     /// The operations of the process.
@@ -294,6 +321,7 @@ impl<'a> Core<'a> {
     /// each by itself. Large groups come first: each try costs a saturation, and one by one most of the budget would be spent on operations
     /// that a group takes along.
     pub fn shrink(&mut self, budget: &mut Budget) -> Result<(), AllocError> {
+        self.refine(budget)?;
         let log = self.forced.log();
         for process in 0..log.processes() {
             budget.spend(self.count() as u64);

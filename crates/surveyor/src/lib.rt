@@ -3,7 +3,7 @@
 //! What is found is untrusted, so nothing is promised of it.
 #![tactic(auto)]
 
-ghost use Rattle.std.specs.Prelude.{IfOk};
+ghost use Rattle.std.specs.Prelude.{◌≤◌, ℕ, IfOk};
 ghost use Rattle.surveyor.specs.declared.Overview.{Overview as Answer};
 ghost use Rattle.trace_semantics.specs.Trace.{TraceValue};
 
@@ -11,13 +11,15 @@ use std::alloc::{AllocError, Global};
 use trace_semantics::operation::OpName;
 use trace_semantics::trace::Trace;
 
-/// The progress of a survey, as numbers of operations and readers.
+/// The progress of a survey, as numbers of operations, readers and steps.
 #[derive(Clone, Copy)]
 pub struct Extent {
     /// The most operations that were placed one after the other.
     pub placed: u32,
     /// The reads and final values that have more than one possible source.
     pub undecided: u32,
+    /// The steps that it took.
+    pub steps: u64,
 }
 
 /// A finding of a survey, which is untrusted. The caller judges the schedule, or refutes the part of the core.
@@ -38,13 +40,17 @@ pub struct Overview {
     pub extent: Extent,
 }
 
-/// A surveyor: it looks over a trace for a schedule, or for operations by which it has none. Nothing is promised but that the call returns:
-/// what it finds may be wrong.
+/// A surveyor: it looks over a trace for a schedule, or for operations by which it has none. Nothing is promised but that the call returns,
+/// and that the steps which it reports are within its budget: what it finds may be wrong.
 pub trait Surveyor {
+    /// The most steps that it may take.
+    ghost budget: { Self → ℕ };
+
     /// Whether it may find this in a trace: anything, unless it says otherwise. Clauses say by it that a finding is one of this surveyor.
     ghost finds: { Self → TraceValue → Answer → Type 0 } = { λ _ _ _. Unit {0} };
 
     /// The finding.
     fn survey(&self, alloc: Global, trace: &Trace) -> Result<Overview, AllocError>
-        ensures { IfOk result (λ overview. finds self.now trace.now overview) };
+        ensures found { IfOk result (λ overview. finds self.now trace.now overview) }
+        ensures within { IfOk result (λ overview. overview.extent.steps ≤ budget self.now) };
 }

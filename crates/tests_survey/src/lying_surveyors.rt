@@ -40,6 +40,8 @@ fn names_at(alloc: Global, first: u16, second: u16) -> Result<Vec<OpName>, Alloc
 }
 
 impl Surveyor for Liar {
+    ghost budget = { λ _. 0 };
+
     fn survey(&self, alloc: Global, _trace: &Trace) -> Result<Overview, AllocError> {
         let finding = match self.lie {
             Lie::Schedule(first, second) => Finding::Schedule(names_at(alloc, first, second)?),
@@ -51,6 +53,7 @@ impl Surveyor for Liar {
             extent: Extent {
                 placed: 7,
                 undecided: 3,
+                steps: 0,
             },
         })
     }
