@@ -46,6 +46,9 @@ pub struct Walk<'a> {
 /// writers are chosen that a later read makes impossible.
 const SIGHT: u32 = 12;
 
+/// The number of contradictions after which reads of another value are heeded too. Before, a walk is done sooner without them.
+const PATIENCE: u64 = 50;
+
 /// The cost if the order to some other operation has to be decided, since each decision is one that may have to be turned round.
 const OPEN: i64 = 100_500;
 
@@ -93,29 +96,34 @@ impl<'a> Walk<'a> {
     /// Saturates the order and then walks, as saturation before the first decision is cheap and what it derives is never taken back: until
     /// there is a schedule, a contradiction that rests on no decision, or no budget.
     pub fn run(&mut self) -> Result<WalkEnd, AllocError> {
-        let mut before = self.order.saturate()?;
-        if before == Saturation::Saturated {
-            self.order.heed_reads();
-            before = self.order.saturate()?;
+        if let Turn::End(ending) = self.begin()? {
+            return Ok(ending);
         }
-        match before {
-            Saturation::Saturated => self.walk(),
-            Saturation::Spent => Ok(WalkEnd::GivenUp),
-            Saturation::Contradicted => {
-                self.explain()?;
-                Ok(WalkEnd::Contradicted)
+        for turn in 0..self.order.budget().left() {
+            if turn == PATIENCE {
+                self.take_back_all();
+                self.order.heed_reads();
+                if let Turn::End(ending) = self.begin()? {
+                    return Ok(ending);
+                }
             }
-        }
-    }
-
-    /// Walks, and begins again after each contradiction, until there is an end.
-    fn walk(&mut self) -> Result<WalkEnd, AllocError> {
-        for _ in 0..self.order.budget().left() {
             if let Turn::End(ending) = self.walk_from_front()? {
                 return Ok(ending);
             }
         }
         Ok(WalkEnd::GivenUp)
+    }
+
+    /// Saturates the order of no decision.
+    fn begin(&mut self) -> Result<Turn, AllocError> {
+        match self.order.saturate()? {
+            Saturation::Saturated => Ok(Turn::Back),
+            Saturation::Spent => Ok(Turn::End(WalkEnd::GivenUp)),
+            Saturation::Contradicted => {
+                self.explain()?;
+                Ok(Turn::End(WalkEnd::Contradicted))
+            }
+        }
     }
 
     /// Explains the contradiction of the order.
