@@ -7,7 +7,7 @@ use Rattle.schedule_judge.specs.declared.op_numbers.OpNumbers.{OpNumbers}
 use Rattle.trace_semantics.specs.declared.operation.OpName.{OpName}
 use Rattle.trace_semantics.specs.Judgement.{has_come, put_before}
 use Rattle.trace_semantics.specs.Operation.{same_op}
-use Rattle.schedule_judge.specs.Tables.{number_at, is_below, is_broken, FindsFirst, FindsEarly}
+use Rattle.schedule_judge.specs.Tables.{number_at, is_broken, first_in, FindsFirst, FindsEarly, FindsEarlyIn}
 use Rattle.trace_semantics.specs.Trace.{TraceValue}
 use Rattle.trace_semantics.proofs.NameLemmas.{same_name}
 use Rattle.schedule_judge.proofs.PlaceLemmas.{below_first, first_at, same_op_refl}
@@ -58,12 +58,17 @@ any_not_all q b first h each [] = refl
 any_not_all q b first h each (x ∷ xs) =
     any_step (q x) (b x) first h x (filter q xs) (list_any (λ x. q x && b x) xs) (each x) (any_not_all q b first h each xs)
 
+-- what comes early by where operations come first, by the names themselves
+pub early_by_names : (before : List (OpName × OpName)) (names : List OpName) (places early : OpNumbers) → FindsFirst names places → FindsEarly before places early → FindsEarlyIn before names early
+early_by_names before names places early first finds n =
+    finds n ∙ (λ i. list_any (λ (pair : OpName × OpName). same_op pair.1 n && is_broken (first pair.0 i) (first pair.1 i)) before)
+
 -- an operation that comes first here comes before one that the trace puts before it, if and only if not all of those have come
-pub early_is : (t : TraceValue) (names : List OpName) (places early : OpNumbers) (i : ℕ) (n : OpName) → FindsFirst names places → FindsEarly t.before places early → slice_get names i ≡ Some n → has_come (take i names) n ≡ false → is_some (number_at early n) ≡ not (list_all (has_come (take i names)) (put_before t n))
-early_is t names places early i n first finds at fresh =
+pub early_is : (t : TraceValue) (names : List OpName) (early : OpNumbers) (i : ℕ) (n : OpName) → FindsEarlyIn t.before names early → slice_get names i ≡ Some n → has_come (take i names) n ≡ false → is_some (number_at early n) ≡ not (list_all (has_come (take i names)) (put_before t n))
+early_is t names early i n finds at fresh =
     let zeros : 0 + i ≡ i = omega arith in
-    let here : number_at places n ≡ Some i = first n ∙ first_at (same_op n) names 0 i n at (same_op_refl n) fresh ∙ ap Some zeros in
-    finds n ∙ any_not_all {P = OpName × OpName} (λ pair. same_op pair.1 n) (λ pair. is_broken (number_at places pair.0) (number_at places pair.1)) (λ pair. pair.0) (has_come (take i names)) (λ pair e. each pair e here) t.before
+    let here : first_in names n ≡ Some i = first_at (same_op n) names 0 i n at (same_op_refl n) fresh ∙ ap Some zeros in
+    finds n ∙ any_not_all {P = OpName × OpName} (λ pair. same_op pair.1 n) (λ pair. is_broken (first_in names pair.0) (first_in names pair.1)) (λ pair. pair.0) (has_come (take i names)) (λ pair e. each pair e here) t.before
   where
-    each : (pair : OpName × OpName) → same_op pair.1 n ≡ true → number_at places n ≡ Some i → is_broken (number_at places pair.0) (number_at places pair.1) ≡ not (has_come (take i names) pair.0)
-    each pair e here = ap (λ m. is_broken (number_at places pair.0) (number_at places m)) (same_name pair.1 n e) ∙ ap (is_broken (number_at places pair.0)) here ∙ ap (λ o. not (is_below o i)) (first pair.0) ∙ ap not (below_first (same_op pair.0) names i)
+    each : (pair : OpName × OpName) → same_op pair.1 n ≡ true → first_in names n ≡ Some i → is_broken (first_in names pair.0) (first_in names pair.1) ≡ not (has_come (take i names) pair.0)
+    each pair e here = ap (λ m. is_broken (first_in names pair.0) (first_in names m)) (same_name pair.1 n e) ∙ ap (is_broken (first_in names pair.0)) here ∙ ap not (below_first (same_op pair.0) names i)

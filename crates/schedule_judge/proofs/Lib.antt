@@ -1,3 +1,4 @@
+pub mod ComeLemmas
 pub mod EarlyLemmas
 pub mod MemoryLemmas
 pub mod PlaceLemmas

@@ -1,3 +1,4 @@
+pub mod Come
 pub mod Memory
 pub mod Survey
 pub mod Tables

@@ -1,9 +1,8 @@
 -- What the judge looks up.
 use Rattle.schedule_judge.specs.declared.survey.Survey.{Survey}
-use Rattle.schedule_judge.specs.Tables.{FindsProcesses, FindsFirst, FindsEarly}
+use Rattle.schedule_judge.specs.Tables.{FindsProcesses, FindsEarlyIn}
 
 -- the tables are those of the trace and the names
 pub record IsSurvey (survey : Survey) : Type 0 where
   pub processes : FindsProcesses survey.trace.now.processes survey.processes
-  pub places : FindsFirst survey.names.now survey.places
-  pub early : FindsEarly survey.trace.now.before survey.places survey.early
+  pub early : FindsEarlyIn survey.trace.now.before survey.names.now survey.early

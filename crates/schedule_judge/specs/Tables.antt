@@ -36,3 +36,11 @@ is_broken first (Some k) = not (is_below first k)
 -- the table has the operations that come before one that a pair puts before them
 abbrev pub FindsEarly : List (OpName × OpName) → OpNumbers → OpNumbers → Type 0
 FindsEarly before places early = (n : OpName) → is_some (number_at early n) ≡ list_any (λ (pair : OpName × OpName). same_op pair.1 n && is_broken (number_at places pair.0) (number_at places pair.1)) before
+
+-- where an operation comes first among these names
+abbrev pub first_in : List OpName → OpName → Option ℕ
+first_in names n = position_from (same_op n) 0 names
+
+-- the same where the operations come first as in these names
+abbrev pub FindsEarlyIn : List (OpName × OpName) → List OpName → OpNumbers → Type 0
+FindsEarlyIn before names early = (n : OpName) → is_some (number_at early n) ≡ list_any (λ (pair : OpName × OpName). same_op pair.1 n && is_broken (first_in names pair.0) (first_in names pair.1)) before

@@ -5,14 +5,16 @@ use Rattle.schedule_judge.specs.declared.memory.Memory.{Memory}
 use Rattle.trace_semantics.specs.declared.operation.OpName.{OpName}
 use Rattle.schedule_judge.specs.declared.survey.Survey.{Survey}
 use Rattle.trace_semantics.specs.Judgement.{fault_at, has_come}
+use Rattle.schedule_judge.specs.Come.{AreCounts}
 use Rattle.schedule_judge.specs.Memory.{IsMemoryAfter}
 
 -- with an operation, the one before it in its process has come
 abbrev pub IsInProgramOrder : List OpName → Type 0
 IsInProgramOrder names = (process : List ℕ) (k : ℕ) → has_come names (record { process = process; place = k + 2 }) ≡ true → has_come names (record { process = process; place = k + 1 }) ≡ true
 
--- the first `count` names have no fault, and memory is what they leave
-pub record IsWalk (survey : Survey) (state : Memory) (count : ℕ) : Type 0 where
+-- the first `count` names have no fault, the counts say which operations they are, and memory is what they leave
+pub record IsWalk (survey : Survey) (counts : List ℕ) (state : Memory) (count : ℕ) : Type 0 where
   pub faultless : IsFaultless (fault_at survey.trace.now) (take count survey.names.now)
   pub in_program_order : IsInProgramOrder (take count survey.names.now)
+  pub come : AreCounts survey.processes counts (take count survey.names.now)
   pub memory : IsMemoryAfter survey.trace.now survey.names.now (take count survey.names.now) state

@@ -4,11 +4,13 @@ ghost use Rattle.std.specs.Prelude.{◌≡◌, List, ℕ, IfOk, take, length};
 ghost use Rattle.std.specs.List.{slice_get, list_all, flat_map};
 ghost use Rattle.trace_semantics.specs.Judgement as judgement;
 ghost use Rattle.trace_semantics.specs.Judgement.{has_come, IsJudgement};
+ghost use Rattle.schedule_judge.specs.Come.{AreCounts};
 ghost use Rattle.schedule_judge.specs.Survey.{IsSurvey};
 ghost use Rattle.trace_semantics.specs.NameNumbers.{number_of};
 ghost use Rattle.trace_semantics.specs.Trace.{first_names};
 ghost use Rattle.schedule_judge.specs.Walk.{IsWalk, IsInProgramOrder};
 
+use crate::come::Come;
 use crate::memory::Memory;
 use crate::survey::Survey;
 use std::alloc::{AllocError, Global};
@@ -18,33 +20,60 @@ use trace_semantics::operation::{Op, OpName};
 use trace_semantics::schedule::Schedule;
 use trace_semantics::trace::{Process, Trace};
 
-/// Whether the first `n` operations of the process are among the first `count` names.
-fn have_come<'a>(survey: &Survey<'a>, process: &'a [u8], n: usize, count: usize) -> bool
-    requires survey { IsSurvey survey.now }
+/// Whether the operation at this place of this process, which is the one in this row, is among the first `count` names.
+fn has_come<'a>(
+    survey: &Survey<'a>,
+    come: &Come,
+    row: Option<u64>,
+    process: &'a [u8],
+    place: usize,
+    count: usize,
+) -> bool
+    requires row { row ≡ number_of survey.now.processes process.now }
+    requires come { AreCounts survey.now.processes come.now.counts.items (take count survey.now.names.now) }
+    ensures { result ≡ has_come (take count survey.now.names.now) (record { process = process.now; place = place }) }
+{
+    come.has(row, place)
+}
+
+/// Whether the first `n` operations of the process, which is the one in this row, are among the first `count` names.
+fn have_come<'a>(
+    survey: &Survey<'a>,
+    come: &Come,
+    row: Option<u64>,
+    process: &'a [u8],
+    n: usize,
+    count: usize,
+) -> bool
+    requires row { row ≡ number_of survey.now.processes process.now }
+    requires come { AreCounts survey.now.processes come.now.counts.items (take count survey.now.names.now) }
     requires order { IsInProgramOrder (take count survey.now.names.now) }
     ensures { result ≡ list_all (has_come (take count survey.now.names.now)) (first_names process.now n) }
 {
-    n == 0 || survey.has_come(process, n, count)
+    n == 0 || has_come(survey, come, row, process, n, count)
 }
 
-/// What is wrong with an operation after the first `count` names.
+/// What is wrong with an operation after the first `count` names. Its process is the one in this row.
 fn fault_of_op<'a>(
     survey: &Survey<'a>,
+    come: &Come,
     memory: &Memory<'a>,
     count: usize,
+    row: Option<u64>,
     name: &'a OpName,
     op: &'a Op,
 ) -> Option<IllegalCause>
     requires survey { IsSurvey survey.now }
-    requires walk { IsWalk survey.now memory.now count }
+    requires walk { IsWalk survey.now come.now.counts.items memory.now count }
+    requires row { row ≡ number_of survey.now.processes name.now.process }
     requires name { slice_get survey.now.names.now count ≡ Some name.now }
     ensures { result ≡ judgement.fault_of_op survey.now.trace.now (take count survey.now.names.now) name.now op.now }
 {
     let process = name.process.as_bytes();
     let place = name.place as usize;
-    if survey.has_come(process, place, count) {
+    if has_come(survey, come, row, process, place, count) {
         Some(IllegalCause::RepeatedOp)
-    } else if !have_come(survey, process, place.saturating_sub(1), count) {
+    } else if !have_come(survey, come, row, process, place.saturating_sub(1), count) {
         Some(IllegalCause::OutOfProgramOrder)
     } else if !memory.reads_right(op) {
         Some(IllegalCause::WrongRead)
@@ -58,14 +87,16 @@ fn fault_of_op<'a>(
 }
 
 /// Whether all operations of these processes have come.
-fn has_all<'a>(survey: &Survey<'a>, processes: &'a [Process]) -> bool
-    requires survey { IsSurvey survey.now }
+fn has_all<'a>(survey: &Survey<'a>, come: &Come, processes: &'a [Process]) -> bool
+    requires come { AreCounts survey.now.processes come.now.counts.items survey.now.names.now }
     requires order { IsInProgramOrder survey.now.names.now }
     ensures { result ≡ list_all (has_come survey.now.names.now) (flat_map (λ p. first_names p.name (length p.operations)) processes.now) }
 {
     for process in processes {
+        let name = process.name.as_bytes();
         let count = process.operations.as_slice().len();
-        if !have_come(survey, process.name.as_bytes(), count, survey.names.len()) {
+        let row = survey.row_of(name);
+        if !have_come(survey, come, row, name, count, survey.names.len()) {
             return false;
         }
     }
@@ -85,12 +116,11 @@ fn holds_all<'a>(memory: &Memory<'a>, values: &'a [(Name, u64)]) -> bool
 }
 
 /// What is wrong with the whole list, if no name has a fault.
-fn fault_of_whole<'a>(survey: &Survey<'a>, memory: &Memory<'a>) -> Option<IllegalCause>
-    requires survey { IsSurvey survey.now }
-    requires walk { IsWalk survey.now memory.now (length survey.now.names.now) }
+fn fault_of_whole<'a>(survey: &Survey<'a>, come: &Come, memory: &Memory<'a>) -> Option<IllegalCause>
+    requires walk { IsWalk survey.now come.now.counts.items memory.now (length survey.now.names.now) }
     ensures { result ≡ judgement.fault_of_whole survey.now.trace.now survey.now.names.now }
 {
-    if !has_all(survey, survey.trace.processes()) {
+    if !has_all(survey, come, survey.trace.processes()) {
         Some(IllegalCause::MissingOp)
     } else if !holds_all(memory, survey.trace.final_values()) {
         Some(IllegalCause::WrongFinal)
@@ -106,17 +136,20 @@ pub fn judge(alloc: Global, trace: &Trace, schedule: &Schedule) -> Result<Judgem
     let names = schedule.names();
     let survey = Survey::new(alloc, trace, names)?;
     let mut memory = Memory::new(alloc, trace.initial())?;
+    let mut come = Come::new(alloc);
     for i in 0..names.len() {
         let name = &names[i];
-        let Some(op) = survey.operation_at(name) else {
+        let row = survey.row_of(name.process.as_bytes());
+        let Some(op) = survey.operation_at(row, name) else {
             return Ok(Judgement::Illegal(IllegalCause::UnknownOp, i + 1));
         };
-        if let Some(cause) = fault_of_op(&survey, &memory, i, name, op) {
+        if let Some(cause) = fault_of_op(&survey, &come, &memory, i, row, name, op) {
             return Ok(Judgement::Illegal(cause, i + 1));
         }
         memory.run(op, i)?;
+        come.take(row, name.place as usize)?;
     }
-    match fault_of_whole(&survey, &memory) {
+    match fault_of_whole(&survey, &come, &memory) {
         None => Ok(Judgement::Legal),
         Some(cause) => Ok(Judgement::Illegal(cause, names.len() + 1)),
     }

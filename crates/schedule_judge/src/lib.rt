@@ -2,6 +2,7 @@
 //! and where.
 #![tactic(auto)]
 
+mod come;
 pub mod judge;
 mod memory;
 mod op_numbers;

@@ -23,16 +23,6 @@ pub struct Memory<'a> {
     pub writers: NameTable<'a>,
 }
 
-/// Whether the location holds what is read, if anything is.
-fn is_right_read(held: Option<u64>, read: Option<u64>) -> bool
-    ensures { result ≡ judgement.is_right_read held read }
-{
-    match read {
-        None => true,
-        Some(value) => is_held(held, value),
-    }
-}
-
 /// Whether two names are the same.
 fn same_op(m: &OpName, n: &OpName) -> bool
     ensures { result ≡ operation.same_op m.now n.now }
@@ -74,7 +64,10 @@ impl<'a> Memory<'a> {
     pub fn reads_right(&self, op: &'a Op) -> bool
         ensures { result ≡ judgement.is_right_read (number_of self.now.values (operation.location_of op.now)) (operation.value_read op.now) }
     {
-        is_right_read(self.values.get(op.location().as_bytes()), op.value_read())
+        match op.value_read() {
+            None => true,
+            Some(value) => self.holds(op.location().as_bytes(), value),
+        }
     }
 
     /// The name that wrote the location last.

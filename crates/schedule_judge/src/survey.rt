@@ -1,12 +1,13 @@
-//! What the judge looks up: operations by name, where each comes first, and which come before their time.
+//! What the judge looks up: operations by name, and which come before their time.
 
 ghost use Rattle.std.specs.Prelude.{◌≡◌, ℕ, IfOk, take, not, false};
 ghost use Rattle.std.specs.List.{slice_get, list_all};
 ghost use Rattle.std.specs.Option.{option_copied, option_and_then};
 ghost use Rattle.trace_semantics.specs.Judgement as judgement;
 ghost use Rattle.schedule_judge.specs.Survey.{IsSurvey};
-ghost use Rattle.schedule_judge.specs.Tables.{number_at, FindsProcesses, FindsFirst, FindsEarly};
+ghost use Rattle.schedule_judge.specs.Tables.{number_at, FindsProcesses, FindsFirst, FindsEarly, FindsEarlyIn};
 ghost use Rattle.schedule_judge.specs.Tables as tables;
+ghost use Rattle.trace_semantics.specs.NameNumbers.{number_of};
 ghost use Rattle.trace_semantics.specs.Trace as trace_value;
 
 use crate::op_numbers::OpNumbers;
@@ -21,7 +22,6 @@ pub struct Survey<'a> {
     pub trace: &'a Trace,
     pub names: &'a [OpName],
     pub processes: NameTable<'a>,
-    pub places: OpNumbers<'a>,
     pub early: OpNumbers<'a>,
 }
 
@@ -94,6 +94,22 @@ fn early_ops<'a>(
     Ok(early)
 }
 
+/// The operations that come before one that the trace puts before them, where these names are the schedule. Without pairs no
+/// name is looked at.
+fn early_in<'a>(
+    alloc: Global,
+    before: &'a [(OpName, OpName)],
+    names: &'a [OpName],
+) -> Result<OpNumbers<'a>, AllocError>
+    ensures { IfOk result (FindsEarlyIn before.now names.now) }
+{
+    if before.is_empty() {
+        return OpNumbers::with_capacity(alloc, 0);
+    }
+    let places = first_places(alloc, names)?;
+    early_ops(alloc, before, &places)
+}
+
 /// The process at this place.
 fn process_at(processes: &[Process], place: Option<u64>) -> Option<&Process>
     ensures { option_copied result ≡ option_and_then (slice_get processes.now) place }
@@ -136,36 +152,30 @@ impl<'a> Survey<'a> {
         ensures tables { IfOk result IsSurvey }
     {
         let processes = places_of_processes(alloc, trace.processes())?;
-        let places = first_places(alloc, names)?;
         let pairs = trace.before();
-        let early = early_ops(alloc, pairs, &places)?;
+        let early = early_in(alloc, pairs, names)?;
         Ok(Survey {
             trace,
             names,
             processes,
-            places,
             early,
         })
     }
 
-    /// The operation of this name.
-    pub fn operation_at(&self, name: &'a OpName) -> Option<&'a Op>
-        requires { IsSurvey self.now }
-        ensures { option_copied result ≡ trace_value.operation_at self.now.trace.now name.now }
+    /// The place of this process in the trace, if it is one of its processes.
+    pub fn row_of(&self, process: &'a [u8]) -> Option<u64>
+        ensures { result ≡ number_of self.now.processes process.now }
     {
-        let place = self.processes.get(name.process.as_bytes());
-        op_of(
-            process_at(self.trace.processes(), place),
-            name.place as usize,
-        )
+        self.processes.get(process)
     }
 
-    /// Whether the operation at this place of this process is among the first `count` names.
-    pub fn has_come(&self, process: &'a [u8], place: usize, count: usize) -> bool
-        requires { IsSurvey self.now }
-        ensures { result ≡ judgement.has_come (take count self.now.names.now) (record { process = process.now; place = place }) }
+    /// The operation of this name, where its process is the one in this row.
+    pub fn operation_at(&self, row: Option<u64>, name: &'a OpName) -> Option<&'a Op>
+        requires survey { IsSurvey self.now }
+        requires row { row ≡ number_of self.now.processes name.now.process }
+        ensures { option_copied result ≡ trace_value.operation_at self.now.trace.now name.now }
     {
-        is_below(self.places.get(process, place), count)
+        op_of(process_at(self.trace.processes(), row), name.place as usize)
     }
 
     /// Whether the operation, where it comes first, comes before one that the trace puts before it.

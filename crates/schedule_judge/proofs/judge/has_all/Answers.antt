@@ -10,4 +10,4 @@ use Rattle.schedule_judge.proofs.judge.has_all.Goals as goal
 pub returns-then-not-have_come : goal.returns-then-not-have_come
 returns-then-not-have_come c =
     let names = c.args.survey.now.names.now in
-    sym (fails_at (has_come names) (λ (p : Process). first_names p.name (length p.operations)) c.args.processes.now c.loop-process.process-index c.process-item.result c.loop-process-test.true c.process-item.is ((λ i. list_all (has_come (sym (take-length names) i)) (first_names (sym c.as_bytes.ensures i) (length (sym c.as_slice-count.ensures i)))) ∙ sym c.have_come.ensures ∙ c.if-not-have_come.true))
+    sym (fails_at (has_come names) (λ (p : Process). first_names p.name (length p.operations)) c.args.processes.now c.loop-process.process-index c.process-item.result c.loop-process-test.true c.process-item.is ((λ i. list_all (has_come (sym (take-length names) i)) (first_names (sym c.as_bytes-name.ensures i) (length (sym c.as_slice-count.ensures i)))) ∙ sym c.have_come.ensures ∙ c.if-not-have_come.true))

@@ -5,4 +5,4 @@ use Rattle.schedule_judge.proofs.survey.Survey.is_early.Goals as goal
 pub returns : goal.returns
 returns c = λ count at fresh.
     let s = c.args.self.now in
-    c.is_some.ensures ∙ ap is_some c.of.ensures ∙ early_is s.trace.now s.names.now s.places s.early count c.args.name.now c.requires.places c.requires.early at fresh
+    c.is_some.ensures ∙ ap is_some c.of.ensures ∙ early_is s.trace.now s.names.now s.early count c.args.name.now c.requires.early at fresh

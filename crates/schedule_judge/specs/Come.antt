@@ -1,0 +1,27 @@
+-- How many operations of each process have come.
+use Rattle.std.specs.Prelude.{◌≡◌, ℕ, List, Option, Some, None, Bool, ◌&&◌, nat_lt, nat_le, slice_index_or, if◌then◌else◌, ◌==◌, MatchOption}
+use Rattle.trace_semantics.specs.declared.name_table.NameTable.{NameTable}
+use Rattle.trace_semantics.specs.declared.operation.OpName.{OpName}
+use Rattle.trace_semantics.specs.Judgement.{has_come}
+use Rattle.trace_semantics.specs.NameNumbers.{number_of}
+
+-- how many have come of the process in this row: none past the last row
+abbrev pub count_in : List ℕ → ℕ → ℕ
+count_in counts row = slice_index_or counts row 0
+
+-- how many have come of a process, if it has a row
+abbrev pub count_of : List ℕ → Option ℕ → ℕ
+count_of counts None = 0
+count_of counts (Some row) = count_in counts row
+
+-- the operation at this place is among the first ones, which are this count
+abbrev pub is_within : ℕ → ℕ → Bool
+is_within place count = nat_lt 0 place && nat_le place count
+
+-- the counts say which operations are among these names
+abbrev pub AreCounts : NameTable → List ℕ → List OpName → Type 0
+AreCounts rows counts names = (n : OpName) → has_come names n ≡ is_within n.place (count_of counts (number_of rows n.process))
+
+-- the row, if there is one, has this count, and all others are as they were
+abbrev pub IsCounted : List ℕ → Option ℕ → ℕ → List ℕ → Type 0
+IsCounted old row count new = MatchOption row (new ≡ old) (λ k. (j : ℕ) → count_in new j ≡ (if k == j then count else count_in old j))
