@@ -83,8 +83,20 @@ fn named<'t>(name: &'t str, bytes: &'t Option<Vec<u8>>) -> NamedText<'t> {
     }
 }
 
+/// What is known of a run: its outcome, what standard output took, and how long the certificate is, if these are known.
+#[derive(Clone, Copy)]
+pub(crate) struct Told<'t> {
+    pub outcome: &'t Result<Status, Fault>,
+    pub report: Option<&'t [u8]>,
+    pub certificate_length: Option<u64>,
+}
+
 /// The search of these numbers for the trace.
-fn asked_verify<'t>(trace: NamedText<'t>, numbers: SearchNumbers) -> AskedCommand<'t> {
+fn asked_verify<'t>(
+    trace: NamedText<'t>,
+    numbers: SearchNumbers,
+    told: Told<'t>,
+) -> AskedCommand<'t> {
     AskedCommand::Verify {
         trace,
         effort: SearchEffort {
@@ -92,16 +104,20 @@ fn asked_verify<'t>(trace: NamedText<'t>, numbers: SearchNumbers) -> AskedComman
             budget: numbers.budget,
             rounds: numbers.rounds,
         },
-        report: None,
-        certificate_length: None,
+        report: told.report,
+        certificate_length: told.certificate_length,
     }
 }
 
 /// What was asked by `verify` or `survey`, or nothing if it was another command.
-fn asked_search<'t>(line: Line<'t>, texts: &'t InputTexts) -> Option<AskedCommand<'t>> {
+fn asked_search<'t>(
+    line: Line<'t>,
+    texts: &'t InputTexts,
+    told: Told<'t>,
+) -> Option<AskedCommand<'t>> {
     match line {
         Line::Verify { trace, numbers, .. } => {
-            Some(asked_verify(named(trace, &texts.first), numbers))
+            Some(asked_verify(named(trace, &texts.first), numbers, told))
         }
         Line::Survey { trace, .. } => Some(AskedCommand::Survey {
             trace: named(trace, &texts.first),
@@ -111,7 +127,11 @@ fn asked_search<'t>(line: Line<'t>, texts: &'t InputTexts) -> Option<AskedComman
 }
 
 /// What was asked, with the files that were read for it, or nothing if none was.
-fn asked_command<'t>(line: Line<'t>, texts: &'t InputTexts) -> Option<AskedCommand<'t>> {
+fn asked_command<'t>(
+    line: Line<'t>,
+    texts: &'t InputTexts,
+    told: Told<'t>,
+) -> Option<AskedCommand<'t>> {
     match line {
         Line::Judge { trace, schedule } => Some(AskedCommand::Judge {
             trace: named(trace, &texts.first),
@@ -140,19 +160,14 @@ fn asked_command<'t>(line: Line<'t>, texts: &'t InputTexts) -> Option<AskedComma
             trace: named(trace, &texts.first),
             names: named(names, &texts.second),
         }),
-        _ => asked_search(line, texts),
+        _ => asked_search(line, texts, told),
     }
 }
 
 /// The explanation of the outcome, as lines.
-fn notes_of<'t>(
-    alloc: Global,
-    line: Line<'t>,
-    texts: &'t InputTexts,
-    outcome: &Result<Status, Fault>,
-) -> Vec<u8> {
-    match asked_command(line, texts) {
-        Some(asked) => explain(alloc, &asked, outcome),
+fn notes_of<'t>(alloc: Global, line: Line<'t>, texts: &'t InputTexts, told: Told<'t>) -> Vec<u8> {
+    match asked_command(line, texts, told) {
+        Some(asked) => explain(alloc, &asked, told.outcome),
         None => Vec::new(alloc),
     }
 }
@@ -177,7 +192,7 @@ pub(crate) fn explain_outcome<'p, H: Host<'p>, E: Sink>(
     alloc: Global,
     host: &mut H,
     line: Line<'p>,
-    outcome: &Result<Status, Fault>,
+    told: Told<'_>,
     err: &mut E,
 )
     ensures reopens { ReopensAll H.calls host.old (inputs_of line.entry) host.new }
@@ -185,6 +200,6 @@ pub(crate) fn explain_outcome<'p, H: Host<'p>, E: Sink>(
 {
     let paths = inputs_of(line);
     let texts = read_all_again(alloc, host, &paths);
-    let notes = notes_of(alloc, line, &texts, outcome);
+    let notes = notes_of(alloc, line, &texts, told);
     write_notes(notes.as_slice(), err);
 }
