@@ -8,7 +8,7 @@ ghost use Rattle.verdict_report.specs.Runs.{source_run, sink_run};
 
 use crate::clash::{clash_of, print_clash};
 use crate::engine_runs::run_engine;
-use crate::explaining::{Told, explain_outcome};
+use crate::explaining::explain_outcome;
 use crate::host::Host;
 use crate::picturing::draw_outcome;
 use crate::recorder::Recalls;
@@ -87,12 +87,7 @@ fn run_explained<
 {
     let mut length = None;
     let answer = run_told(alloc, rt, progress, host, line, out, err, &mut length);
-    let told = Told {
-        outcome: &answer,
-        report: out.recalled(),
-        certificate_length: length,
-    };
-    explain_outcome(alloc, host, line, told, err);
+    explain_outcome(alloc, host, line, &answer, out, length, err);
     exit_status(&answer)
 }
 

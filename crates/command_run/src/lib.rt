@@ -4,6 +4,7 @@
 mod arguments;
 mod clash;
 mod command;
+mod device_failure;
 mod engine_runs;
 mod explaining;
 mod host;
@@ -20,6 +21,7 @@ mod telling;
 pub use arguments::{ArgumentFault, refuse, words_of};
 pub use clash::Clash;
 pub use command::run;
+pub use device_failure::{DeviceCall, DeviceFailure, FailedFile, TellsFailure};
 pub use host::Host;
 pub use inputs::InputPaths;
 pub use memory_host::MemoryHost;

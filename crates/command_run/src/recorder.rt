@@ -1,14 +1,15 @@
 //! A sink that passes on what it takes, counts it, and keeps a short text.
 ghost use Rattle.std.specs.Prelude.{◌≡◌};
 
+use crate::device_failure::{DeviceFailure, TellsFailure};
 use dimacs::{Failed, MemorySink, ShortSink, Sink};
 use std::alloc::Global;
 
 /// The most bytes that are kept of what standard output takes. The report of a search with 1,024 open cubes is shorter.
 const MOST_KEPT: usize = 262_144;
 
-/// What can be asked for what it took. Explanations alone ask, so nothing is promised of the answer.
-pub trait Recalls {
+/// What can be asked what it took, too. Explanations alone ask, so nothing is promised of the answer.
+pub trait Recalls: TellsFailure {
     /// All bytes that it took, if it still has them.
     fn recalled(&self) -> Option<&[u8]>;
 }
@@ -106,7 +107,13 @@ impl<S: Sink> Sink for Recorder<S> {
     }
 }
 
-impl<S> Recalls for Recorder<S> {
+impl<S: TellsFailure> TellsFailure for Recorder<S> {
+    fn failure(&self) -> Option<DeviceFailure> {
+        self.sink.failure()
+    }
+}
+
+impl<S: TellsFailure> Recalls for Recorder<S> {
     fn recalled(&self) -> Option<&[u8]> {
         self.record.whole()
     }
