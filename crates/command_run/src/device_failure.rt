@@ -60,12 +60,7 @@ impl DeviceFailure {
 }
 
 /// These words, and what the system says of the number that it gave.
-fn told_by_system(
-    alloc: Global,
-    front: &str,
-    says: &str,
-    code: i32,
-) -> Result<String, AllocError> {
+fn told_by_system(alloc: Global, front: &str, says: &str, code: i32) -> Result<String, AllocError> {
     let error = Error::from_raw_os_error(code);
     format!(in alloc; "{front}{says}: {error}")
 }

@@ -252,7 +252,13 @@ fn explain_proofs(
             )
         }
         Fault::Check(cause, step) => explain_step(alloc, notes, *cause, *step as u64, texts),
-        Fault::Cert(cause, place) => explain_certificate(alloc, notes, *cause, *place as u64, texts),
+        Fault::Cert(cause, place) => explain_certificate(
+            alloc,
+            notes,
+            *cause,
+            *place as u64,
+            texts,
+        ),
         _ => Ok(()),
     }
 }
