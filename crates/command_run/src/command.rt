@@ -11,6 +11,7 @@ use crate::engine_runs::run_engine;
 use crate::explaining::explain_outcome;
 use crate::host::Host;
 use crate::picturing::draw_outcome;
+use crate::recorder::Recalls;
 use crate::telling::{DEVICE, tell_fault, tell_line_fault, tell_outcome};
 use command_line::{CommandLine, Line, read_line};
 use cube_jobs::Gate;
@@ -29,6 +30,7 @@ fn run_told<'p, R: Threads + Wait + Sync, G: Gate + Sync, H: Host<'p>, O: Sink, 
     line: Line<'p>,
     out: &mut O,
     err: &mut E,
+    length: &mut Option<u64>,
 ) -> Result<Status, Fault>
     requires { IsWithinRanges line }
     ensures runs { RunsLine H.calls (source_run H.Input.handed_out H.Input.is_at_end H.Input.failures)
@@ -36,7 +38,7 @@ fn run_told<'p, R: Threads + Wait + Sync, G: Gate + Sync, H: Host<'p>, O: Sink, 
         host.old line.entry (sink_run O.written O.failures out.old out.new) result host.new }
     ensures tells { TellsOutcome (sink_run E.written E.failures err.old err.new) result }
 {
-    let outcome = run_engine(alloc, rt, progress, host, line, out);
+    let outcome = run_engine(alloc, rt, progress, host, line, out, length);
     tell_outcome(alloc, &outcome, err);
     outcome
 }
@@ -60,20 +62,20 @@ fn run_plain<'p, R: Threads + Wait + Sync, G: Gate + Sync, H: Host<'p>, O: Sink,
         result host.new }
     ensures known { IsExitStatus result }
 {
-    let outcome = run_told(alloc, rt, progress, host, line, out, err);
+    let mut length = None;
+    let outcome = run_told(alloc, rt, progress, host, line, out, err, &mut length);
     exit_status(&outcome)
 }
 
 /// Does the same, and then explains the outcome on standard error.
-fn run_explained<'p, R: Threads + Wait + Sync, G: Gate + Sync, H: Host<'p>, O: Sink, E: Sink>(
-    alloc: Global,
-    rt: &R,
-    progress: &G,
-    host: &mut H,
-    line: Line<'p>,
-    out: &mut O,
-    err: &mut E,
-) -> u8
+fn run_explained<
+    'p,
+    R: Threads + Wait + Sync,
+    G: Gate + Sync,
+    H: Host<'p>,
+    O: Sink + Recalls,
+    E: Sink,
+>(alloc: Global, rt: &R, progress: &G, host: &mut H, line: Line<'p>, out: &mut O, err: &mut E) -> u8
     requires { IsWithinRanges line }
     ensures ends { EndsExplained H.calls (source_run H.Input.handed_out H.Input.is_at_end H.Input.failures)
         (sink_run H.Output.written H.Output.failures)
@@ -83,13 +85,14 @@ fn run_explained<'p, R: Threads + Wait + Sync, G: Gate + Sync, H: Host<'p>, O: S
         result host.new }
     ensures known { IsExitStatus result }
 {
-    let answer = run_told(alloc, rt, progress, host, line, out, err);
-    explain_outcome(alloc, host, line, &answer, err);
+    let mut length = None;
+    let answer = run_told(alloc, rt, progress, host, line, out, err, &mut length);
+    explain_outcome(alloc, host, line, &answer, out, length, err);
     exit_status(&answer)
 }
 
 /// Runs the engine of the line, with an explanation or without.
-fn run_asked<'p, R: Threads + Wait + Sync, G: Gate + Sync, H: Host<'p>, O: Sink, E: Sink>(
+fn run_asked<'p, R: Threads + Wait + Sync, G: Gate + Sync, H: Host<'p>, O: Sink + Recalls, E: Sink>(
     alloc: Global,
     rt: &R,
     progress: &G,
@@ -115,7 +118,14 @@ fn run_asked<'p, R: Threads + Wait + Sync, G: Gate + Sync, H: Host<'p>, O: Sink,
 }
 
 /// Runs the engine of the line, and draws a picture into the file at this path, which is made or emptied first.
-fn run_with_picture<'p, R: Threads + Wait + Sync, G: Gate + Sync, H: Host<'p>, O: Sink, E: Sink>(
+fn run_with_picture<
+    'p,
+    R: Threads + Wait + Sync,
+    G: Gate + Sync,
+    H: Host<'p>,
+    O: Sink + Recalls,
+    E: Sink,
+>(
     alloc: Global,
     rt: &R,
     progress: &G,
@@ -145,7 +155,7 @@ fn run_with_picture<'p, R: Threads + Wait + Sync, G: Gate + Sync, H: Host<'p>, O
 }
 
 /// Runs the engine of the line, with a picture or without.
-fn run_drawn<'p, R: Threads + Wait + Sync, G: Gate + Sync, H: Host<'p>, O: Sink, E: Sink>(
+fn run_drawn<'p, R: Threads + Wait + Sync, G: Gate + Sync, H: Host<'p>, O: Sink + Recalls, E: Sink>(
     alloc: Global,
     rt: &R,
     progress: &G,
@@ -170,7 +180,7 @@ fn run_drawn<'p, R: Threads + Wait + Sync, G: Gate + Sync, H: Host<'p>, O: Sink,
 }
 
 /// Does what the line asks for, and gives the exit status. A line of which two files are one that have to be apart is refused.
-fn run_line<'p, R: Threads + Wait + Sync, G: Gate + Sync, H: Host<'p>, O: Sink, E: Sink>(
+fn run_line<'p, R: Threads + Wait + Sync, G: Gate + Sync, H: Host<'p>, O: Sink + Recalls, E: Sink>(
     alloc: Global,
     rt: &R,
     progress: &G,
@@ -201,7 +211,7 @@ fn run_line<'p, R: Threads + Wait + Sync, G: Gate + Sync, H: Host<'p>, O: Sink, 
 /// called before and after each cube, and what it writes to standard error it writes by itself. With `--explain` standard error then takes
 /// an explanation, and with `--picture` a further file takes a picture after CONSISTENT or INCONSISTENT; of what these two are, nothing is
 /// said. Of words that ask for nothing, standard output takes the help or the version, or standard error what is wrong with them.
-pub fn run<'p, R: Threads + Wait + Sync, G: Gate + Sync, H: Host<'p>, O: Sink, E: Sink>(
+pub fn run<'p, R: Threads + Wait + Sync, G: Gate + Sync, H: Host<'p>, O: Sink + Recalls, E: Sink>(
     alloc: Global,
     rt: &R,
     progress: &G,

@@ -11,6 +11,7 @@ ghost use Rattle.verdict_report.specs.RecheckEngine.{IsRunOfRecheck};
 ghost use Rattle.verdict_report.specs.Runs.{source_run, sink_run};
 
 use crate::host::Host;
+use crate::recorder::Recorder;
 use crate::refusals::write_refusals;
 use crate::search_request::{SearchRequest, certify, decide};
 use crate::survey_runs::survey_file;
@@ -173,7 +174,7 @@ fn decide_file<'p, R: Threads + Wait + Sync, G: Gate + Sync, H: Host<'p>, W: Sin
 }
 
 /// The same, with a certificate. Its file is made or emptied before the trace is opened, and `Device` is answered if that is not
-/// possible.
+/// possible. How long the certificate is goes to `length`.
 fn certify_file<'p, R: Threads + Wait + Sync, G: Gate + Sync, H: Host<'p>, W: Sink>(
     alloc: Global,
     rt: &R,
@@ -183,19 +184,22 @@ fn certify_file<'p, R: Threads + Wait + Sync, G: Gate + Sync, H: Host<'p>, W: Si
     cert: &'p str,
     search: &SearchRequest,
     out: &mut W,
+    length: &mut Option<u64>,
 ) -> Result<Status, Fault>
     ensures { RunsCertified H.calls (source_run H.Input.handed_out H.Input.is_at_end H.Input.failures)
         (sink_run H.Output.written H.Output.failures)
         host.old trace.now cert.now search.now (sink_run W.written W.failures out.old out.new) result host.new }
 {
-    let Ok(mut file) = host.create(cert) else {
+    let Ok(file) = host.create(cert) else {
         return Err(Fault::Device);
     };
     let mut trace = host.source(trace);
+    let mut file = Recorder::counting(alloc, file);
     let outcome = certify(
         alloc, rt, progress, host, &mut trace, search, &mut file, out,
     );
-    host.close(file);
+    *length = Some(file.taken());
+    host.close(file.into_sink());
     outcome
 }
 
@@ -209,18 +213,19 @@ fn verify_file<'p, R: Threads + Wait + Sync, G: Gate + Sync, H: Host<'p>, W: Sin
     cert: Option<&'p str>,
     search: &SearchRequest,
     out: &mut W,
+    length: &mut Option<u64>,
 ) -> Result<Status, Fault>
     ensures { RunsVerify H.calls (source_run H.Input.handed_out H.Input.is_at_end H.Input.failures)
         (sink_run H.Output.written H.Output.failures)
         host.old trace.now cert.entry search.now (sink_run W.written W.failures out.old out.new) result host.new }
 {
     match cert {
-        Some(cert) => certify_file(alloc, rt, progress, host, trace, cert, search, out),
+        Some(cert) => certify_file(alloc, rt, progress, host, trace, cert, search, out, length),
         None => decide_file(alloc, rt, progress, host, trace, search, out),
     }
 }
 
-/// Runs the engine that the line names.
+/// Runs the engine that the line names. How long a certificate of `verify` is goes to `length`.
 ///
 /// A command is added here by a function as [`judge_files`] and an arm for its line, and in `specs/CommandRun.antt` by a line of
 /// `RunsLine`.
@@ -231,6 +236,7 @@ pub(crate) fn run_engine<'p, R: Threads + Wait + Sync, G: Gate + Sync, H: Host<'
     host: &mut H,
     line: Line<'p>,
     out: &mut W,
+    length: &mut Option<u64>,
 ) -> Result<Status, Fault>
     requires { IsWithinRanges line }
     ensures { RunsLine H.calls (source_run H.Input.handed_out H.Input.is_at_end H.Input.failures)
@@ -255,7 +261,7 @@ pub(crate) fn run_engine<'p, R: Threads + Wait + Sync, G: Gate + Sync, H: Host<'
             progress: tells_progress,
         } => {
             let search = SearchRequest::new(numbers, tells_progress);
-            verify_file(alloc, rt, progress, host, trace, cert, &search, out)
+            verify_file(alloc, rt, progress, host, trace, cert, &search, out, length)
         }
         Line::Survey {
             trace,

@@ -4,8 +4,10 @@ ghost use Rattle.command_run.specs.CommandRun.{Adds, Reopens, ReopensAll, Reopen
 ghost use Rattle.command_run.specs.Inputs.{inputs_of};
 ghost use Rattle.verdict_report.specs.Runs.{sink_run};
 
+use crate::device_failure::{DeviceFailure, FailedFile, TellsFailure};
 use crate::host::Host;
 use crate::inputs::{InputPaths, inputs_of, is_standard_input};
+use crate::recorder::Recalls;
 use command_line::{Line, SearchNumbers};
 use dimacs::{Sink, write_whole};
 use explanation::{AskedCommand, SearchEffort, explain};
@@ -13,28 +15,62 @@ use note_text::NamedText;
 use std::alloc::Global;
 use verdict_report::{Fault, Status, read_whole};
 
-/// The bytes of the files that a line reads, of each that could be read once more.
+/// A file that was read once more: its bytes, or what failed.
+#[derive(Drop)]
+pub(crate) struct InputText {
+    pub bytes: Option<Vec<u8>>,
+    failure: Option<String>,
+}
+
+impl InputText {
+    /// Nothing is known of it.
+    fn unread() -> InputText {
+        InputText {
+            bytes: None,
+            failure: None,
+        }
+    }
+}
+
+/// The files that a line reads, each that could be read once more with its bytes.
 #[derive(Drop)]
 struct InputTexts {
-    first: Option<Vec<u8>>,
-    second: Option<Vec<u8>>,
-    third: Option<Vec<u8>>,
+    first: InputText,
+    second: InputText,
+    third: InputText,
+}
+
+/// What failed of what has this name, in words, if that is known and memory suffices.
+fn words_of(alloc: Global, name: &str, failure: Option<DeviceFailure>) -> Option<String> {
+    match failure {
+        Some(failure) => failure.told(alloc, name).ok(),
+        None => None,
+    }
 }
 
 /// Reads the file at this path once more.
-fn read_file_again<'p, H: Host<'p>>(alloc: Global, host: &mut H, path: &'p str) -> Option<Vec<u8>>
+fn read_file_again<'p, H: Host<'p>>(alloc: Global, host: &mut H, path: &'p str) -> InputText
     ensures { ReopensIf false H.calls host.old path.now host.new }
 {
     let mut file = host.source(path);
-    read_whole(alloc, &mut file).ok()
+    match read_whole(alloc, &mut file) {
+        Ok(bytes) => InputText {
+            bytes: Some(bytes),
+            failure: None,
+        },
+        Err(_) => InputText {
+            bytes: None,
+            failure: words_of(alloc, "", file.failure()),
+        },
+    }
 }
 
 /// Reads the file at this path once more, unless it is standard input.
-fn read_path_again<'p, H: Host<'p>>(alloc: Global, host: &mut H, path: &'p str) -> Option<Vec<u8>>
+fn read_path_again<'p, H: Host<'p>>(alloc: Global, host: &mut H, path: &'p str) -> InputText
     ensures { Reopens H.calls host.old path.now host.new }
 {
     if is_standard_input(path) {
-        None
+        InputText::unread()
     } else {
         read_file_again(alloc, host, path)
     }
@@ -45,12 +81,12 @@ pub(crate) fn read_again<'p, H: Host<'p>>(
     alloc: Global,
     host: &mut H,
     path: Option<&'p str>,
-) -> Option<Vec<u8>>
+) -> InputText
     ensures { ReopensGiven H.calls host.old path.entry host.new }
 {
     match path {
         Some(path) => read_path_again(alloc, host, path),
-        None => None,
+        None => InputText::unread(),
     }
 }
 
@@ -73,18 +109,39 @@ fn read_all_again<'p, H: Host<'p>>(
 }
 
 /// The file of this name, with its bytes if they could be read once more.
-fn named<'t>(name: &'t str, bytes: &'t Option<Vec<u8>>) -> NamedText<'t> {
+fn named<'t>(name: &'t str, text: &'t InputText) -> NamedText<'t> {
     NamedText {
         name,
-        bytes: match bytes {
+        bytes: match &text.bytes {
             Some(bytes) => Some(bytes.as_slice()),
+            None => None,
+        },
+        failure: match &text.failure {
+            Some(words) => Some(words.as_bytes()),
             None => None,
         },
     }
 }
 
+/// What failed of a file that was written, or else of standard output, in words.
+fn failed_writing(
+    alloc: Global,
+    file: Option<FailedFile<'_>>,
+    stream: Option<DeviceFailure>,
+) -> Option<String> {
+    match file {
+        Some(file) => file.told(alloc).ok(),
+        None => words_of(alloc, "standard output ", stream),
+    }
+}
+
 /// The search of these numbers for the trace.
-fn asked_verify<'t>(trace: NamedText<'t>, numbers: SearchNumbers) -> AskedCommand<'t> {
+fn asked_verify<'t>(
+    trace: NamedText<'t>,
+    numbers: SearchNumbers,
+    report: Option<&'t [u8]>,
+    certificate_length: Option<u64>,
+) -> AskedCommand<'t> {
     AskedCommand::Verify {
         trace,
         effort: SearchEffort {
@@ -92,16 +149,22 @@ fn asked_verify<'t>(trace: NamedText<'t>, numbers: SearchNumbers) -> AskedComman
             budget: numbers.budget,
             rounds: numbers.rounds,
         },
-        report: None,
-        certificate_length: None,
+        report,
+        certificate_length,
     }
 }
 
 /// What was asked by `verify` or `survey`, or nothing if it was another command.
-fn asked_search<'t>(line: Line<'t>, texts: &'t InputTexts) -> Option<AskedCommand<'t>> {
+fn asked_search<'t>(
+    line: Line<'t>,
+    texts: &'t InputTexts,
+    report: Option<&'t [u8]>,
+    length: Option<u64>,
+) -> Option<AskedCommand<'t>> {
     match line {
         Line::Verify { trace, numbers, .. } => {
-            Some(asked_verify(named(trace, &texts.first), numbers))
+            let trace = named(trace, &texts.first);
+            Some(asked_verify(trace, numbers, report, length))
         }
         Line::Survey { trace, .. } => Some(AskedCommand::Survey {
             trace: named(trace, &texts.first),
@@ -111,7 +174,12 @@ fn asked_search<'t>(line: Line<'t>, texts: &'t InputTexts) -> Option<AskedComman
 }
 
 /// What was asked, with the files that were read for it, or nothing if none was.
-fn asked_command<'t>(line: Line<'t>, texts: &'t InputTexts) -> Option<AskedCommand<'t>> {
+fn asked_command<'t>(
+    line: Line<'t>,
+    texts: &'t InputTexts,
+    report: Option<&'t [u8]>,
+    length: Option<u64>,
+) -> Option<AskedCommand<'t>> {
     match line {
         Line::Judge { trace, schedule } => Some(AskedCommand::Judge {
             trace: named(trace, &texts.first),
@@ -140,7 +208,7 @@ fn asked_command<'t>(line: Line<'t>, texts: &'t InputTexts) -> Option<AskedComma
             trace: named(trace, &texts.first),
             names: named(names, &texts.second),
         }),
-        _ => asked_search(line, texts),
+        _ => asked_search(line, texts, report, length),
     }
 }
 
@@ -150,9 +218,16 @@ fn notes_of<'t>(
     line: Line<'t>,
     texts: &'t InputTexts,
     outcome: &Result<Status, Fault>,
+    report: Option<&'t [u8]>,
+    length: Option<u64>,
+    written: &'t Option<String>,
 ) -> Vec<u8> {
-    match asked_command(line, texts) {
-        Some(asked) => explain(alloc, &asked, outcome),
+    let written = match written {
+        Some(words) => Some(words.as_bytes()),
+        None => None,
+    };
+    match asked_command(line, texts, report, length) {
+        Some(asked) => explain(alloc, &asked, outcome, written),
         None => Vec::new(alloc),
     }
 }
@@ -172,12 +247,15 @@ fn write_notes<E: Sink>(notes: &[u8], err: &mut E)
     add_notes(notes, err);
 }
 
-/// Explains the outcome on standard error, by the files that the line reads, which are read once more for that.
-pub(crate) fn explain_outcome<'p, H: Host<'p>, E: Sink>(
+/// Explains the outcome on standard error, by the files that the line reads, which are read once more for that, by what standard output
+/// took, and by the length of a certificate.
+pub(crate) fn explain_outcome<'p, H: Host<'p>, O: Recalls, E: Sink>(
     alloc: Global,
     host: &mut H,
     line: Line<'p>,
     outcome: &Result<Status, Fault>,
+    out: &O,
+    length: Option<u64>,
     err: &mut E,
 )
     ensures reopens { ReopensAll H.calls host.old (inputs_of line.entry) host.new }
@@ -185,6 +263,15 @@ pub(crate) fn explain_outcome<'p, H: Host<'p>, E: Sink>(
 {
     let paths = inputs_of(line);
     let texts = read_all_again(alloc, host, &paths);
-    let notes = notes_of(alloc, line, &texts, outcome);
+    let written = failed_writing(alloc, host.failed_file(), out.failure());
+    let notes = notes_of(
+        alloc,
+        line,
+        &texts,
+        outcome,
+        out.recalled(),
+        length,
+        &written,
+    );
     write_notes(notes.as_slice(), err);
 }

@@ -2,6 +2,7 @@
 ghost use Rattle.std.specs.Prelude.{◌≡◌, [], false, IfOk, OnErr};
 ghost use Rattle.command_run.specs.HostCalls.{HostCalls};
 
+use crate::device_failure::{FailedFile, TellsFailure};
 use crate::search_request::SearchRequest;
 use dimacs::{Failed, Sink};
 use verdict_report::Source;
@@ -12,7 +13,7 @@ use verdict_report::Source;
 /// that is all that it asked.
 pub trait Host<'p> {
     /// A file that is read.
-    type Input: Source + Drop;
+    type Input: Source + TellsFailure + Drop;
 
     /// A file that is written.
     type Output: Sink + Drop;
@@ -45,4 +46,7 @@ pub trait Host<'p> {
     /// Takes the report of a search before it is run.
     fn begin_search(&mut self, search: &SearchRequest)
         ensures { calls.searches self.old search.now self.new };
+
+    /// What failed of a file that was made or written, if that is known. Explanations alone ask, so nothing is promised of the answer.
+    fn failed_file(&self) -> Option<FailedFile<'p>>;
 }

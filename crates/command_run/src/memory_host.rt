@@ -1,6 +1,7 @@
 //! A host in memory, for tests.
 ghost use Rattle.command_run.specs.MemoryHost.{memory_calls};
 
+use crate::device_failure::FailedFile;
 use crate::host::Host;
 use crate::search_request::SearchRequest;
 use dimacs::{Failed, MemorySink};
@@ -91,5 +92,9 @@ impl<'p> Host<'p> for MemoryHost<'p> {
 
     fn begin_search(&mut self, search: &SearchRequest) {
         self.searched = Some(*search);
+    }
+
+    fn failed_file(&self) -> Option<FailedFile<'p>> {
+        None
     }
 }

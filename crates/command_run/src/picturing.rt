@@ -70,7 +70,8 @@ fn draw_answer<'p, H: Host<'p>, W: Sink>(
     ensures adds { Adds (sink_run W.written W.failures file.old file.new) }
 {
     let paths = inputs_of(line);
-    let picture = match read_again(alloc, host, paths.first) {
+    let trace = read_again(alloc, host, paths.first);
+    let picture = match &trace.bytes {
         Some(bytes) => picture_of(alloc, line, is_consistent, bytes.as_slice()),
         None => Vec::new(alloc),
     };

@@ -104,20 +104,20 @@ pub(crate) fn decide<'p, R: Threads + Wait + Sync, G: Gate + Sync, H: Host<'p>, 
 }
 
 /// Does the same, with a certificate.
-pub(crate) fn certify<'p, R: Threads + Wait + Sync, G: Gate + Sync, H: Host<'p>, W: Sink>(
+pub(crate) fn certify<'p, R: Threads + Wait + Sync, G: Gate + Sync, H: Host<'p>, C: Sink, W: Sink>(
     alloc: Global,
     rt: &R,
     progress: &G,
     host: &mut H,
     trace: &mut H::Input,
     search: &SearchRequest,
-    cert: &mut H::Output,
+    cert: &mut C,
     out: &mut W,
 ) -> Result<Status, Fault>
     ensures searches { H.calls.searches host.old search.now host.new }
     ensures run { IsRunOfCertifiedVerify
         (source_run H.Input.handed_out H.Input.is_at_end H.Input.failures trace.old trace.new)
-        (sink_run H.Output.written H.Output.failures cert.old cert.new)
+        (sink_run C.written C.failures cert.old cert.new)
         (sink_run W.written W.failures out.old out.new)
         result }
     ensures unknown { result ≡ Ok Unknown → TellsOpen search.now.options

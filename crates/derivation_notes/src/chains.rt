@@ -1,8 +1,8 @@
 //! Orders of two operations as chains of shorter ones.
 
 use crate::facts::{Facts, OrderReason};
-use crate::kept_ops::KeptOp;
 use std::alloc::{AllocError, Global};
+use verdict_notes::KeptOp;
 
 /// The most steps in which a chain is taken apart.
 const MAX_STEPS: u64 = 2_000;

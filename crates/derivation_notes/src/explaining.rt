@@ -1,6 +1,5 @@
 //! Why a trace has no legal schedule, by the derivation of a contradiction.
 
-use crate::kept_ops::kept_ops;
 use crate::needed_steps::{NeededSteps, needed_steps};
 use crate::rests::Rests;
 use crate::story::Story;
@@ -12,6 +11,7 @@ use note_text::{Notes, decimal};
 use reducer::reduced::reduce;
 use std::alloc::{AllocError, Global};
 use trace_semantics::trace::Trace;
+use verdict_notes::kept_ops;
 
 /// The most hints of a derivation that is said clause by clause.
 const MAX_HINTS: u64 = 60;

@@ -9,7 +9,6 @@ mod clause_meaning;
 mod explaining;
 mod facts;
 mod final_sentences;
-mod kept_ops;
 mod literal_words;
 mod needed_steps;
 mod read_sentences;

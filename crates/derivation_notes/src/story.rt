@@ -1,9 +1,8 @@
 //! Sentences, which are noted once all are made.
 
-use crate::kept_ops::KeptOp;
 use note_text::Notes;
 use std::alloc::{AllocError, Global};
-use verdict_notes::Sentence;
+use verdict_notes::{KeptOp, Sentence};
 
 /// Operations by their numbers, and sentences on them.
 #[derive(Drop)]

@@ -50,9 +50,10 @@ pub enum AskedCommand<'t> {
 }
 
 impl<'t> AskedCommand<'t> {
-    /// The files that it read.
-    pub(crate) fn texts(&self) -> AskedTexts<'t> {
+    /// The files that it read, and what failed of what it wrote.
+    pub(crate) fn texts(&self, written: Option<&'t [u8]>) -> AskedTexts<'t> {
         let mut texts = AskedTexts::none();
+        texts.written = written;
         match self {
             AskedCommand::Judge { trace, schedule } => {
                 texts.trace = Some(*trace);

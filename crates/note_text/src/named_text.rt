@@ -9,6 +9,8 @@ pub struct NamedText<'t> {
     pub name: &'t str,
     /// Its bytes.
     pub bytes: Option<&'t [u8]>,
+    /// What failed when it was read again, as `cannot be opened: ..`, if that is known.
+    pub failure: Option<&'t [u8]>,
 }
 
 /// The files of a command, by what each is for.
@@ -28,6 +30,8 @@ pub struct AskedTexts<'t> {
     pub certificate: Option<NamedText<'t>>,
     /// The names of the operations of a part.
     pub names: Option<NamedText<'t>>,
+    /// What failed of a file that was written, or of standard output, with its name, if that is known.
+    pub written: Option<&'t [u8]>,
 }
 
 impl<'t> AskedTexts<'t> {
@@ -41,6 +45,7 @@ impl<'t> AskedTexts<'t> {
             proof: None,
             certificate: None,
             names: None,
+            written: None,
         }
     }
 }

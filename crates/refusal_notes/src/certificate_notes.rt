@@ -1,12 +1,13 @@
 //! Why a certificate was refused.
 
 use crate::earlier_lines::first_line_with;
+use crate::leaf_notes::explain_leaf;
 use crate::meanings::Explained;
 use crate::swapped::{bytes_of, note_swapped};
 use crate::text_kinds::TextKind;
 use certificate::CertCause;
 use note_text::{AskedTexts, NamedText, Notes, decimal};
-use std::alloc::AllocError;
+use std::alloc::{AllocError, Global};
 
 /// Whether the cause is one of the text, and its place a line.
 fn is_of_text(cause: CertCause) -> bool {
@@ -49,6 +50,7 @@ fn note_way_out(notes: &mut Notes, cause: CertCause) -> Result<(), AllocError> {
 
 /// Adds why the certificate was refused at this line or leaf.
 pub(crate) fn explain_certificate(
+    alloc: Global,
     notes: &mut Notes,
     cause: CertCause,
     place: u64,
@@ -63,6 +65,9 @@ pub(crate) fn explain_certificate(
         note_leaf(notes, &text, place)?;
     }
     notes.note(&[cause.meaning().as_bytes()])?;
+    if cause == CertCause::Derivation {
+        explain_leaf(alloc, notes, place, texts)?;
+    }
     note_way_out(notes, cause)?;
     match cause {
         CertCause::Header => note_swapped(notes, &text, TextKind::Certificate, texts),

@@ -1,7 +1,7 @@
 //! The hint at which a step of a derivation fails.
 
 use cnf_text::read_cnf;
-use dimacs::{ClauseList, Formula, Lit};
+use dimacs::{ClauseList, Lit};
 use lrat_check::derivation::Step;
 use lrat_check::lrat_reader::read_lrat;
 use note_text::{Notes, decimal};
@@ -184,12 +184,31 @@ fn follow(
     }
 }
 
-/// Follows the hint by the clause that it names, of the formula or of an earlier step.
-fn follow_named(
+/// Follows the hint by a literal of the cube, which is a clause, or notes that there is no such clause.
+fn follow_literal(
     alloc: Global,
     notes: &mut Notes,
     trues: &mut Vec<Lit>,
-    formula: &Formula,
+    literal: Option<&Lit>,
+    hint: PlacedHint,
+) -> Result<bool, AllocError> {
+    match literal {
+        Some(literal) => follow(alloc, notes, trues, hint, &[*literal]),
+        None => {
+            note_unknown(notes, hint)?;
+            Ok(false)
+        }
+    }
+}
+
+/// Follows the hint by the clause that it names: of an earlier step, of the list, or of the cube, whose literals are clauses after those
+/// of the list.
+fn follow_named<L: ClauseList>(
+    alloc: Global,
+    notes: &mut Notes,
+    trues: &mut Vec<Lit>,
+    clauses: &L,
+    cube: &[Lit],
     earlier: &[Step],
     hint: PlacedHint,
 ) -> Result<bool, AllocError> {
@@ -202,19 +221,20 @@ fn follow_named(
         LastWord::Silence => {}
     }
     let place = usize::try_from(hint.id.saturating_sub(1)).unwrap_or(usize::MAX);
-    if place >= formula.count() {
-        note_unknown(notes, hint)?;
-        return Ok(false);
+    let count = clauses.count();
+    if place >= count {
+        return follow_literal(alloc, notes, trues, cube.get(place - count), hint);
     }
-    let clause = formula.clause(place);
+    let clause = clauses.clause(place);
     follow(alloc, notes, trues, hint, clause.as_slice())
 }
 
 /// Follows the hints up to the first that fails. Groups are not followed.
-fn follow_hints(
+fn follow_hints<L: ClauseList>(
     alloc: Global,
     notes: &mut Notes,
-    formula: &Formula,
+    clauses: &L,
+    cube: &[Lit],
     earlier: &[Step],
     literals: &[Lit],
     hints: &[i64],
@@ -233,25 +253,23 @@ fn follow_hints(
             id: hint.unsigned_abs(),
             place,
         };
-        if !follow_named(alloc, notes, &mut trues, formula, earlier, placed)? {
+        if !follow_named(alloc, notes, &mut trues, clauses, cube, earlier, placed)? {
             return Ok(());
         }
     }
     Ok(())
 }
 
-/// Adds at which hint the step of this number fails, counted from 1, and the clause of that hint.
-pub(crate) fn explain_hint(
+/// Adds at which hint the step of this number fails, counted from 1, in a derivation from these clauses and the literals of the cube. Adds
+/// the clause of that hint too.
+pub(crate) fn explain_hint_of<L: ClauseList>(
     alloc: Global,
     notes: &mut Notes,
-    cnf: &[u8],
-    proof: &[u8],
+    clauses: &L,
+    cube: &[Lit],
+    steps: &[Step],
     step: u64,
 ) -> Result<(), AllocError> {
-    let (Ok(formula), Ok(derivation)) = (read_cnf(alloc, cnf), read_lrat(alloc, proof)) else {
-        return Ok(());
-    };
-    let steps = derivation.steps();
     let number = usize::try_from(step.saturating_sub(1)).unwrap_or(usize::MAX);
     if number >= steps.len() {
         return Ok(());
@@ -267,11 +285,26 @@ pub(crate) fn explain_hint(
         follow_hints(
             alloc,
             notes,
-            &formula,
+            clauses,
+            cube,
             earlier,
             literals.as_slice(),
             hints.as_slice(),
         )?;
     }
     Ok(())
+}
+
+/// Does so for the texts of a formula and of a derivation.
+pub(crate) fn explain_hint(
+    alloc: Global,
+    notes: &mut Notes,
+    cnf: &[u8],
+    proof: &[u8],
+    step: u64,
+) -> Result<(), AllocError> {
+    let (Ok(formula), Ok(derivation)) = (read_cnf(alloc, cnf), read_lrat(alloc, proof)) else {
+        return Ok(());
+    };
+    explain_hint_of(alloc, notes, &formula, &[], derivation.steps(), step)
 }

@@ -7,6 +7,7 @@ mod all_refusals;
 mod certificate_notes;
 mod earlier_lines;
 mod failed_hint;
+mod leaf_notes;
 mod meanings;
 mod name_notes;
 mod names;

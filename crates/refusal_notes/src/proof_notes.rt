@@ -15,15 +15,15 @@ fn is_step(line: &[u8]) -> bool {
     !first.is_empty() && !begins_dimacs_comment(first)
 }
 
-/// The number of the line that is the step of this number, both counted from 1.
-fn line_of_step(bytes: &[u8], step: u64) -> Option<u64> {
+/// The number of the line that is the step of this number after the line of number `start`, all counted from 1.
+pub(crate) fn line_of_step(bytes: &[u8], start: u64, step: u64) -> Option<u64> {
     let mut rest = bytes;
     let mut left = step;
     for number in 1..u64::MAX {
         let Some((line, after)) = cut_line(rest) else {
             return None;
         };
-        if is_step(line) {
+        if number > start && is_step(line) {
             if left <= 1 {
                 return Some(number);
             }
@@ -36,7 +36,7 @@ fn line_of_step(bytes: &[u8], step: u64) -> Option<u64> {
 
 /// Adds the line of the step.
 fn note_step(notes: &mut Notes, text: &NamedText<'_>, step: u64) -> Result<(), AllocError> {
-    match line_of_step(bytes_of(text), step) {
+    match line_of_step(bytes_of(text), 0, step) {
         Some(line) => notes.marked_line(text, line, None),
         None => notes.note(&[text.name.as_bytes(), b": the derivation ends here"]),
     }

@@ -165,19 +165,23 @@ fn explain_search(notes: &mut Notes, cause: SearchCause) -> Result<(), AllocErro
     notes.note(&[b"--workers 1 needs no thread"])
 }
 
-/// Adds that a file could not be read again, if that is so.
+/// Adds that a file could not be read again, if that is so: what failed, or these words if that is not known.
 fn note_unread(
     notes: &mut Notes,
     text: &Option<NamedText<'_>>,
     says: &[u8],
 ) -> Result<(), AllocError> {
     match text {
-        Some(text) if text.bytes.is_none() => notes.note(&[text.name.as_bytes(), says]),
+        Some(text) if text.bytes.is_none() => notes.note(&[
+            text.name.as_bytes(),
+            b": ",
+            text.failure.unwrap_or(says),
+        ]),
         _ => Ok(()),
     }
 }
 
-/// Adds for each file that could not be read again its name and these words.
+/// Adds for each file that could not be read again its name, and what failed or these words.
 fn note_all_unread(
     notes: &mut Notes,
     texts: &AskedTexts<'_>,
@@ -192,10 +196,13 @@ fn note_all_unread(
     note_unread(notes, &texts.names, says)
 }
 
-/// Adds which files cannot be read.
+/// Adds which files cannot be read or written, and what failed.
 fn explain_device(notes: &mut Notes, texts: &AskedTexts<'_>) -> Result<(), AllocError> {
     let before = notes.as_slice().len();
-    note_all_unread(notes, texts, b": the file cannot be opened or read")?;
+    note_all_unread(notes, texts, b"the file cannot be opened or read")?;
+    if let Some(written) = texts.written {
+        notes.note(&[written])?;
+    }
     if notes.as_slice().len() > before {
         return Ok(());
     }
@@ -207,7 +214,7 @@ fn explain_device(notes: &mut Notes, texts: &AskedTexts<'_>) -> Result<(), Alloc
 /// Adds which files are too long.
 fn explain_length(notes: &mut Notes, texts: &AskedTexts<'_>) -> Result<(), AllocError> {
     notes.note(&[b"a file has at most 268435456 bytes"])?;
-    note_all_unread(notes, texts, b": the file is longer, or cannot be read")
+    note_all_unread(notes, texts, b"the file is longer, or cannot be read")
 }
 
 /// Adds what may be done if memory ran out.
@@ -245,7 +252,13 @@ fn explain_proofs(
             )
         }
         Fault::Check(cause, step) => explain_step(alloc, notes, *cause, *step as u64, texts),
-        Fault::Cert(cause, place) => explain_certificate(notes, *cause, *place as u64, texts),
+        Fault::Cert(cause, place) => explain_certificate(
+            alloc,
+            notes,
+            *cause,
+            *place as u64,
+            texts,
+        ),
         _ => Ok(()),
     }
 }

@@ -23,6 +23,7 @@ fn read_again(name: &'static str, bytes: &'static [u8]) -> NamedText<'static> {
     NamedText {
         name,
         bytes: Some(bytes),
+        failure: None,
     }
 }
 
@@ -44,6 +45,7 @@ fn add_lines(notes: &mut Notes) -> Result<(), AllocError> {
     let unread = NamedText {
         name: "u",
         bytes: None,
+        failure: None,
     };
     notes.marked_line(&unread, 9, Some(0))
 }

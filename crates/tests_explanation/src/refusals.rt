@@ -197,6 +197,8 @@ static CASES: [Case; 22] = [
         notes: "note: s:7: proof 1\n\
             note: this is of leaf 1, counted from 0\n\
             note: the proof of a leaf is not accepted for this trace\n\
+            note: s:8: end\n\
+            note: the derivation ends without the empty clause\n\
             note: a certificate is of one trace: it has to be the one for which it was made, in each line that is no comment\n",
     },
     Case {
@@ -220,10 +222,12 @@ fn texts_of(case: &Case) -> AskedTexts<'static> {
     texts.trace = Some(NamedText {
         name: "t",
         bytes: Some(case.first),
+        failure: None,
     });
     let second = Some(NamedText {
         name: "s",
         bytes: Some(case.second),
+        failure: None,
     });
     match case.fault {
         Fault::Part(_, _) => texts.names = second,
@@ -253,20 +257,33 @@ fn explains_refusals(rt: HostRuntime) -> Result<(), AllocError> {
     Ok(())
 }
 
-/// Whether the file that could not be read again is named, and no other.
+/// The notes on two files that could not be read again, and on one that could not be made.
+const UNREAD: &str = "note: s: the file cannot be opened or read\n\
+    note: n: cannot be opened: no such file\n\
+    note: c: cannot be made\n";
+
+/// Whether the file that could not be read again is named, and one that was written, and no other.
 fn names_unread(alloc: Global) -> Result<bool, AllocError> {
     let mut texts = AskedTexts::none();
     texts.trace = Some(NamedText {
         name: "t",
         bytes: Some(b"vsc 1"),
+        failure: None,
     });
     texts.schedule = Some(NamedText {
         name: "s",
         bytes: None,
+        failure: None,
     });
+    texts.names = Some(NamedText {
+        name: "n",
+        bytes: None,
+        failure: Some(b"cannot be opened: no such file"),
+    });
+    texts.written = Some(b"c: cannot be made");
     let mut notes = Notes::new(alloc);
     explain_refusal(alloc, &mut notes, &Fault::Device, &texts)?;
-    Ok(notes.as_slice() == b"note: s: the file cannot be opened or read\n".as_slice())
+    Ok(notes.as_slice() == UNREAD.as_bytes())
 }
 
 /// Whether the list begins with the first cause of a trace and has a line for each refusal.

@@ -30,6 +30,7 @@ fn file<'t>(name: &'t str, text: &'t str) -> NamedText<'t> {
     NamedText {
         name,
         bytes: Some(text.as_bytes()),
+        failure: None,
     }
 }
 
@@ -53,7 +54,7 @@ fn assert_notes(
     number: usize,
 ) {
     let outcome: Result<Status, Fault> = Ok(status);
-    let notes = explain(alloc, asked, &outcome);
+    let notes = explain(alloc, asked, &outcome, None);
     assert!(rt; notes.as_slice() == wanted.as_bytes(), "in case {number}");
 }
 
@@ -164,7 +165,7 @@ fn says_what_to_try(rt: HostRuntime) {
     let report = b"UNKNOWN open=2\nopen 3 0\nopen -3 0\n";
     let asked = search(STORE_BUFFERING, LARGEST, Some(report));
     let cubes =
-        "note: cubes that are open: 2; a legal schedule can only be in one of them\nnote: open: P.1<Q.2\nnote: open: Q.2<P.1\n";
+        "note: cubes that are open: 2; a legal schedule can only be in one of them\nnote: open: P.1 before Q.2\nnote: open: Q.2 before P.1\n";
     assert_notes(rt.alloc(), &rt, &asked, Status::Unknown, cubes, 2);
 }
 
@@ -199,6 +200,6 @@ fn says_why_a_text_is_refused(rt: HostRuntime) {
         trace: file("t.trace", "vsc 3\n"),
     };
     let outcome: Result<Status, Fault> = Err(Fault::Trace(TraceCause::Header, 1));
-    let notes = explain(rt.alloc(), &asked, &outcome);
+    let notes = explain(rt.alloc(), &asked, &outcome, None);
     assert!(rt; !notes.is_empty(), "there is no note");
 }

@@ -1,5 +1,6 @@
 //! The cubes that a report leaves open.
 
+use crate::kept_operations::kept_ops;
 use crate::open_orders::OpenOrders;
 use note_text::{Notes, decimal};
 use reducer::reduced::{Reduced, reduce};
@@ -42,15 +43,6 @@ fn count_open(report: &[u8]) -> u64 {
     count
 }
 
-/// How many operations the trace has.
-fn operations(trace: &Trace) -> u64 {
-    let mut count: u64 = 0;
-    for process in trace.processes() {
-        count = count.saturating_add(process.operations.as_slice().len() as u64);
-    }
-    count
-}
-
 /// Notes how many cubes are open, and the first ones as orders of operations.
 pub fn explain_open_cubes(
     alloc: Global,
@@ -74,7 +66,7 @@ pub fn explain_open_cubes(
     }
 }
 
-/// Notes the open cubes as orders of operations, if the reduced trace has all operations, and so all names.
+/// Notes the first open cubes as orders of operations, under their names in the whole trace.
 fn explain_of_reduced(
     alloc: Global,
     notes: &mut Notes,
@@ -83,11 +75,12 @@ fn explain_of_reduced(
     report: &[u8],
 ) -> Result<(), AllocError> {
     let layout = Layout::of(alloc, reduced)?;
-    if layout.operations() as u64 != operations(trace) {
+    let ops = kept_ops(alloc, trace)?;
+    if ops.len() != layout.operations() {
         return Ok(());
     }
     let orders = OpenOrders {
-        trace,
+        ops: ops.as_slice(),
         layout: &layout,
     };
     let mut shown = 0;

@@ -1,32 +1,18 @@
 //! The literals of an open cube as orders of operations.
 
-use crate::named_operations::place_after;
+use crate::kept_operations::KeptOp;
 use crate::sentence::Sentence;
 use note_text::Notes;
 use std::alloc::{AllocError, Global};
 use text_lines::numbers::{SolverNumber, read_solver_number};
 use text_lines::words::cut_word;
-use trace_semantics::trace::Trace;
 use var_layout::layout::Layout;
 
-/// A trace whose operations all have variables.
+/// The operations of a trace that have variables, and these variables.
 #[derive(Clone, Copy)]
 pub struct OpenOrders<'t> {
-    pub trace: &'t Trace,
+    pub ops: &'t [KeptOp<'t>],
     pub layout: &'t Layout,
-}
-
-/// Adds the name of the operation of this number, counted from 0.
-fn add_numbered(sentence: &mut Sentence, trace: &Trace, number: usize) -> Result<(), AllocError> {
-    let mut rest = number;
-    for process in trace.processes() {
-        let length = process.operations.as_slice().len();
-        if rest < length {
-            return sentence.add_name(process.name.as_bytes(), place_after(rest));
-        }
-        rest -= length;
-    }
-    Ok(())
 }
 
 impl<'t> OpenOrders<'t> {
@@ -51,7 +37,15 @@ impl<'t> OpenOrders<'t> {
         None
     }
 
-    /// Adds what the literal says.
+    /// Adds the name of the operation of this number, counted from 0.
+    fn add_name(&self, sentence: &mut Sentence, number: usize) -> Result<(), AllocError> {
+        match self.ops.get(number) {
+            Some(op) => sentence.add_name(op.process, op.place),
+            None => Ok(()),
+        }
+    }
+
+    /// Adds what the literal says, after what the ones before it say.
     fn add_literal(
         &self,
         sentence: &mut Sentence,
@@ -64,10 +58,12 @@ impl<'t> OpenOrders<'t> {
             return Ok(());
         };
         let (first, second) = if literal.is_negative { (j, i) } else { (i, j) };
-        sentence.add(&[b" "])?;
-        add_numbered(sentence, self.trace, first)?;
-        sentence.add(&[b"<"])?;
-        add_numbered(sentence, self.trace, second)
+        if !sentence.as_slice().is_empty() {
+            sentence.add(&[b", "])?;
+        }
+        self.add_name(sentence, first)?;
+        sentence.add(&[b" before "])?;
+        self.add_name(sentence, second)
     }
 
     /// Notes the cube of these literals.
@@ -88,6 +84,9 @@ impl<'t> OpenOrders<'t> {
             }
             rest = after;
         }
-        notes.note(&[b"open:", sentence.as_slice()])
+        if sentence.as_slice().is_empty() {
+            return notes.note(&[b"open: every order"]);
+        }
+        notes.note(&[b"open: ", sentence.as_slice()])
     }
 }

@@ -3,6 +3,7 @@ ghost use Rattle.std.specs.Prelude.{◌≡◌, ◌+◌, [], IfOk, OnErr, OnOk};
 ghost use Rattle.vsc.specs.FileSink.{path_to};
 
 use crate::stream_sink::StreamSink;
+use command_run::{DeviceCall, DeviceFailure, FailedFile, TellsFailure};
 use dimacs::{Failed, FailureCount, Sink};
 use std::fs::File;
 use std::rt::Files;
@@ -15,12 +16,12 @@ pub struct FileSink<'a> {
 }
 
 impl<'a> FileSink<'a> {
-    /// Makes the file at this path, or empties it. An error is a failure of the system, which is counted.
+    /// Makes the file at this path, or empties it. An error is a failure of the system, which is counted, and what failed.
     pub fn create<R: Files<File = File>>(
         rt: &R,
         path: &'a str,
         failures: &mut FailureCount,
-    ) -> Result<FileSink<'a>, Failed>
+    ) -> Result<FileSink<'a>, DeviceFailure>
         ensures path { IfOk result (λ sink. path_to sink ≡ path.now) }
         ensures written { IfOk result (λ sink. ⟦<FileSink<'a> as Sink>⟧.written sink ≡ []) }
         ensures failures { IfOk result (λ sink. ⟦<FileSink<'a> as Sink>⟧.failures sink ≡ 0) }
@@ -28,14 +29,27 @@ impl<'a> FileSink<'a> {
         ensures failed { OnErr result (failures.new.count ≡ failures.old.count + 1) }
     {
         // An opening that a signal interrupts is tried again within.
-        let Ok(file) = File::create(rt, path) else {
-            failures.rise();
-            return Err(Failed);
-        };
-        Ok(FileSink {
-            path,
-            stream: StreamSink::new(file),
-        })
+        match File::create(rt, path) {
+            Ok(file) => Ok(FileSink {
+                path,
+                stream: StreamSink::new(file),
+            }),
+            Err(error) => {
+                failures.rise();
+                Err(DeviceFailure::of(DeviceCall::Make, &error))
+            }
+        }
+    }
+
+    /// What failed of it, if anything did.
+    pub fn failed(&self) -> Option<FailedFile<'a>> {
+        match self.stream.failure() {
+            Some(failure) => Some(FailedFile {
+                path: self.path,
+                failure,
+            }),
+            None => None,
+        }
     }
 }
 

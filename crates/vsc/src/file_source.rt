@@ -2,6 +2,7 @@
 ghost use Rattle.std.specs.Prelude.{◌≡◌, ◌≤◌, [], false, length, IfOk, IsSome, OnOk};
 ghost use Rattle.vsc.specs.FileSource.{path_of};
 
+use command_run::{DeviceCall, DeviceFailure, TellsFailure};
 use dimacs::{Failed, FailureCount, Transcript};
 use std::fs::File;
 use std::io::{ErrorKind, Read};
@@ -21,6 +22,7 @@ pub struct FileSource<'a> {
     handed_out: Transcript,
     is_at_end: bool,
     failures: FailureCount,
+    failure: Option<DeviceFailure>,
 }
 
 impl<'a> FileSource<'a> {
@@ -38,22 +40,25 @@ impl<'a> FileSource<'a> {
             handed_out: Transcript::new(),
             is_at_end: false,
             failures: FailureCount::new(),
+            failure: None,
         }
     }
 }
 
 /// Reads from the open file or from standard input. A read that a signal interrupts is tried again.
-fn read_open<F: Read>(file: &mut F, buffer: &mut [u8]) -> Result<usize, Failed>
+fn read_open<F: Read>(file: &mut F, buffer: &mut [u8]) -> Result<usize, DeviceFailure>
     ensures { IfOk result (λ count. count ≤ length buffer.old) }
 {
     for _ in 0..u64::MAX {
         match file.read(buffer) {
             Ok(count) => return Ok(count),
-            Err(error) if error.kind() != ErrorKind::Interrupted => return Err(Failed),
+            Err(error) if error.kind() != ErrorKind::Interrupted => {
+                return Err(DeviceFailure::of(DeviceCall::Read, &error));
+            }
             Err(_) => {}
         }
     }
-    Err(Failed)
+    Err(DeviceFailure::without_word(DeviceCall::Read))
 }
 
 /// Reads from the file at this path, which is opened where it is not open yet.
@@ -62,7 +67,7 @@ fn read_file<R: Files<File = File>>(
     path: &str,
     file: &mut Option<File>,
     buffer: &mut [u8],
-) -> Result<usize, Failed>
+) -> Result<usize, DeviceFailure>
     ensures within { IfOk result (λ count. count ≤ length buffer.old) }
     ensures is_open { OnOk result (IsSome file.new) }
 {
@@ -70,12 +75,12 @@ fn read_file<R: Files<File = File>>(
         // An opening that a signal interrupts is tried again within.
         match File::open(rt, path) {
             Ok(opened) => *file = Some(opened),
-            Err(_) => return Err(Failed),
+            Err(error) => return Err(DeviceFailure::of(DeviceCall::Open, &error)),
         }
     }
     match file {
         Some(file) => read_open(file, buffer),
-        None => Err(Failed),
+        None => Err(DeviceFailure::without_word(DeviceCall::Open)),
     }
 }
 
@@ -85,7 +90,7 @@ fn read_path(
     path: &str,
     file: &mut Option<File>,
     buffer: &mut [u8],
-) -> Result<usize, Failed>
+) -> Result<usize, DeviceFailure>
     ensures { IfOk result (λ count. count ≤ length buffer.old) }
 {
     if path == STANDARD_INPUT {
@@ -102,12 +107,23 @@ impl Source for FileSource<'_> {
     ghost failures = { λ s. s.failures.count };
 
     fn read(&mut self, buffer: &mut [u8]) -> Result<usize, Failed> {
-        let Ok(count) = read_path(self.rt, self.path, &mut self.file, buffer) else {
-            self.failures.rise();
-            return Err(Failed);
-        };
-        self.handed_out.extend(&buffer[..count]);
-        self.is_at_end = count == 0;
-        Ok(count)
+        match read_path(self.rt, self.path, &mut self.file, buffer) {
+            Ok(count) => {
+                self.handed_out.extend(&buffer[..count]);
+                self.is_at_end = count == 0;
+                Ok(count)
+            }
+            Err(failure) => {
+                self.failures.rise();
+                self.failure = Some(failure);
+                Err(Failed)
+            }
+        }
+    }
+}
+
+impl TellsFailure for FileSource<'_> {
+    fn failure(&self) -> Option<DeviceFailure> {
+        self.failure
     }
 }

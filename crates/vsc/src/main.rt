@@ -13,7 +13,7 @@ mod progress;
 mod stream_sink;
 mod system_host;
 
-use command_run::{ArgumentFault, refuse, run, words_of};
+use command_run::{ArgumentFault, Recalls, Recorder, refuse, run, words_of};
 use dimacs::Sink;
 use held_numbers::HeldNumbers;
 use progress::Progress;
@@ -38,7 +38,7 @@ fn arguments(rt: &HostRuntime) -> Result<Vec<String>, ArgumentFault> {
 }
 
 /// Does what the words ask for, with the files of the system, and gives the exit status.
-fn run_words<'x, R: Threads + Wait + Sync, O: Sink, E: Sink>(
+fn run_words<'x, R: Threads + Wait + Sync, O: Sink + Recalls, E: Sink>(
     rt: &'x HostRuntime,
     threads: &R,
     words: &'x [&'x str],
@@ -58,7 +58,7 @@ fn run_words<'x, R: Threads + Wait + Sync, O: Sink, E: Sink>(
 
 fn main(rt: HostRuntime) -> ExitCode {
     let _held = HeldNumbers::take(&rt);
-    let mut out = StreamSink::new(rt.stdout());
+    let mut out = Recorder::keeping(rt.alloc(), StreamSink::new(rt.stdout()));
     let mut err = StreamSink::new(rt.stderr());
     let texts = match arguments(&rt) {
         Ok(texts) => texts,

@@ -1,6 +1,7 @@
 //! A stream of the system as a sink.
 ghost use Rattle.std.specs.Prelude.{◌≡◌, ◌<◌, ◌≤◌, [], length, IfOk};
 
+use command_run::{DeviceCall, DeviceFailure, TellsFailure};
 use dimacs::{Failed, FailureCount, Sink, Transcript};
 use std::io::{ErrorKind, Write};
 
@@ -10,6 +11,7 @@ pub struct StreamSink<W> {
     stream: W,
     written: Transcript,
     failures: FailureCount,
+    failure: Option<DeviceFailure>,
 }
 
 impl<W: Write> StreamSink<W> {
@@ -22,24 +24,26 @@ impl<W: Write> StreamSink<W> {
             stream,
             written: Transcript::new(),
             failures: FailureCount::new(),
+            failure: None,
         }
     }
 }
 
 /// Writes the first bytes of the slice, at least one where there is one, and says how many. A write that a signal interrupts is tried
 /// again.
-fn write_some<W: Write>(stream: &mut W, bytes: &[u8]) -> Result<usize, Failed>
+fn write_some<W: Write>(stream: &mut W, bytes: &[u8]) -> Result<usize, DeviceFailure>
     ensures within { IfOk result (λ count. count ≤ length bytes.now) }
     ensures some { 0 < length bytes.now → IfOk result (λ count. 0 < count) }
 {
     for _ in 0..u64::MAX {
         match stream.write(bytes) {
             Ok(count) if count > 0 || bytes.is_empty() => return Ok(count),
+            Ok(_) => return Err(DeviceFailure::without_word(DeviceCall::Write)),
             Err(error) if error.kind() == ErrorKind::Interrupted => {}
-            _ => return Err(Failed),
+            Err(error) => return Err(DeviceFailure::of(DeviceCall::Write, &error)),
         }
     }
-    Err(Failed)
+    Err(DeviceFailure::without_word(DeviceCall::Write))
 }
 
 impl<W: Write> Sink for StreamSink<W> {
@@ -48,11 +52,22 @@ impl<W: Write> Sink for StreamSink<W> {
     ghost failures = { λ s. s.failures.count };
 
     fn write(&mut self, bytes: &[u8]) -> Result<usize, Failed> {
-        let Ok(count) = write_some(&mut self.stream, bytes) else {
-            self.failures.rise();
-            return Err(Failed);
-        };
-        self.written.extend(&bytes[..count]);
-        Ok(count)
+        match write_some(&mut self.stream, bytes) {
+            Ok(count) => {
+                self.written.extend(&bytes[..count]);
+                Ok(count)
+            }
+            Err(failure) => {
+                self.failures.rise();
+                self.failure = Some(failure);
+                Err(Failed)
+            }
+        }
+    }
+}
+
+impl<W> TellsFailure for StreamSink<W> {
+    fn failure(&self) -> Option<DeviceFailure> {
+        self.failure
     }
 }

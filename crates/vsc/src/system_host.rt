@@ -1,7 +1,7 @@
 //! The system as the host of a command.
 use crate::file_sink::FileSink;
 use crate::file_source::{FileSource, STANDARD_INPUT};
-use command_run::{Host, SearchRequest};
+use command_run::{FailedFile, Host, SearchRequest};
 use dimacs::{Failed, FailureCount};
 use std::fs::metadata;
 use std::os::unix::fs::MetadataExt;
@@ -41,6 +41,7 @@ fn is_same_place(rt: &HostRuntime, first: &str, second: &str) -> bool {
 pub struct SystemHost<'a> {
     rt: &'a HostRuntime,
     failures: FailureCount,
+    failed: Option<FailedFile<'a>>,
 }
 
 impl<'a> SystemHost<'a> {
@@ -49,6 +50,7 @@ impl<'a> SystemHost<'a> {
         SystemHost {
             rt,
             failures: FailureCount::new(),
+            failed: None,
         }
     }
 }
@@ -67,10 +69,20 @@ impl<'a> Host<'a> for SystemHost<'a> {
     }
 
     fn create(&mut self, path: &'a str) -> Result<FileSink<'a>, Failed> {
-        FileSink::create(self.rt, path, &mut self.failures)
+        match FileSink::create(self.rt, path, &mut self.failures) {
+            Ok(file) => Ok(file),
+            Err(failure) => {
+                self.failed = Some(FailedFile { path, failure });
+                Err(Failed)
+            }
+        }
     }
 
-    fn close(&mut self, _file: FileSink<'a>) {}
+    fn close(&mut self, file: FileSink<'a>) {
+        if let Some(failed) = file.failed() {
+            self.failed = Some(failed);
+        }
+    }
 
     fn is_same_file(&mut self, first: &str, second: &str) -> bool {
         // The path of standard input may also be that of a file that is written.
@@ -80,4 +92,8 @@ impl<'a> Host<'a> for SystemHost<'a> {
     }
 
     fn begin_search(&mut self, _search: &SearchRequest) {}
+
+    fn failed_file(&self) -> Option<FailedFile<'a>> {
+        self.failed
+    }
 }

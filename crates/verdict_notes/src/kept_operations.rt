@@ -1,9 +1,9 @@
 //! The operations that have numbers in the formula of a trace, by their names in the whole trace.
 
+use crate::named_operations::{is_named, origin_of, place_after};
 use std::alloc::{AllocError, Global};
 use trace_semantics::operation::{Op, Origin};
 use trace_semantics::trace::{Process, Trace};
-use verdict_notes::{is_named, origin_of, place_after};
 
 /// An operation that is not left out of the formula.
 #[derive(Clone, Copy)]
