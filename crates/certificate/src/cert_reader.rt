@@ -19,7 +19,7 @@ use text_lines::comments::is_dimacs_skipped_line;
 use text_lines::fault::PlacedFault;
 use text_lines::lines::cut_line;
 
-/// What follows the header, and the number of its line.
+/// Gives what follows the header, and the number of its line.
 fn read_header(text: &[u8]) -> Result<(&[u8], usize), CertFault>
     ensures headed { IfOk result (λ read. IsHeaded text.now read.0.now read.1) }
     ensures shorter { IfOk result (λ read. read.1 + length read.0.now ≤ length text.now) }
@@ -40,7 +40,7 @@ fn read_header(text: &[u8]) -> Result<(&[u8], usize), CertFault>
     Err(CertFault::At(CertCause::Header, number + 1))
 }
 
-/// What is wrong with the tree, as it is reported of the certificate.
+/// Gives what is wrong with the tree, as it is reported of the certificate.
 fn cause_of_tree(cause: TreeCause) -> CertCause
     ensures { result ≡ of_tree cause }
 {

@@ -21,14 +21,14 @@ use lrat_check::formula_counts::FormulaCounts;
 use lrat_check::refusal::Refusal;
 use std::alloc::{AllocError, Global};
 
-/// Whether one of the sections is of this leaf.
+/// Checks whether one of the sections is of this leaf.
 fn has_section(sections: &[Section], leaf: u32) -> bool
     ensures { result ≡ list_any (is_of leaf) sections.now }
 {
     sections.iter().any(|section| section.leaf == leaf)
 }
 
-/// What is wrong with a section after these, if the tree has `count` leaves.
+/// Gives what is wrong with a section after these, if the tree has `count` leaves.
 fn fault_of(before: &[Section], section: &Section, count: u32) -> Option<CertCause>
     ensures { result ≡ section_fault count before.now section.now }
 {
@@ -78,7 +78,7 @@ fn section_of(sections: &[Section], leaf: u32) -> Option<&Section>
     None
 }
 
-/// Whether the derivation is accepted for the cube.
+/// Checks whether the derivation is accepted for the cube.
 fn is_accepted<L: ClauseList>(
     alloc: Global,
     clauses: &L,

@@ -34,7 +34,7 @@ fn cycle_clause<'a>(layout: &Layout, triple: Triple) -> ListedClause<'a>
     }
 }
 
-/// Whether the assignment makes these clauses true. If not, the first one that it makes false.
+/// Checks whether the assignment makes these clauses true. If not, the first one that it makes false.
 fn eval_stored(stored: &[Clause], assignment: &Assignment) -> Result<(), FirstFalse>
     ensures model { OnOk result (IsModel (value_of assignment.now) stored.now) }
     ensures first { IfErr result (λ found. IsFirstFalse (value_of assignment.now) stored.now found.clause) }
@@ -65,7 +65,7 @@ impl TraceClauses {
         }
     }
 
-    /// Whether the assignment makes the clauses true of which i is the lowest operation of three. If not, the first one that it
+    /// Checks whether the assignment makes the clauses true of which i is the lowest operation of three. If not, the first one that it
     /// makes false.
     fn eval_from(&self, i: usize, assignment: &Assignment) -> Result<(), FirstFalse>
         ensures model { OnOk result (IsModel (value_of assignment.now) (blocks.transitivity_from (operation_count self.now) i)) }
@@ -80,7 +80,7 @@ impl TraceClauses {
         Ok(())
     }
 
-    /// Whether the assignment makes the clauses of a piece true. If not, the first of them that it makes false. If it puts the
+    /// Checks whether the assignment makes the clauses of a piece true. If not, the first of them that it makes false. If it puts the
     /// operations in an order, those of transitivity are not evaluated, since they are true then.
     fn eval_piece(
         &self,

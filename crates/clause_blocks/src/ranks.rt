@@ -11,7 +11,7 @@ use crate::laws::ranked_without_cycle;
 use dimacs::Assignment;
 use var_layout::layout::Layout;
 
-/// Whether the assignment says that operation i stands before the later operation j.
+/// Checks whether the assignment says that operation i stands before the later operation j.
 fn stands_before(layout: &Layout, assignment: &Assignment, i: usize, j: usize) -> bool
     requires rising { i < j }
     requires within { j < operation_count layout.now }
@@ -38,7 +38,7 @@ fn ranks(layout: &Layout, assignment: &Assignment) -> [u8; 160] {
     ranks
 }
 
-/// Whether the assignment says of an operation and each later one that the one of the lower rank stands first.
+/// Checks whether the assignment says of an operation and each later one that the one of the lower rank stands first.
 fn agrees_from(layout: &Layout, assignment: &Assignment, ranks: &[u8; 160], i: usize) -> bool
     requires { i < operation_count layout.now }
     ensures { IsTrue result → IsRankedFrom (value_of assignment.now) (operation_count layout.now) (slice_index ranks.now) i }
@@ -52,7 +52,7 @@ fn agrees_from(layout: &Layout, assignment: &Assignment, ranks: &[u8; 160], i: u
     true
 }
 
-/// Whether the assignment puts the operations in an order, so that no three of them stand in a cycle.
+/// Checks whether the assignment puts the operations in an order, so that no three of them stand in a cycle.
 pub(crate) fn puts_in_order(layout: &Layout, assignment: &Assignment) -> bool
     ensures { IsTrue result → IsModel (value_of assignment.now) (blocks.transitivity (operation_count layout.now)) }
 {

@@ -172,7 +172,7 @@ impl ReadsFromTable {
         self.variable(reader, self.elements)
     }
 
-    /// Whether the element writes a location of others.
+    /// Checks whether the element writes a location of others.
     #[inline(always)]
     pub fn writes(&self, element: u32) -> bool {
         at(self.writing.as_slice(), element, 0) != 0
@@ -188,7 +188,7 @@ impl ReadsFromTable {
         }
     }
 
-    /// Whether the element reads.
+    /// Checks whether the element reads.
     pub fn reads(&self, element: u32) -> bool {
         at(self.reading.as_slice(), element, 0) != 0
     }

@@ -91,7 +91,7 @@ impl Body {
         Ok(())
     }
 
-    /// What is wrong if the text ends here.
+    /// Gives what is wrong if the text ends here.
     pub fn fault_at_end(&self, counts: Counts) -> Option<CnfCause>
         ensures { result ≡ fault_at_end (record { variables = counts.variables; clauses = counts.clauses }) self.now.clauses.items self.now.begun.items }
     {

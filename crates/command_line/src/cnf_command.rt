@@ -40,7 +40,7 @@ pub fn new_cnf_command<'a>(alloc: Global) -> Result<Command<'a>, AllocError>
     command_of_two(alloc, "cnf", ABOUT, EXAMPLE, trace, workers)
 }
 
-/// What the matches of the command ask for.
+/// Gives what the matches of the command ask for.
 pub fn cnf_line<'a>(matches: &ArgMatches<'a>) -> CommandLine<'a>
     requires trace { IsSome (first_value (found_of matches.now) (codes "trace")) }
     requires workers { HasWorkers (found_of matches.now) }

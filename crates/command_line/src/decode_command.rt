@@ -43,7 +43,7 @@ pub fn new_decode_command<'a>(alloc: Global) -> Result<Command<'a>, AllocError>
     command_of_two(alloc, "decode", ABOUT, EXAMPLE, trace, model)
 }
 
-/// What the matches of the command ask for.
+/// Gives what the matches of the command ask for.
 pub fn decode_line<'a>(matches: &ArgMatches<'a>) -> CommandLine<'a>
     requires trace { IsSome (first_value (found_of matches.now) (codes "trace")) }
     requires model { IsSome (first_value (found_of matches.now) (codes "model")) }

@@ -42,7 +42,7 @@ pub fn new_judge_command<'a>(alloc: Global) -> Result<Command<'a>, AllocError>
     command_of_two(alloc, "judge", ABOUT, EXAMPLE, trace, schedule)
 }
 
-/// What the matches of the command ask for.
+/// Gives what the matches of the command ask for.
 pub fn judge_line<'a>(matches: &ArgMatches<'a>) -> CommandLine<'a>
     requires trace { IsSome (first_value (found_of matches.now) (codes "trace")) }
     requires schedule { IsSome (first_value (found_of matches.now) (codes "schedule")) }

@@ -39,7 +39,7 @@ impl LineFault {
         }
     }
 
-    /// What kind of fault it is.
+    /// Gives what kind of fault it is.
     pub fn kind(&self) -> ErrorKind
         ensures { result ≡ self.now }
     {

@@ -36,7 +36,7 @@ pub fn new_lrat_command<'a>(alloc: Global) -> Result<Command<'a>, AllocError>
     command_of_two(alloc, "lrat", ABOUT, EXAMPLE, cnf, proof)
 }
 
-/// What the matches of the command ask for.
+/// Gives what the matches of the command ask for.
 pub fn lrat_line<'a>(matches: &ArgMatches<'a>) -> CommandLine<'a>
     requires cnf { IsSome (first_value (found_of matches.now) (codes "cnf")) }
     requires proof { IsSome (first_value (found_of matches.now) (codes "proof")) }

@@ -61,7 +61,7 @@ pub fn new_part_command<'a>(alloc: Global) -> Result<Command<'a>, AllocError>
     command_of_three(alloc, "part", ABOUT, EXAMPLE, trace, names, shows_names)
 }
 
-/// What the matches of the command ask for.
+/// Gives what the matches of the command ask for.
 pub fn part_line<'a>(matches: &ArgMatches<'a>) -> CommandLine<'a>
     requires trace { IsSome (first_value (found_of matches.now) (codes "trace")) }
     requires names { IsSome (first_value (found_of matches.now) (codes "names")) }

@@ -61,7 +61,7 @@ pub fn new_recheck_command<'a>(alloc: Global) -> Result<Command<'a>, AllocError>
     command_of_three(alloc, "recheck", ABOUT, EXAMPLE, trace, cert, part)
 }
 
-/// What the matches of the command ask for.
+/// Gives what the matches of the command ask for.
 pub fn recheck_line<'a>(matches: &ArgMatches<'a>) -> CommandLine<'a>
     requires trace { IsSome (first_value (found_of matches.now) (codes "trace")) }
     requires cert { IsSome (first_value (found_of matches.now) (codes "cert")) }

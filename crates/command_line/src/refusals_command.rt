@@ -37,7 +37,7 @@ pub fn new_refusals_command<'a>(alloc: Global) -> Result<Command<'a>, AllocError
     Ok(command)
 }
 
-/// What the matches of the command ask for.
+/// Gives what the matches of the command ask for.
 pub fn refusals_line<'a>(matches: &ArgMatches<'a>) -> CommandLine<'a>
     requires explain { HasFlag (codes "explain") (found_of matches.now) }
     ensures { AsksWith (Some (codes "refusals")) (first_value (found_of matches.now)) result }

@@ -110,7 +110,7 @@ fn files_of<'a>(matches: &ArgMatches<'a>) -> SurveyFiles<'a>
     }
 }
 
-/// What the matches of the command ask for.
+/// Gives what the matches of the command ask for.
 pub fn survey_line<'a>(matches: &ArgMatches<'a>) -> CommandLine<'a>
     requires trace { IsSome (first_value (found_of matches.now) (codes "trace")) }
     requires budget { HasNumber (codes "budget") 0 1000000000 (found_of matches.now) }

@@ -73,7 +73,7 @@ pub fn new_verify_command<'a>(alloc: Global) -> Result<Command<'a>, AllocError>
     with_two(command, progress, picture)
 }
 
-/// What the matches of the command ask for.
+/// Gives what the matches of the command ask for.
 pub fn verify_line<'a>(matches: &ArgMatches<'a>) -> CommandLine<'a>
     requires trace { IsSome (first_value (found_of matches.now) (codes "trace")) }
     requires workers { HasWorkers (found_of matches.now) }

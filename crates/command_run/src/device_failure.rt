@@ -39,7 +39,7 @@ impl DeviceFailure {
         DeviceFailure { call, code: None }
     }
 
-    /// What failed, in words.
+    /// Gives what failed, in words.
     fn says(&self) -> &'static str {
         match self.call {
             DeviceCall::Open => "cannot be opened",
@@ -49,7 +49,7 @@ impl DeviceFailure {
         }
     }
 
-    /// What failed after these words, and why, as the system says it.
+    /// Gives what failed after these words, and why, as the system says it.
     pub(crate) fn told(&self, alloc: Global, front: &str) -> Result<String, AllocError> {
         let says = self.says();
         match self.code {
@@ -73,7 +73,7 @@ pub struct FailedFile<'p> {
 }
 
 impl FailedFile<'_> {
-    /// What failed of it, and why, with its path in front.
+    /// Gives what failed of it, and why, with its path in front.
     pub(crate) fn told(&self, alloc: Global) -> Result<String, AllocError> {
         let path = self.path;
         let front = format!(in alloc; "{path}: ")?;
@@ -83,7 +83,7 @@ impl FailedFile<'_> {
 
 /// What can be asked what failed of it. Explanations alone ask, so nothing is promised of the answer.
 pub trait TellsFailure {
-    /// What failed of it last, if that is known.
+    /// Gives what failed of it last, if that is known.
     fn failure(&self) -> Option<DeviceFailure>;
 }
 

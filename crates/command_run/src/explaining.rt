@@ -40,7 +40,7 @@ struct InputTexts {
     third: InputText,
 }
 
-/// What failed of what has this name, in words, if that is known and memory suffices.
+/// Gives what failed of what has this name, in words, if that is known and memory suffices.
 fn words_of(alloc: Global, name: &str, failure: Option<DeviceFailure>) -> Option<String> {
     match failure {
         Some(failure) => failure.told(alloc, name).ok(),
@@ -123,7 +123,7 @@ fn named<'t>(name: &'t str, text: &'t InputText) -> NamedText<'t> {
     }
 }
 
-/// What failed of a file that was written, or else of standard output, in words.
+/// Gives what failed of a file that was written, or else of standard output, in words.
 fn failed_writing(
     alloc: Global,
     file: Option<FailedFile<'_>>,
@@ -154,7 +154,7 @@ fn asked_verify<'t>(
     }
 }
 
-/// What was asked by `verify` or `survey`, or nothing if it was another command.
+/// Gives what was asked by `verify` or `survey`, or nothing if it was another command.
 fn asked_search<'t>(
     line: Line<'t>,
     texts: &'t InputTexts,
@@ -173,7 +173,7 @@ fn asked_search<'t>(
     }
 }
 
-/// What was asked, with the files that were read for it, or nothing if none was.
+/// Gives what was asked, with the files that were read for it, or nothing if none was.
 fn asked_command<'t>(
     line: Line<'t>,
     texts: &'t InputTexts,

@@ -47,6 +47,6 @@ pub trait Host<'p> {
     fn begin_search(&mut self, search: &SearchRequest)
         ensures { calls.searches self.old search.now self.new };
 
-    /// What failed of a file that was made or written, if that is known. Explanations alone ask, so nothing is promised of the answer.
+    /// Gives what failed of a file that was made or written, if that is known. Explanations alone ask, so nothing is promised of the answer.
     fn failed_file(&self) -> Option<FailedFile<'p>>;
 }

@@ -39,7 +39,7 @@ impl<'p> MemoryHost<'p> {
         self
     }
 
-    /// What the file that was made has taken, after it was given back.
+    /// Gives what the file that was made has taken, after it was given back.
     pub fn made(&self) -> Option<&[u8]> {
         self.made.as_ref().map(|file| file.as_slice())
     }

@@ -78,7 +78,7 @@ impl<S: Sink> Recorder<S> {
         }
     }
 
-    /// How many bytes it took.
+    /// The number of bytes that it took.
     pub(crate) fn taken(&self) -> u64 {
         self.record.taken
     }

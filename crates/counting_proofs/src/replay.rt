@@ -55,7 +55,7 @@ impl Replay {
         Ok(())
     }
 
-    /// Whether the literal is true.
+    /// Checks whether the literal is true.
     fn is_true(&self, literal: u32) -> bool {
         self.trues.as_slice().iter().any(|other| *other == literal)
     }
@@ -101,7 +101,7 @@ impl Replay {
         Ok(())
     }
 
-    /// Whether a clause has become false.
+    /// Checks whether a clause has become false.
     pub fn is_done(&self) -> bool {
         self.is_done
     }

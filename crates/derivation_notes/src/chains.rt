@@ -33,7 +33,7 @@ pub fn chain_between(
     Ok(chain)
 }
 
-/// Whether the first operation stands before the second in one process.
+/// Checks whether the first operation stands before the second in one process.
 pub fn is_program_order(ops: &[KeptOp<'_>], first: usize, second: usize) -> bool {
     match (ops.get(first), ops.get(second)) {
         (Some(first), Some(second)) => {
@@ -58,7 +58,7 @@ pub fn shortened(
     Ok(kept)
 }
 
-/// Whether the operation at this place stands between its neighbours in their process.
+/// Checks whether the operation at this place stands between its neighbours in their process.
 fn is_inner(ops: &[KeptOp<'_>], chain: &[usize], k: usize) -> bool {
     if k == 0 || k >= chain.len() {
         return false;

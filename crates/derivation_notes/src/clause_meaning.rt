@@ -74,7 +74,7 @@ fn found(meaning: Option<ClauseMeaning>) -> LookUp {
     }
 }
 
-/// What the clause at this place of those of a choice of the reader says.
+/// Gives what the clause at this place of those of a choice of the reader says.
 fn meaning_of_choice(
     reader: usize,
     choice: ReadsFromChoice,
@@ -161,7 +161,7 @@ fn search_last(
     LookUp::Beyond(rest)
 }
 
-/// What the clause at this place of those of reads says.
+/// Gives what the clause at this place of those of reads says.
 fn meaning_of_read(layout: &Layout, place: usize) -> Option<ClauseMeaning> {
     let mut rest = place;
     for reader in 0..layout.operations() {
@@ -174,7 +174,7 @@ fn meaning_of_read(layout: &Layout, place: usize) -> Option<ClauseMeaning> {
     None
 }
 
-/// What the clause at this place of those of final values says. A final value that nothing leaves has two clauses, and one that is there
+/// Gives what the clause at this place of those of final values says. A final value that nothing leaves has two clauses, and one that is there
 /// from the start has none.
 fn meaning_of_final(layout: &Layout, place: usize) -> Option<ClauseMeaning> {
     let mut rest = place;
@@ -200,14 +200,14 @@ fn meaning_of_final(layout: &Layout, place: usize) -> Option<ClauseMeaning> {
     Some(ClauseMeaning::BeforePair)
 }
 
-/// Whether nothing leaves the final value of this number.
+/// Checks whether nothing leaves the final value of this number.
 fn is_void_final(layout: &Layout, k: usize) -> bool {
     layout
         .void_var(var_layout::layout::ReadsFromOwner::Final(k))
         .is_some()
 }
 
-/// What the clause at this place says, counted from 0.
+/// Gives what the clause at this place says, counted from 0.
 pub fn meaning_at(clauses: &TraceClauses, place: usize) -> Option<ClauseMeaning> {
     let layout = clauses.layout();
     if place < clauses.transitivity_start() {

@@ -72,7 +72,7 @@ impl Facts {
         Ok(())
     }
 
-    /// Whether the literal of this number is true.
+    /// Checks whether the literal of this number is true.
     fn is_true(&self, number: i64) -> bool {
         for literal in &self.literals {
             if literal.number() as i64 == number {
@@ -82,7 +82,7 @@ impl Facts {
         false
     }
 
-    /// What they make of the clause of these literals.
+    /// Gives what they make of the clause of these literals.
     pub fn implication(&self, literals: &[Lit]) -> Implication {
         let mut open = None;
         for literal in literals {

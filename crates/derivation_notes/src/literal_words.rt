@@ -41,7 +41,7 @@ fn last_of(layout: &Layout, variable: u32) -> Option<usize> {
     None
 }
 
-/// What the variable stands for, if it is none of the order.
+/// Gives what the variable stands for, if it is none of the order.
 fn meaning_of(layout: &Layout, variable: u32) -> VariableMeaning {
     for reader in 0..layout.operations() {
         if let Some(candidate) = choice_of(layout, reader, variable) {

@@ -47,7 +47,7 @@ impl Wanted {
         }
     }
 
-    /// Whether the clause of this id is wanted.
+    /// Checks whether the clause of this id is wanted.
     fn wants(&self, id: u64) -> bool {
         match self.place(id) {
             Some(place) => self.marks.get(place).copied().unwrap_or(false),
@@ -120,7 +120,7 @@ pub fn needed_steps<'d>(
 }
 
 impl<'d> NeededSteps<'d> {
-    /// How many hints the steps have together.
+    /// The number of hints of all steps together.
     pub fn hints(&self) -> u64 {
         let mut count: u64 = 0;
         for step in &self.steps {
@@ -129,7 +129,7 @@ impl<'d> NeededSteps<'d> {
         count
     }
 
-    /// How many steps there are.
+    /// The number of steps.
     pub fn count(&self) -> u64 {
         self.steps.len() as u64
     }

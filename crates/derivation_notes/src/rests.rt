@@ -25,7 +25,7 @@ fn mark(marks: &mut Vec<bool>, place: usize) {
     }
 }
 
-/// How many places are marked.
+/// The number of marked places.
 fn count(marks: &[bool]) -> u64 {
     let mut count: u64 = 0;
     for marked in marks {
@@ -120,7 +120,7 @@ impl Rests {
         }
     }
 
-    /// How many clauses there are.
+    /// The number of clauses.
     pub fn count_clauses(&self) -> u64 {
         count(self.clauses.as_slice())
     }

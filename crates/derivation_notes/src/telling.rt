@@ -58,7 +58,7 @@ impl<'t> Teller<'t> {
         self.clauses.layout().operations()
     }
 
-    /// What the literal concludes.
+    /// Gives what the literal concludes.
     fn conclusion_of(&self, literal: Lit) -> Conclusion {
         match order_of(self.operations(), literal) {
             Some((first, second)) => Conclusion::Order(first, second),
@@ -66,7 +66,7 @@ impl<'t> Teller<'t> {
         }
     }
 
-    /// Whether a sentence has said that the first operation stands before the second.
+    /// Checks whether a sentence has said that the first operation stands before the second.
     fn has_said(&self, first: usize, second: usize) -> bool {
         for pair in &self.said {
             if pair.0 == first && pair.1 == second {

@@ -53,21 +53,21 @@ impl Assignment {
         1 <= place && place <= self.values.len() && self.values[place - 1]
     }
 
-    /// Whether it makes the literal true.
+    /// Checks whether it makes the literal true.
     fn makes_one(&self, literal: Lit) -> bool
         ensures { result ≡ makes_true (value_of self.now) literal }
     {
         self.value(literal.variable()) == literal.is_positive()
     }
 
-    /// Whether it makes all of the literals true.
+    /// Checks whether it makes all of the literals true.
     pub fn makes(&self, literals: &[Lit]) -> bool
         ensures { result ≡ makes_all (value_of self.now) literals.now }
     {
         literals.iter().all(|literal| self.makes_one(*literal))
     }
 
-    /// Whether it makes one of the literals true.
+    /// Checks whether it makes one of the literals true.
     pub fn satisfies(&self, clause: &[Lit]) -> bool
         ensures { result ≡ makes_some (value_of self.now) clause.now }
     {

@@ -35,7 +35,7 @@ pub trait ClauseList {
         ensures formula { IsTrue (is_formula (formula self.now)) }
         ensures clauses { IsTrue (list_all is_clause (formula self.now).clauses) };
 
-    /// Whether the assignment is a model: it makes a literal of each clause true. If not, the first clause of which
+    /// Checks whether the assignment is a model: it makes a literal of each clause true. If not, the first clause of which
     /// it makes none true.
     fn eval(&self, assignment: &Assignment) -> Result<(), FirstFalse>
         ensures model { IsOk result ↔ IsModel (value_of assignment.now) (formula self.now).clauses }

@@ -54,7 +54,7 @@ fn recall_clauses(clauses: &[Clause])
 }
 
 impl Formula {
-    /// Whether the clauses are over the variables 1 to that, as `new` asks.
+    /// Checks whether the clauses are over the variables 1 to that, as `new` asks.
     pub fn fits(variables: u32, clauses: &[Clause]) -> bool
         ensures { result ≡ is_formula (record { variables = variables; clauses = clauses.now }) }
     {
@@ -100,7 +100,7 @@ impl Formula {
         clauses
     }
 
-    /// Whether the assignment is a model: it makes a literal of each clause true. If not, the first clause of which
+    /// Checks whether the assignment is a model: it makes a literal of each clause true. If not, the first clause of which
     /// it makes none true.
     pub fn eval(&self, assignment: &Assignment) -> Result<(), FirstFalse>
         ensures model { IsOk result ↔ IsModel (value_of assignment.now) self.now.clauses }

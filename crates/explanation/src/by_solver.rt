@@ -18,7 +18,7 @@ fn short(number: usize) -> u32 {
     u32::try_from(number).unwrap_or(u32::MAX)
 }
 
-/// What the solver knows of the clauses: which of them are transitivity. Of reads it knows nothing, so that it proves by propagation and
+/// Gives what the solver knows of the clauses: which of them are transitivity. Of reads it knows nothing, so that it proves by propagation and
 /// not by counting.
 fn encoding_of<'a>(clauses: &TraceClauses) -> EncodingHints<'a> {
     let operations = short(clauses.layout().operations());

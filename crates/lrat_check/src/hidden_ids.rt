@@ -31,21 +31,21 @@ impl HiddenIds {
         }
     }
 
-    /// Whether the table reaches to the id.
+    /// Checks whether the table reaches to the id.
     pub fn reaches(&self, id: usize) -> bool
         ensures { result ≡ nat_lt id (vec_len self.now.near) }
     {
         id < self.near.len()
     }
 
-    /// Whether the table hides the id.
+    /// Checks whether the table hides the id.
     pub fn is_near(&self, id: usize) -> bool
         ensures { result ≡ marked_at self.now.near.items id }
     {
         marked_at(self.near.as_slice(), id)
     }
 
-    /// Whether the id stands in the tree.
+    /// Checks whether the id stands in the tree.
     fn is_far(&self, id: usize) -> bool
         ensures { result ≡ contains nat_cmp self.now.far id }
     {
@@ -55,7 +55,7 @@ impl HiddenIds {
         self.far.contains(&id)
     }
 
-    /// Whether the id is hidden.
+    /// Checks whether the id is hidden.
     pub fn has(&self, id: usize) -> bool
         ensures { result ≡ is_hidden self.now id }
     {

@@ -19,7 +19,7 @@ use crate::true_literals::TrueLiterals;
 use dimacs::{ClauseList, Lit};
 use std::alloc::Global;
 
-/// What is wrong with an empty clause whose first hints lead to no conflict.
+/// Gives what is wrong with an empty clause whose first hints lead to no conflict.
 fn without_pivot(hints: &[i64]) -> StepFault
     ensures { (active : ℕ → Option (List ℤ)) (reached : List ℤ) → IsNoRat active [] (groups_of hints.now) reached result }
 {
@@ -29,7 +29,7 @@ fn without_pivot(hints: &[i64]) -> StepFault
     }
 }
 
-/// What is wrong if an active clause that holds the pivot's negation has no group.
+/// Gives what is wrong if an active clause that holds the pivot's negation has no group.
 fn without_group(hints: &[i64]) -> StepFault
     ensures { result ≡ missing (groups_of hints.now) }
 {

@@ -139,7 +139,7 @@ fn read_deletion(alloc: Global, word: &[u8], rest: &[u8], number: usize) -> Resu
     Ok(Step::Deletion { first, ids })
 }
 
-/// What follows the `d`, if the next word is one.
+/// Gives what follows the `d`, if the next word is one.
 fn behind_letter(rest: &[u8]) -> Option<&[u8]>
     ensures { MatchOption result (is_deletion (words_of rest.now) ≡ false) (λ after. words_of rest.now ≡ codes "d" ∷ words_of after.now) }
 {

@@ -15,7 +15,7 @@ const PLACES_FOR_EACH: usize = 64;
 /// The number of entries whose places are paid for before any was made, so that a table serves small formulas at once.
 const PAID_AT_START: usize = 256;
 
-/// Whether a table that reaches to this place is paid for by this number of entries. Then its time and its memory are at most a fixed
+/// Checks whether a table that reaches to this place is paid for by this number of entries. Then its time and its memory are at most a fixed
 /// multiple of what was read, whichever variables a derivation names. No answer rests on this.
 pub fn is_paid(place: usize, entries: usize) -> bool {
     place / PLACES_FOR_EACH <= entries.saturating_add(PAID_AT_START)
@@ -33,7 +33,7 @@ pub fn place_of(literal: Lit) -> usize
     }
 }
 
-/// Whether there is a mark at this place.
+/// Checks whether there is a mark at this place.
 pub fn marked_at(marks: &[bool], place: usize) -> bool
     ensures { result ≡ marked_at marks.now place }
 {
@@ -88,7 +88,7 @@ impl LiteralMarks {
         }
     }
 
-    /// Whether there is a mark at this place in the tree.
+    /// Checks whether there is a mark at this place in the tree.
     fn is_far(&self, place: usize) -> bool
         ensures { result ≡ contains nat_cmp self.now.far place }
     {
@@ -98,7 +98,7 @@ impl LiteralMarks {
         self.far.contains(&place)
     }
 
-    /// Whether there is a mark at this place.
+    /// Checks whether there is a mark at this place.
     #[inline(always)]
     pub fn has(&self, place: usize) -> bool
         ensures { result ≡ is_marked self.now place }

@@ -32,7 +32,7 @@ pub enum ModelNumber {
     Literal(Lit),
 }
 
-/// What a line says whose first word is `s`, by what follows that.
+/// Gives what a line says whose first word is `s`, by what follows that.
 fn read_status(rest: &[u8]) -> ModelLine<'_>
     ensures { said_by result ≡ status (words_of rest.now) }
 {
@@ -51,7 +51,7 @@ fn read_status(rest: &[u8]) -> ModelLine<'_>
     }
 }
 
-/// What the line says.
+/// Gives what the line says.
 pub(crate) fn read_model_line(line: &[u8]) -> ModelLine<'_>
     ensures { said_by result ≡ said (words_of line.now) }
 {

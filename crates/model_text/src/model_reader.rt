@@ -66,7 +66,7 @@ impl ModelReader {
         }
     }
 
-    /// Whether the negation of the literal has come.
+    /// Checks whether the negation of the literal has come.
     fn has_negation(&self, literal: Lit) -> bool
         ensures { result ≡ has_number self.now (neg_ℤ literal) }
     {

@@ -17,7 +17,7 @@ pub fn word_at(line: &[u8], place: usize) -> &[u8] {
     }
 }
 
-/// How many words the line has.
+/// The number of words of the line.
 pub fn count_words(line: &[u8]) -> usize {
     let mut rest = line;
     let mut count = 0usize;
@@ -31,7 +31,7 @@ pub fn count_words(line: &[u8]) -> usize {
     count
 }
 
-/// Where in the line the word at this place begins.
+/// The offset in the line, in bytes, at which the word at this place begins.
 pub fn word_start(line: &[u8], place: usize) -> Option<usize> {
     let mut left = place;
     let mut is_within = false;

@@ -56,7 +56,7 @@ fn push_mark(text: &mut Vec<u8>, name: &str, number: u64, front: &[u8]) -> Resul
     Ok(())
 }
 
-/// What of the line stands in front of the word at this place, if both are shown.
+/// Gives what of the line stands in front of the word at this place, if both are shown.
 fn front_of_word(line: &[u8], word: Option<usize>) -> Option<&[u8]> {
     match word_start(line, word?) {
         Some(start) => shown_front(line, start),

@@ -8,7 +8,7 @@ const OF_LINE: usize = 120;
 /// The most bytes of a word that are shown.
 const OF_WORD: usize = 40;
 
-/// What is shown of a byte: itself if it is printed, a space for a tab, and else `?`.
+/// Gives what is shown of a byte: itself if it is printed, a space for a tab, and else `?`.
 fn shown_byte(byte: u8) -> u8 {
     match byte {
         b' '..=b'~' => byte,
@@ -36,7 +36,7 @@ pub(crate) fn push_shown_line(text: &mut Vec<u8>, line: &[u8]) -> Result<(), All
     }
 }
 
-/// What is shown of a word, in quotation marks.
+/// Gives what is shown of a word, in quotation marks.
 pub fn quoted(alloc: Global, word: &[u8]) -> Result<Vec<u8>, AllocError> {
     let mut text = Vec::new(alloc);
     text.push(b'"')?;
@@ -45,7 +45,7 @@ pub fn quoted(alloc: Global, word: &[u8]) -> Result<Vec<u8>, AllocError> {
     Ok(text)
 }
 
-/// What of a line stands in front of this place, if the place is shown.
+/// Gives what of a line stands in front of this place, if the place is shown.
 pub(crate) fn shown_front(line: &[u8], place: usize) -> Option<&[u8]> {
     if place < OF_LINE {
         line.get(..place)

@@ -61,7 +61,7 @@ fn entry_of(place: u32) -> u16 {
     (place & 0xffff) as u16
 }
 
-/// Where the operation stands.
+/// The place of the operation.
 fn bound_of(log: &NumberedLog, number: u32) -> Bound {
     let operation = log.operation(number);
     Bound {

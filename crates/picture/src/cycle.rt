@@ -24,7 +24,7 @@ impl Reached {
         Ok(Reached { steps, by })
     }
 
-    /// How many arrows lead to the box.
+    /// The number of arrows that lead to the box.
     fn steps_to(&self, number: usize) -> Option<usize> {
         if number < self.steps.len() {
             self.steps[number]

@@ -88,7 +88,7 @@ fn begin_document(svg: &mut SvgText, width: u64, height: u64) -> Result<(), Allo
     svg.add(&[b"/>\n"])
 }
 
-/// How many of the boxes are of operations.
+/// The number of boxes that are of operations.
 fn count_operations(items: &[PictureItem<'_>]) -> u64 {
     let mut count: u64 = 0;
     for item in items {
@@ -99,7 +99,7 @@ fn count_operations(items: &[PictureItem<'_>]) -> u64 {
     count
 }
 
-/// How many operations the trace has.
+/// The number of operations of the trace.
 pub(crate) fn count_all(trace: &Trace) -> u64 {
     let mut count: u64 = 0;
     for process in trace.processes() {

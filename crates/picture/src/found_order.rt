@@ -124,12 +124,12 @@ impl FoundOrder {
         }
     }
 
-    /// Whether the box lacks a source.
+    /// Checks whether the box lacks a source.
     pub fn is_lacking(&self, number: usize) -> bool {
         number < self.lacking.len() && self.lacking[number]
     }
 
-    /// Whether the box is of the cycle.
+    /// Checks whether the box is of the cycle.
     pub fn is_in_cycle(&self, number: usize) -> bool {
         for arrow in &self.arrows {
             if arrow.is_marked && (arrow.from == number || arrow.to == number) {
@@ -184,7 +184,7 @@ impl FoundOrder {
         }
     }
 
-    /// What program order and before lines say of the boxes.
+    /// Gives what program order and before lines say of the boxes.
     pub fn of_lines(
         alloc: Global,
         items: &[PictureItem<'_>],

@@ -81,7 +81,7 @@ fn add_process<'t>(
     Ok(())
 }
 
-/// Whether one of the boxes is of the location.
+/// Checks whether one of the boxes is of the location.
 fn is_used(items: &[PictureItem<'_>], location: &[u8]) -> bool {
     for item in items {
         if item.location == location {
@@ -91,7 +91,7 @@ fn is_used(items: &[PictureItem<'_>], location: &[u8]) -> bool {
     false
 }
 
-/// How many rows the boxes have.
+/// The number of rows of the boxes.
 pub(crate) fn count_rows(items: &[PictureItem<'_>]) -> usize {
     let mut count = 0;
     for item in items {
@@ -113,7 +113,7 @@ fn add_initial<'t>(items: &mut Vec<PictureItem<'t>>, trace: &'t Trace) -> Result
     Ok(())
 }
 
-/// How many final values there are of the locations that are used.
+/// The number of final values of the locations that are used.
 fn count_finals(items: &[PictureItem<'_>], trace: &Trace) -> usize {
     let mut count = 0;
     for entry in trace.final_values() {

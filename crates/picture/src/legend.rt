@@ -52,7 +52,7 @@ impl LegendEntries {
         self.cycle = self.cycle || is_marked;
     }
 
-    /// What occurs in the picture.
+    /// Gives what occurs in the picture.
     pub fn of(items: &[PictureItem<'_>], found: &FoundOrder, is_schedule: bool) -> LegendEntries {
         let mut entries = LegendEntries::none(is_schedule);
         for arrow in &found.arrows {
@@ -68,7 +68,7 @@ impl LegendEntries {
         entries
     }
 
-    /// How many lines the legend has.
+    /// The number of lines of the legend.
     pub fn count(&self) -> u64 {
         let mut count: u64 = 0;
         for is_there in [

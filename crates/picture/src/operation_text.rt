@@ -87,7 +87,7 @@ fn append_value(text: &mut Vec<u8>, item: &PictureItem<'_>) -> Result<(), AllocE
 }
 
 impl BoxText {
-    /// What is written into the box, with its position in a schedule or without.
+    /// Gives what is written into the box, with its position in a schedule or without.
     pub fn of(
         alloc: Global,
         item: &PictureItem<'_>,
@@ -115,7 +115,7 @@ impl BoxText {
         })
     }
 
-    /// How many characters it has.
+    /// The number of its characters.
     pub fn length(&self) -> u64 {
         let name = self.name.len() as u64;
         let words = self.words.len() as u64;

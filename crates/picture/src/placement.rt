@@ -148,17 +148,17 @@ impl<'t> Placement<'t> {
         }
     }
 
-    /// Where the boxes of the row begin.
+    /// The height at which the boxes of the row begin.
     pub fn top_of_row(&self, row: u64) -> u64 {
         TOP.saturating_add(self.row_step.saturating_mul(row))
     }
 
-    /// Where the titles of the columns stand.
+    /// The height of the columns' titles.
     pub fn title_line(&self) -> u64 {
         TOP - 16
     }
 
-    /// Where the last row ends.
+    /// The height at which the last row ends.
     pub fn bottom(&self) -> u64 {
         TOP.saturating_add(self.row_step.saturating_mul(self.rows))
     }

@@ -19,12 +19,12 @@ impl Relation {
         Ok(Relation { size, cells })
     }
 
-    /// Where the table has these two.
+    /// The place of these two in the table.
     fn cell(&self, first: usize, second: usize) -> usize {
         first.wrapping_mul(self.size).wrapping_add(second)
     }
 
-    /// Whether the first stands before the second.
+    /// Checks whether the first stands before the second.
     pub fn holds(&self, first: usize, second: usize) -> bool {
         match self.cells.get(self.cell(first, second)) {
             Some(holds) => *holds,

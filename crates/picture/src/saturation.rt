@@ -25,7 +25,7 @@ enum PossibleSources {
 }
 
 impl<'t> DrawnPart<'t> {
-    /// Whether the operation at this place of the process is drawn.
+    /// Checks whether the operation at this place of the process is drawn.
     fn is_drawn(&self, process: &[u8], place: u64) -> bool {
         for item in self.items {
             if item.is_named(process, place) {
@@ -35,7 +35,7 @@ impl<'t> DrawnPart<'t> {
         false
     }
 
-    /// Whether an operation of the process that is not drawn may give the box its value.
+    /// Checks whether an operation of the process that is not drawn may give the box its value.
     fn is_given_by(&self, process: &Process, reader: &PictureItem<'t>) -> bool {
         let name = process.name.as_bytes();
         let ops = process.operations.as_slice();
@@ -51,7 +51,7 @@ impl<'t> DrawnPart<'t> {
         false
     }
 
-    /// Whether an operation that is not drawn may give the box its value.
+    /// Checks whether an operation that is not drawn may give the box its value.
     fn has_hidden_source(&self, reader: &PictureItem<'t>) -> bool {
         match reader.origin() {
             Some(Origin::Initial) => return false,
@@ -68,7 +68,7 @@ impl<'t> DrawnPart<'t> {
         false
     }
 
-    /// Whether another write comes between the writer and the reader.
+    /// Checks whether another write comes between the writer and the reader.
     fn is_overwritten(
         &self,
         found: &FoundOrder,
@@ -89,7 +89,7 @@ impl<'t> DrawnPart<'t> {
         false
     }
 
-    /// Whether the order lets the reader have its value from the writer.
+    /// Checks whether the order lets the reader have its value from the writer.
     fn is_in_time(
         &self,
         found: &FoundOrder,
@@ -102,7 +102,7 @@ impl<'t> DrawnPart<'t> {
             && !self.is_overwritten(found, location, writer, reader)
     }
 
-    /// Where the reader of this number may have its value from.
+    /// The sources from which the reader of this number may have its value.
     fn possible_sources(
         &self,
         found: &FoundOrder,

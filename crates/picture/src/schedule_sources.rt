@@ -5,7 +5,7 @@ use crate::item::PictureItem;
 use std::alloc::{AllocError, Global};
 use trace_semantics::trace::Trace;
 
-/// Whether the box stands before the other one: initial values first, final ones last.
+/// Checks whether the box stands before the other one: initial values first, final ones last.
 fn stands_before(first: &PictureItem<'_>, second: &PictureItem<'_>) -> bool {
     if first.is_initial() || second.is_final() {
         return true;
@@ -38,12 +38,12 @@ fn later_of(items: &[PictureItem<'_>], first: usize, second: usize) -> usize {
     }
 }
 
-/// Whether the reader may have its value from the box of this number.
+/// Checks whether the reader may have its value from the box of this number.
 fn is_right(items: &[PictureItem<'_>], reader: usize, writer: usize) -> bool {
     reader < items.len() && writer < items.len() && items[reader].may_read_from(&items[writer])
 }
 
-/// What the schedule says of the boxes.
+/// Gives what the schedule says of the boxes.
 pub(crate) fn order_of_schedule(
     alloc: Global,
     items: &[PictureItem<'_>],

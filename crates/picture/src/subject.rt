@@ -40,7 +40,7 @@ impl<'t> PictureSubject<'t> {
         }
     }
 
-    /// Whether the rows are those of a schedule.
+    /// Checks whether the rows are those of a schedule.
     pub(crate) fn is_in_order(&self) -> bool {
         match self {
             PictureSubject::Whole => false,

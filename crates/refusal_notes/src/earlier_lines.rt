@@ -5,12 +5,12 @@ use note_text::word_at;
 use text_lines::lines::cut_line;
 use text_lines::words::is_word;
 
-/// Whether the header says version 2.
+/// Checks whether the header says version 2.
 pub(crate) fn is_version_2(bytes: &[u8]) -> bool {
     is_word(word_at(first_kept_line(bytes), 1), "2")
 }
 
-/// Whether the first word of the line is the key, and the second one this word, or any if none is given.
+/// Checks whether the first word of the line is the key, and the second one this word, or any if none is given.
 fn begins_with(line: &[u8], key: &[u8], word: Option<&[u8]>) -> bool {
     if word_at(line, 0) != key {
         return false;
@@ -43,7 +43,7 @@ fn is_operation(line: &[u8]) -> bool {
     is_word(key, "R") || is_word(key, "W") || is_word(key, "U")
 }
 
-/// How many operations the trace has of the process of this name, if it has the process.
+/// The number of operations that the trace has of the process of this name, if it has the process.
 pub(crate) fn count_operations(bytes: &[u8], process: &[u8]) -> Option<u64> {
     let mut rest = bytes;
     let mut found = None;

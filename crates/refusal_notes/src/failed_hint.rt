@@ -40,7 +40,7 @@ fn clause_words(alloc: Global, literals: &[Lit]) -> Result<Vec<u8>, AllocError> 
     Ok(words)
 }
 
-/// Whether the literal of this number is among these.
+/// Checks whether the literal of this number is among these.
 fn has(literals: &[Lit], number: i64) -> bool {
     for literal in literals {
         if literal.number() as i64 == number {
@@ -50,7 +50,7 @@ fn has(literals: &[Lit], number: i64) -> bool {
     false
 }
 
-/// What the clause is worth.
+/// Gives what the clause is worth.
 fn worth_of(trues: &[Lit], literals: &[Lit]) -> HintWorth {
     let mut open: Option<Lit> = None;
     for literal in literals {
@@ -84,7 +84,7 @@ enum LastWord<'d> {
     Silence,
 }
 
-/// Whether the number is among these.
+/// Checks whether the number is among these.
 fn is_among(ids: &[u64], id: u64) -> bool {
     for other in ids {
         if *other == id {
@@ -94,7 +94,7 @@ fn is_among(ids: &[u64], id: u64) -> bool {
     false
 }
 
-/// What the last of these steps says that speaks of the clause of this id.
+/// Gives what the last of these steps says that speaks of the clause of this id.
 fn last_word<'d>(steps: &'d [Step], id: u64) -> LastWord<'d> {
     for k in (0..steps.len()).rev() {
         match &steps[k] {

@@ -14,7 +14,7 @@ use trace_part::part_fault::PartCause;
 
 /// A cause that is explained.
 pub(crate) trait Explained: FaultCause {
-    /// What it means, in a sentence.
+    /// Gives what it means, in a sentence.
     fn meaning(&self) -> &'static str;
 }
 

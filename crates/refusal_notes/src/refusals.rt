@@ -105,7 +105,7 @@ fn note_first(notes: &mut Notes, text: &NamedText<'_>, name: &[u8]) -> Result<()
     ])
 }
 
-/// What is said of a line of a solver's answer that no model has.
+/// Gives what is said of a line of a solver's answer that no model has.
 fn says_of_answer(line: &[u8]) -> Option<&'static str> {
     let first = word_at(line, 0);
     if is_word(first, "SAT") {

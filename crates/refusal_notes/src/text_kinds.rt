@@ -21,7 +21,7 @@ pub(crate) enum TextKind {
 }
 
 impl TextKind {
-    /// What a text of this kind is called.
+    /// Gives what a text of this kind is called.
     pub(crate) fn words(self) -> &'static str {
         match self {
             TextKind::Trace => "a trace",
@@ -37,7 +37,7 @@ impl TextKind {
     }
 }
 
-/// Whether the line is blank or a comment of any of the texts.
+/// Checks whether the line is blank or a comment of any of the texts.
 fn is_passed_over(line: &[u8]) -> bool {
     let first = word_at(line, 0);
     first.is_empty() || first[0] == b'#' || is_word(first, "c")

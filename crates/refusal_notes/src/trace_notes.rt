@@ -43,7 +43,7 @@ fn high_place(line: &[u8]) -> Option<usize> {
     None
 }
 
-/// Which word of the line is marked.
+/// The word of the line that is marked.
 fn marked_word(cause: TraceCause, refused: &RefusedLine<'_>) -> Option<usize> {
     let bad = match cause {
         TraceCause::NotAscii => return high_place(refused.line),
@@ -76,7 +76,7 @@ fn note_bad_word(
     }
 }
 
-/// What is said of bytes with which no trace begins.
+/// Gives what is said of bytes with which no trace begins.
 fn says_of_bytes(bytes: &[u8]) -> Option<&'static str> {
     match bytes {
         [239, 187, 191, ..] => {
@@ -91,7 +91,7 @@ fn says_of_bytes(bytes: &[u8]) -> Option<&'static str> {
     }
 }
 
-/// What is said of the line in the place of the header.
+/// Gives what is said of the line in the place of the header.
 fn says_of_header(line: &[u8]) -> Option<&'static str> {
     let first = word_at(line, 0);
     if has_byte(line, 0) {
@@ -109,7 +109,7 @@ fn says_of_header(line: &[u8]) -> Option<&'static str> {
     }
 }
 
-/// What is said of a key in the place of the header.
+/// Gives what is said of a key in the place of the header.
 fn says_of_first_key(first: &[u8]) -> Option<&'static str> {
     if is_word(first, "proc") || is_word(first, "init") || is_word(first, "final") {
         Some("the header is missing: `vsc 1` stands above this line")

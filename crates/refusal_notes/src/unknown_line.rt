@@ -112,7 +112,7 @@ fn hint_of_key(line: &[u8], is_version_2: bool) -> Option<Hint> {
     Some(Hint { word: 0, says })
 }
 
-/// Whether the word is a usual name of a read, a write or an update.
+/// Checks whether the word is a usual name of a read, a write or an update.
 fn is_access(key: &[u8]) -> bool {
     is_word_in_any_case(key, "read")
         || is_word_in_any_case(key, "write")
@@ -140,7 +140,7 @@ fn is_fence(key: &[u8]) -> bool {
         || is_word_in_any_case(key, "barrier")
 }
 
-/// What is said of a key that no trace has.
+/// Gives what is said of a key that no trace has.
 fn says_of_other_key(key: &[u8]) -> &'static str {
     if is_word(key, "r") || is_word(key, "w") || is_word(key, "u") {
         "an operation is R, W or U, in capitals"
@@ -159,7 +159,7 @@ fn says_of_other_key(key: &[u8]) -> &'static str {
     }
 }
 
-/// What was probably meant by the line.
+/// Gives what was probably meant by the line.
 pub(crate) fn hint_of_line(line: &[u8], is_version_2: bool) -> Hint {
     if let Some(word) = comment_place(line) {
         return Hint {

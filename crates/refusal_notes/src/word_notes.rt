@@ -21,7 +21,7 @@ pub(crate) struct BadWord {
     pub fault: WordFault,
 }
 
-/// What is said of a word that is wrong so.
+/// Gives what is said of a word that is wrong so.
 fn says_of(fault: WordFault) -> &'static str {
     match fault {
         WordFault::Name =>

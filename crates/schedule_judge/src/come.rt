@@ -49,7 +49,7 @@ impl Come {
         }
     }
 
-    /// Whether the operation at this place of the process in this row has come.
+    /// Checks whether the operation at this place of the process in this row has come.
     pub fn has(&self, row: Option<u64>, place: usize) -> bool
         ensures { result ≡ is_within place (count_of self.now.counts.items row) }
     {

@@ -20,7 +20,7 @@ use trace_semantics::operation::{Op, OpName};
 use trace_semantics::schedule::Schedule;
 use trace_semantics::trace::{Process, Trace};
 
-/// Whether the operation at this place of this process, which is the one in this row, is among the first `count` names.
+/// Checks whether the operation at this place of this process, which is the one in this row, is among the first `count` names.
 fn has_come<'a>(
     survey: &Survey<'a>,
     come: &Come,
@@ -36,7 +36,7 @@ fn has_come<'a>(
     come.has(row, place)
 }
 
-/// Whether the first `n` operations of the process, which is the one in this row, are among the first `count` names.
+/// Checks whether the first `n` operations of the process, which is the one in this row, are among the first `count` names.
 fn have_come<'a>(
     survey: &Survey<'a>,
     come: &Come,
@@ -53,7 +53,7 @@ fn have_come<'a>(
     n == 0 || has_come(survey, come, row, process, n, count)
 }
 
-/// What is wrong with an operation after the first `count` names. Its process is the one in this row.
+/// Gives what is wrong with an operation after the first `count` names. Its process is the one in this row.
 fn fault_of_op<'a>(
     survey: &Survey<'a>,
     come: &Come,
@@ -86,7 +86,7 @@ fn fault_of_op<'a>(
     }
 }
 
-/// Whether all operations of these processes have come.
+/// Checks whether all operations of these processes have come.
 fn has_all<'a>(survey: &Survey<'a>, come: &Come, processes: &'a [Process]) -> bool
     requires come { AreCounts survey.now.processes come.now.counts.items survey.now.names.now }
     requires order { IsInProgramOrder survey.now.names.now }
@@ -103,7 +103,7 @@ fn has_all<'a>(survey: &Survey<'a>, come: &Come, processes: &'a [Process]) -> bo
     true
 }
 
-/// Whether memory holds each of these values.
+/// Checks whether memory holds each of these values.
 fn holds_all<'a>(memory: &Memory<'a>, values: &'a [(Name, u64)]) -> bool
     ensures { result ≡ list_all (λ (entry : List ℕ × ℕ). judgement.is_held (number_of memory.now.values entry.0) entry.1) values.now }
 {
@@ -115,7 +115,7 @@ fn holds_all<'a>(memory: &Memory<'a>, values: &'a [(Name, u64)]) -> bool
     true
 }
 
-/// What is wrong with the whole list, if no name has a fault.
+/// Gives what is wrong with the whole list, if no name has a fault.
 fn fault_of_whole<'a>(survey: &Survey<'a>, come: &Come, memory: &Memory<'a>) -> Option<IllegalCause>
     requires walk { IsWalk survey.now come.now.counts.items memory.now (length survey.now.names.now) }
     ensures { result ≡ judgement.fault_of_whole survey.now.trace.now survey.now.names.now }

@@ -25,7 +25,7 @@ fn find_dot(word: &[u8]) -> Option<usize>
     word.iter().position(|byte| *byte == b'.')
 }
 
-/// What stands before the first dot, and what stands after it.
+/// Gives what stands before the first dot, and what stands after it.
 fn cut_at_dot(word: &[u8]) -> Option<(&[u8], &[u8])>
     ensures { MatchOption result (list_any is_dot word.now ≡ false)
         (λ cut. (list_any is_dot word.now ≡ true) × (cut.0.now ≡ before_first is_dot word.now) × (cut.1.now ≡ after_first is_dot word.now)) }

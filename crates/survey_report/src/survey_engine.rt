@@ -141,7 +141,7 @@ pub fn run_certified_survey<
     write_report(alloc, &surveyed, out)
 }
 
-/// What is decided of the trace that the text spells.
+/// Gives what is decided of the trace that the text spells.
 fn survey_text<R: Threads + Wait + Sync, S: Surveyor, G: Gate + Sync>(
     alloc: Global,
     rt: &R,

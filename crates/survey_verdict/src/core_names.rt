@@ -39,14 +39,14 @@ pub(crate) fn all_names(alloc: Global, trace: &Trace) -> Result<Vec<OpName>, All
     Ok(names)
 }
 
-/// Whether the two are one name.
+/// Checks whether the two are one name.
 fn are_one(first: &OpName, second: &OpName) -> bool
     ensures { result ≡ same_op first.now second.now }
 {
     first.process.as_bytes() == second.process.as_bytes() && first.place == second.place
 }
 
-/// Whether the name is among these.
+/// Checks whether the name is among these.
 fn is_among(names: &[OpName], name: &OpName) -> bool
     ensures { result ≡ has_come names.now name.now }
 {

@@ -53,7 +53,7 @@ fn reduced_if_small(alloc: Global, trace: &Trace) -> Result<Option<Reduced>, All
     }
 }
 
-/// What the search decides of the trace, if few enough operations are left of it.
+/// Gives what the search decides of the trace, if few enough operations are left of it.
 fn decided_if_short<R: Threads + Wait + Sync, G: Gate + Sync>(
     alloc: Global,
     rt: &R,
@@ -73,7 +73,7 @@ fn decided_if_short<R: Threads + Wait + Sync, G: Gate + Sync>(
     }
 }
 
-/// What refutes the trace, if that is what was decided.
+/// Gives what refutes the trace, if that is what was decided.
 fn refutation_of(decision: Decision) -> Option<Refutation>
     ensures { result ≡ refutation_in decision }
 {
@@ -84,7 +84,7 @@ fn refutation_of(decision: Decision) -> Option<Refutation>
     }
 }
 
-/// What shows that the trace has no legal schedule, if few enough operations are left of it and the search refutes it.
+/// Gives what shows that the trace has no legal schedule, if few enough operations are left of it and the search refutes it.
 fn refuted<R: Threads + Wait + Sync, G: Gate + Sync>(
     alloc: Global,
     rt: &R,
@@ -161,7 +161,7 @@ fn core_of_all<R: Threads + Wait + Sync, G: Gate + Sync>(
     }
 }
 
-/// What is said of the whole trace, of which this is decided.
+/// Gives what is said of the whole trace, of which this is decided.
 fn said_of_whole<R: Threads + Wait + Sync, G: Gate + Sync>(
     alloc: Global,
     rt: &R,
@@ -183,7 +183,7 @@ fn said_of_whole<R: Threads + Wait + Sync, G: Gate + Sync>(
     }
 }
 
-/// What the search shows of the whole trace, if few enough operations are left of it.
+/// Gives what the search shows of the whole trace, if few enough operations are left of it.
 fn decided_whole<R: Threads + Wait + Sync, G: Gate + Sync>(
     alloc: Global,
     rt: &R,
@@ -201,7 +201,7 @@ fn decided_whole<R: Threads + Wait + Sync, G: Gate + Sync>(
     }
 }
 
-/// What the schedule of these names shows, if it is legal.
+/// Gives what the schedule of these names shows, if it is legal.
 fn shown_by_schedule(
     alloc: Global,
     trace: &Trace,
@@ -216,7 +216,7 @@ fn shown_by_schedule(
     }
 }
 
-/// What the core of these names shows, if the search refutes its part.
+/// Gives what the core of these names shows, if the search refutes its part.
 fn shown_by_core<R: Threads + Wait + Sync, G: Gate + Sync>(
     alloc: Global,
     rt: &R,
@@ -234,7 +234,7 @@ fn shown_by_core<R: Threads + Wait + Sync, G: Gate + Sync>(
     }
 }
 
-/// What follows from what was found, if it is as it should be.
+/// Gives what follows from what was found, if it is as it should be.
 fn shown<R: Threads + Wait + Sync, G: Gate + Sync>(
     alloc: Global,
     rt: &R,
@@ -255,7 +255,7 @@ fn shown<R: Threads + Wait + Sync, G: Gate + Sync>(
     }
 }
 
-/// What is decided by what was found, or else by the search of the whole.
+/// Gives what is decided by what was found, or else by the search of the whole.
 fn decide_by_overview<R: Threads + Wait + Sync, G: Gate + Sync>(
     alloc: Global,
     rt: &R,

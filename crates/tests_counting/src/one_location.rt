@@ -148,7 +148,7 @@ impl Spelling {
         Ok(numbers)
     }
 
-    /// What is known of the order.
+    /// Gives what is known of the order.
     pub fn known(&self) -> KnownOrder<'_> {
         KnownOrder {
             order: OrderClauses {
@@ -300,7 +300,7 @@ impl Spelling {
     }
 }
 
-/// What the writer at this place reads, if it is an update.
+/// Gives what the writer at this place reads, if it is an update.
 fn value_read(location: Location<'_>, place: u32) -> Option<u32> {
     let place = place as usize;
     if place < location.writers.len() {
@@ -310,7 +310,7 @@ fn value_read(location: Location<'_>, place: u32) -> Option<u32> {
     }
 }
 
-/// What the writer at this place leaves.
+/// Gives what the writer at this place leaves.
 fn value_left(location: Location<'_>, place: u32) -> Option<u32> {
     let place = place as usize;
     if place < location.writers.len() {

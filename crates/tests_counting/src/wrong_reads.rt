@@ -94,7 +94,7 @@ fn mistaken_choice(choice: ReadsFromEdge, mistake: ReadsMistake) -> ReadsFromEdg
     }
 }
 
-/// What is said of the readers, with the mistake in it.
+/// Gives what is said of the readers, with the mistake in it.
 fn mistaken(
     alloc: Global,
     reads: &MatchingInstance,
@@ -172,7 +172,7 @@ fn mistakes_cost_the_derivation(rt: HostRuntime) -> Result<(), Fail> {
     Ok(())
 }
 
-/// What is said of the readers, without the initial value as a source, or with that as one that is excluded.
+/// Gives what is said of the readers, without the initial value as a source, or with that as one that is excluded.
 fn without_initial(
     alloc: Global,
     reads: &MatchingInstance,

@@ -2,7 +2,7 @@
 
 use std::process::Abort;
 
-/// What a call gives that has memory enough.
+/// The answer of a call that has memory enough.
 pub fn ample<T, E: Drop>(rt: &impl Abort, outcome: Result<T, E>) -> T {
     match outcome {
         Ok(value) => value,

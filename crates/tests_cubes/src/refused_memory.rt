@@ -26,7 +26,7 @@ use text_lines::fault::PlacedFault;
 use trace_text::trace_reader::read_trace;
 use var_layout::layout::Layout;
 
-/// What a call gives to which nothing is handed that it refuses.
+/// The answer of a call to which nothing is handed that it refuses.
 fn given<T, E: Drop>(outcome: Result<T, E>) -> Result<T, AllocError> {
     match outcome {
         Ok(value) => Ok(value),

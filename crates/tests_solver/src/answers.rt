@@ -21,7 +21,7 @@ pub enum Shown {
     Mistake,
 }
 
-/// What truth values show of the formula in the cube.
+/// Gives what truth values show of the formula in the cube.
 fn shown_by_model(formula: &Formula, cube: &[Lit], model: &Assignment) -> Shown {
     if formula.eval(model).is_ok() && model.makes(cube) {
         Shown::Model
@@ -30,7 +30,7 @@ fn shown_by_model(formula: &Formula, cube: &[Lit], model: &Assignment) -> Shown 
     }
 }
 
-/// What a derivation shows of the formula in the cube.
+/// Gives what a derivation shows of the formula in the cube.
 fn shown_by_steps(alloc: Global, formula: &Formula, cube: &[Lit], steps: &Derivation) -> Shown {
     if check(alloc, formula, cube, steps).is_ok() {
         Shown::NoModel(steps.steps().len())
@@ -39,7 +39,7 @@ fn shown_by_steps(alloc: Global, formula: &Formula, cube: &[Lit], steps: &Deriva
     }
 }
 
-/// What an answer shows of the formula in the cube: it is evaluated or checked.
+/// Gives what an answer shows of the formula in the cube: it is evaluated or checked.
 pub fn shown_by(alloc: Global, formula: &Formula, cube: &[Lit], answer: &Answer) -> Shown {
     match answer {
         Answer::Model(model) => shown_by_model(formula, cube, model),
@@ -60,7 +60,7 @@ fn solve_and_check(
     Ok(shown_by(alloc, formula, cube, &answer))
 }
 
-/// What an answer of the solver has shown that has memory enough.
+/// Gives what an answer of the solver has shown that has memory enough.
 pub fn solved(
     rt: &impl Abort,
     alloc: Global,

@@ -8,7 +8,7 @@ use solver::{EncodingHints, ReadsFromTable, ReadsFromVariable};
 use std::alloc::{AllocError, Global};
 use std::process::Abort;
 
-/// What is known of the reads of store buffering: each of the two takes place before the other process writes.
+/// Gives what is known of the reads of store buffering: each of the two takes place before the other process writes.
 fn store_buffering_reads(alloc: Global) -> Result<ReadsFromTable, AllocError> {
     let mut reads_from = ReadsFromTable::new(alloc, 4)?;
     reads_from.add_writer(1, 2);

@@ -31,7 +31,7 @@ fn up_and_down(
     formula_of_trace(alloc, accesses.as_slice(), final_value, mistake)
 }
 
-/// What is shown of it.
+/// Gives what is shown of it.
 fn shown(
     rt: &impl Abort,
     alloc: Global,

@@ -42,7 +42,7 @@ fn lock(alloc: Global, broken: u32) -> Result<Traced, AllocError> {
     formula_of_trace(alloc, accesses.as_slice(), None, TracedMistake::NONE)
 }
 
-/// What this number of conflicts shows of the lock that this number of processes does not give back.
+/// Gives what this number of conflicts shows of the lock that this number of processes does not give back.
 fn locked(rt: &impl Abort, alloc: Global, broken: u32, budget: u64) -> Shown {
     let trace = ample(rt, lock(alloc, broken));
     solved(rt, alloc, &trace.formula, &[], trace.encoding(), budget)
@@ -81,7 +81,7 @@ fn refuted(
     }
 }
 
-/// Whether both are derivations, and the same.
+/// Checks whether both are derivations, and the same.
 fn are_one(one: &Option<Derivation>, other: &Option<Derivation>) -> bool {
     match (one, other) {
         (Some(one), Some(other)) => are_same(one, other),

@@ -84,7 +84,7 @@ fn more_urgent(next: ClauseState, standing: ClauseState) -> ClauseState {
     }
 }
 
-/// What the clauses ask for: a literal that one of them leaves alone, else one that can be decided. Falsified where one of them is,
+/// Gives what the clauses ask for: a literal that one of them leaves alone, else one that can be decided. Falsified where one of them is,
 /// satisfied where all are.
 fn next_of(clauses: &[Clause], trail: &[Tried]) -> ClauseState {
     let mut next = ClauseState::Satisfied;

@@ -11,7 +11,7 @@ use std::process::Abort;
 /// Cubes of either formula. Some have a variable that stands in no clause, and one a literal with its negation.
 const CUBES: [&[i32]; 7] = [&[], &[3], &[-3], &[2, -5], &[-7, 1], &[13, -40], &[9, -9]];
 
-/// What the answer that is found with this preparation shows of the formula in the cube.
+/// Gives what the answer that is found with this preparation shows of the formula in the cube.
 fn shown_in(
     alloc: Global,
     prepared: &PreparedFormula,

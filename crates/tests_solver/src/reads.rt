@@ -16,7 +16,7 @@ fn random_value(random: &mut Random) -> u16 {
     random.next() % 2
 }
 
-/// What an operation does, at random.
+/// Gives what an operation does, at random.
 fn random_access(random: &mut Random, is_first: bool) -> Access {
     let kind = random.next() % 5;
     let reads = if kind < 3 {

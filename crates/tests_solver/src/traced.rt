@@ -38,7 +38,7 @@ impl TracedMistake {
         only: 0,
     };
 
-    /// What is wrong of the variable of this number after those of the order.
+    /// Gives what is wrong of the variable of this number after those of the order.
     fn of(self, number: u32) -> TracedMistake {
         if self.only == 0 || self.only == number {
             self
@@ -59,7 +59,7 @@ pub struct Traced {
 }
 
 impl Traced {
-    /// What is known of the order, of the reads and of the final value.
+    /// Gives what is known of the order, of the reads and of the final value.
     pub fn encoding(&self) -> EncodingHints<'_> {
         EncodingHints::with_order(self.elements, self.first).with_reads_from(&self.reads_from)
     }
@@ -97,7 +97,7 @@ impl Made {
         stored.wrapping_add(1)
     }
 
-    /// What is wrong in what is reported of this variable.
+    /// Gives what is wrong in what is reported of this variable.
     fn mistake_of(&self, variable: u32) -> TracedMistake {
         let pairs = self.elements.wrapping_mul(self.elements.wrapping_sub(1)) / 2;
         self.mistake.of(variable.wrapping_sub(pairs))
@@ -108,7 +108,7 @@ impl Made {
         element.wrapping_add(by) % self.elements.max(1)
     }
 
-    /// What is reported of a choice.
+    /// Gives what is reported of a choice.
     fn told(&self, choice: ReadsFromVariable) -> ReadsFromVariable {
         let mistake = self.mistake_of(choice.variable);
         let writer = match choice.writer {
@@ -123,7 +123,7 @@ impl Made {
         }
     }
 
-    /// What is reported of a last writer.
+    /// Gives what is reported of a last writer.
     fn told_of_last(&self, last: LastWriter) -> LastWriter {
         let mistake = self.mistake_of(last.variable);
         LastWriter {

@@ -22,7 +22,7 @@ struct Written {
     part: MemorySink,
 }
 
-/// What is written of the trace with the help of the surveyor, if it is decided with this status, in the case of this number.
+/// Gives what is written of the trace with the help of the surveyor, if it is decided with this status, in the case of this number.
 fn texts_of<R: Threads + Wait + Abort + Sync, S: Surveyor>(
     alloc: Global,
     rt: &R,

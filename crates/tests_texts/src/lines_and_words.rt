@@ -28,7 +28,7 @@ impl FaultCause for Torn {
     }
 }
 
-/// What stands after the first line of the text, which is this one.
+/// Gives what stands after the first line of the text, which is this one.
 fn behind_line<'a>(rt: &impl Abort, text: &'a [u8], line: &[u8]) -> &'a [u8] {
     match cut_line(text) {
         Some((first, after)) => {
@@ -51,7 +51,7 @@ fn cuts_lines(rt: HostRuntime) {
 /// A line of three words.
 const LINE: &[u8] = b"\tW  x\t1\r";
 
-/// What stands after the first word of the line, which is this one.
+/// Gives what stands after the first word of the line, which is this one.
 fn behind_word<'a>(rt: &impl Abort, line: &'a [u8], word: &[u8]) -> &'a [u8] {
     match cut_word(line) {
         Some((first, after)) => {

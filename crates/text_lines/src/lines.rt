@@ -11,7 +11,7 @@ fn find_line_feed(text: &[u8]) -> Option<usize>
     text.iter().position(|byte| *byte == b'\n')
 }
 
-/// What stands before the first line feed, and what stands after it.
+/// Gives what stands before the first line feed, and what stands after it.
 fn cut_at_line_feed(text: &[u8]) -> (&[u8], &[u8])
     ensures front { result.0.now ≡ before_first is_line_feed text.now }
     ensures back { result.1.now ≡ after_first is_line_feed text.now }

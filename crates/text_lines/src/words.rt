@@ -7,14 +7,14 @@ ghost use Rattle.text_lines.specs.Words.{words_of, is_blank};
 
 use std::alloc::{AllocError, Global};
 
-/// Whether the byte is a space, a tab or a carriage return.
+/// Checks whether the byte is a space, a tab or a carriage return.
 pub fn is_blank_byte(byte: u8) -> bool
     ensures { result ≡ is_blank byte }
 {
     byte == b' ' || byte == b'\t' || byte == b'\r'
 }
 
-/// Whether the word is this text.
+/// Checks whether the word is this text.
 pub fn is_word(word: &[u8], text: &str) -> bool
     ensures { result ≡ bytes_eq word.now text.now }
 {
@@ -35,7 +35,7 @@ fn find_word(line: &[u8]) -> Option<usize>
     line.iter().position(|byte| !is_blank_byte(*byte))
 }
 
-/// What stands before the first blank, and what stands after it.
+/// Gives what stands before the first blank, and what stands after it.
 fn cut_at_blank(line: &[u8]) -> (&[u8], &[u8])
     ensures front { result.0.now ≡ before_first is_blank line.now }
     ensures back { result.1.now ≡ after_first is_blank line.now }

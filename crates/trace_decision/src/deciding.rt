@@ -55,7 +55,7 @@ fn cubes_of_leaves(alloc: Global, ledger: &Ledger, leaves: &[u32]) -> Result<Cub
     Ok(Cubes::new(cubes))
 }
 
-/// What is decided of the whole trace, by the verdict on the clauses of what is kept of it.
+/// Gives what is decided of the whole trace, by the verdict on the clauses of what is kept of it.
 fn decision_of(
     alloc: Global,
     reduced: &Reduced,

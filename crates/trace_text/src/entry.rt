@@ -87,7 +87,7 @@ fn read_origin(alloc: Global, source: ReadsFrom<'_>) -> Result<Origin, LineRefus
     }
 }
 
-/// What the line of a plain read adds.
+/// Gives what the line of a plain read adds.
 fn read_read(
     alloc: Global,
     location: &[u8],
@@ -107,7 +107,7 @@ fn read_read(
     })
 }
 
-/// What the line of a read-and-write adds.
+/// Gives what the line of a read-and-write adds.
 fn read_update(
     alloc: Global,
     location: &[u8],
@@ -132,7 +132,7 @@ fn read_update(
     })
 }
 
-/// What the line of a write adds.
+/// Gives what the line of a write adds.
 fn read_write(alloc: Global, location: &[u8], value: &[u8]) -> Result<Op, LineRefusal>
     ensures refused { IfErr result (IsRefusedFor (number_fault (has_numbers (Write location.now value.now)))) }
     ensures fine { IfOk result (λ _. has_numbers (Write location.now value.now) ≡ true) }
@@ -161,7 +161,7 @@ fn read_pair(
     Ok(Entry::Before(first, second))
 }
 
-/// What a line adds that says this, if its numbers are numbers.
+/// Gives what a line adds that says this, if its numbers are numbers.
 pub fn read_entry(alloc: Global, statement: Statement<'_>) -> Result<Entry, LineRefusal>
     ensures refused { IfErr result (IsRefusedFor (number_fault (has_numbers (said statement.entry)))) }
     ensures fine { IfOk result (λ _. has_numbers (said statement.entry) ≡ true) }

@@ -36,7 +36,7 @@ fn source_is_named(source: ReadsFrom<'_>) -> bool
     }
 }
 
-/// Whether the words that should be names are names.
+/// Checks whether the words that should be names are names.
 fn is_named(statement: Statement<'_>) -> bool
     ensures { result ≡ list_all is_name (names_of (said statement.entry)) }
 {
@@ -53,7 +53,7 @@ fn is_named(statement: Statement<'_>) -> bool
     }
 }
 
-/// What is wrong with the place of a line, where a process has begun before it or not, and with its names.
+/// Gives what is wrong with the place of a line, where a process has begun before it or not, and with its names.
 pub fn fault_of_place(begun: bool, statement: Statement<'_>) -> Option<TraceCause>
     ensures { result ≡ early_fault begun (said statement.entry) }
 {

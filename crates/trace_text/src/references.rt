@@ -26,7 +26,7 @@ use trace_semantics::trace::Process;
 /// Words of a line that are read: more than a line of any form has.
 const MAX_WORDS: usize = 8;
 
-/// Whether the process has this name, and an operation at this place.
+/// Checks whether the process has this name, and an operation at this place.
 fn has_place(process: &Process, name: &[u8], place: u16) -> bool
     ensures { result ≡ is_of name.now place process.now }
 {
@@ -41,7 +41,7 @@ fn some_has_place(processes: &[Process], name: &[u8], place: u16) -> bool
         .any(|process| has_place(process, name, place))
 }
 
-/// Whether one of the processes has the operation that is named.
+/// Checks whether one of the processes has the operation that is named.
 fn has_named(processes: &[Process], name: &[u8], place: &[u8]) -> bool
     ensures { result ≡ is_among processes.now (name.now, place.now) }
 {
@@ -61,7 +61,7 @@ fn source_is_known(processes: &[Process], source: ReadsFrom<'_>) -> bool
     }
 }
 
-/// Whether the operations are known that a line names.
+/// Checks whether the operations are known that a line names.
 fn all_are_known(processes: &[Process], statement: Statement<'_>) -> bool
     ensures { result ≡ list_all (is_among processes.now) (references_of (said statement.entry)) }
 {
@@ -75,7 +75,7 @@ fn all_are_known(processes: &[Process], statement: Statement<'_>) -> bool
     }
 }
 
-/// Whether a line puts an operation before itself.
+/// Checks whether a line puts an operation before itself.
 fn is_of_one(statement: Statement<'_>) -> bool
     ensures { result ≡ is_before_itself (said statement.entry) }
 {
@@ -87,7 +87,7 @@ fn is_of_one(statement: Statement<'_>) -> bool
     }
 }
 
-/// What is wrong with the operations that a line names.
+/// Gives what is wrong with the operations that a line names.
 fn fault_of_names(processes: &[Process], statement: Statement<'_>) -> Result<(), LineRefusal>
     ensures refused { IfErr result (IsRefusedFor (fault_of_references processes.now (Some (said statement.entry)))) }
     ensures fine { OnOk result (fault_of_references processes.now (Some (said statement.entry)) ≡ None) }

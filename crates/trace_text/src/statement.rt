@@ -39,7 +39,7 @@ pub enum Statement<'a> {
     Before(&'a [u8], &'a [u8], &'a [u8], &'a [u8]),
 }
 
-/// What three words say.
+/// Gives what three words say.
 fn of_three_words<'a>(words: &[&'a [u8]]) -> Option<Statement<'a>>
     requires { length words.now ≡ 3 }
     ensures { option_map said result ≡ statement_of false (map (λ word. word.now) words.now) }
@@ -57,21 +57,21 @@ fn of_three_words<'a>(words: &[&'a [u8]]) -> Option<Statement<'a>>
     }
 }
 
-/// Whether a word is this text and another one `from`.
+/// Checks whether a word is this text and another one `from`.
 fn is_key_from(key: &[u8], text: &str, from: &[u8]) -> bool
     ensures { result ≡ (bytes_eq key.now text.now && bytes_eq from.now (codes "from")) }
 {
     is_word(key, text) && is_word(from, "from")
 }
 
-/// Whether a word is this text, and two others are `from` and `init`.
+/// Checks whether a word is this text, and two others are `from` and `init`.
 fn is_key_from_init(key: &[u8], text: &str, from: &[u8], init: &[u8]) -> bool
     ensures { result ≡ (bytes_eq key.now text.now && bytes_eq from.now (codes "from") && bytes_eq init.now (codes "init")) }
 {
     is_key_from(key, text, from) && is_word(init, "init")
 }
 
-/// What five words say in version 2.
+/// Gives what five words say in version 2.
 fn of_five_words<'a>(words: &[&'a [u8]]) -> Option<Statement<'a>>
     requires { length words.now ≡ 5 }
     ensures { option_map said result ≡ statement_of true (map (λ word. word.now) words.now) }
@@ -85,7 +85,7 @@ fn of_five_words<'a>(words: &[&'a [u8]]) -> Option<Statement<'a>>
     }
 }
 
-/// What six words say in version 2.
+/// Gives what six words say in version 2.
 fn of_six_words<'a>(words: &[&'a [u8]]) -> Option<Statement<'a>>
     requires { length words.now ≡ 6 }
     ensures { option_map said result ≡ statement_of true (map (λ word. word.now) words.now) }
@@ -99,7 +99,7 @@ fn of_six_words<'a>(words: &[&'a [u8]]) -> Option<Statement<'a>>
     }
 }
 
-/// What five words or more say in version 2.
+/// Gives what five words or more say in version 2.
 fn read_long_statement<'a>(words: &[&'a [u8]]) -> Option<Statement<'a>>
     requires { 5 ≤ length words.now }
     ensures { option_map said result ≡ statement_of true (map (λ word. word.now) words.now) }
@@ -120,7 +120,7 @@ fn read_long_statement<'a>(words: &[&'a [u8]]) -> Option<Statement<'a>>
     }
 }
 
-/// What the words of a line say, if they are of a form that version 1 has.
+/// Gives what the words of a line say, if they are of a form that version 1 has.
 fn read_plain_statement<'a>(words: &[&'a [u8]]) -> Option<Statement<'a>>
     ensures { option_map said result ≡ statement_of false (map (λ word. word.now) words.now) }
 {

@@ -129,7 +129,7 @@ pub(crate) fn void_variable(is_void: bool, first: u32) -> Option<u32>
     if is_void { Some(first) } else { None }
 }
 
-/// What the layout keeps of an operation, whose variables begin with this one.
+/// Gives what the layout keeps of an operation, whose variables begin with this one.
 pub(crate) fn op_table(
     alloc: Global,
     numbering: &Numbering<'_>,
@@ -169,7 +169,7 @@ fn count_of(table: &OpVariables) -> u32
     }
 }
 
-/// What the layout keeps of each operation, and the first variable after theirs.
+/// Gives what the layout keeps of each operation, and the first variable after theirs.
 pub(crate) fn op_tables(
     alloc: Global,
     numbering: &Numbering<'_>,

@@ -39,7 +39,7 @@ impl Model for FinalTable {
     ghost view = { λ table. record { writers = table.writers.items; choices = table.choices.items; void = table.void } };
 }
 
-/// Whether the operation leaves the value at the location.
+/// Checks whether the operation leaves the value at the location.
 fn leaves(numbering: &Numbering<'_>, entry: &(Name, u64), w: usize) -> bool
     ensures { result ≡ judgement.is_held (numbers.left_at numbering.now entry.now.0 w) entry.now.1 }
 {
@@ -63,7 +63,7 @@ fn leavers(
         .collect(alloc)
 }
 
-/// Whether the location has no writer, and its initial value, which the table has, is the final one.
+/// Checks whether the location has no writer, and its initial value, which the table has, is the final one.
 fn is_untouched<'a>(initial: &NameTable<'a>, entry: &'a (Name, u64), writers: &[usize]) -> bool
     ensures { result ≡ (length writers.now == 0) && judgement.is_held (number_of initial.now entry.now.0) entry.now.1 }
 {
@@ -85,7 +85,7 @@ fn numbered(alloc: Global, writers: &[usize], first: u32) -> Result<Vec<FinalCho
     Ok(made)
 }
 
-/// What the layout keeps of the k-th final value, which is this entry. Its variables begin with the first one. The table
+/// Gives what the layout keeps of the k-th final value, which is this entry. Its variables begin with the first one. The table
 /// has the initial values.
 fn final_table<'a>(
     alloc: Global,
@@ -127,7 +127,7 @@ fn count_of(table: &FinalTable) -> u32
     }
 }
 
-/// What the layout keeps of each final value, and the first variable after theirs. They begin with this one.
+/// Gives what the layout keeps of each final value, and the first variable after theirs. They begin with this one.
 pub(crate) fn final_tables(
     alloc: Global,
     numbering: &Numbering<'_>,

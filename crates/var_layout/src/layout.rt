@@ -76,7 +76,7 @@ impl Layout {
         })
     }
 
-    /// What is kept of the operation of this number, if there is one.
+    /// Gives what is kept of the operation of this number, if there is one.
     fn op_table(&self, i: usize) -> Option<&OpVariables>
         ensures leader { option_map (λ (table : OpTableValue). table.leader) (option_copied result) ≡ tables.leader_at self.now i }
         ensures reads { option_map_or (λ (table : OpTableValue). table.reads) (option_copied result) false ≡ is_some (numbers.read_at self.now i) }
@@ -87,7 +87,7 @@ impl Layout {
         self.operations.get(i)
     }
 
-    /// What is kept of the k-th final value, if there is one.
+    /// Gives what is kept of the k-th final value, if there is one.
     fn final_table(&self, k: usize) -> Option<&FinalTable>
         ensures writers { option_map_or (λ (table : FinalTableValue). table.writers) (option_copied result) [] ≡ tables.final_writers self.now k }
         ensures choices { option_map_or (λ (table : FinalTableValue). table.choices) (option_copied result) [] ≡ final_variables.finals self.now k }
@@ -136,7 +136,7 @@ impl Layout {
         order_lit(self.operations(), i, j)
     }
 
-    /// Whether both are operations of one process.
+    /// Checks whether both are operations of one process.
     #[inline]
     pub fn in_one_process(&self, i: usize, j: usize) -> bool
         ensures { result ≡ numbers.in_one_process self.now i j }
@@ -147,7 +147,7 @@ impl Layout {
         }
     }
 
-    /// Whether the operation of this number reads.
+    /// Checks whether the operation of this number reads.
     pub fn is_reader(&self, r: usize) -> bool
         ensures { result ≡ is_some (numbers.read_at self.now r) }
     {

@@ -58,7 +58,7 @@ fn value_left_there(op: &Op, location: &[u8]) -> Option<u64>
     }
 }
 
-/// Whether this is the operation's name.
+/// Checks whether this is the operation's name.
 fn is_name_of(named: &NamedOp<'_>, name: &OpName) -> bool
     ensures { result ≡ same_op named.now.name name.now }
 {
@@ -140,7 +140,7 @@ impl<'a> Numbering<'a> {
         }
     }
 
-    /// Whether both are operations of one process.
+    /// Checks whether both are operations of one process.
     pub fn in_one_process(&self, i: usize, j: usize) -> bool
         ensures { result ≡ number.in_one_process self.now i j }
     {
@@ -170,7 +170,7 @@ impl<'a> Numbering<'a> {
         }
     }
 
-    /// Whether the operation of this number has this name.
+    /// Checks whether the operation of this number has this name.
     pub fn is_named(&self, i: usize, name: &OpName) -> bool
         ensures { result ≡ is_the_op (number.name_at self.now i) name.now }
     {

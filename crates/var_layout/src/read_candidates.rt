@@ -15,7 +15,7 @@ use trace_semantics::name::Name;
 use trace_semantics::operation::{Op, Origin};
 use trace_semantics::trace::Trace;
 
-/// What a list of locations and values gives a location.
+/// Gives what a list of locations and values gives a location.
 fn value_at(values: &[(Name, u64)], location: &[u8]) -> Option<u64>
     ensures { result ≡ value_of values.now location.now }
 {
@@ -41,7 +41,7 @@ fn value_from(
     }
 }
 
-/// Whether there is a value, and it is the one that is read.
+/// Checks whether there is a value, and it is the one that is read.
 fn is_read(value: Option<u64>, read: Option<u64>) -> bool
     ensures { result ≡ candidates.is_read value read }
 {
@@ -51,7 +51,7 @@ fn is_read(value: Option<u64>, read: Option<u64>) -> bool
     }
 }
 
-/// Whether the candidate is what the origin says, if that says anything.
+/// Checks whether the candidate is what the origin says, if that says anything.
 fn is_said(numbering: &Numbering<'_>, origin: &Origin, candidate: Candidate) -> bool
     ensures { result ≡ candidates.is_allowed numbering.now origin.now candidate }
 {
@@ -68,7 +68,7 @@ fn is_said(numbering: &Numbering<'_>, origin: &Origin, candidate: Candidate) -> 
     }
 }
 
-/// Whether the candidate is what the operation's origin says, if that says anything.
+/// Checks whether the candidate is what the operation's origin says, if that says anything.
 fn is_allowed(numbering: &Numbering<'_>, op: &Op, candidate: Candidate) -> bool
     ensures { result ≡ candidates.is_allowed numbering.now (origin_of op.now) candidate }
 {
@@ -79,7 +79,7 @@ fn is_allowed(numbering: &Numbering<'_>, op: &Op, candidate: Candidate) -> bool
     }
 }
 
-/// Whether the operation may have its value from there.
+/// Checks whether the operation may have its value from there.
 fn is_candidate(numbering: &Numbering<'_>, trace: &Trace, op: &Op, candidate: Candidate) -> bool
     requires { numbering.now ≡ trace.now }
     ensures { result ≡ candidates.is_candidate trace.now op.now candidate }

@@ -38,7 +38,7 @@ fn value_left(trace: &Trace, name: &OpName, location: &[u8]) -> Option<u64> {
     }
 }
 
-/// What the location holds after these operations.
+/// Gives what the location holds after these operations.
 pub fn held_after<'t>(
     trace: &Trace,
     names: &'t [OpName],

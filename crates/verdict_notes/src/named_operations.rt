@@ -29,12 +29,12 @@ pub fn operation_of<'t>(trace: &'t Trace, name: &OpName) -> Option<&'t Op> {
     }
 }
 
-/// Whether the operation has this name.
+/// Checks whether the operation has this name.
 pub fn is_named(name: &OpName, process: &[u8], place: u64) -> bool {
     name.process.as_bytes() == process && name.place as u64 == place
 }
 
-/// Whether an operation of this name is among these.
+/// Checks whether an operation of this name is among these.
 pub fn has_come(names: &[OpName], process: &[u8], place: u64) -> bool {
     for name in names {
         if is_named(name, process, place) {
@@ -49,7 +49,7 @@ pub fn place_after(k: usize) -> u64 {
     (k as u64).saturating_add(1)
 }
 
-/// What is said of where the operation reads from.
+/// Gives what is said of where the operation reads from.
 pub fn origin_of(op: &Op) -> Option<&Origin> {
     match op {
         Op::Read { origin, .. } => Some(origin),

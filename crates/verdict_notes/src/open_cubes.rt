@@ -27,7 +27,7 @@ fn literals_of(line: &[u8]) -> Option<&[u8]> {
     }
 }
 
-/// How many lines of the report are open cubes.
+/// The number of lines of the report that are open cubes.
 fn count_open(report: &[u8]) -> u64 {
     let mut count: u64 = 0;
     let mut rest = report;

@@ -98,7 +98,7 @@ impl fmt::Display for FaultLine {
     }
 }
 
-/// What is reported of a cause at a place.
+/// Gives what is reported of a cause at a place.
 fn located<C: FaultCause>(area: &'static str, cause: &C, place: usize) -> FaultLine
     ensures area { result.area.now ≡ area.now }
     ensures number { result.number ≡ Some (C.number_of cause.now) }
@@ -117,7 +117,7 @@ impl Fault {
     ghost use Rattle.std.specs.Prelude.{◌≡◌};
     ghost use Rattle.verdict_report.specs.Fault.{told, area_of, number_of, name_of, place_of};
 
-    /// What is reported of it.
+    /// Gives what is reported of it.
     pub(crate) fn told(&self) -> FaultLine
         ensures area { result.area.now ≡ (told self.now).area }
         ensures number { result.number ≡ (told self.now).number }
@@ -162,7 +162,7 @@ impl Fault {
         }
     }
 
-    /// What refused: `memory`, `device`, `input`, `trace`, `schedule`, `part`, `model`, `cnf`, `lrat`, `reduce`, `decode`, `check`,
+    /// Gives what refused: `memory`, `device`, `input`, `trace`, `schedule`, `part`, `model`, `cnf`, `lrat`, `reduce`, `decode`, `check`,
     /// `cert` or `search`.
     pub fn area(&self) -> &'static str
         ensures { result.now ≡ area_of self.now }

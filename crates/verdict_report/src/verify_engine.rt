@@ -90,7 +90,7 @@ pub fn run_certified_verify<R: Threads + Wait + Sync, T: Source, G: Gate + Sync,
     write_report(alloc, &decision, out)
 }
 
-/// What is decided of the trace that the text spells.
+/// Gives what is decided of the trace that the text spells.
 fn decide_text<R: Threads + Wait + Sync, G: Gate + Sync>(
     alloc: Global,
     rt: &R,

@@ -41,7 +41,7 @@ impl<'a> FileSink<'a> {
         }
     }
 
-    /// What failed of it, if anything did.
+    /// Gives what failed of it, if anything did.
     pub fn failed(&self) -> Option<FailedFile<'a>> {
         match self.stream.failure() {
             Some(failure) => Some(FailedFile {
