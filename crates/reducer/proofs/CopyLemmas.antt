@@ -131,9 +131,6 @@ op_is t ok p c places k here old op same e =
     ap (option_and_then (λ (q : Process). at_place q.operations here.name.place)) found
     ∙ place_before p.operations here.name.place op here.least here.most (e ∙ (λ i. get_or (same i) (here.place i - 1) op))
 
-pub origin_here : (t : TraceValue) → IsTrace t → (n : OpName) (op : Op) → operation_at t n ≡ Some op → IsKnownOrigin t (origin_of op)
-origin_here t ok n op e = origin_known t ok op (op_listed t n op e)
-
 pub one_more_op : (t : TraceValue) (p : Process) (places : List ℕ) (k : ℕ) (here : OpHere t p places k) (op : Op) → operation_at t here.name ≡ Some op →
     map (new_op (kept_op t)) (filter_map (kept_op t) (take (k + 1) (kept_names t p))) ≡ map (new_op (kept_op t)) (filter_map (kept_op t) (take k (kept_names t p))) ++ new_op (kept_op t) op ∷ []
 one_more_op t p places k here op e =
