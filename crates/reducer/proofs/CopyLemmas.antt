@@ -10,17 +10,14 @@ use Rattle.std.proofs.lemmas.Option.{slice_get-get_or}
 use Rattle.trace_semantics.specs.declared.operation.Op.{Op}
 use Rattle.trace_semantics.specs.declared.operation.OpName.{OpName}
 use Rattle.trace_semantics.specs.declared.trace.Process.{Process}
-use Rattle.trace_semantics.specs.Operation.{origin_of}
-use Rattle.trace_semantics.specs.Trace.{TraceValue, IsTrace, IsKnownOrigin, at_place, process_named, operation_at, operation_count}
+use Rattle.trace_semantics.specs.Trace.{TraceValue, IsTrace, at_place, process_named, operation_at, operation_count}
 use Rattle.trace_semantics.proofs.ElementLemmas.{from_filter}
 use Rattle.trace_semantics.proofs.NameLemmas.{from_first}
 use Rattle.restriction.specs.Left.{names_of, new_op, left_process}
 use Rattle.restriction.proofs.LeftLemmas.{process_of}
-use Rattle.restriction.proofs.TraceLeftLemmas.{op_listed}
 use Rattle.reducer.specs.Reduction.{kept_op, is_kept, kept_names, kept_trace}
 use Rattle.reducer.specs.Runs.{bounds_of, AreBounds}
 use Rattle.reducer.proofs.KeptLemmas.{kept_whole}
-use Rattle.reducer.proofs.ReadLemmas.{origin_known}
 use Rattle.reducer.proofs.TraceLemmas.{kept_is_trace}
 
 -- counts

@@ -1,6 +1,6 @@
 //! The kept trace.
 
-ghost use Rattle.std.specs.Prelude.{◌≡◌, ◌≤◌, List, ℕ, map, IfOk};
+ghost use Rattle.std.specs.Prelude.{◌≡◌, map, IfOk};
 ghost use Rattle.std.specs.List.{Contains};
 ghost use Rattle.trace_semantics.specs.Trace.{operation_count};
 ghost use Rattle.restriction.specs.Left.{left_process, new_pair};

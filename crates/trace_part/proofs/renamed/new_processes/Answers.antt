@@ -1,8 +1,5 @@
-use Rattle.std.proofs.Common.{List, ℕ, map, ap, ◌∙◌}
+use Rattle.std.proofs.Common.{◌∙◌}
 use Rattle.std.proofs.lemmas.Result.{IfOk-weaker}
-use Rattle.trace_semantics.specs.declared.trace.Process.{Process}
-use Rattle.restriction.specs.Left.{names_of}
-use Rattle.trace_part.specs.Rows.{LeftValue, left_value}
 use Rattle.trace_part.proofs.PairRowLemmas.{places_left}
 use Rattle.trace_part.proofs.renamed.new_processes.Goals as goal
 
