@@ -16,9 +16,6 @@ use Rattle.lrat_check.specs.Propagation.{has, is_tautology, is_falsified, Falsif
 pub int_same : (y z : ℤ) → int_eq y z ≡ true → y ≡ z
 int_same y z h = (Decides-int_eq y z).0 h
 
-pub int_apart : (y z : ℤ) → y ≢ z → int_eq y z ≡ false
-int_apart y z h = false_from_ne_true (int_eq y z) (λ e. h (int_same y z e))
-
 -- what is among one more literal
 pub has_push : (clause : List ℤ) (x z : ℤ) → has (clause ++ x ∷ []) z ≡ (has clause z || (int_eq x z || false))
 has_push clause x z = list_any-append (λ y. int_eq y z) clause (x ∷ [])
@@ -110,9 +107,6 @@ neg_same y z e = sym (twice_negated y) ∙ ap neg_ℤ e ∙ twice_negated z
 
 int_eq_neg : (y z : ℤ) → int_eq (neg_ℤ y) (neg_ℤ z) ≡ int_eq y z
 int_eq_neg y z = same_from_decides (int_eq (neg_ℤ y) (neg_ℤ z)) (int_eq y z) (Decides-like (int_eq (neg_ℤ y) (neg_ℤ z)) (neg_same y z) (ap neg_ℤ) (Decides-int_eq (neg_ℤ y) (neg_ℤ z))) (Decides-int_eq y z)
-
-int_eq_flip : (y z : ℤ) → int_eq y z ≡ int_eq z y
-int_eq_flip y z = same_from_decides (int_eq y z) (int_eq z y) (Decides-int_eq y z) (Decides-like (int_eq z y) sym sym (Decides-int_eq z y))
 
 pub has_negated : (clause : List ℤ) (z : ℤ) → has (map neg_ℤ clause) (neg_ℤ z) ≡ has clause z
 has_negated [] z = refl
