@@ -47,6 +47,11 @@ walk_fails clauses cube steps active next left step rest OutOfMemory h e wrong =
 walk_fails clauses cube steps active next left step rest (At fault place) h e wrong =
     h.refuses fault place (subst (λ (l : List Step). Refuses active next l fault place) (sym e) (inl wrong))
 
+pub walk_over : (start : ℕ → Option (List ℤ)) (steps : List Step) (active : ℕ → Option (List ℤ)) (next : ℕ) (left : List Step) →
+    IsWalked start steps active next left → left ≡ [] → Refuses start 1 steps NoEmptyClause next
+walk_over start steps active next left h e =
+    h.refuses NoEmptyClause next (subst (λ (l : List Step). Refuses active next l NoEmptyClause next) (sym e) (refl, refl))
+
 -- a clause was added
 pub step_added : (old new : ℕ → Option (List ℤ)) (step : Step) (id : ℕ) (literals hints : List ℤ) (ended : Bool) → step ≡ Addition id literals hints → old id ≡ None → IsJustified old literals hints →
     ended ≡ eqb (length literals) 0 → ((other : ℕ) → new other ≡ with_clause id literals old other) → IsRight old step × (ended ≡ ends step) × ((other : ℕ) → new other ≡ after old step other)
