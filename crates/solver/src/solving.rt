@@ -1,6 +1,6 @@
 //! The solver's calls: for one formula, and for one cube of a prepared formula.
 
-ghost use Rattle.std.specs.Prelude.{◌≤◌, IfOk};
+ghost use Rattle.std.specs.Prelude.{◌≤◌, ◌+◌, IfOk};
 ghost use Rattle.proof_log.specs.Answers.{IsWithin};
 
 use crate::prepared_formula::PreparedFormula;
@@ -34,7 +34,54 @@ pub(crate) fn begin<'a>(
     Ok(search)
 }
 
+/// Searches on by turns: by those of `first`, and by those of a second search of the same cube that takes the other course. The conflicts of
+/// the second are counted.
+fn search_by_two<'a>(
+    alloc: Global,
+    prepared: &PreparedFormula<'a>,
+    cube: &[Lit],
+    first_id: u32,
+    first: &mut Attempt<Search<'a>>,
+    budget: u64,
+) -> Result<Answer, AllocError>
+    ensures { IfOk result (λ answer. IsWithin (first.old.log + budget) answer) }
+{
+    let mut other = begin(alloc, prepared, cube)?;
+    other.change_course()?;
+    let mut second = Attempt::new(alloc, other, first_id);
+    let found = take_turns(&mut second, first, budget);
+    prepared.add_conflicts(second.log.additions());
+    found
+}
+
+/// Searches on from the begin of an attempt. A cube that suits a schedule is searched in both courses, once a turn was not enough.
+fn search_from<'a>(
+    alloc: Global,
+    prepared: &PreparedFormula<'a>,
+    cube: &[Lit],
+    first_id: u32,
+    first: &mut Attempt<Search<'a>>,
+    has_another_course: bool,
+    budget: u64,
+) -> Result<Answer, AllocError>
+    ensures { IfOk result (λ answer. IsWithin (first.old.log + budget) answer) }
+{
+    if !has_another_course {
+        return search_alone(first, budget);
+    }
+    let share = budget.min(TURN);
+    let left = budget - share;
+    if let Some(answer) = first.take_turn(share, left)? {
+        return Ok(answer);
+    }
+    if left == 0 {
+        return Ok(Answer::Open);
+    }
+    search_by_two(alloc, prepared, cube, first_id, first, left)
+}
+
 /// Searches the prepared formula in the cube of these literals: counts, and then takes turns. The first step of a derivation has this number.
+/// The conflicts are counted.
 pub(crate) fn search_cube(
     alloc: Global,
     prepared: &PreparedFormula<'_>,
@@ -50,22 +97,17 @@ pub(crate) fn search_cube(
     }
     let has_another_course = suits_a_schedule(&search.trail);
     let mut first = Attempt::new(alloc, search, first_id);
-    if !has_another_course {
-        return search_alone(&mut first, budget);
-    }
-    let share = budget.min(TURN);
-    let left = budget - share;
-    if let Some(answer) = first.take_turn(share, left)? {
-        return Ok(answer);
-    }
-    if left == 0 {
-        return Ok(Answer::Open);
-    }
-    let mut other = begin(alloc, prepared, cube)?;
-    other.change_course()?;
-    let mut second = Attempt::new(alloc, other, first_id);
-    let answer = take_turns(&mut second, &mut first, left)?;
-    Ok(answer)
+    let found = search_from(
+        alloc,
+        prepared,
+        cube,
+        first_id,
+        &mut first,
+        has_another_course,
+        budget,
+    );
+    prepared.add_conflicts(first.log.additions());
+    found
 }
 
 /// Looks for a model of the formula that was prepared which makes all literals of the cube true, or for a derivation that there is none:
