@@ -20,8 +20,8 @@ fn variables_of<L: ClauseList>(formula: &L, cube: &[Lit]) -> u32 {
     variables
 }
 
-/// Begins a search of the prepared formula in the cube of these literals. Its decisions follow a schedule if that is likely to be the
-/// faster of the two.
+/// Begins a search of the prepared formula in the cube of these literals. There are two courses: decisions along a schedule, and decisions by
+/// activity. It takes the one that is likely to be faster.
 pub(crate) fn begin<'a>(
     alloc: Global,
     prepared: &PreparedFormula<'a>,
@@ -34,8 +34,8 @@ pub(crate) fn begin<'a>(
     Ok(search)
 }
 
-/// Searches on by turns: by those of `first`, and by those of a second search of the same cube that takes the other course. The conflicts of
-/// the second are counted.
+/// Goes on with an attempt, and begins a second one on the other course, which takes its turns with the first. The conflicts of the second
+/// are counted.
 fn search_by_two<'a>(
     alloc: Global,
     prepared: &PreparedFormula<'a>,
@@ -54,7 +54,8 @@ fn search_by_two<'a>(
     found
 }
 
-/// Searches on from the begin of an attempt. A cube that suits a schedule is searched in both courses, once a turn was not enough.
+/// Searches the cube by this attempt, which has begun and taken no turn. If there is another course, it is tried too, once the first turn was
+/// not enough.
 fn search_from<'a>(
     alloc: Global,
     prepared: &PreparedFormula<'a>,
@@ -110,8 +111,8 @@ pub(crate) fn search_cube(
     found
 }
 
-/// Looks for a model of the formula that was prepared which makes all literals of the cube true, or for a derivation that there is none:
-/// as `solve`, for one of many cubes. What is known of the formula itself is the answer, if there is any.
+/// Does what `solve` does, for one of many cubes of a formula that was prepared. If `count_whole` or `search_whole` has refuted the formula
+/// itself, or found a model of it, that gives the answer, and the cube is not searched.
 pub fn solve_cube(
     alloc: Global,
     prepared: &PreparedFormula<'_>,
@@ -136,9 +137,9 @@ pub fn solve_cube(
 ///
 /// At most `budget` conflicts are analysed, where a conflict is a clause all of whose literals have become false, and each of them makes
 /// one addition of the derivation. The next one makes the answer `Open`. Unit propagation runs before the first decision. If counting then
-/// finds a Hall violator, the derivation refutes it in at most `budget` steps, and nothing is searched; if the derivation is longer, the
-/// answer is `Open`, unless the budget has at most one turn. After each turn of the search the count is repeated, with what has been
-/// learned, in at most as many steps as there are conflicts left.
+/// finds a Hall violator, readers that cannot all have a source, a derivation of at most `budget` steps refutes it, and nothing is searched. If
+/// that derivation is longer, the answer is `Open`; only a budget of at most one turn is searched nevertheless. After each turn of the search
+/// the count is repeated, with what has been learned, in at most as many steps as there are conflicts left.
 ///
 /// The hints are what the caller knows of the formula. Neither they nor the answer are trusted: a model is evaluated, a derivation checked.
 pub fn solve<L: ClauseList>(
