@@ -2,12 +2,12 @@
 use Rattle.std.proofs.Common.{◌≡◌, ℕ, ◌+◌, ◌-◌, ◌<◌, ◌≤◌, min, List, [], ◌∷◌, ◌++◌, length, Some, refl, sym, ◌∙◌, ap, subst, arith}
 use Rattle.std.specs.List.{All}
 use Rattle.std.proofs.lemmas.List.{map-append, length-append}
-use Rattle.std.proofs.lemmas.List.Elements.{All-nil, All-push, All-pop}
+use Rattle.std.proofs.lemmas.List.Elements.{All-push, All-pop}
 use Rattle.atomic_table.specs.Seated.{TableId}
 use Rattle.stop_word.specs.declared.views.View.{View}
-use Rattle.stop_word.specs.WordRule.{nothing, view_of, least_of, parts_in}
+use Rattle.stop_word.specs.WordRule.{view_of, least_of, parts_in}
 use Rattle.stop_word.specs.Seats.{SeatValue, known_by, KnowsNothing, AreAllSeats}
-use Rattle.stop_word.proofs.LeastLemmas.{least_small, least-append}
+use Rattle.stop_word.proofs.LeastLemmas.{least-append}
 use Rattle.stop_word.proofs.ViewLemmas.{least_in, least_more, parts_more}
 
 known_more : (seats : List SeatValue) (s : SeatValue) → known_by (seats ++ s ∷ []) ≡ known_by seats ++ s.knows ∷ []
