@@ -169,7 +169,13 @@ fn asked_search<'t>(
         Line::Survey { trace, .. } => Some(AskedCommand::Survey {
             trace: named(trace, &texts.first),
         }),
-        _ => None,
+        Line::Judge { .. }
+        | Line::Cnf { .. }
+        | Line::Decode { .. }
+        | Line::Lrat { .. }
+        | Line::Recheck { .. }
+        | Line::Part { .. }
+        | Line::Refusals => None,
     }
 }
 
