@@ -5,9 +5,6 @@ use Rattle.text_lines.specs.Kept.{is_dimacs_skipped}
 use Rattle.text_lines.specs.Words.{words_of}
 use Rattle.cnf_text.specs.CnfLines.{is_end, numbered, said_from, end_from}
 
-before_yes : (line : List ℕ) (lines : List (List ℕ)) → is_end line ≡ true → before_first is_end (line ∷ lines) ≡ []
-before_yes line lines h = ap (λ b. take (cond (not b) (1 + position_or_len is_end lines) 0) (line ∷ lines)) h
-
 before_no : (line : List ℕ) (lines : List (List ℕ)) → is_end line ≡ false → before_first is_end (line ∷ lines) ≡ line ∷ before_first is_end lines
 before_no line lines h =
     let more : position_or_len is_end (line ∷ lines) ≡ suc (position_or_len is_end lines) =

@@ -9,6 +9,7 @@ use crate::pairs::pairs_of;
 use crate::rows::OrderRows;
 use crate::walk::{OrderStep, steps_of};
 use std::alloc::{AllocError, Global};
+use trace_semantics::limits::{MAX_OPERATIONS, MAX_PROCESSES};
 use trace_semantics::trace::Trace;
 
 /// Bound on how often rows are raised along all steps. Once is enough unless pairs are cyclic; the second time finds nothing to raise.
@@ -97,8 +98,8 @@ fn raise_all(
 fn raise_forward(rows: &mut OrderRows, trace: &Trace)
     ensures { IsTrace trace.now → AreForced trace.now rows.old → AreForced trace.now rows.new }
 {
-    for process in 0..64 {
-        for place in 1..4096 {
+    for process in 0..MAX_PROCESSES as u16 {
+        for place in 1..MAX_OPERATIONS as u16 {
             raise_next(rows, trace, OperationNumber { process, place });
         }
     }

@@ -3,7 +3,8 @@ use Rattle.std.proofs.Common.{◌≡◌, ◌<◌, ◌≤◌, ◌+◌, ◌-◌, �
 use Rattle.std.specs.Prelude.{Some}
 use Rattle.std.specs.List.{Contains, filter, sum_by}
 use Rattle.std.specs.Option.{option_and_then}
-use Rattle.std.proofs.lemmas.List.{map-append, map_more}
+use Rattle.std.proofs.Math.Seq.{take-append_seam}
+use Rattle.std.proofs.lemmas.List.{length-append, map-append, map_more}
 use Rattle.std.proofs.lemmas.List.Elements.{Contains-get_or, filter-append}
 use Rattle.std.proofs.lemmas.List.Sums.{get_or-le-sum_by}
 use Rattle.trace_semantics.specs.declared.operation.OpName.{OpName}
@@ -12,13 +13,14 @@ use Rattle.trace_semantics.specs.Trace.{TraceValue, IsTrace, at_place, process_n
 use Rattle.trace_semantics.proofs.ElementLemmas.{head_in, tail_in}
 use Rattle.trace_semantics.proofs.NameLemmas.{from_first}
 use Rattle.restriction.specs.Left.{names_of}
+use Rattle.restriction.specs.PlacesLeft.{places_of, ArePlacesLeft}
 use Rattle.restriction.proofs.LeftLemmas.{process_of, listed_name}
 use Rattle.restriction.proofs.PlaceLemmas.{one_more_name}
 use Rattle.trace_semantics.specs.declared.op_set.OpSet.{OpSet}
 use Rattle.reducer.specs.Named.{HasNamed}
-use Rattle.reducer.specs.Reduction.{repeats, previous, is_kept}
-use Rattle.reducer.specs.Runs.{bounds_by, bounds_of, keeps}
-use Rattle.reducer.proofs.KeptLemmas.{known_kept}
+use Rattle.reducer.specs.Reduction.{repeats, previous, kept_op, is_kept}
+use Rattle.reducer.specs.Runs.{bounds_by, bounds_of, keeps, without_last, AreBounds}
+use Rattle.reducer.proofs.KeptLemmas.{kept_known, known_kept}
 
 -- one more operation
 one_filtered : (passes : OpName → Bool) (n : OpName) (b : Bool) → passes n ≡ b → map (λ (m : OpName). m.place) (filter passes (n ∷ [])) ≡ cond b (n.place ∷ []) []
@@ -66,5 +68,17 @@ few_operations t ok ps same i p l at =
     let all : sum_by (λ (q : Process). length q.operations) ps ≡ sum_by (λ (q : Process). length q.operations) t.processes = ap (sum_by (λ (q : Process). length q.operations)) same in
     omega (arith, one, here, all, ok.few_operations)
 
-pub few_listed : (t : TraceValue) → IsTrace t → (p : Process) → Contains t.processes p → length p.operations ≤ 4096
-few_listed t ok p (i, l, e) = few_operations t ok t.processes refl i p l (sym e)
+-- without their last, the bounds are the places of what remains
+places_are : (t : TraceValue) (p : Process) → without_last (bounds_of t p) ≡ places_of (kept_op t) p
+places_are t p =
+    let kept : List ℕ = map (λ (n : OpName). n.place) (filter (is_kept t) (names_of p)) in
+    let last : List ℕ = (length p.operations + 1) ∷ [] in
+    let count : length (kept ++ last) - 1 ≡ length kept = omega (arith, length-append kept last) in
+    ap (λ k. take k (kept ++ last)) count ∙ take-append_seam kept last
+
+all_places : (t : TraceValue) (ps : List Process) → map without_last (map (bounds_of t) ps) ≡ map (places_of (kept_op t)) ps
+all_places t [] = refl
+all_places t (p ∷ ps) = λ i. places_are t p i ∷ all_places t ps i
+
+pub places_kept : (t : TraceValue) (all places : List (List ℕ)) → AreBounds t all → places ≡ map without_last all → ArePlacesLeft t (kept_op t) places
+places_kept t all places are e = record { values = e ∙ ap (map without_last) are ∙ all_places t t.processes; known = kept_known t }

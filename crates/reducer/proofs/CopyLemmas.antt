@@ -10,17 +10,14 @@ use Rattle.std.proofs.lemmas.Option.{slice_get-get_or}
 use Rattle.trace_semantics.specs.declared.operation.Op.{Op}
 use Rattle.trace_semantics.specs.declared.operation.OpName.{OpName}
 use Rattle.trace_semantics.specs.declared.trace.Process.{Process}
-use Rattle.trace_semantics.specs.Operation.{origin_of}
-use Rattle.trace_semantics.specs.Trace.{TraceValue, IsTrace, IsKnownOrigin, at_place, process_named, operation_at, operation_count}
+use Rattle.trace_semantics.specs.Trace.{TraceValue, IsTrace, at_place, process_named, operation_at, operation_count}
 use Rattle.trace_semantics.proofs.ElementLemmas.{from_filter}
 use Rattle.trace_semantics.proofs.NameLemmas.{from_first}
 use Rattle.restriction.specs.Left.{names_of, new_op, left_process}
 use Rattle.restriction.proofs.LeftLemmas.{process_of}
-use Rattle.restriction.proofs.TraceLeftLemmas.{op_listed}
 use Rattle.reducer.specs.Reduction.{kept_op, is_kept, kept_names, kept_trace}
 use Rattle.reducer.specs.Runs.{bounds_of, AreBounds}
 use Rattle.reducer.proofs.KeptLemmas.{kept_whole}
-use Rattle.reducer.proofs.ReadLemmas.{origin_known}
 use Rattle.reducer.proofs.TraceLemmas.{kept_is_trace}
 
 -- counts
@@ -130,9 +127,6 @@ op_is t ok p c places k here old op same e =
     let found : process_named t here.name.process ≡ Some p = ap (process_named t) here.called ∙ process_of t ok p c in
     ap (option_and_then (λ (q : Process). at_place q.operations here.name.place)) found
     ∙ place_before p.operations here.name.place op here.least here.most (e ∙ (λ i. get_or (same i) (here.place i - 1) op))
-
-pub origin_here : (t : TraceValue) → IsTrace t → (n : OpName) (op : Op) → operation_at t n ≡ Some op → IsKnownOrigin t (origin_of op)
-origin_here t ok n op e = origin_known t ok op (op_listed t n op e)
 
 pub one_more_op : (t : TraceValue) (p : Process) (places : List ℕ) (k : ℕ) (here : OpHere t p places k) (op : Op) → operation_at t here.name ≡ Some op →
     map (new_op (kept_op t)) (filter_map (kept_op t) (take (k + 1) (kept_names t p))) ≡ map (new_op (kept_op t)) (filter_map (kept_op t) (take k (kept_names t p))) ++ new_op (kept_op t) op ∷ []

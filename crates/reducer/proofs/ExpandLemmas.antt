@@ -13,6 +13,7 @@ use Rattle.trace_semantics.specs.declared.trace.Process.{Process}
 use Rattle.trace_semantics.specs.Trace.{TraceValue, IsTrace, process_named, operation_at, first_names}
 use Rattle.trace_semantics.proofs.ElementLemmas.{head_in, tail_in}
 use Rattle.restriction.specs.Left.{names_from, left_process}
+use Rattle.restriction.proofs.CountLemmas.{found_by_place}
 use Rattle.restriction.proofs.LeftLemmas.{IsOld, old_known, one_more_place}
 use Rattle.restriction.proofs.OrderedPairLemmas.{left_order_of}
 use Rattle.restriction.proofs.PlaceLemmas.{joined_names}
@@ -21,7 +22,6 @@ use Rattle.reducer.specs.Reduced.{ReducedValue, IsReduced}
 use Rattle.reducer.specs.Reduction.{is_dropped, kept_op, is_kept, kept_names, kept_trace}
 use Rattle.reducer.specs.Runs.{bounds_of, AreBounds}
 use Rattle.reducer.proofs.KeptLemmas.{known_kept, kept_first}
-use Rattle.reducer.proofs.RenamedLemmas.{bounds_found}
 use Rattle.reducer.proofs.RunLemmas.{standing, expanded_first, behind_it, behind_known}
 
 -- the bounds are found by the names of the kept processes
@@ -36,7 +36,8 @@ pub kept_bounds : (r : ReducedValue) (ps : List Process) (all : List (List ℕ))
 kept_bounds r ps all name other o kept same are e f =
     f ∙ (λ i. option_and_then (slice_get all) (position (λ (p : Process). bytes_eq p.name (e i)) ((same ∙ ap (λ (k : TraceValue). k.processes) kept) i)))
     ∙ ap (option_and_then (slice_get all)) (kept_position r.whole other)
-    ∙ bounds_found r.whole r.whole.processes all other refl are
+    ∙ ap (λ l. option_and_then (slice_get l) (position (λ (p : Process). bytes_eq p.name other) r.whole.processes)) are
+    ∙ found_by_place (bounds_of r.whole) (λ (p : Process). bytes_eq p.name other) r.whole.processes
 
 -- the run of dropped operations ends at the next kept one
 abbrev places_from : TraceValue → List ℕ → ℕ → ℕ → List ℕ

@@ -6,7 +6,6 @@ pub mod KeptLemmas
 pub mod PairLemmas
 pub mod PartsLemmas
 pub mod ReadLemmas
-pub mod RenamedLemmas
 pub mod RunLemmas
 pub mod ScheduleLemmas
 pub mod TraceLemmas

@@ -1,5 +1,5 @@
 -- The places of the runs of dropped reads in the processes of the whole trace.
-use Rattle.std.specs.Prelude.{◌≡◌, ◌+◌, ◌-◌, ℕ, List, [], ◌∷◌, ◌++◌, length, map, Bool, not, ◌&&◌}
+use Rattle.std.specs.Prelude.{◌≡◌, ◌+◌, ◌-◌, ℕ, List, [], ◌∷◌, ◌++◌, length, map, take, Bool, not, ◌&&◌}
 use Rattle.std.specs.List.{filter}
 use Rattle.trace_semantics.specs.declared.operation.OpName.{OpName}
 use Rattle.trace_semantics.specs.declared.trace.Process.{Process}
@@ -16,6 +16,10 @@ bounds_by passes p = map (λ (n : OpName). n.place) (filter passes (names_of p))
 -- the places at which the runs of a process begin, and the one at which the last ends
 abbrev pub bounds_of : TraceValue → Process → List ℕ
 bounds_of t p = bounds_by (is_kept t) p
+
+-- the bounds without the last
+abbrev pub without_last : List ℕ → List ℕ
+without_last bounds = take (length bounds - 1) bounds
 
 -- these are the bounds of the trace's processes
 abbrev pub AreBounds : TraceValue → List (List ℕ) → Type 0

@@ -6,8 +6,8 @@ ghost use Rattle.trace_semantics.specs.Trace.{operation_at};
 ghost use Rattle.restriction.specs.Left.{names_from};
 ghost use Rattle.reducer.specs.Expansion.{expanded, expansion};
 
+use crate::kept_places::bounds_at;
 use crate::reduced::Reduced;
-use crate::renamed::bounds_at;
 use std::alloc::{AllocError, Global};
 use trace_semantics::name::Name;
 use trace_semantics::operation::OpName;

@@ -1,14 +1,16 @@
 //! The kept trace.
 
-ghost use Rattle.std.specs.Prelude.{◌≡◌, ◌≤◌, List, ℕ, map, IfOk};
+ghost use Rattle.std.specs.Prelude.{◌≡◌, map, IfOk};
 ghost use Rattle.std.specs.List.{Contains};
 ghost use Rattle.trace_semantics.specs.Trace.{operation_count};
 ghost use Rattle.restriction.specs.Left.{left_process, new_pair};
+ghost use Rattle.restriction.specs.PlacesLeft.{ArePlacesLeft};
 ghost use Rattle.reducer.specs.Reduction as reduction;
 ghost use Rattle.reducer.specs.Runs.{bounds_of, AreBounds};
 
-use crate::kept_places::KeptPlaces;
-use crate::renamed::{new_name, new_op};
+use crate::kept_places::{KeptPlaces, places_left};
+use restriction::left_places::LeftPlaces;
+use restriction::renamed::{new_name, new_op};
 use std::alloc::{AllocError, Global};
 use trace_semantics::name::Name;
 use trace_semantics::operation::{Op, OpName};
@@ -28,14 +30,14 @@ pub fn count_kept(trace: &Trace, all: &[KeptPlaces]) -> usize
 }
 
 /// Returns the kept operations of a process.
-fn kept_operations(
+fn kept_operations<'a>(
     alloc: Global,
     trace: &Trace,
-    all: &[KeptPlaces],
+    left: &'a [LeftPlaces<'a>],
     process: &Process,
     places: &[u16],
 ) -> Result<Vec<Op>, AllocError>
-    requires bounds { AreBounds trace.now all.now }
+    requires left { ArePlacesLeft trace.now (reduction.kept_op trace.now) left.now }
     requires listed { Contains trace.now.processes process.now }
     requires places { places.now ≡ bounds_of trace.now process.now }
     ensures { IfOk result (λ ops. ops.items ≡ (left_process (reduction.kept_op trace.now) process.now).operations) }
@@ -46,64 +48,65 @@ fn kept_operations(
     let mut ops = Vec::with_capacity(alloc, count)?;
     for k in 0..count {
         let op = &old[places[k] as usize - 1];
-        ops.push(new_op(alloc, trace, all, op)?)?;
+        ops.push(new_op(alloc, trace, left, op)?)?;
     }
     Ok(ops)
 }
 
 /// Returns the process with its kept operations.
-fn kept_process(
+fn kept_process<'a>(
     alloc: Global,
     trace: &Trace,
-    all: &[KeptPlaces],
+    left: &'a [LeftPlaces<'a>],
     process: &Process,
     bounds: &KeptPlaces,
 ) -> Result<Process, AllocError>
-    requires bounds { AreBounds trace.now all.now }
+    requires left { ArePlacesLeft trace.now (reduction.kept_op trace.now) left.now }
     requires listed { Contains trace.now.processes process.now }
     requires places { bounds.now ≡ bounds_of trace.now process.now }
     ensures { IfOk result (λ new. new ≡ left_process (reduction.kept_op trace.now) process.now) }
 {
     let name = Name::copy_of(alloc, process.name.as_bytes())?;
-    let ops = kept_operations(alloc, trace, all, process, bounds.as_slice())?;
+    let ops = kept_operations(alloc, trace, left, process, bounds.as_slice())?;
     Ok(Process {
         name,
         operations: Operations::new(ops),
     })
 }
 
-fn kept_processes(
+fn kept_processes<'a>(
     alloc: Global,
     trace: &Trace,
+    left: &'a [LeftPlaces<'a>],
     all: &[KeptPlaces],
 ) -> Result<Vec<Process>, AllocError>
-    requires { AreBounds trace.now all.now }
+    requires bounds { AreBounds trace.now all.now }
+    requires left { ArePlacesLeft trace.now (reduction.kept_op trace.now) left.now }
     ensures { IfOk result (λ new. new.items ≡ map (left_process (reduction.kept_op trace.now)) trace.now.processes) }
 {
     let processes = trace.processes();
     let mut new = Vec::with_capacity(alloc, processes.len())?;
     for k in 0..processes.len() {
-        new.push(kept_process(alloc, trace, all, &processes[k], &all[k])?)?;
+        new.push(kept_process(alloc, trace, left, &processes[k], &all[k])?)?;
     }
     Ok(new)
 }
 
 /// Returns the before pairs, by the new names.
-fn new_pairs(
+fn new_pairs<'a>(
     alloc: Global,
     trace: &Trace,
-    all: &[KeptPlaces],
+    left: &'a [LeftPlaces<'a>],
 ) -> Result<Vec<(OpName, OpName)>, AllocError>
-    requires { AreBounds trace.now all.now }
+    requires { ArePlacesLeft trace.now (reduction.kept_op trace.now) left.now }
     ensures { IfOk result (λ new. new.items ≡ map (new_pair (reduction.kept_op trace.now)) trace.now.before) }
 {
-    trace.recall_invariant();
     let pairs = trace.before();
     let mut new = Vec::with_capacity(alloc, pairs.len())?;
     for k in 0..pairs.len() {
         let pair = &pairs[k];
-        let first = new_name(alloc, trace, all, &pair.0)?;
-        let second = new_name(alloc, trace, all, &pair.1)?;
+        let first = new_name(alloc, trace, left, &pair.0)?;
+        let second = new_name(alloc, trace, left, &pair.1)?;
         new.push((first, second))?;
     }
     Ok(new)
@@ -125,9 +128,11 @@ pub fn kept_trace(alloc: Global, trace: &Trace, all: &[KeptPlaces]) -> Result<Tr
     ensures { IfOk result (λ kept. kept ≡ reduction.kept_trace trace.now) }
 {
     trace.recall_invariant();
-    let processes = kept_processes(alloc, trace, all)?;
+    let places = places_left(alloc, all)?;
+    let left = places.as_slice();
+    let processes = kept_processes(alloc, trace, left, all)?;
     let initial = copy_of(alloc, trace.initial())?;
     let final_values = copy_of(alloc, trace.final_values())?;
-    let before = new_pairs(alloc, trace, all)?;
+    let before = new_pairs(alloc, trace, left)?;
     Ok(Trace::new(processes, initial, final_values, before))
 }

@@ -1,15 +1,21 @@
 //! The places of the runs of dropped reads in the processes.
 
-ghost use Rattle.std.specs.Prelude.{◌≡◌, ◌<◌, ◌≤◌, ◌+◌, length, IfOk};
+ghost use Rattle.std.specs.Prelude.{◌≡◌, ◌<◌, ◌≤◌, ◌+◌, length, map, IfOk, position};
+ghost use Rattle.std.specs.List.{slice_get};
+ghost use Rattle.std.specs.Option.{option_copied, option_and_then};
+ghost use Rattle.std.specs.Str.{bytes_eq};
+ghost use Rattle.trace_semantics.specs.declared.trace.Process.{Process as Listed};
 ghost use Rattle.trace_semantics.specs.Trace.{at_place};
 ghost use Rattle.reducer.specs.Named.{HasNamed};
 ghost use Rattle.reducer.specs.Reduction as reduction;
-ghost use Rattle.reducer.specs.Runs.{bounds_by, keeps, AreBounds};
+ghost use Rattle.reducer.specs.Runs.{bounds_by, keeps, without_last, AreBounds};
 
+use restriction::left_places::LeftPlaces;
 use std::alloc::{AllocError, Global};
 use std::marker::Model;
 use trace_semantics::op_set::OpSet;
 use trace_semantics::operation::{Op, Origin};
+use trace_semantics::process_order::find_process;
 use trace_semantics::trace::{Process, Trace};
 
 /// The places of the kept operations of a process, and then one more than its last place.
@@ -27,11 +33,22 @@ impl Model for KeptPlaces {
 }
 
 impl KeptPlaces {
+    ghost use Rattle.std.specs.Prelude.{◌≡◌};
+    ghost use Rattle.reducer.specs.Runs.{without_last};
+
     /// Returns the bounds as a slice.
     pub fn as_slice(&self) -> &[u16]
         ensures { result.now ≡ self.now }
     {
         self.places.as_slice()
+    }
+
+    /// Returns the places of the kept operations.
+    fn places(&self) -> &[u16]
+        ensures { result.now ≡ without_last self.now }
+    {
+        let bounds = self.places.as_slice();
+        &bounds[..bounds.len().saturating_sub(1)]
     }
 }
 
@@ -116,4 +133,32 @@ pub fn all_bounds<'a>(
         all.push(bounds_in(alloc, set, process)?)?;
     }
     Ok(all)
+}
+
+/// Returns the bounds of the process of this name.
+pub fn bounds_at<'a>(
+    processes: &[Process],
+    all: &'a [KeptPlaces],
+    name: &[u8],
+) -> Option<&'a KeptPlaces>
+    ensures { option_copied result ≡ option_and_then (slice_get all.now) (position (λ (p : Listed). bytes_eq p.name name.now) processes.now) }
+{
+    match find_process(processes, name) {
+        Some(k) => all.get(k),
+        None => None,
+    }
+}
+
+/// Returns the places of the kept operations of each process, which are its bounds without the last.
+pub fn places_left<'a>(
+    alloc: Global,
+    all: &'a [KeptPlaces],
+) -> Result<Vec<LeftPlaces<'a>>, AllocError>
+    ensures { IfOk result (λ left. left.items ≡ map without_last all.now) }
+{
+    let mut left = Vec::with_capacity(alloc, all.len())?;
+    for k in 0..all.len() {
+        left.push(LeftPlaces::new(all[k].places()))?;
+    }
+    Ok(left)
 }

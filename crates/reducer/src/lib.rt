@@ -12,4 +12,3 @@ pub mod laws;
 mod named;
 pub mod reduce_fault;
 pub mod reduced;
-mod renamed;

@@ -1,3 +1,4 @@
 pub mod LastWriter
 pub mod Left
+pub mod PlacesLeft
 pub mod Restriction

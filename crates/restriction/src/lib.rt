@@ -6,3 +6,6 @@
 #![tactic(auto)]
 
 pub mod laws;
+pub mod left_places;
+pub mod left_value;
+pub mod renamed;

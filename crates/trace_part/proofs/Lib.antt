@@ -1,5 +1,4 @@
 pub mod ChoiceLemmas
-pub mod CountLemmas
 pub mod ForwardLemmas
 pub mod LatestLemmas
 pub mod PairRowLemmas

@@ -19,10 +19,11 @@ use Rattle.trace_semantics.proofs.NameLemmas.{from_first, known_named}
 use Rattle.trace_part.specs.declared.left_names.LeftName.{LeftName}
 use Rattle.trace_part.specs.Told.{groups_of, told_pairs}
 use Rattle.restriction.specs.Left.{is_left, new_name, new_pair, names_of, names_from}
+use Rattle.restriction.specs.PlacesLeft.{ArePlacesLeft}
 use Rattle.part_law.specs.Part.{left_names, left_pairs, is_nearer, is_told}
 use Rattle.forced_order.specs.Rows.{OrderValue, stands_by, numbered, ordered_by}
 use Rattle.trace_part.specs.Rows.{LeftValue, left_value, Leaves, left_row, row_is_nearer, row_is_told, told_rows, row_at_place}
-use Rattle.trace_part.proofs.CountLemmas.{counted}
+use Rattle.restriction.proofs.CountLemmas.{counted}
 use Rattle.restriction.proofs.LeftLemmas.{process_of}
 use Rattle.restriction.proofs.OrderedPairLemmas.{all_from, pairs_nil, pairs_mapped}
 use Rattle.restriction.proofs.PlaceLemmas.{in_names}
@@ -58,6 +59,11 @@ places_rise process low (suc n) =
     (all_from (λ (y : OpName). low < y.place) (names_from process (low + 1) n) (λ m c. let at = in_names process (low + 1) n m c in omega (arith, at.1)))
     (places_rise process (low + 1) n)
 
+-- the places of what is left
+pub places_left : (t : TraceValue) (stays : OpName → Option Op) (all : List LeftValue) (places : List (List ℕ)) → Leaves t stays all → places ≡ map (λ (left : LeftValue). left.places) all → ArePlacesLeft t stays places
+places_left t stays all places given e =
+    record { values = e ∙ ap (map (λ (left : LeftValue). left.places)) given.values ∙ map_twice (λ (left : LeftValue). left.places) (λ (p : Process). left_value stays (names_of p)) t.processes; known = given.known }
+
 -- the rows of one process
 pub rows_of_left : (t : TraceValue) → IsTrace t → (stays : OpName → Option Op) (all : List LeftValue) (given : Leaves t stays all) (k : ℕ) (p : Process) (left : LeftValue) → k < length t.processes → p ≡ get_or t.processes k p → left ≡ left_value stays (names_of p) →
     map (row_at_place k left.places) left.places ≡ map (left_row t stays) (filter (is_left stays) (names_of p))
@@ -70,7 +76,7 @@ rows_of_left t ok stays all given k p left l at is =
     ∙ same_map (λ (n : OpName). row_at_place k (left_value stays (names_of p)).places n.place) (left_row t stays) (filter (is_left stays) (names_of p)) (λ n c.
     let there = from_first p.name (length p.operations) n (from_filter (is_left stays) (names_of p) n c).0 in
     let number : k ≡ order_of t.processes n.process = sym order ∙ ap (order_of t.processes) (sym there.0) in
-    let new = counted t stays all given p found n.place ∙ ap (λ q. length (filter (is_left stays) (first_names q n.place))) (sym there.0) in
+    let new = counted t stays given.known p found n.place ∙ ap (λ q. length (filter (is_left stays) (first_names q n.place))) (sym there.0) in
     λ i. record { name = record { process = number i; place = n.place }; new = new i })
 
 -- the rows of one more process

@@ -15,7 +15,7 @@ use Rattle.restriction.proofs.LeftLemmas.{has_old, old_known}
 use Rattle.part_law.specs.Part.{stays, part}
 use Rattle.part_law.proofs.PartLemmas.{comes}
 use Rattle.trace_part.specs.TraceParts.{PartValue, IsPart, left_places, places_of, whole_name}
-use Rattle.trace_part.proofs.CountLemmas.{found_by_place}
+use Rattle.restriction.proofs.CountLemmas.{found_by_place}
 
 placed_map : {X Y : Type 0} (f : X → Y) (xs : List X) (k : ℕ) → at_place (map f xs) k ≡ option_map f (at_place xs k)
 placed_map f xs zero = refl

@@ -12,7 +12,7 @@ use Rattle.restriction.proofs.OrderedPairLemmas.{above_first, behind_first}
 use Rattle.trace_part.specs.declared.left_names.LeftName.{LeftName}
 use Rattle.trace_part.specs.Rows.{row_is_nearer, row_is_told, told_rows}
 use Rattle.trace_part.specs.Told.{is_before, is_told_first, told_by, told_in, told_of, first_of, told_from, told_pairs}
-use Rattle.trace_part.proofs.CountLemmas.{none_in_it}
+use Rattle.restriction.proofs.CountLemmas.{none_in_it}
 
 abbrev IsLower : LeftName → LeftName → Type 0
 IsLower x y = x.name.place < y.name.place

@@ -22,7 +22,7 @@ use Rattle.trace_part.specs.declared.writers.ChosenWriter.{ChosenWriter}
 use Rattle.trace_part.specs.Rows.{row_of, rows_of}
 use Rattle.trace_part.specs.WriterTables.{list_or_none, has_location, works_on, has_on, IsSoundTable, IsTable}
 use Rattle.trace_part.proofs.ChoiceLemmas.{any_more}
-use Rattle.trace_part.proofs.CountLemmas.{none_in_it}
+use Rattle.restriction.proofs.CountLemmas.{none_in_it}
 
 -- some of the first k + 1 pass
 pub any_of_more : {X : Type 0} (p : X → Bool) (xs : List X) (k : ℕ) (x : X) (old : Bool) → k < length xs → x ≡ get_or xs k x → (p x || (list_any p (take k xs) || old)) ≡ (list_any p (take (k + 1) xs) || old)

@@ -7,8 +7,8 @@ ghost use Rattle.trace_part.specs.Rows.{Leaves, row_at_place};
 ghost use Rattle.trace_part.specs.Told.{groups_of};
 
 use crate::left::Left;
-use crate::renamed::count_up_to;
 use forced_order::numbered::OperationNumber;
+use restriction::renamed::count_up_to;
 use std::alloc::{AllocError, Global};
 use std::marker::Model;
 use trace_semantics::trace::Trace;
@@ -53,12 +53,13 @@ fn names_in(alloc: Global, left: &Left, number: u16) -> Result<LeftNames, AllocE
     let places = left.places();
     let mut names = Vec::new(alloc);
     for k in 0..places.len() {
+        let new = count_up_to(places, places[k]) as u16;
         names.push(LeftName {
             name: OperationNumber {
                 process: number,
                 place: places[k],
             },
-            new: count_up_to(places, places[k]),
+            new,
         })?;
     }
     Ok(LeftNames { names })

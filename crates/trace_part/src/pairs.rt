@@ -17,6 +17,7 @@ use crate::left::Left;
 use crate::left_names::{LeftName, LeftNames, left_groups};
 use forced_order::forced_order::ForcedOrder;
 use std::alloc::{AllocError, Global};
+use trace_semantics::limits::MAX_PAIRS;
 use trace_semantics::name::Name;
 use trace_semantics::operation::OpName;
 use trace_semantics::trace::Trace;
@@ -178,7 +179,7 @@ pub fn pairs_left(
     let groups = left_groups(alloc, trace, all)?;
     let told = told_pairs(alloc, order, groups.as_slice())?;
     let few = told.as_slice();
-    let count = few.len().min(4096);
+    let count = few.len().min(MAX_PAIRS);
     let mut pairs = Vec::new(alloc);
     for k in 0..count {
         pairs.push(new_names(alloc, trace, &few[k])?)?;

@@ -2,13 +2,12 @@
 
 ghost use Rattle.std.specs.Prelude.{◌≡◌, ◌<◌, ◌≤◌, ◌+◌, ◌++◌, length, IfOk, OnOk};
 ghost use Rattle.trace_semantics.specs.OpSet.{has};
-ghost use Rattle.restriction.specs.Restriction.{left_by};
 ghost use Rattle.trace_part.specs.Rows.{row_in, rows_in, rows_of};
 
 use forced_order::numbered::OperationNumber;
+use restriction::left_value::left_at;
 use std::alloc::{AllocError, Global};
 use trace_semantics::op_set::OpSet;
-use trace_semantics::operation::Op;
 use trace_semantics::trace::{Process, Trace};
 
 /// A writer of some location: what it leaves there, and whether it is chosen.
@@ -17,17 +16,6 @@ pub struct ChosenWriter {
     pub name: OperationNumber,
     pub value: Option<u64>,
     pub chosen: bool,
-}
-
-/// Returns what the operation leaves at the location, if it writes there.
-fn left_at(op: &Op, location: &[u8]) -> Option<u64>
-    ensures { result ≡ left_by location.now op.now }
-{
-    if op.location().as_bytes() == location {
-        op.written_value()
-    } else {
-        None
-    }
 }
 
 /// Returns the operation at a place as a row, if it writes the location.

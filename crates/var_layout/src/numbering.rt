@@ -1,10 +1,10 @@
 //! The operations of a trace by number.
 
-ghost use Rattle.std.specs.Prelude.{◌≡◌, ◌≤◌, ◌++◌, length, OnOk, None, if◌then◌else◌};
-ghost use Rattle.std.specs.Str.{bytes_eq};
-ghost use Rattle.trace_semantics.specs.Operation.{location_of, same_op, written_value};
+ghost use Rattle.std.specs.Prelude.{◌≡◌, ◌≤◌, ◌++◌, length, OnOk};
+ghost use Rattle.trace_semantics.specs.Operation.{same_op};
 ghost use Rattle.var_layout.specs.Numbered.{numbered_in};
 
+use restriction::left_value::left_at;
 use std::alloc::{AllocError, Global};
 use std::marker::Model;
 use std::snapshot::Snapshot;
@@ -45,17 +45,6 @@ fn push_process<'a>(
         })?;
     }
     Ok(())
-}
-
-/// The value that the operation leaves at the location, if it writes there.
-fn value_left_there(op: &Op, location: &[u8]) -> Option<u64>
-    ensures { result ≡ (if bytes_eq (location_of op.now) location.now then written_value op.now else None) }
-{
-    if op.location().as_bytes() == location {
-        op.written_value()
-    } else {
-        None
-    }
 }
 
 /// Checks whether this is the operation's name.
@@ -165,7 +154,7 @@ impl<'a> Numbering<'a> {
         ensures { result ≡ number.left_at self.now location.now i }
     {
         match self.op(i) {
-            Some(op) => value_left_there(op, location),
+            Some(op) => left_at(op, location),
             None => None,
         }
     }

@@ -1,5 +1,6 @@
 use Rattle.std.proofs.Common.{◌++◌, ◌∷◌, [], length, arith, ap, sym, ◌∙◌}
-use Rattle.reducer.proofs.CopyLemmas.{op_here, op_is, origin_here, one_more_op, all_ops}
+use Rattle.reducer.specs.Reduction.{kept_op}
+use Rattle.reducer.proofs.CopyLemmas.{op_here, op_is, one_more_op, all_ops}
 use Rattle.reducer.proofs.kept.kept_operations.Goals as goal
 
 pub overflow_sub-op : goal.overflow_sub-op
@@ -12,19 +13,12 @@ bounds-old-places c =
     let at = op_here c.args.trace.now c.args.process.now c.args.places.now c.loop-k.k c.requires.places c.loop-k-test.true in
     omega (arith, at.place, at.least, at.most, ap length c.as_slice-old.ensures)
 
-pub new_op-requires-clause-known : goal.new_op-requires-clause-known
-new_op-requires-clause-known c =
-    let t = c.args.trace.now in
-    let at = op_here t c.args.process.now c.args.places.now c.loop-k.k c.requires.places c.loop-k-test.true in
-    origin_here t c.recall_invariant.ensures at.name c.index-old-places.result
-    (op_is t c.recall_invariant.ensures c.args.process.now c.requires.listed c.args.places.now c.loop-k.k at c.as_slice-old.result.now c.index-old-places.result c.as_slice-old.ensures c.index-old-places.is)
-
 pub loop-k-preserved : goal.loop-k-preserved
 loop-k-preserved c =
     let t = c.args.trace.now in
     let at = op_here t c.args.process.now c.args.places.now c.loop-k.k c.requires.places c.loop-k-test.true in
     c.in_ok-push.ensures.items
-    ∙ (λ i. c.loop-k.invariant i ++ c.in_ok-new_op.ensures i ∷ [])
+    ∙ (λ i. c.loop-k.invariant i ++ c.in_ok-new_op.ensures (kept_op t) c.requires.left i ∷ [])
     ∙ sym (one_more_op t c.args.process.now c.args.places.now c.loop-k.k at c.index-old-places.result
     (op_is t c.recall_invariant.ensures c.args.process.now c.requires.listed c.args.places.now c.loop-k.k at c.as_slice-old.result.now c.index-old-places.result c.as_slice-old.ensures c.index-old-places.is))
 

@@ -1,7 +1,17 @@
 use Rattle.std.proofs.Common.{sym, ◌∙◌, subst}
 use Rattle.trace_semantics.specs.Trace.{IsTrace}
+use Rattle.reducer.proofs.BoundsLemmas.{places_kept}
 use Rattle.reducer.proofs.TraceLemmas.{kept_is_trace}
 use Rattle.reducer.proofs.kept.kept_trace.Goals as goal
+
+pub kept_processes-requires : goal.kept_processes-requires
+kept_processes-requires c = record {
+  bounds = c.requires;
+  left = places_kept c.args.trace.now c.args.all.now c.as_slice-left.result.now c.requires (c.as_slice-left.ensures.value ∙ c.in_ok-places.ensures);
+}
+
+pub new_pairs-requires : goal.new_pairs-requires
+new_pairs-requires c = places_kept c.args.trace.now c.args.all.now c.as_slice-left.result.now c.requires (c.as_slice-left.ensures.value ∙ c.in_ok-places.ensures)
 
 pub new-requires : goal.new-requires
 new-requires c =

@@ -1,12 +1,13 @@
 -- The new place of an operation counts the places of its process that remain.
-use Rattle.std.proofs.Common.{◌≡◌, ◌≤◌, ◌+◌, ◌-◌, ℕ, zero, suc, List, [], ◌∷◌, ◌++◌, length, map, Bool, true, false, cond, not, ltb, refl, ap, sym, ◌∙◌, arith, inl, inr, append-nil}
-use Rattle.std.specs.Prelude.{Option, Some, None, is_some, nat_le, position}
+use Rattle.std.proofs.Common.{◌≡◌, ◌≤◌, ◌+◌, ◌-◌, min, ℕ, zero, suc, List, [], ◌∷◌, ◌++◌, length, map, Bool, true, false, cond, not, ltb, refl, ap, sym, ◌∙◌, arith, inl, inr, append-nil}
+use Rattle.std.specs.Prelude.{Option, Some, None, is_some, IsSome, nat_le, position}
 use Rattle.std.specs.List.{Contains, filter, find, slice_get, position_or_len}
 use Rattle.std.specs.Option.{option_and_then, option_map}
 use Rattle.std.specs.Str.{bytes_eq}
 use Rattle.std.proofs.lemmas.Bool.{le-leb, false_from_ne_true, leb-true, cases_lt, lt-ltb}
 use Rattle.std.proofs.lemmas.Option.{same_Some, slice_get-map, slice_get_past}
 use Rattle.std.proofs.lemmas.List.Elements.{filter-append}
+use Rattle.text_lines.proofs.ListLemmas.{few_pass}
 use Rattle.trace_semantics.specs.declared.operation.Op.{Op}
 use Rattle.trace_semantics.specs.declared.operation.OpName.{OpName}
 use Rattle.trace_semantics.specs.declared.trace.Process.{Process}
@@ -14,9 +15,9 @@ use Rattle.trace_semantics.specs.Trace.{TraceValue, at_place, process_named, ope
 use Rattle.trace_semantics.proofs.ElementLemmas.{head_in, tail_in}
 use Rattle.trace_semantics.proofs.NameLemmas.{from_first}
 use Rattle.restriction.specs.Left.{is_left, names_of, names_from}
-use Rattle.trace_part.specs.Rows.{LeftValue, left_value, Leaves}
+use Rattle.restriction.specs.PlacesLeft.{places_of, ArePlacesLeft}
 use Rattle.restriction.proofs.LeftLemmas.{found_process}
-use Rattle.restriction.proofs.PlaceLemmas.{joined_names, in_names}
+use Rattle.restriction.proofs.PlaceLemmas.{joined_names, in_names, length_names}
 
 -- all pass, or none
 all_in : {X : Type 0} (p : X → Bool) (xs : List X) → ((x : X) → Contains xs x → p x ≡ true) → filter p xs ≡ xs
@@ -77,13 +78,13 @@ found_by_place {A} {B} f p xs =
     at true e = slice_get-map f xs (position_or_len p xs) ∙ ap (option_map f) (found_there p xs)
     at false e = sym (ap (option_map f) e)
 
-module _ (t : TraceValue) (stays : OpName → Option Op) (all : List LeftValue) (given : Leaves t stays all) where
+module _ (t : TraceValue) (stays : OpName → Option Op) (known : (n : OpName) → IsSome (stays n) → IsSome (operation_at t n)) where
   -- behind the last operation of a process nothing remains
   none_behind : (p : Process) → process_named t p.name ≡ Some p → (d : ℕ) → filter (is_left stays) (names_from p.name (1 + length p.operations) d) ≡ []
   none_behind p found d = none_in_it (is_left stays) (names_from p.name (1 + length p.operations) d) (λ n c. false_from_ne_true (is_left stays n) (λ h.
       let at = in_names p.name (1 + length p.operations) d n c in
       let missing : operation_at t n ≡ None = ap (option_and_then (λ (q : Process). at_place q.operations n.place)) (ap (process_named t) at.0 ∙ found) ∙ outside p.operations n.place at.1 in
-      let clash : false ≡ true = sym (ap is_some missing) ∙ given.known n h in cc))
+      let clash : false ≡ true = sym (ap is_some missing) ∙ known n h in cc))
     where
       beyond : (ops : List Op) (k : ℕ) → length ops ≤ k → slice_get ops k ≡ None
       beyond [] k l = refl
@@ -94,7 +95,7 @@ module _ (t : TraceValue) (stays : OpName → Option Op) (all : List LeftValue) 
       outside ops zero l = refl
       outside ops (suc k) l = beyond ops k (omega (arith, l))
 
-  pub counted : (p : Process) → process_named t p.name ≡ Some p → (e : ℕ) → length (filter (λ (k : ℕ). nat_le k e) (left_value stays (names_of p)).places) ≡ length (filter (is_left stays) (first_names p.name e))
+  pub counted : (p : Process) → process_named t p.name ≡ Some p → (e : ℕ) → length (filter (λ (k : ℕ). nat_le k e) (places_of stays p)) ≡ length (filter (is_left stays) (first_names p.name e))
   counted p found e =
       count_mapped (is_left stays) e (names_of p)
       ∙ elim (cases_lt e (length p.operations)) [
@@ -115,31 +116,38 @@ module _ (t : TraceValue) (stays : OpName → Option Op) (all : List LeftValue) 
   none_there name missing e = ap length (none_in_it (is_left stays) (first_names name e) (λ n c. false_from_ne_true (is_left stays n) (λ h.
       let at = from_first name e n c in
       let none : operation_at t n ≡ None = ap (option_and_then (λ (q : Process). at_place q.operations n.place)) (ap (process_named t) at.0 ∙ missing) in
-      let clash : false ≡ true = sym (ap is_some none) ∙ given.known n h in cc)))
+      let clash : false ≡ true = sym (ap is_some none) ∙ known n h in cc)))
 
-  -- by the number of its process
-  pub place_some : (name : List ℕ) (e : ℕ) (p : Process) (left : LeftValue) → process_named t name ≡ Some p → left ≡ left_value stays (names_of p) → length (filter (λ (k : ℕ). nat_le k e) left.places) ≡ length (filter (is_left stays) (first_names name e))
+  pub place_some : (name : List ℕ) (e : ℕ) (p : Process) (left : List ℕ) → process_named t name ≡ Some p → left ≡ places_of stays p → length (filter (λ (k : ℕ). nat_le k e) left) ≡ length (filter (is_left stays) (first_names name e))
   place_some name e p left found is =
       let called = (found_process t name p found).1 in
-      ap (λ (v : LeftValue). length (filter (λ (k : ℕ). nat_le k e) v.places)) is ∙ counted p (ap (process_named t) called ∙ found) e ∙ ap (λ q. length (filter (is_left stays) (first_names q e))) called
+      ap (λ (v : List ℕ). length (filter (λ (k : ℕ). nat_le k e) v)) is ∙ counted p (ap (process_named t) called ∙ found) e ∙ ap (λ q. length (filter (is_left stays) (first_names q e))) called
 
-  placed_as : (name other : List ℕ) (ps : List Process) (o : Option LeftValue) → other ≡ name → ps ≡ t.processes → o ≡ option_and_then (slice_get all) (position (λ (p : Process). bytes_eq p.name other) ps) →
-      o ≡ option_map (λ (p : Process). left_value stays (names_of p)) (process_named t name)
+-- by the number of its process
+module _ (t : TraceValue) (stays : OpName → Option Op) (all : List (List ℕ)) (given : ArePlacesLeft t stays all) where
+  placed_as : (name other : List ℕ) (ps : List Process) (o : Option (List ℕ)) → other ≡ name → ps ≡ t.processes → o ≡ option_and_then (slice_get all) (position (λ (p : Process). bytes_eq p.name other) ps) →
+      o ≡ option_map (places_of stays) (process_named t name)
   placed_as name other ps o e same h =
       h ∙ (λ i. option_and_then (slice_get (given.values i)) (position (λ (p : Process). bytes_eq p.name (e i)) (same i)))
-      ∙ found_by_place (λ (p : Process). left_value stays (names_of p)) (λ (p : Process). bytes_eq p.name name) t.processes
+      ∙ found_by_place (places_of stays) (λ (p : Process). bytes_eq p.name name) t.processes
 
-  some_by : (name : List ℕ) (e : ℕ) (left : LeftValue) (o : Option Process) → process_named t name ≡ o → Some left ≡ option_map (λ (p : Process). left_value stays (names_of p)) o → length (filter (λ (k : ℕ). nat_le k e) left.places) ≡ length (filter (is_left stays) (first_names name e))
+  some_by : (name : List ℕ) (e : ℕ) (left : List ℕ) (o : Option Process) → process_named t name ≡ o → Some left ≡ option_map (places_of stays) o → length (filter (λ (k : ℕ). nat_le k e) left) ≡ length (filter (is_left stays) (first_names name e))
   some_by name e left None found h = absurd (cc)
-  some_by name e left (Some p) found h = place_some name e p left found (same_Some left (left_value stays (names_of p)) h)
+  some_by name e left (Some p) found h = place_some t stays given.known name e p left found (same_Some left (places_of stays p) h)
 
-  none_by : (name : List ℕ) (e : ℕ) (o : Option Process) → process_named t name ≡ o → None ≡ option_map (λ (p : Process). left_value stays (names_of p)) o → 0 ≡ length (filter (is_left stays) (first_names name e))
-  none_by name e None found h = sym (none_there name found e)
+  none_by : (name : List ℕ) (e : ℕ) (o : Option Process) → process_named t name ≡ o → None ≡ option_map (places_of stays) o → 0 ≡ length (filter (is_left stays) (first_names name e))
+  none_by name e None found h = sym (none_there t stays given.known name found e)
   none_by name e (Some p) found h = absurd (cc)
 
-  pub place_found : (name other : List ℕ) (ps : List Process) (e : ℕ) (left : LeftValue) → other ≡ name → ps ≡ t.processes → Some left ≡ option_and_then (slice_get all) (position (λ (p : Process). bytes_eq p.name other) ps) →
-      length (filter (λ (k : ℕ). nat_le k e) left.places) ≡ length (filter (is_left stays) (first_names name e))
-  place_found name other ps e left same there h = some_by name e left (process_named t name) refl (placed_as name other ps (Some left) same there h)
+  -- no more than the place itself
+  up_to_place : (name : List ℕ) (e : ℕ) → length (filter (is_left stays) (first_names name e)) ≤ e
+  up_to_place name e = omega (arith, few_pass (is_left stays) (first_names name e), length_names name 1 e)
+
+  pub place_found : (name other : List ℕ) (ps : List Process) (e : ℕ) (left : List ℕ) → other ≡ name → ps ≡ t.processes → Some left ≡ option_and_then (slice_get all) (position (λ (p : Process). bytes_eq p.name other) ps) →
+      min (length (filter (λ (k : ℕ). nat_le k e) left)) e ≡ length (filter (is_left stays) (first_names name e))
+  place_found name other ps e left same there h =
+      let count = some_by name e left (process_named t name) refl (placed_as name other ps (Some left) same there h) in
+      omega (arith, count, up_to_place name e)
 
   pub place_missing : (name other : List ℕ) (ps : List Process) (e : ℕ) → other ≡ name → ps ≡ t.processes → None ≡ option_and_then (slice_get all) (position (λ (p : Process). bytes_eq p.name other) ps) → 0 ≡ length (filter (is_left stays) (first_names name e))
   place_missing name other ps e same there h = none_by name e (process_named t name) refl (placed_as name other ps None same there h)
