@@ -4,8 +4,9 @@ The file must-fail.record has a line for each crate whose wrong bodies the prove
 of all that they were tried on. That is what git tracks of the crate's folder (its wrong bodies too) and of the folders of the
 crates below it (theirs not, since nothing reads them), the lines of crates.txt of all of these, HANDLES, and the logic that the
 kit names. Where one byte or one name of these is another, the hash is, and the crate's wrong bodies are tried again. A crate's documents
-(`*.md` outside of src/, specs/ and proofs/) are no part of it, since no check reads them. Nor is the kit's own version: kits of one logic
-refuse by the same rules, and machines change between them; `./test --all` tries all.
+(`*.md` outside of src/, specs/ and proofs/) and the lines of its sources that are nothing but a comment are no part of it, since no check
+reads them. Nor is the kit's own version: kits of one logic refuse by the same rules, and machines change between them; `./test --all`
+tries all.
 """
 
 import hashlib
@@ -14,6 +15,8 @@ import re
 import subprocess
 
 NAME = "must-fail.record"
+# How a line begins that is nothing but a comment, by the ending of the file's name.
+COMMENTS = {".rt": b"//", ".antt": b"--"}
 HEAD = (
     "# A line for each crate whose wrong bodies were all refused: its name, and a hash of all that they were tried on.\n"
     "# ./test writes this file, and tries again what differs.\n"
@@ -112,9 +115,20 @@ def files_of(name, paths):
     return [it for it, yes in zip(files, is_body) if not yes], [it for it, yes in zip(files, is_body) if yes]
 
 
+def without_comments(path, text):
+    """What a file holds, without the lines that are nothing but a comment. If a string might begin in one line and end in another, all
+    stays, since such a line may then be a part of the string."""
+    mark = COMMENTS.get(os.path.splitext(path)[1])
+    if mark is None:
+        return text
+    kind, lines = text[:1], text[1:].split(b"\n")
+    left = [line for line in lines if not line.lstrip().startswith(mark)]
+    return text if any(line.count(b'"') % 2 for line in left) else kind + b"\n".join(left)
+
+
 def with_content(root, paths):
-    """The paths, each followed by what its file holds."""
-    return [it for path in paths for it in (os.fsencode(path), content(root, path))]
+    """The paths, each followed by what its file holds that a check may read."""
+    return [it for path in paths for it in (os.fsencode(path), without_comments(path, content(root, path)))]
 
 
 def wrong_bodies(paths):

@@ -61,9 +61,6 @@ piece_count t =
 pub order_piece : (t : TraceValue) (k : ℕ) → k ≡ 0 → piece_at t k ≡ program_order t
 order_piece t k e = ap (piece_at t) e
 
-behind_first : (t : TraceValue) (m : ℕ) → piece_at t (suc m) ≡ get_or (map (transitivity_from (operation_count t)) (numbers t) ++ last_pieces t) m []
-behind_first t m = refl
-
 -- those of transitivity
 pub triples_piece : (t : TraceValue) (k m : ℕ) → k ≡ suc m → m < operation_count t → piece_at t k ≡ transitivity_from (operation_count t) m
 triples_piece t k m e within =

@@ -1,7 +1,7 @@
 //! Whether truth values put the operations in an order: one look at each pair of them, in place of one at each three.
 
-ghost use Rattle.std.specs.Prelude.{◌≡◌, ◌<◌, length, slice_index, IsTrue};
-ghost use Rattle.dimacs.specs.Assignment.{value_of, makes_true};
+ghost use Rattle.std.specs.Prelude.{◌<◌, slice_index, IsTrue};
+ghost use Rattle.dimacs.specs.Assignment.{value_of};
 ghost use Rattle.dimacs.specs.Models.{IsModel};
 ghost use Rattle.trace_semantics.specs.Trace.{operation_count};
 ghost use Rattle.clause_blocks.specs.Blocks as blocks;
@@ -9,25 +9,16 @@ ghost use Rattle.clause_blocks.specs.Ranks.{IsRankedFrom};
 
 use crate::laws::ranked_without_cycle;
 use dimacs::Assignment;
-use var_layout::layout::Layout;
-
-/// Checks whether the assignment says that operation i stands before the later operation j.
-fn stands_before(layout: &Layout, assignment: &Assignment, i: usize, j: usize) -> bool
-    requires rising { i < j }
-    requires within { j < operation_count layout.now }
-    ensures { result ≡ makes_true (value_of assignment.now) (blocks.stands_before layout.now i j) }
-{
-    assignment.makes(&[layout.order_lit(i, j)])
-}
+use var_layout::layout::{Layout, MAX_LAYOUT_OPERATIONS};
 
 /// The number of operations before each one, as the assignment says. Wrong ranks would cost time and no more, since each
 /// pair is compared with them.
-fn ranks(layout: &Layout, assignment: &Assignment) -> [u8; 160] {
+fn ranks(layout: &Layout, assignment: &Assignment) -> [u8; MAX_LAYOUT_OPERATIONS] {
     layout.recall_limits();
-    let mut ranks = [0u8; 160];
+    let mut ranks = [0u8; MAX_LAYOUT_OPERATIONS];
     for i in 0..layout.operations() {
         for j in i + 1..layout.operations() {
-            let later = if stands_before(layout, assignment, i, j) {
+            let later = if layout.is_put_before(assignment, i, j) {
                 j
             } else {
                 i
@@ -39,13 +30,18 @@ fn ranks(layout: &Layout, assignment: &Assignment) -> [u8; 160] {
 }
 
 /// Checks whether the assignment says of an operation and each later one that the one of the lower rank stands first.
-fn agrees_from(layout: &Layout, assignment: &Assignment, ranks: &[u8; 160], i: usize) -> bool
+fn agrees_from(
+    layout: &Layout,
+    assignment: &Assignment,
+    ranks: &[u8; MAX_LAYOUT_OPERATIONS],
+    i: usize,
+) -> bool
     requires { i < operation_count layout.now }
     ensures { IsTrue result → IsRankedFrom (value_of assignment.now) (operation_count layout.now) (slice_index ranks.now) i }
 {
     layout.recall_limits();
     for j in i + 1..layout.operations() {
-        if stands_before(layout, assignment, i, j) != (ranks[i] < ranks[j]) {
+        if layout.is_put_before(assignment, i, j) != (ranks[i] < ranks[j]) {
             return false;
         }
     }

@@ -316,18 +316,30 @@ pub record EndsWithPicture {H I O : Type 0} (calls : HostCalls H I O) (read : I 
   pub draws : Draws calls ran asked.line status (wrote before after) drawn
   pub closes : calls.closes drawn after to
 
--- the file for the picture could not be made: the line was not run, and that is reported
-pub record EndsWithoutFile {H I O : Type 0} (calls : HostCalls H I O) (from : H) (path : List ℕ) (out err : SinkRun) (status : ℕ) (to : H) : Type 0 where
+-- standard error took the line of a refusal, and then an explanation
+pub record ExplainsFault (err : SinkRun) (fault : Fault) : Type 0 where
+  pub told : SinkRun
+  pub begins : BeginsWith err told
+  pub tells : TellsFault told fault
+  pub adds : Adds (after_run told err)
+
+-- it took the line of a refusal, with an explanation or without
+abbrev pub ReportsFault : Bool → SinkRun → Fault → Type 0
+ReportsFault true err fault = ExplainsFault err fault
+ReportsFault false err fault = TellsFault err fault
+
+-- the file for the picture could not be made: the line was not run, and that is reported, with an explanation if one is asked for
+pub record EndsWithoutFile {H I O : Type 0} (calls : HostCalls H I O) (explains : Bool) (from : H) (path : List ℕ) (out err : SinkRun) (status : ℕ) (to : H) : Type 0 where
   pub fails : calls.fails_to_make from path to
   pub nothing : TakesNothing out
-  pub tells : TellsFault err Device
+  pub reports : ReportsFault explains err Device
   pub status_is : status ≡ 4
 
 -- the line was run, with a picture in a file or without one
 abbrev pub EndsDrawn : {H I O : Type 0} → Option (Bor (List ℕ)) → HostCalls H I O → (I → I → SourceRun) → (O → O → SinkRun) → H → CommandLine → (out err : SinkRun) → ℕ → H → Type 0
 EndsDrawn None calls read wrote from asked out err status to = EndsAsked asked.explains calls read wrote from asked.line out err status to
 EndsDrawn (Some path) calls read wrote from asked out err status to =
-    EndsWithoutFile calls from path.now out err status to ⊎ EndsWithPicture calls read wrote from path.now asked out err status to
+    EndsWithoutFile calls asked.explains from path.now out err status to ⊎ EndsWithPicture calls read wrote from path.now asked out err status to
 
 -- the stream took this text whole, and the status is the given one, or it failed behind a prefix of it, and the status is 4
 abbrev pub Prints : SinkRun → List ℕ → ℕ → ℕ → Type 0

@@ -2,13 +2,15 @@
 ghost use Rattle.std.specs.Prelude.{Some};
 ghost use Rattle.clap.specs.Walk.{texts};
 ghost use Rattle.command_line.specs.CommandLine.{IsWithinRanges};
-ghost use Rattle.command_run.specs.CommandRun.{EndsAsked, EndsDrawn, EndsExplained, EndsLine, EndsRun, EndsWords, RunsLine, TellsOutcome};
+ghost use Rattle.command_run.specs.CommandRun.{EndsAsked, EndsDrawn, EndsExplained, EndsLine, EndsRun, EndsWords, ExplainsFault, ReportsFault, RunsLine, TellsOutcome};
 ghost use Rattle.command_run.specs.ExitStatus.{IsExitStatus};
+ghost use Rattle.verdict_report.specs.declared.fault.Fault.TheVariants.{Device};
 ghost use Rattle.verdict_report.specs.Runs.{source_run, sink_run};
 
 use crate::clash::{clash_of, print_clash};
+use crate::device_failure::FailedFile;
 use crate::engine_runs::run_engine;
-use crate::explaining::explain_outcome;
+use crate::explaining::{explain_outcome, explain_unmade};
 use crate::host::Host;
 use crate::picturing::draw_outcome;
 use crate::recorder::Recalls;
@@ -117,6 +119,30 @@ fn run_asked<'p, R: Threads + Wait + Sync, G: Gate + Sync, H: Host<'p>, O: Sink 
     }
 }
 
+/// Reports on standard error that a file could not be made, and explains it.
+fn explain_without_file<E: Sink>(alloc: Global, failed: Option<FailedFile<'_>>, err: &mut E)
+    ensures { ExplainsFault (sink_run E.written E.failures err.old err.new) Device }
+{
+    tell_fault(alloc, &Fault::Device, err);
+    explain_unmade(alloc, failed, err);
+}
+
+/// Reports on standard error that a file could not be made, with an explanation or without.
+fn report_without_file<E: Sink>(
+    alloc: Global,
+    failed: Option<FailedFile<'_>>,
+    explains: bool,
+    err: &mut E,
+)
+    ensures { ReportsFault explains (sink_run E.written E.failures err.old err.new) Device }
+{
+    if explains {
+        explain_without_file(alloc, failed, err);
+    } else {
+        tell_fault(alloc, &Fault::Device, err);
+    }
+}
+
 /// Runs the engine of the line, and draws a picture into the file at this path, which is made or emptied first.
 fn run_with_picture<
     'p,
@@ -145,7 +171,7 @@ fn run_with_picture<
     ensures known { IsExitStatus result }
 {
     let Ok(mut file) = host.create(path) else {
-        tell_fault(alloc, &Fault::Device, err);
+        report_without_file(alloc, host.failed_file(), asked.explains, err);
         return DEVICE;
     };
     let status = run_asked(alloc, rt, progress, host, asked, out, err);

@@ -11,7 +11,7 @@ use crate::recorder::Recalls;
 use command_line::{Line, SearchNumbers};
 use dimacs::{Sink, write_whole};
 use explanation::{AskedCommand, SearchEffort, explain};
-use note_text::NamedText;
+use note_text::{NamedText, Notes};
 use std::alloc::Global;
 use verdict_report::{Fault, Status, read_whole};
 
@@ -169,7 +169,13 @@ fn asked_search<'t>(
         Line::Survey { trace, .. } => Some(AskedCommand::Survey {
             trace: named(trace, &texts.first),
         }),
-        _ => None,
+        Line::Judge { .. }
+        | Line::Cnf { .. }
+        | Line::Decode { .. }
+        | Line::Lrat { .. }
+        | Line::Recheck { .. }
+        | Line::Part { .. }
+        | Line::Refusals => None,
     }
 }
 
@@ -273,5 +279,23 @@ pub(crate) fn explain_outcome<'p, H: Host<'p>, O: Recalls, E: Sink>(
         length,
         &written,
     );
+    write_notes(notes.as_slice(), err);
+}
+
+/// The note on a file that could not be made, or no line if nothing is known of it.
+fn notes_of_unmade(alloc: Global, failed: Option<FailedFile<'_>>) -> Vec<u8> {
+    let mut notes = Notes::new(alloc);
+    if let Some(words) = failed_writing(alloc, failed, None) {
+        // If memory runs out, there is no explanation.
+        let _ = notes.note(&[words.as_bytes()]);
+    }
+    notes.into_bytes()
+}
+
+/// Explains on standard error that a file could not be made.
+pub(crate) fn explain_unmade<E: Sink>(alloc: Global, failed: Option<FailedFile<'_>>, err: &mut E)
+    ensures { Adds (sink_run E.written E.failures err.old err.new) }
+{
+    let notes = notes_of_unmade(alloc, failed);
     write_notes(notes.as_slice(), err);
 }

@@ -6,8 +6,9 @@ pub trait Gate {
     /// The worker has taken the job of this ticket.
     fn before(&self, worker: u32, ticket: u32);
 
-    /// The worker has settled the job of this ticket.
-    fn after(&self, worker: u32, ticket: u32);
+    /// The worker has settled the job of this ticket. The searches had that many conflicts more since the last call of this kind, so the
+    /// sum over all calls is how many there were so far. Nothing is promised of the number.
+    fn after(&self, worker: u32, ticket: u32, conflicts: u64);
 }
 
 /// The gate that does nothing.
@@ -17,5 +18,5 @@ pub struct OpenGate;
 impl Gate for OpenGate {
     fn before(&self, _worker: u32, _ticket: u32) {}
 
-    fn after(&self, _worker: u32, _ticket: u32) {}
+    fn after(&self, _worker: u32, _ticket: u32, _conflicts: u64) {}
 }

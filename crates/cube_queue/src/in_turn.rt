@@ -51,7 +51,7 @@ pub(crate) fn search_in_turn<L: ClauseList, G: Gate>(
         gate.before(0, *leaf);
         let settled = settle_job(alloc, prepared, job, budget, has_model);
         results.push(settled)?;
-        gate.after(0, *leaf);
+        gate.after(0, *leaf, prepared.take_conflicts());
     }
     Ok(results)
 }

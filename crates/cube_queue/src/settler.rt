@@ -20,4 +20,7 @@ pub(crate) trait Settler {
     /// Returns whether the result is a model of the clauses that makes its cube true.
     fn confirms(&self, settled: &Settled) -> bool
         ensures { IsTrue result → IsModelResult (clauses self.now) settled.now };
+
+    /// Takes the number of conflicts since it was last taken. It is for reports, and nothing is promised of it.
+    fn take_conflicts(&self) -> u64;
 }

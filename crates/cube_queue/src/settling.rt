@@ -27,6 +27,10 @@ impl<'a, L: ClauseList> Settler for CubeSettler<'a, L> {
     fn confirms(&self, settled: &Settled) -> bool {
         is_model_result(self.formula, settled)
     }
+
+    fn take_conflicts(&self) -> u64 {
+        self.prepared.take_conflicts()
+    }
 }
 
 /// The solver's answer for the cube. A search that finds no memory leaves it open.

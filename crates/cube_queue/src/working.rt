@@ -84,7 +84,7 @@ fn settle_next<R: Wait, S: Settler, G: Gate>(
     mark_model(site, settler, stop, &settled);
     match site.board.give(rt, seat, settled) {
         Ok(()) => {
-            gate.after(worker, ticket);
+            gate.after(worker, ticket, settler.take_conflicts());
             true
         }
         Err(_settled) => false,

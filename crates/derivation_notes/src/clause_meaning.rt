@@ -174,8 +174,17 @@ fn meaning_of_read(layout: &Layout, place: usize) -> Option<ClauseMeaning> {
     None
 }
 
-/// Gives what the clause at this place of those of final values says. A final value that nothing leaves has two clauses, and one that is there
-/// from the start has none.
+/// Gives what the clause at this place of those of before pairs says: there is one for each pair.
+fn meaning_of_pair(layout: &Layout, place: usize) -> Option<ClauseMeaning> {
+    if place < layout.before().len() {
+        Some(ClauseMeaning::BeforePair)
+    } else {
+        None
+    }
+}
+
+/// Gives what the clause at this place says, counted from the first of those of final values, behind which those of before pairs stand. A final
+/// value that nothing leaves has two clauses, and one that is there from the start has none.
 fn meaning_of_final(layout: &Layout, place: usize) -> Option<ClauseMeaning> {
     let mut rest = place;
     for k in 0..layout.final_values() {
@@ -197,7 +206,7 @@ fn meaning_of_final(layout: &Layout, place: usize) -> Option<ClauseMeaning> {
             LookUp::Missing => return None,
         }
     }
-    Some(ClauseMeaning::BeforePair)
+    meaning_of_pair(layout, rest)
 }
 
 /// Checks whether nothing leaves the final value of this number.

@@ -309,7 +309,10 @@ impl<'a> DerivedOrder<'a> {
         if only == NOBODY {
             number = self.log.count().wrapping_add(operation.location);
         }
-        for place in self.concerned.begin(number)..self.concerned.begin(number.wrapping_add(1)) {
+        let begin = self.concerned.begin(number);
+        let end = self.concerned.begin(number.wrapping_add(1));
+        self.budget.spend(end.saturating_sub(begin) as u64);
+        for place in begin..end {
             let other = self.concerned.reader(place);
             if other != reader && other < self.log.count() && self.log.operation(other).writes {
                 self.take_source(other, only, reader)?;

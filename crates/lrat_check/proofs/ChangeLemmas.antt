@@ -9,7 +9,7 @@ use Rattle.std.proofs.lemmas.List.{take_more}
 use Rattle.std.proofs.lemmas.List.Filters.{length-filter_both}
 use Rattle.lrat_check.specs.Active.{numbered, at_start, with_clause, without}
 use Rattle.lrat_check.specs.Counted.{AreChanges}
-use Rattle.lrat_check.specs.Counts.{times, repeats, IsCount, AreCounts, count_of}
+use Rattle.lrat_check.specs.Counts.{times, repeats, IsCount, AreLiteralCounts, literal_count}
 use Rattle.lrat_check.specs.declared.count_changes.CountChanges.{CountChanges}
 use Rattle.lrat_check.specs.declared.literal_counts.LiteralCounts.{LiteralCounts}
 use Rattle.lrat_check.proofs.ActiveLemmas.{unit_of}
@@ -24,11 +24,11 @@ times_within active id clause z n known (ids, each, many) =
     omega (arith, both, here, many)
 
 -- nothing is counted yet
-pub no_changes : (clauses : List (List ℤ)) (more less : LiteralCounts) → ((z : ℤ) → count_of more z ≡ 0) → ((z : ℤ) → count_of less z ≡ 0) → AreChanges clauses (numbered clauses) (record { more = more; less = less })
+pub no_changes : (clauses : List (List ℤ)) (more less : LiteralCounts) → ((z : ℤ) → literal_count more z ≡ 0) → ((z : ℤ) → literal_count less z ≡ 0) → AreChanges clauses (numbered clauses) (record { more = more; less = less })
 no_changes clauses more less none never = λ z base is. (base, is, (let a = none z in let b = never z in omega (arith, a, b)))
 
 pub changes_more : (clauses : List (List ℤ)) (active : ℕ → Option (List ℤ)) (id : ℕ) (clause : List ℤ) (old : CountChanges) (more : LiteralCounts) → active id ≡ None →
-    ((z : ℤ) → count_of more z ≡ count_of old.more z + times clause z) → AreChanges clauses active old → AreChanges clauses (with_clause id clause active) (record { more = more; less = old.less })
+    ((z : ℤ) → literal_count more z ≡ literal_count old.more z + times clause z) → AreChanges clauses active old → AreChanges clauses (with_clause id clause active) (record { more = more; less = old.less })
 changes_more clauses active id clause old more free adds h = λ z base is.
     let was = h z base is in
     let a = adds z in
@@ -36,7 +36,7 @@ changes_more clauses active id clause old more free adds h = λ z base is.
     (was.0 + times clause z, count_more active (with_clause id clause active) id clause z was.0 (was.0 + times clause z) free (λ other. refl) refl was.1, omega (arith, a, e))
 
 pub changes_less : (clauses : List (List ℤ)) (active : ℕ → Option (List ℤ)) (id : ℕ) (clause : List ℤ) (old : CountChanges) (less : LiteralCounts) → active id ≡ Some clause →
-    ((z : ℤ) → count_of less z ≡ count_of old.less z + times clause z) → AreChanges clauses active old → AreChanges clauses (without (id ∷ []) active) (record { more = old.more; less = less })
+    ((z : ℤ) → literal_count less z ≡ literal_count old.less z + times clause z) → AreChanges clauses active old → AreChanges clauses (without (id ∷ []) active) (record { more = old.more; less = less })
 changes_less clauses active id clause old less known adds h = λ z base is.
     let was = h z base is in
     let a = adds z in
@@ -52,7 +52,7 @@ pub changes_same : (clauses : List (List ℤ)) (f g : ℕ → Option (List ℤ))
 changes_same clauses f g changes h k = subst (λ (active : ℕ → Option (List ℤ)). AreChanges clauses active changes) (sym (same_active g f h)) k
 
 -- what is read of them
-pub count_applied : (clauses : List (List ℤ)) (active : ℕ → Option (List ℤ)) (changes : CountChanges) (z : ℤ) (base count : ℕ) → count ≡ base + count_of changes.more z - count_of changes.less z →
+pub count_applied : (clauses : List (List ℤ)) (active : ℕ → Option (List ℤ)) (changes : CountChanges) (z : ℤ) (base count : ℕ) → count ≡ base + literal_count changes.more z - literal_count changes.less z →
     AreChanges clauses active changes → IsCount (numbered clauses) z base → IsCount active z count
 count_applied clauses active changes z base count e h is =
     let now = h z base is in
@@ -114,8 +114,8 @@ get_or_same (x ∷ xs) zero d h = refl
 get_or_same (x ∷ xs) (suc i) d h = get_or_same xs i d (omega (arith, h))
 
 -- the clauses of a formula, one by one
-pub formula_more : (clauses : List (List ℤ)) (i : ℕ) (old new : LiteralCounts) → i < length clauses → ((z : ℤ) → count_of new z ≡ count_of old z + times (slice_index_or clauses i []) z) →
-    AreCounts (numbered (take i clauses)) old → AreCounts (numbered (take (i + 1) clauses)) new
+pub formula_more : (clauses : List (List ℤ)) (i : ℕ) (old new : LiteralCounts) → i < length clauses → ((z : ℤ) → literal_count new z ≡ literal_count old z + times (slice_index_or clauses i []) z) →
+    AreLiteralCounts (numbered (take i clauses)) old → AreLiteralCounts (numbered (take (i + 1) clauses)) new
 formula_more clauses i old new h more k =
     let before = take i clauses in
     let clause = slice_index_or clauses i [] in
@@ -126,8 +126,8 @@ no_clause : (id : ℕ) → numbered [] id ≡ None
 no_clause zero = refl
 no_clause (suc p) = refl
 
-pub formula_none : (clauses : List (List ℤ)) (counts : LiteralCounts) → ((z : ℤ) → count_of counts z ≡ 0) → AreCounts (numbered (take 0 clauses)) counts
+pub formula_none : (clauses : List (List ℤ)) (counts : LiteralCounts) → ((z : ℤ) → literal_count counts z ≡ 0) → AreLiteralCounts (numbered (take 0 clauses)) counts
 formula_none clauses counts h = are_same_counts (λ id. None) (numbered []) counts no_clause (are_none counts h)
 
-pub formula_all : (clauses : List (List ℤ)) (i : ℕ) (counts : LiteralCounts) → i ≡ length clauses → AreCounts (numbered (take i clauses)) counts → AreCounts (numbered clauses) counts
-formula_all clauses i counts e h = subst (λ (xs : List (List ℤ)). AreCounts (numbered xs) counts) (ap (λ n. take n clauses) e ∙ take-length clauses) h
+pub formula_all : (clauses : List (List ℤ)) (i : ℕ) (counts : LiteralCounts) → i ≡ length clauses → AreLiteralCounts (numbered (take i clauses)) counts → AreLiteralCounts (numbered clauses) counts
+formula_all clauses i counts e h = subst (λ (xs : List (List ℤ)). AreLiteralCounts (numbered xs) counts) (ap (λ n. take n clauses) e ∙ take-length clauses) h

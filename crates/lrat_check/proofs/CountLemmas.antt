@@ -8,7 +8,7 @@ use Rattle.std.proofs.lemmas.Bool.{cases_Bool, or_cases, or_parts, cond-false, e
 use Rattle.std.proofs.lemmas.List.{length-replicate}
 use Rattle.std.proofs.lemmas.List.Elements.{filter-append}
 use Rattle.std.proofs.lemmas.List.Filters.{length-filter_more, length-filter_both}
-use Rattle.lrat_check.specs.Counts.{times, times_at, repeats, IsCount, count_of, AreCounts}
+use Rattle.lrat_check.specs.Counts.{times, times_at, repeats, IsCount, literal_count, AreLiteralCounts}
 use Rattle.lrat_check.specs.Marks.{place_of}
 use Rattle.lrat_check.specs.Propagation.{has}
 use Rattle.lrat_check.specs.declared.literal_counts.LiteralCounts.{LiteralCounts}
@@ -105,8 +105,8 @@ count_more f g id clause z n m free same more (ids, each, many) = (
 )
 
 pub are_more : (f g : ℕ → Option (List ℤ)) (id : ℕ) (clause : List ℤ) (old new : LiteralCounts) → f id ≡ None → ((other : ℕ) → g other ≡ cond (eqb id other) (Some clause) (f other)) →
-    ((z : ℤ) → count_of new z ≡ count_of old z + times clause z) → AreCounts f old → AreCounts g new
-are_more f g id clause old new free same more h = λ z. count_more f g id clause z (count_of old z) (count_of new z) free same (more z) (h z)
+    ((z : ℤ) → literal_count new z ≡ literal_count old z + times clause z) → AreLiteralCounts f old → AreLiteralCounts g new
+are_more f g id clause old new free same more h = λ z. count_more f g id clause z (literal_count old z) (literal_count new z) free same (more z) (h z)
 
 -- one clause less
 taken_out : (b : Bool) (z : ℤ) (o : Option (List ℤ)) → cond b 0 (shown z o) ≡ shown z (cond (b || false) None o)
@@ -124,11 +124,11 @@ count_less f g id z n m same less (ids, each, many) = (
 pub count_same : (f g : ℕ → Option (List ℤ)) (z : ℤ) (n : ℕ) → ((id : ℕ) → g id ≡ f id) → IsCount f z n → IsCount g z n
 count_same f g z n h k = subst (λ (active : ℕ → Option (List ℤ)). IsCount active z n) (sym (same_active g f h)) k
 
-pub are_same_counts : (f g : ℕ → Option (List ℤ)) (counts : LiteralCounts) → ((id : ℕ) → g id ≡ f id) → AreCounts f counts → AreCounts g counts
-are_same_counts f g counts h k = subst (λ (active : ℕ → Option (List ℤ)). AreCounts active counts) (sym (same_active g f h)) k
+pub are_same_counts : (f g : ℕ → Option (List ℤ)) (counts : LiteralCounts) → ((id : ℕ) → g id ≡ f id) → AreLiteralCounts f counts → AreLiteralCounts g counts
+are_same_counts f g counts h k = subst (λ (active : ℕ → Option (List ℤ)). AreLiteralCounts active counts) (sym (same_active g f h)) k
 
 -- no clause
-pub are_none : (counts : LiteralCounts) → ((z : ℤ) → count_of counts z ≡ 0) → AreCounts (λ id. None) counts
+pub are_none : (counts : LiteralCounts) → ((z : ℤ) → literal_count counts z ≡ 0) → AreLiteralCounts (λ id. None) counts
 are_none counts h = λ z. ([], (λ id. refl), sym (h z))
 
 -- each literal has a place of its own

@@ -7,7 +7,7 @@ use Rattle.std.specs.BTreeSet.{contains}
 use Rattle.std.specs.List.{list_any, IsDistinct, AllByRecursion}
 use Rattle.std.specs.Ordering.{nat_cmp}
 use Rattle.std.proofs.lemmas.Bool.{cases_Bool, cases_eq, cases_lt, cond-true, cond-false, eqb-true, eq-eqb, ne_eqb, leb-true, or_left, or_parts, false≢true, true≢false}
-use Rattle.lrat_check.specs.Hidden.{is_hidden, near_kept_at, passed_by}
+use Rattle.lrat_check.specs.Hidden.{is_hidden, kept_by_table, passed_by}
 use Rattle.lrat_check.specs.Marks.{marked_at}
 use Rattle.lrat_check.specs.declared.hidden_ids.HiddenIds.{HiddenIds}
 
@@ -94,15 +94,15 @@ twice : (b : Bool) (o : Option (List ℤ)) → cond b None (cond b None o) ≡ c
 twice true o = refl
 twice false o = refl
 
-pub near_shown : (hidden : HiddenIds) (start : ℕ → Option (List ℤ)) (id : ℕ) → id < length hidden.near.items → cond (is_hidden hidden id) None (near_kept_at hidden start id) ≡ near_kept_at hidden start id
-near_shown hidden start id h =
-    ap (λ b. cond b None (near_kept_at hidden start id)) (below_table hidden.near.items id (contains nat_cmp hidden.far id) h) ∙ twice (marked_at hidden.near.items id) (start id)
+pub below_table_kept : (hidden : HiddenIds) (start : ℕ → Option (List ℤ)) (id : ℕ) → id < length hidden.near.items → cond (is_hidden hidden id) None (kept_by_table hidden start id) ≡ kept_by_table hidden start id
+below_table_kept hidden start id h =
+    ap (λ b. cond b None (kept_by_table hidden start id)) (below_table hidden.near.items id (contains nat_cmp hidden.far id) h) ∙ twice (marked_at hidden.near.items id) (start id)
 
-pub near_stays : (hidden : HiddenIds) (start : ℕ → Option (List ℤ)) (id : ℕ) → length hidden.near.items ≤ id → near_kept_at hidden start id ≡ start id
-near_stays hidden start id h = cond-false (marked_at hidden.near.items id) None (start id) (past_table hidden.near.items id false h)
+pub past_table_kept : (hidden : HiddenIds) (start : ℕ → Option (List ℤ)) (id : ℕ) → length hidden.near.items ≤ id → kept_by_table hidden start id ≡ start id
+past_table_kept hidden start id h = cond-false (marked_at hidden.near.items id) None (start id) (past_table hidden.near.items id false h)
 
-pub far_hidden : (hidden : HiddenIds) (id : ℕ) → length hidden.near.items ≤ id → contains nat_cmp hidden.far id ≡ true → is_hidden hidden id ≡ true
-far_hidden hidden id h found = past_table hidden.near.items id (contains nat_cmp hidden.far id) h ∙ found
+pub past_table_hidden : (hidden : HiddenIds) (id : ℕ) → length hidden.near.items ≤ id → contains nat_cmp hidden.far id ≡ true → is_hidden hidden id ≡ true
+past_table_hidden hidden id h found = past_table hidden.near.items id (contains nat_cmp hidden.far id) h ∙ found
 
 -- the keys of a tree that are left
 abbrev pub is_among : List ℕ → ℕ → Bool
@@ -115,19 +115,19 @@ among_keys (key ∷ keys) id h =
     (λ i. (unsigned_tied id key ∙ ne_eqb id key (λ same. true≢false (sym (eq-eqb key id (sym same)) ∙ parts.0))) i || among_keys keys id parts.1 i)
 
 -- at first each key is left, and at last none is
-pub far_start : (hidden : HiddenIds) (start : ℕ → Option (List ℤ)) (keys : List ℕ) → keys ≡ hidden.far.keys → (id : ℕ) →
-    passed_by (near_kept_at hidden start) (is_hidden hidden) (is_among keys) id ≡ near_kept_at hidden start id
-far_start hidden start keys e = none_passed (near_kept_at hidden start) (is_hidden hidden) (is_among keys) (λ id passed. elim (cases_lt id (length hidden.near.items)) [
-  | inl below ↦ near_shown hidden start id below
-  | inr past ↦ cond-false (is_hidden hidden id) None (near_kept_at hidden start id)
+pub tree_start : (hidden : HiddenIds) (start : ℕ → Option (List ℤ)) (keys : List ℕ) → keys ≡ hidden.far.keys → (id : ℕ) →
+    passed_by (kept_by_table hidden start) (is_hidden hidden) (is_among keys) id ≡ kept_by_table hidden start id
+tree_start hidden start keys e = none_passed (kept_by_table hidden start) (is_hidden hidden) (is_among keys) (λ id passed. elim (cases_lt id (length hidden.near.items)) [
+  | inl below ↦ below_table_kept hidden start id below
+  | inr past ↦ cond-false (is_hidden hidden id) None (kept_by_table hidden start id)
       (past_table hidden.near.items id (contains nat_cmp hidden.far id) (omega (arith, past)) ∙ among_keys hidden.far.keys id (ap (λ l. is_among l id) (sym e) ∙ passed))
 ])
 
-pub far_end : (hidden : HiddenIds) (start : ℕ → Option (List ℤ)) (id : ℕ) → cond (is_hidden hidden id) None (start id) ≡ passed_by (near_kept_at hidden start) (is_hidden hidden) (is_among []) id
-far_end hidden start id = elim (cases_lt id (length hidden.near.items)) [
+pub tree_end : (hidden : HiddenIds) (start : ℕ → Option (List ℤ)) (id : ℕ) → cond (is_hidden hidden id) None (start id) ≡ passed_by (kept_by_table hidden start) (is_hidden hidden) (is_among []) id
+tree_end hidden start id = elim (cases_lt id (length hidden.near.items)) [
   | inl below ↦ (let b = below_table hidden.near.items id (contains nat_cmp hidden.far id) below in
-      ap (λ h. cond h None (start id)) b ∙ sym (near_shown hidden start id below))
-  | inr past ↦ ap (λ o. cond (is_hidden hidden id) None o) (sym (near_stays hidden start id (omega (arith, past))))
+      ap (λ h. cond h None (start id)) b ∙ sym (below_table_kept hidden start id below))
+  | inr past ↦ ap (λ o. cond (is_hidden hidden id) None o) (sym (past_table_kept hidden start id (omega (arith, past))))
 ]
 
 -- no key stands in the tree twice

@@ -111,9 +111,6 @@ neg_same y z e = sym (twice_negated y) ∙ ap neg_ℤ e ∙ twice_negated z
 int_eq_neg : (y z : ℤ) → int_eq (neg_ℤ y) (neg_ℤ z) ≡ int_eq y z
 int_eq_neg y z = same_from_decides (int_eq (neg_ℤ y) (neg_ℤ z)) (int_eq y z) (Decides-like (int_eq (neg_ℤ y) (neg_ℤ z)) (neg_same y z) (ap neg_ℤ) (Decides-int_eq (neg_ℤ y) (neg_ℤ z))) (Decides-int_eq y z)
 
-int_eq_flip : (y z : ℤ) → int_eq y z ≡ int_eq z y
-int_eq_flip y z = same_from_decides (int_eq y z) (int_eq z y) (Decides-int_eq y z) (Decides-like (int_eq z y) sym sym (Decides-int_eq z y))
-
 pub has_negated : (clause : List ℤ) (z : ℤ) → has (map neg_ℤ clause) (neg_ℤ z) ≡ has clause z
 has_negated [] z = refl
 has_negated (y ∷ clause) z = λ i. int_eq_neg y z i || has_negated clause z i

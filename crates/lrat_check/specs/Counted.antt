@@ -2,7 +2,7 @@
 use Rattle.std.specs.Prelude.{◌≡◌, ⊤, ℕ, ◌+◌, ℤ, List, Option, Some, None}
 use Rattle.lrat_check.specs.Active.{numbered}
 use Rattle.lrat_check.specs.ClauseAt.{clause_at}
-use Rattle.lrat_check.specs.Counts.{AreCounts, IsCount, count_of}
+use Rattle.lrat_check.specs.Counts.{AreLiteralCounts, IsCount, literal_count}
 use Rattle.lrat_check.specs.declared.count_changes.CountChanges.{CountChanges}
 use Rattle.lrat_check.specs.declared.counted_clauses.CountedClauses.{CountedClauses}
 use Rattle.lrat_check.specs.declared.formula_counts.FormulaCounts.{FormulaCounts}
@@ -11,7 +11,7 @@ use Rattle.lrat_check.specs.declared.literal_counts.LiteralCounts.{LiteralCounts
 -- where there are counts, they are those of the active clauses
 abbrev pub AreRightCounts : (ℕ → Option (List ℤ)) → Option LiteralCounts → Type 0
 AreRightCounts active None = ⊤
-AreRightCounts active (Some counts) = AreCounts active counts
+AreRightCounts active (Some counts) = AreLiteralCounts active counts
 
 -- the counts of a formula with these clauses, if it was counted
 abbrev pub AreFormulaCounts : List (List ℤ) → FormulaCounts → Type 0
@@ -21,12 +21,13 @@ AreFormulaCounts clauses counts = AreRightCounts (numbered clauses) counts.count
 -- active ones.
 abbrev pub AreChanges : List (List ℤ) → (ℕ → Option (List ℤ)) → CountChanges → Type 0
 AreChanges clauses active changes = (literal : ℤ) (base : ℕ) → IsCount (numbered clauses) literal base →
-    (count : ℕ) × IsCount active literal count × (count + count_of changes.less literal ≡ base + count_of changes.more literal)
+    (count : ℕ) × IsCount active literal count × (count + literal_count changes.less literal ≡ base + literal_count changes.more literal)
 
 -- where there are changes, they lead from the formula's clauses to the active ones
 abbrev pub AreRightChanges : List (List ℤ) → (ℕ → Option (List ℤ)) → Option CountChanges → Type 0
 AreRightChanges clauses active None = ⊤
 AreRightChanges clauses active (Some changes) = AreChanges clauses active changes
 
-abbrev pub IsCounted : List (List ℤ) → CountedClauses → Type 0
-IsCounted clauses active = AreRightChanges clauses (clause_at clauses active.clauses) active.changes
+-- what the counted clauses keep of changes is right for their active clauses
+abbrev pub HasRightChanges : List (List ℤ) → CountedClauses → Type 0
+HasRightChanges clauses active = AreRightChanges clauses (clause_at clauses active.clauses) active.changes

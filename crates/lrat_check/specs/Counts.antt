@@ -33,9 +33,9 @@ abbrev pub count_at : LiteralCounts → ℕ → ℕ
 count_at counts place = slice_index_or counts.near.items place (far_count counts place)
 
 -- the count of a literal
-abbrev pub count_of : LiteralCounts → ℤ → ℕ
-count_of counts literal = count_at counts (place_of literal)
+abbrev pub literal_count : LiteralCounts → ℤ → ℕ
+literal_count counts literal = count_at counts (place_of literal)
 
 -- the counts are those of each literal in the active clauses
-abbrev pub AreCounts : (ℕ → Option (List ℤ)) → LiteralCounts → Type 0
-AreCounts active counts = (literal : ℤ) → IsCount active literal (count_of counts literal)
+abbrev pub AreLiteralCounts : (ℕ → Option (List ℤ)) → LiteralCounts → Type 0
+AreLiteralCounts active counts = (literal : ℤ) → IsCount active literal (literal_count counts literal)

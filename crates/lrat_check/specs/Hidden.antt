@@ -9,18 +9,19 @@ use Rattle.lrat_check.specs.declared.hidden_ids.HiddenIds.{HiddenIds}
 abbrev pub is_hidden : HiddenIds → ℕ → Bool
 is_hidden hidden id = slice_index_or hidden.near.items id (contains nat_cmp hidden.far id)
 
--- of these clauses those that are not hidden, and those whose ids are left to be looked at
+-- of these clauses those that are not hidden, and those whose ids are still to be looked at
 abbrev pub passed_by : (ℕ → Option (List ℤ)) → (ℕ → Bool) → (ℕ → Bool) → ℕ → Option (List ℤ)
 passed_by start hidden left id = if left id then start id else if hidden id then None else start id
 
 -- of these clauses those that the table does not hide
-abbrev pub near_kept_at : HiddenIds → (ℕ → Option (List ℤ)) → ℕ → Option (List ℤ)
-near_kept_at hidden start id = if marked_at hidden.near.items id then None else start id
+abbrev pub kept_by_table : HiddenIds → (ℕ → Option (List ℤ)) → ℕ → Option (List ℤ)
+kept_by_table hidden start id = if marked_at hidden.near.items id then None else start id
 
--- the same, where the ids from this one on are left
-abbrev pub near_from : HiddenIds → (ℕ → Option (List ℤ)) → ℕ → ℕ → Option (List ℤ)
-near_from hidden start next = passed_by start (marked_at hidden.near.items) (nat_le next)
+-- the same, as long as the ids from this one on are still to be looked at: their clauses are kept
+abbrev pub kept_by_table_from : HiddenIds → (ℕ → Option (List ℤ)) → ℕ → ℕ → Option (List ℤ)
+kept_by_table_from hidden start next = passed_by start (marked_at hidden.near.items) (nat_le next)
 
--- of those that the table does not hide the ones that the tree does not hide either, where these ids are left
-abbrev pub far_left : HiddenIds → (ℕ → Option (List ℤ)) → (ℕ → Bool) → ℕ → Option (List ℤ)
-far_left hidden start left = passed_by (near_kept_at hidden start) (is_hidden hidden) left
+-- of those that the table does not hide the ones that the tree does not hide either, as long as these ids of the tree are still to be
+-- looked at
+abbrev pub kept_by_tree : HiddenIds → (ℕ → Option (List ℤ)) → (ℕ → Bool) → ℕ → Option (List ℤ)
+kept_by_tree hidden start left = passed_by (kept_by_table hidden start) (is_hidden hidden) left

@@ -6,7 +6,7 @@ ghost use Rattle.std.specs.Ordering.{nat_cmp};
 ghost use Rattle.lrat_check.specs.Active.{at_start, numbered, with_clause, without};
 ghost use Rattle.lrat_check.specs.ClauseAt.{clause_at, early_at, in_front, kept_at};
 ghost use Rattle.lrat_check.specs.Counted.{AreChanges};
-ghost use Rattle.lrat_check.specs.Hidden.{far_left, near_from, near_kept_at};
+ghost use Rattle.lrat_check.specs.Hidden.{kept_by_tree, kept_by_table_from, kept_by_table};
 
 use crate::added_clauses::AddedClauses;
 use crate::count_changes::CountChanges;
@@ -48,7 +48,7 @@ fn clause_at_start<'b, F: ClauseList>(
     None
 }
 
-/// Counts the cube's literals as clauses, where those of the formula alone are active.
+/// Counts the cube's literals as clauses. Before this the clauses of the formula alone are counted.
 fn count_cube(cube: &[Lit], changes: &mut CountChanges) -> Result<(), AllocError>
     ensures { OnOk result ((clauses : List (List ℤ)) → AreChanges clauses (numbered clauses) changes.old → AreChanges clauses (at_start clauses cube.now) changes.new) }
 {
@@ -59,7 +59,7 @@ fn count_cube(cube: &[Lit], changes: &mut CountChanges) -> Result<(), AllocError
 }
 
 /// Takes the clause that was active under this id at the start off the counts, if there is one.
-fn count_out<F: ClauseList>(
+fn take_start_clause_off<F: ClauseList>(
     formula: &F,
     cube: &[Lit],
     id: u64,
@@ -169,70 +169,71 @@ impl<'a> ActiveClauses<'a> {
         self.kept(formula, id).is_some()
     }
 
-    /// Takes the clause of this id off the counts, if the table of hidden ids hides it, where those before it are looked at.
-    fn count_near_id<F: ClauseList>(
+    /// Takes the clause of this id off the counts, if the table of hidden ids hides it. Before this the same was done for all smaller ids.
+    fn take_table_id_off<F: ClauseList>(
         &self,
         formula: &F,
         id: usize,
         changes: &mut CountChanges,
     ) -> Result<(), AllocError>
-        ensures { OnOk result (AreChanges (F.formula formula.now).clauses (near_from self.now.hidden (at_start (F.formula formula.now).clauses self.now.cube.now) id) changes.old →
-            AreChanges (F.formula formula.now).clauses (near_from self.now.hidden (at_start (F.formula formula.now).clauses self.now.cube.now) (id + 1)) changes.new) }
+        ensures { OnOk result (AreChanges (F.formula formula.now).clauses (kept_by_table_from self.now.hidden (at_start (F.formula formula.now).clauses self.now.cube.now) id) changes.old →
+            AreChanges (F.formula formula.now).clauses (kept_by_table_from self.now.hidden (at_start (F.formula formula.now).clauses self.now.cube.now) (id + 1)) changes.new) }
     {
-        if self.hidden.is_near(id) {
-            return count_out(formula, self.cube, id as u64, changes);
+        if self.hidden.table_hides(id) {
+            return take_start_clause_off(formula, self.cube, id as u64, changes);
         }
         Ok(())
     }
 
-    /// Takes the clauses off the counts that the table of hidden ids hides, where none is hidden.
-    fn count_near<F: ClauseList>(
+    /// Takes the clauses off the counts that the table of hidden ids hides. Before this all that were active at the start are counted.
+    fn take_table_off<F: ClauseList>(
         &self,
         formula: &F,
         changes: &mut CountChanges,
     ) -> Result<(), AllocError>
         ensures { OnOk result (AreChanges (F.formula formula.now).clauses (at_start (F.formula formula.now).clauses self.now.cube.now) changes.old →
-            AreChanges (F.formula formula.now).clauses (near_kept_at self.now.hidden (at_start (F.formula formula.now).clauses self.now.cube.now)) changes.new) }
+            AreChanges (F.formula formula.now).clauses (kept_by_table self.now.hidden (at_start (F.formula formula.now).clauses self.now.cube.now)) changes.new) }
     {
         for id in 0..self.hidden.near.len() {
-            (&*self).count_near_id(&*formula, id, changes)?;
+            (&*self).take_table_id_off(&*formula, id, changes)?;
         }
         Ok(())
     }
 
-    /// Takes the clause of this id off the counts, which stands in the tree of hidden ids, if the table does not reach to it.
-    fn count_far_id<F: ClauseList>(
+    /// Takes the clause of this id, which stands in the tree of hidden ids, off the counts. If the table reaches to the id, nothing is left
+    /// to be done, since the table alone says whether it is hidden.
+    fn take_tree_id_off<F: ClauseList>(
         &self,
         formula: &F,
         id: usize,
         changes: &mut CountChanges,
     ) -> Result<(), AllocError>
         ensures { OnOk result ((left rest : ℕ → Bool) → ((other : ℕ) → left other ≡ (id == other || rest other)) → rest id ≡ false → contains nat_cmp self.now.hidden.far id ≡ true →
-            AreChanges (F.formula formula.now).clauses (far_left self.now.hidden (at_start (F.formula formula.now).clauses self.now.cube.now) left) changes.old →
-            AreChanges (F.formula formula.now).clauses (far_left self.now.hidden (at_start (F.formula formula.now).clauses self.now.cube.now) rest) changes.new) }
+            AreChanges (F.formula formula.now).clauses (kept_by_tree self.now.hidden (at_start (F.formula formula.now).clauses self.now.cube.now) left) changes.old →
+            AreChanges (F.formula formula.now).clauses (kept_by_tree self.now.hidden (at_start (F.formula formula.now).clauses self.now.cube.now) rest) changes.new) }
     {
         if self.hidden.reaches(id) {
             return Ok(());
         }
-        count_out(formula, self.cube, id as u64, changes)
+        take_start_clause_off(formula, self.cube, id as u64, changes)
     }
 
-    /// Takes the clauses off the counts that the tree of hidden ids hides, where those of the table are hidden.
-    fn count_far<F: ClauseList>(
+    /// Takes the clauses off the counts that the tree of hidden ids hides. Before this those that the table hides were taken off.
+    fn take_tree_off<F: ClauseList>(
         &self,
         formula: &F,
         changes: &mut CountChanges,
     ) -> Result<(), AllocError>
-        ensures { OnOk result (AreChanges (F.formula formula.now).clauses (near_kept_at self.now.hidden (at_start (F.formula formula.now).clauses self.now.cube.now)) changes.old →
+        ensures { OnOk result (AreChanges (F.formula formula.now).clauses (kept_by_table self.now.hidden (at_start (F.formula formula.now).clauses self.now.cube.now)) changes.old →
             AreChanges (F.formula formula.now).clauses (kept_at (F.formula formula.now).clauses self.now) changes.new) }
     {
         for id in self.hidden.far.iter() {
-            (&*self).count_far_id(&*formula, *id, changes)?;
+            (&*self).take_tree_id_off(&*formula, *id, changes)?;
         }
         Ok(())
     }
 
-    /// Counts the cube and takes the clauses off that are hidden, where those of the formula alone are active.
+    /// Counts the cube and takes the clauses off that are hidden. Before this the clauses of the formula alone are counted.
     pub fn count_kept<F: ClauseList>(
         &self,
         formula: &F,
@@ -242,8 +243,8 @@ impl<'a> ActiveClauses<'a> {
             AreChanges (F.formula formula.now).clauses (kept_at (F.formula formula.now).clauses self.now) changes.new) }
     {
         count_cube(self.cube, changes)?;
-        self.count_near(formula, changes)?;
-        self.count_far(formula, changes)
+        self.take_table_off(formula, changes)?;
+        self.take_tree_off(formula, changes)
     }
 
     /// Checks whether a clause is active under this id that does not stand in the tree of those added.
@@ -253,7 +254,7 @@ impl<'a> ActiveClauses<'a> {
         self.is_kept(formula, id) || self.added.row(id).is_some()
     }
 
-    /// Counts the clause in the row at this place, if it is active, where those before it are counted.
+    /// Counts the clause in the row at this place, if it is active. Before this the rows at smaller places were counted.
     fn count_row<F: ClauseList>(
         &self,
         formula: &F,
@@ -276,7 +277,7 @@ impl<'a> ActiveClauses<'a> {
         }
     }
 
-    /// Counts the clauses that stand in rows, where those of the start are counted.
+    /// Counts the clauses that stand in rows. Before this those are counted that were active at the start and are not hidden.
     fn count_rows<F: ClauseList>(
         &self,
         formula: &F,
@@ -290,7 +291,7 @@ impl<'a> ActiveClauses<'a> {
         Ok(())
     }
 
-    /// Counts the clauses that stand in the tree, where the others are counted.
+    /// Counts the clauses that stand in the tree. Before this all others are counted.
     fn count_in_tree<F: ClauseList>(
         &self,
         formula: &F,
@@ -306,7 +307,7 @@ impl<'a> ActiveClauses<'a> {
         Ok(())
     }
 
-    /// Counts the clauses that steps have added, where the others are counted.
+    /// Counts the clauses that steps have added. Before this all others are counted.
     pub fn count_added<F: ClauseList>(
         &self,
         formula: &F,

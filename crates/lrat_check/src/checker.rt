@@ -4,7 +4,7 @@ ghost use Rattle.std.specs.Prelude.{◌≡◌, ℕ, IfOk, IfErr, MatchResult};
 ghost use Rattle.lrat_check.specs.Active.{after};
 ghost use Rattle.lrat_check.specs.Checked.{IsRight, IsWrong, ends, IsAccepted, IsRefused};
 ghost use Rattle.lrat_check.specs.ClauseAt.{clause_at};
-ghost use Rattle.lrat_check.specs.Counted.{AreFormulaCounts, IsCounted};
+ghost use Rattle.lrat_check.specs.Counted.{AreFormulaCounts, HasRightChanges};
 ghost use Rattle.dimacs.specs.Models.{HasNoModelIn};
 ghost use Rattle.text_lines.specs.Fault.{IsRefusal, IsRefusalAt};
 
@@ -33,8 +33,8 @@ fn take_step<'a, F: ClauseList>(
     number: usize,
 ) -> Result<bool, Refusal>
     ensures formula { AreFormulaCounts (F.formula formula.now).clauses counts.old → AreFormulaCounts (F.formula formula.now).clauses counts.new }
-    ensures step { AreFormulaCounts (F.formula formula.now).clauses counts.old → IsCounted (F.formula formula.now).clauses active.old → MatchResult result
-        (λ ended. IsRight (clause_at (F.formula formula.now).clauses active.old.clauses) step.now × (ended ≡ ends step.now) × ((id : ℕ) → clause_at (F.formula formula.now).clauses active.new.clauses id ≡ after (clause_at (F.formula formula.now).clauses active.old.clauses) step.now id) × IsCounted (F.formula formula.now).clauses active.new)
+    ensures step { AreFormulaCounts (F.formula formula.now).clauses counts.old → HasRightChanges (F.formula formula.now).clauses active.old → MatchResult result
+        (λ ended. IsRight (clause_at (F.formula formula.now).clauses active.old.clauses) step.now × (ended ≡ ends step.now) × ((id : ℕ) → clause_at (F.formula formula.now).clauses active.new.clauses id ≡ after (clause_at (F.formula formula.now).clauses active.old.clauses) step.now id) × HasRightChanges (F.formula formula.now).clauses active.new)
         (λ refusal. IsRefusalAt (λ fault. IsWrong (clause_at (F.formula formula.now).clauses active.old.clauses) step.now fault) number refusal) }
 {
     match step {

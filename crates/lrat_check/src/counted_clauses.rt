@@ -3,7 +3,7 @@
 ghost use Rattle.std.specs.Prelude.{◌≡◌, [], ◌∷◌, ℕ, ℤ, List, Option, None, IfOk, OnOk};
 ghost use Rattle.lrat_check.specs.Active.{at_start, with_clause, without};
 ghost use Rattle.lrat_check.specs.ClauseAt.{clause_at};
-ghost use Rattle.lrat_check.specs.Counted.{AreChanges, AreFormulaCounts, AreRightChanges, IsCounted};
+ghost use Rattle.lrat_check.specs.Counted.{AreChanges, AreFormulaCounts, AreRightChanges, HasRightChanges};
 ghost use Rattle.lrat_check.specs.Counts.{IsCount};
 
 use crate::active_clauses::ActiveClauses;
@@ -65,7 +65,7 @@ impl<'a> CountedClauses<'a> {
     /// The clauses of a formula, and the literals of the cube as clauses.
     pub fn at_start(alloc: Global, cube: &'a [Lit]) -> CountedClauses<'a>
         ensures active { (clauses : List (List ℤ)) (id : ℕ) → clause_at clauses result.clauses id ≡ at_start clauses cube.now id }
-        ensures counted { (clauses : List (List ℤ)) → IsCounted clauses result }
+        ensures counted { (clauses : List (List ℤ)) → HasRightChanges clauses result }
     {
         CountedClauses {
             clauses: ActiveClauses::at_start(alloc, cube),
@@ -82,7 +82,7 @@ impl<'a> CountedClauses<'a> {
     ) -> Result<(), AllocError>
         ensures active { OnOk result ((other : ℕ) →
             clause_at (F.formula formula.now).clauses self.new.clauses other ≡ with_clause id clause.now (clause_at (F.formula formula.now).clauses self.old.clauses) other) }
-        ensures counted { OnOk result (clause_at (F.formula formula.now).clauses self.old.clauses id ≡ None → IsCounted (F.formula formula.now).clauses self.old → IsCounted (F.formula formula.now).clauses self.new) }
+        ensures counted { OnOk result (clause_at (F.formula formula.now).clauses self.old.clauses id ≡ None → HasRightChanges (F.formula formula.now).clauses self.old → HasRightChanges (F.formula formula.now).clauses self.new) }
     {
         count_in(&mut self.changes, clause)?;
         self.clauses.insert(formula, id, clause)
@@ -92,7 +92,7 @@ impl<'a> CountedClauses<'a> {
     fn remove<F: ClauseList>(&mut self, formula: &F, id: u64) -> Result<(), AllocError>
         ensures active { OnOk result ((other : ℕ) →
             clause_at (F.formula formula.now).clauses self.new.clauses other ≡ without (id ∷ []) (clause_at (F.formula formula.now).clauses self.old.clauses) other) }
-        ensures counted { OnOk result (IsCounted (F.formula formula.now).clauses self.old → IsCounted (F.formula formula.now).clauses self.new) }
+        ensures counted { OnOk result (HasRightChanges (F.formula formula.now).clauses self.old → HasRightChanges (F.formula formula.now).clauses self.new) }
     {
         count_out(&mut self.changes, formula, &self.clauses, id)?;
         self.clauses.remove(formula, id)
@@ -102,7 +102,7 @@ impl<'a> CountedClauses<'a> {
     pub fn remove_all<F: ClauseList>(&mut self, formula: &F, ids: &[u64]) -> Result<(), AllocError>
         ensures active { OnOk result ((other : ℕ) →
             clause_at (F.formula formula.now).clauses self.new.clauses other ≡ without ids.now (clause_at (F.formula formula.now).clauses self.old.clauses) other) }
-        ensures counted { OnOk result (IsCounted (F.formula formula.now).clauses self.old → IsCounted (F.formula formula.now).clauses self.new) }
+        ensures counted { OnOk result (HasRightChanges (F.formula formula.now).clauses self.old → HasRightChanges (F.formula formula.now).clauses self.new) }
     {
         for id in ids {
             self.remove(formula, *id)?;
@@ -112,7 +112,7 @@ impl<'a> CountedClauses<'a> {
 
     /// The number of times that the literal stands in the active clauses. What differs from the formula is counted when this is
     /// first asked, since a derivation without RAT steps needs no counts.
-    pub fn count_of<F: ClauseList>(
+    pub fn times_active<F: ClauseList>(
         &mut self,
         alloc: Global,
         formula: &F,
@@ -121,8 +121,8 @@ impl<'a> CountedClauses<'a> {
     ) -> Result<usize, AllocError>
         ensures same { self.new.clauses ≡ self.old.clauses }
         ensures formula { AreFormulaCounts (F.formula formula.now).clauses counts.old → AreFormulaCounts (F.formula formula.now).clauses counts.new }
-        ensures counted { IsCounted (F.formula formula.now).clauses self.old → IsCounted (F.formula formula.now).clauses self.new }
-        ensures count { IfOk result (λ count. AreFormulaCounts (F.formula formula.now).clauses counts.old → IsCounted (F.formula formula.now).clauses self.old →
+        ensures counted { HasRightChanges (F.formula formula.now).clauses self.old → HasRightChanges (F.formula formula.now).clauses self.new }
+        ensures count { IfOk result (λ count. AreFormulaCounts (F.formula formula.now).clauses counts.old → HasRightChanges (F.formula formula.now).clauses self.old →
             IsCount (clause_at (F.formula formula.now).clauses self.old.clauses) literal count) }
     {
         let base = counts.of(alloc, formula, literal)?;

@@ -3,7 +3,7 @@
 ghost use Rattle.std.specs.Prelude.{◌≡◌, ◌+◌, ◌<◌, [], ℤ, List, length, slice_index_or, IfOk, OnOk};
 ghost use Rattle.lrat_check.specs.Active.{numbered};
 ghost use Rattle.lrat_check.specs.Counted.{AreFormulaCounts};
-ghost use Rattle.lrat_check.specs.Counts.{AreCounts, IsCount, count_of, times};
+ghost use Rattle.lrat_check.specs.Counts.{AreLiteralCounts, IsCount, literal_count, times};
 
 use crate::literal_counts::LiteralCounts;
 use dimacs::{ClauseList, Lit};
@@ -23,14 +23,14 @@ fn count_clause<F: ClauseList>(
     counts: &mut LiteralCounts,
 ) -> Result<(), AllocError>
     requires { place < length (F.formula formula.now).clauses }
-    ensures { OnOk result ((z : ℤ) → count_of counts.new z ≡ count_of counts.old z + times (slice_index_or (F.formula formula.now).clauses place []) z) }
+    ensures { OnOk result ((z : ℤ) → literal_count counts.new z ≡ literal_count counts.old z + times (slice_index_or (F.formula formula.now).clauses place []) z) }
 {
     counts.add(formula.clause(place).as_slice())
 }
 
 /// The counts of the literals of the formula's clauses.
 fn counts_of<F: ClauseList>(alloc: Global, formula: &F) -> Result<LiteralCounts, AllocError>
-    ensures { IfOk result (λ counts. AreCounts (numbered (F.formula formula.now).clauses) counts) }
+    ensures { IfOk result (λ counts. AreLiteralCounts (numbered (F.formula formula.now).clauses) counts) }
 {
     let mut counts = LiteralCounts::new(alloc);
     for place in 0..formula.count() {

@@ -39,14 +39,14 @@ impl HiddenIds {
     }
 
     /// Checks whether the table hides the id.
-    pub fn is_near(&self, id: usize) -> bool
+    pub fn table_hides(&self, id: usize) -> bool
         ensures { result ≡ marked_at self.now.near.items id }
     {
         marked_at(self.near.as_slice(), id)
     }
 
     /// Checks whether the id stands in the tree.
-    fn is_far(&self, id: usize) -> bool
+    fn tree_hides(&self, id: usize) -> bool
         ensures { result ≡ contains nat_cmp self.now.far id }
     {
         if self.far.is_empty() {
@@ -62,7 +62,7 @@ impl HiddenIds {
         if id < self.near.len() {
             self.near[id]
         } else {
-            self.is_far(id)
+            self.tree_hides(id)
         }
     }
 
@@ -72,7 +72,7 @@ impl HiddenIds {
         ensures same { (k : ℕ) → is_hidden self.new k ≡ is_hidden self.old k }
     {
         while self.near.len() <= id {
-            let next = self.is_far(self.near.len());
+            let next = self.tree_hides(self.near.len());
             self.near.push(next)?;
         }
         Ok(())

@@ -3,7 +3,7 @@
 
 ghost use Rattle.std.specs.Prelude.{◌≡◌, [], ℕ, ℤ, List, Option, OnOk, MatchResult};
 ghost use Rattle.lrat_check.specs.ClauseAt.{clause_at};
-ghost use Rattle.lrat_check.specs.Counted.{AreFormulaCounts, IsCounted};
+ghost use Rattle.lrat_check.specs.Counted.{AreFormulaCounts, HasRightChanges};
 ghost use Rattle.lrat_check.specs.Hints.{groups_of};
 ghost use Rattle.lrat_check.specs.Justified.{IsJustified, IsUnjustified};
 ghost use Rattle.lrat_check.specs.Rat.{IsRat, IsNoRat, missing};
@@ -52,8 +52,8 @@ fn check_rat<F: ClauseList>(
 ) -> Result<(), Refusal>
     ensures same { active.new.clauses ≡ active.old.clauses }
     ensures formula { AreFormulaCounts (F.formula formula.now).clauses counts.old → AreFormulaCounts (F.formula formula.now).clauses counts.new }
-    ensures counted { IsCounted (F.formula formula.now).clauses active.old → IsCounted (F.formula formula.now).clauses active.new }
-    ensures rat { AreFormulaCounts (F.formula formula.now).clauses counts.old → IsCounted (F.formula formula.now).clauses active.old → MatchResult result
+    ensures counted { HasRightChanges (F.formula formula.now).clauses active.old → HasRightChanges (F.formula formula.now).clauses active.new }
+    ensures rat { AreFormulaCounts (F.formula formula.now).clauses counts.old → HasRightChanges (F.formula formula.now).clauses active.old → MatchResult result
         (λ _. IsRat (clause_at (F.formula formula.now).clauses active.old.clauses) clause.now (groups_of hints.now) trues.old)
         (λ refusal. IsRefusalAt (λ fault. IsNoRat (clause_at (F.formula formula.now).clauses active.old.clauses) clause.now (groups_of hints.now) trues.old fault) number refusal) }
 {
@@ -62,7 +62,7 @@ fn check_rat<F: ClauseList>(
     }
     let pivot = clause[0];
     check_candidates(formula, &active.clauses, trues, pivot, hints, number)?;
-    let count = active.count_of(alloc, formula, counts, pivot.negated())?;
+    let count = active.times_active(alloc, formula, counts, pivot.negated())?;
     if has_all(alloc, formula, &active.clauses, pivot, count, hints)? {
         Ok(())
     } else {
@@ -83,8 +83,8 @@ pub fn justify<F: ClauseList>(
 ) -> Result<(), Refusal>
     ensures same { active.new.clauses ≡ active.old.clauses }
     ensures formula { AreFormulaCounts (F.formula formula.now).clauses counts.old → AreFormulaCounts (F.formula formula.now).clauses counts.new }
-    ensures counted { IsCounted (F.formula formula.now).clauses active.old → IsCounted (F.formula formula.now).clauses active.new }
-    ensures justified { AreFormulaCounts (F.formula formula.now).clauses counts.old → IsCounted (F.formula formula.now).clauses active.old → MatchResult result
+    ensures counted { HasRightChanges (F.formula formula.now).clauses active.old → HasRightChanges (F.formula formula.now).clauses active.new }
+    ensures justified { AreFormulaCounts (F.formula formula.now).clauses counts.old → HasRightChanges (F.formula formula.now).clauses active.old → MatchResult result
         (λ _. IsJustified (clause_at (F.formula formula.now).clauses active.old.clauses) clause.now hints.now)
         (λ refusal. IsRefusalAt (λ fault. IsUnjustified (clause_at (F.formula formula.now).clauses active.old.clauses) clause.now hints.now fault) number refusal) }
 {

@@ -1,7 +1,7 @@
 //! How often literals stand in clauses.
 
 ghost use Rattle.std.specs.Prelude.{◌≡◌, ◌+◌, ◌==◌, ◌<◌, ◌≤◌, ℕ, ℤ, vec_len, if◌then◌else◌, OnOk};
-ghost use Rattle.lrat_check.specs.Counts.{count_at, count_of, far_count, times};
+ghost use Rattle.lrat_check.specs.Counts.{count_at, literal_count, far_count, times};
 
 use crate::marks::{is_paid, place_of};
 use dimacs::Lit;
@@ -30,7 +30,7 @@ pub struct LiteralCounts {
 impl LiteralCounts {
     /// No clause is counted.
     pub fn new(alloc: Global) -> LiteralCounts
-        ensures { (z : ℤ) → count_of result z ≡ 0 }
+        ensures { (z : ℤ) → literal_count result z ≡ 0 }
     {
         LiteralCounts {
             near: Vec::new(alloc),
@@ -108,14 +108,14 @@ impl LiteralCounts {
 
     /// The number of times that this literal stands in them.
     pub fn of(&self, literal: Lit) -> usize
-        ensures { result ≡ count_of self.now literal }
+        ensures { result ≡ literal_count self.now literal }
     {
         self.at(place_of(literal))
     }
 
     /// Counts a clause.
     pub fn add(&mut self, clause: &[Lit]) -> Result<(), AllocError>
-        ensures { OnOk result ((z : ℤ) → count_of self.new z ≡ count_of self.old z + times clause.now z) }
+        ensures { OnOk result ((z : ℤ) → literal_count self.new z ≡ literal_count self.old z + times clause.now z) }
     {
         for literal in clause {
             self.raise(place_of(*literal))?;

@@ -12,5 +12,5 @@ mod shown;
 pub use decimal_digits::{Digits, decimal};
 pub use line_words::{count_words, word_at, word_start};
 pub use named_text::{AskedTexts, NamedText, line_of_text};
-pub use notes::Notes;
+pub use notes::{Notes, push_words};
 pub use shown::quoted;

@@ -15,12 +15,18 @@ pub struct Notes {
     text: Vec<u8>,
 }
 
-/// Appends what stands in front, the words one after the other, and a line end.
-fn push_line(text: &mut Vec<u8>, front: &[u8], words: &[&[u8]]) -> Result<(), AllocError> {
-    text.extend_from_slice(front)?;
+/// Appends the words, one after the other.
+pub fn push_words(text: &mut Vec<u8>, words: &[&[u8]]) -> Result<(), AllocError> {
     for word in words {
         text.extend_from_slice(word)?;
     }
+    Ok(())
+}
+
+/// Appends what stands in front, the words one after the other, and a line end.
+fn push_line(text: &mut Vec<u8>, front: &[u8], words: &[&[u8]]) -> Result<(), AllocError> {
+    text.extend_from_slice(front)?;
+    push_words(text, words)?;
     text.push(b'\n')?;
     Ok(())
 }

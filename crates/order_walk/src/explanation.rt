@@ -393,11 +393,12 @@ impl Explanation {
 
     fn need_lemma(&mut self, order: &DerivedOrder<'_>, number: u32) {
         let operations = order.reasons().lemma_operations(number);
-        self.step(size(operations));
+        let decisions = order.reasons().lemma_decisions(number);
+        self.step(size(operations).saturating_add(size(decisions)));
         for operation in operations {
             self.need(*operation);
         }
-        for decision in order.reasons().lemma_decisions(number) {
+        for decision in decisions {
             self.need_decision(*decision);
         }
     }

@@ -1,6 +1,6 @@
 //! The text of a picture.
 
-use note_text::decimal;
+use note_text::{decimal, push_words};
 use std::alloc::{AllocError, Global};
 
 /// An SVG document as it is written.
@@ -24,10 +24,7 @@ impl SvgText {
 
     /// Adds the words one after the other, as they are.
     pub fn add(&mut self, words: &[&[u8]]) -> Result<(), AllocError> {
-        for word in words {
-            self.text.extend_from_slice(word)?;
-        }
-        Ok(())
+        push_words(&mut self.text, words)
     }
 
     /// Adds the number.

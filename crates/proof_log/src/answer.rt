@@ -10,6 +10,7 @@ pub enum Answer {
     Model(Assignment),
     /// A derivation that there is no model.
     Refuted(Derivation),
-    /// The budget was too small to decide.
+    /// Undecided. Mostly the budget is used up. It may also be left, if all that is known is a derivation that is longer than the budget, or a
+    /// model of the formula that lies outside the cube.
     Open,
 }

@@ -48,6 +48,13 @@ impl ProofLog {
         }
     }
 
+    /// Returns how many additions there are.
+    pub fn additions(&self) -> u64
+        ensures { result ≡ self.now }
+    {
+        self.ends.len() as u64
+    }
+
     /// Returns the number of the next addition.
     pub fn next_id(&self) -> u32 {
         self.first.wrapping_add(size(self.ends.as_slice()))

@@ -20,7 +20,7 @@ use Rattle.trace_semantics.specs.Operation.{same_op}
 use Rattle.trace_semantics.specs.Trace.{TraceValue, at_place, operation_at, first_names}
 use Rattle.trace_semantics.proofs.ElementLemmas.{found}
 use Rattle.trace_semantics.proofs.NameLemmas.{same_bytes, same_name, name_same}
-use Rattle.schedule_judge.specs.Come.{AreCounts, IsCounted, count_in, count_of, is_within}
+use Rattle.schedule_judge.specs.Come.{AreCountsOfCome, IsCountSet, count_in_row, count_of_process, is_within}
 use Rattle.schedule_judge.specs.Tables.{FindsProcesses}
 use Rattle.schedule_judge.specs.Walk.{IsInProgramOrder}
 use Rattle.schedule_judge.proofs.ProgramOrderLemmas.{first_have_come}
@@ -45,12 +45,12 @@ past place count low e = leb-false place count (second_fails (nat_lt 0 place) (n
 within_none : (place : ℕ) → is_within place 0 ≡ false
 within_none place = same_truth (is_within place 0) false (λ e. let low : 0 < place = within_low place 0 e in let most : place ≤ 0 = within_most place 0 e in absurd (omega (arith, low, most))) (λ e. absurd (cc))
 
-count_none : (counts : List ℕ) (row : Option ℕ) → counts ≡ [] → count_of counts row ≡ 0
+count_none : (counts : List ℕ) (row : Option ℕ) → counts ≡ [] → count_of_process counts row ≡ 0
 count_none counts None e = refl
-count_none counts (Some k) e = ap (λ l. count_in l k) e
+count_none counts (Some k) e = ap (λ l. count_in_row l k) e
 
 -- nothing has come
-pub counts_none : (rows : NameTable) (counts : List ℕ) → counts ≡ [] → AreCounts rows counts []
+pub counts_none : (rows : NameTable) (counts : List ℕ) → counts ≡ [] → AreCountsOfCome rows counts []
 counts_none rows counts e n = sym (ap (is_within n.place) (count_none counts (number_of rows n.process) e) ∙ within_none n.place)
 
 pub either_true : (b c : Bool) → (b || (c || false)) ≡ true → (b ≡ true) ⊎ (c ≡ true)
@@ -108,75 +108,75 @@ known_at t rows n op finds known =
     record { row = k; process = p; is_row = row; is_process = here; placed = has_place op p.operations n.place at }))
 
 -- as many of a process have come as are asked for
-reached : (rows : NameTable) (counts : List ℕ) (done : List OpName) (process : List ℕ) (n : ℕ) → AreCounts rows counts done → IsInProgramOrder done → list_all (has_come done) (first_names process n) ≡ true → n ≤ count_of counts (number_of rows process)
+reached : (rows : NameTable) (counts : List ℕ) (done : List OpName) (process : List ℕ) (n : ℕ) → AreCountsOfCome rows counts done → IsInProgramOrder done → list_all (has_come done) (first_names process n) ≡ true → n ≤ count_of_process counts (number_of rows process)
 reached rows counts done process zero are order all = omega arith
 reached rows counts done process (suc k) are order all =
-    within_most (suc k) (count_of counts (number_of rows process)) (sym (are (record { process = process; place = suc k })) ∙ sym (first_have_come done process k order) ∙ all)
+    within_most (suc k) (count_of_process counts (number_of rows process)) (sym (are (record { process = process; place = suc k })) ∙ sym (first_have_come done process k order) ∙ all)
 
 -- an operation without a fault is the next one of its process
-next_one : (t : TraceValue) (rows : NameTable) (counts : List ℕ) (done : List OpName) (n : OpName) (op : Op) (c : ℕ) → AreCounts rows counts done → IsInProgramOrder done → 0 < n.place → count_of counts (number_of rows n.process) ≡ c → fault_of_op t done n op ≡ None → n.place ≡ c + 1
+next_one : (t : TraceValue) (rows : NameTable) (counts : List ℕ) (done : List OpName) (n : OpName) (op : Op) (c : ℕ) → AreCountsOfCome rows counts done → IsInProgramOrder done → 0 < n.place → count_of_process counts (number_of rows n.process) ≡ c → fault_of_op t done n op ≡ None → n.place ≡ c + 1
 next_one t rows counts done n op c are order low count right =
     let parts = in_order (has_come done n) (list_all (has_come done) (first_names n.process (n.place - 1))) _ right in
-    let after : count_of counts (number_of rows n.process) < n.place = past n.place (count_of counts (number_of rows n.process)) low (sym (are n) ∙ parts.0) in
-    let before : n.place - 1 ≤ count_of counts (number_of rows n.process) = reached rows counts done n.process (n.place - 1) are order parts.1 in
+    let after : count_of_process counts (number_of rows n.process) < n.place = past n.place (count_of_process counts (number_of rows n.process)) low (sym (are n) ∙ parts.0) in
+    let before : n.place - 1 ≤ count_of_process counts (number_of rows n.process) = reached rows counts done n.process (n.place - 1) are order parts.1 in
     omega (arith, after, before, low, count)
 
 -- one more has come: what is said of any name
-one_more : (rows : NameTable) (counts more : List ℕ) (done : List OpName) (n m : OpName) (k : ℕ) (o : Option ℕ) → number_of rows n.process ≡ Some k → number_of rows m.process ≡ o → (number_of rows m.process ≡ Some k → m.process ≡ n.process) → has_come done m ≡ is_within m.place (count_of counts o) → 0 < n.place → n.place ≡ count_in counts k + 1 → ((j : ℕ) → count_in more j ≡ cond (eqb k j) n.place (count_in counts j)) → (has_come done m || (same_op m n || false)) ≡ is_within m.place (count_of more o)
+one_more : (rows : NameTable) (counts more : List ℕ) (done : List OpName) (n m : OpName) (k : ℕ) (o : Option ℕ) → number_of rows n.process ≡ Some k → number_of rows m.process ≡ o → (number_of rows m.process ≡ Some k → m.process ≡ n.process) → has_come done m ≡ is_within m.place (count_of_process counts o) → 0 < n.place → n.place ≡ count_in_row counts k + 1 → ((j : ℕ) → count_in_row more j ≡ cond (eqb k j) n.place (count_in_row counts j)) → (has_come done m || (same_op m n || false)) ≡ is_within m.place (count_of_process more o)
 one_more rows counts more done n m k None here there one before low next each =
     same_truth (has_come done m || (same_op m n || false)) (is_within m.place 0) (λ e. elim (either_true (has_come done m) (same_op m n) e) [
       | inl old ↦ sym before ∙ old
       | inr same ↦ let t : None ≡ Some k = sym there ∙ ap (λ (q : OpName). number_of rows q.process) (same_name m n same) ∙ here in absurd (cc)
     ]) (λ e. first_true (has_come done m) (same_op m n) (before ∙ e))
 one_more rows counts more done n m k (Some j) here there one before low next each =
-    same_truth (has_come done m || (same_op m n || false)) (is_within m.place (count_in more j)) (λ e. elim (either_true (has_come done m) (same_op m n) e) [
+    same_truth (has_come done m || (same_op m n || false)) (is_within m.place (count_in_row more j)) (λ e. elim (either_true (has_come done m) (same_op m n) e) [
       | inl old ↦ later (sym before ∙ old)
       | inr same ↦ this same
     ]) back
   where
-    later : is_within m.place (count_in counts j) ≡ true → is_within m.place (count_in more j) ≡ true
-    later e = elim (at_row k j (count_in more j) n.place (count_in counts j) (each j)) [
-      | inl at ↦ let c : count_in counts k ≡ count_in counts j = ap (count_in counts) at.0 in within_from m.place (count_in more j) (within_low m.place (count_in counts j) e) (omega (arith, within_most m.place (count_in counts j) e, next, at.1, c))
+    later : is_within m.place (count_in_row counts j) ≡ true → is_within m.place (count_in_row more j) ≡ true
+    later e = elim (at_row k j (count_in_row more j) n.place (count_in_row counts j) (each j)) [
+      | inl at ↦ let c : count_in_row counts k ≡ count_in_row counts j = ap (count_in_row counts) at.0 in within_from m.place (count_in_row more j) (within_low m.place (count_in_row counts j) e) (omega (arith, within_most m.place (count_in_row counts j) e, next, at.1, c))
       | inr at ↦ ap (is_within m.place) at.1 ∙ e
     ]
 
-    this : same_op m n ≡ true → is_within m.place (count_in more j) ≡ true
+    this : same_op m n ≡ true → is_within m.place (count_in_row more j) ≡ true
     this same =
         let e : m ≡ n = same_name m n same in
         let rows_same : Some j ≡ Some k = sym there ∙ ap (λ (q : OpName). number_of rows q.process) e ∙ here in
         let place : m.place ≡ n.place = ap (λ (q : OpName). q.place) e in
-        elim (at_row k j (count_in more j) n.place (count_in counts j) (each j)) [
-          | inl at ↦ within_from m.place (count_in more j) (omega (arith, low, place)) (omega (arith, place, at.1))
+        elim (at_row k j (count_in_row more j) n.place (count_in_row counts j) (each j)) [
+          | inl at ↦ within_from m.place (count_in_row more j) (omega (arith, low, place)) (omega (arith, place, at.1))
           | inr at ↦ absurd (at.0 (cc))
         ]
 
-    last : k ≡ j → count_in more j ≡ n.place → is_within m.place (count_in more j) ≡ true → (has_come done m || (same_op m n || false)) ≡ true
-    last row put e = chosen (nat_le m.place (count_in counts k)) refl
+    last : k ≡ j → count_in_row more j ≡ n.place → is_within m.place (count_in_row more j) ≡ true → (has_come done m || (same_op m n || false)) ≡ true
+    last row put e = chosen (nat_le m.place (count_in_row counts k)) refl
       where
-        c : count_in counts k ≡ count_in counts j
-        c = ap (count_in counts) row
+        c : count_in_row counts k ≡ count_in_row counts j
+        c = ap (count_in_row counts) row
 
-        chosen : (b : Bool) → nat_le m.place (count_in counts k) ≡ b → (has_come done m || (same_op m n || false)) ≡ true
+        chosen : (b : Bool) → nat_le m.place (count_in_row counts k) ≡ b → (has_come done m || (same_op m n || false)) ≡ true
         chosen true old =
-            let most : m.place ≤ count_in counts k = leb-true m.place (count_in counts k) old in
-            first_true (has_come done m) (same_op m n) (before ∙ within_from m.place (count_in counts j) (within_low m.place (count_in more j) e) (omega (arith, most, c)))
+            let most : m.place ≤ count_in_row counts k = leb-true m.place (count_in_row counts k) old in
+            first_true (has_come done m) (same_op m n) (before ∙ within_from m.place (count_in_row counts j) (within_low m.place (count_in_row more j) e) (omega (arith, most, c)))
         chosen false new =
-            let least : count_in counts k < m.place = leb-false m.place (count_in counts k) new in
-            let most : m.place ≤ count_in more j = within_most m.place (count_in more j) e in
+            let least : count_in_row counts k < m.place = leb-false m.place (count_in_row counts k) new in
+            let most : m.place ≤ count_in_row more j = within_most m.place (count_in_row more j) e in
             let place : m.place ≡ n.place = omega (arith, least, most, next, put) in
             let process : m.process ≡ n.process = one (there ∙ ap Some (sym row)) in
             second_true (has_come done m) (same_op m n) (name_same m n (λ i. record { process = process i; place = place i }))
 
-    back : is_within m.place (count_in more j) ≡ true → (has_come done m || (same_op m n || false)) ≡ true
-    back e = elim (at_row k j (count_in more j) n.place (count_in counts j) (each j)) [
+    back : is_within m.place (count_in_row more j) ≡ true → (has_come done m || (same_op m n || false)) ≡ true
+    back e = elim (at_row k j (count_in_row more j) n.place (count_in_row counts j) (each j)) [
       | inl at ↦ last at.0 at.1 e
       | inr at ↦ first_true (has_come done m) (same_op m n) (before ∙ ap (is_within m.place) (sym at.1) ∙ e)
     ]
 
 -- one more operation, which has no fault, has come
-pub counts_more : (t : TraceValue) (rows : NameTable) (counts more : List ℕ) (done : List OpName) (n : OpName) (op : Op) → FindsProcesses t.processes rows → AreCounts rows counts done → IsInProgramOrder done → operation_at t n ≡ Some op → fault_of_op t done n op ≡ None → IsCounted counts (number_of rows n.process) n.place more → AreCounts rows more (done ++ n ∷ [])
+pub counts_more : (t : TraceValue) (rows : NameTable) (counts more : List ℕ) (done : List OpName) (n : OpName) (op : Op) → FindsProcesses t.processes rows → AreCountsOfCome rows counts done → IsInProgramOrder done → operation_at t n ≡ Some op → fault_of_op t done n op ≡ None → IsCountSet counts (number_of rows n.process) n.place more → AreCountsOfCome rows more (done ++ n ∷ [])
 counts_more t rows counts more done n op finds are order known right counted m =
     let at = known_at t rows n op finds known in
-    let each : (j : ℕ) → count_in more j ≡ cond (eqb at.row j) n.place (count_in counts j) = subst (λ o. IsCounted counts o n.place more) at.is_row counted in
-    let next : n.place ≡ count_in counts at.row + 1 = next_one t rows counts done n op (count_in counts at.row) are order at.placed (ap (count_of counts) at.is_row) right in
+    let each : (j : ℕ) → count_in_row more j ≡ cond (eqb at.row j) n.place (count_in_row counts j) = subst (λ o. IsCountSet counts o n.place more) at.is_row counted in
+    let next : n.place ≡ count_in_row counts at.row + 1 = next_one t rows counts done n op (count_in_row counts at.row) are order at.placed (ap (count_of_process counts) at.is_row) right in
     list_any-append (same_op m) done (n ∷ []) ∙ one_more rows counts more done n m at.row (number_of rows m.process) at.is_row refl (λ e. same_row t.processes rows m.process n.process at.row at.process finds e at.is_row at.is_process) (are m) at.placed next each

@@ -15,7 +15,7 @@ use Rattle.trace_semantics.specs.declared.operation.Op.{Op}
 use Rattle.trace_semantics.specs.declared.operation.OpName.{OpName}
 use Rattle.schedule_judge.specs.declared.survey.Survey.{Survey}
 use Rattle.trace_semantics.specs.Judgement.{has_come, fault_at, fault_of_op, fault_of_named, fault_of_whole, IsJudgement}
-use Rattle.schedule_judge.specs.Come.{AreCounts, IsCounted}
+use Rattle.schedule_judge.specs.Come.{AreCountsOfCome, IsCountSet}
 use Rattle.schedule_judge.specs.Memory.{IsMemoryAfter, Runs}
 use Rattle.schedule_judge.specs.Survey.{IsSurvey}
 use Rattle.trace_semantics.specs.NameNumbers.{number_of}
@@ -58,7 +58,7 @@ one_more : (names : List OpName) (i : ℕ) (n : OpName) → slice_get names i �
 one_more names i n at = take_more names i n (slice_get_within names i n at) ∙ ap (λ m. take i names ++ m ∷ []) (get_or_from_slice_get names i n n at)
 
 -- one more operation, which has no fault, is run
-pub walk_more : (s : Survey) (counts more : List ℕ) (old new : Memory) (i : ℕ) (n : OpName) (op : Op) → IsSurvey s → IsWalk s counts old i → slice_get s.names.now i ≡ Some n → operation_at s.trace.now n ≡ Some op → fault_of_op s.trace.now (take i s.names.now) n op ≡ None → Runs old op i new → IsCounted counts (number_of s.processes n.process) n.place more → IsWalk s more new (i + 1)
+pub walk_more : (s : Survey) (counts more : List ℕ) (old new : Memory) (i : ℕ) (n : OpName) (op : Op) → IsSurvey s → IsWalk s counts old i → slice_get s.names.now i ≡ Some n → operation_at s.trace.now n ≡ Some op → fault_of_op s.trace.now (take i s.names.now) n op ≡ None → Runs old op i new → IsCountSet counts (number_of s.processes n.process) n.place more → IsWalk s more new (i + 1)
 walk_more s counts more old new i n op survey walk at known right runs counted =
     let t = s.trace.now in
     let names = s.names.now in
@@ -66,7 +66,7 @@ walk_more s counts more old new i n op survey walk at known right runs counted =
     record {
       faultless = subst (λ done. IsFaultless (fault_at t) done) e (faultless_push (fault_at t) (take i names) n walk.faultless (ap (fault_of_named t (take i names) n) known ∙ right));
       in_program_order = subst (λ done. IsInProgramOrder done) e (order_more t (take i names) n op walk.in_program_order right);
-      come = subst (λ done. AreCounts s.processes more done) e (counts_more t s.processes counts more (take i names) n op survey.processes walk.come walk.in_program_order known right counted);
+      come = subst (λ done. AreCountsOfCome s.processes more done) e (counts_more t s.processes counts more (take i names) n op survey.processes walk.come walk.in_program_order known right counted);
       memory = subst (λ done. IsMemoryAfter t names done new) e (memory_run t names (take i names) old new n op i walk.memory at known runs);
     }
 

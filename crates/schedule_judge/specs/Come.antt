@@ -6,22 +6,22 @@ use Rattle.trace_semantics.specs.Judgement.{has_come}
 use Rattle.trace_semantics.specs.NameNumbers.{number_of}
 
 -- how many have come of the process in this row: none past the last row
-abbrev pub count_in : List ℕ → ℕ → ℕ
-count_in counts row = slice_index_or counts row 0
+abbrev pub count_in_row : List ℕ → ℕ → ℕ
+count_in_row counts row = slice_index_or counts row 0
 
 -- how many have come of a process, if it has a row
-abbrev pub count_of : List ℕ → Option ℕ → ℕ
-count_of counts None = 0
-count_of counts (Some row) = count_in counts row
+abbrev pub count_of_process : List ℕ → Option ℕ → ℕ
+count_of_process counts None = 0
+count_of_process counts (Some row) = count_in_row counts row
 
 -- the operation at this place is among the first ones, which are this count
 abbrev pub is_within : ℕ → ℕ → Bool
 is_within place count = nat_lt 0 place && nat_le place count
 
 -- the counts say which operations are among these names
-abbrev pub AreCounts : NameTable → List ℕ → List OpName → Type 0
-AreCounts rows counts names = (n : OpName) → has_come names n ≡ is_within n.place (count_of counts (number_of rows n.process))
+abbrev pub AreCountsOfCome : NameTable → List ℕ → List OpName → Type 0
+AreCountsOfCome rows counts names = (n : OpName) → has_come names n ≡ is_within n.place (count_of_process counts (number_of rows n.process))
 
 -- the row, if there is one, has this count, and all others are as they were
-abbrev pub IsCounted : List ℕ → Option ℕ → ℕ → List ℕ → Type 0
-IsCounted old row count new = MatchOption row (new ≡ old) (λ k. (j : ℕ) → count_in new j ≡ (if k == j then count else count_in old j))
+abbrev pub IsCountSet : List ℕ → Option ℕ → ℕ → List ℕ → Type 0
+IsCountSet old row count new = MatchOption row (new ≡ old) (λ k. (j : ℕ) → count_in_row new j ≡ (if k == j then count else count_in_row old j))

@@ -5,7 +5,7 @@ use Rattle.schedule_judge.specs.declared.memory.Memory.{Memory}
 use Rattle.trace_semantics.specs.declared.operation.OpName.{OpName}
 use Rattle.schedule_judge.specs.declared.survey.Survey.{Survey}
 use Rattle.trace_semantics.specs.Judgement.{fault_at, has_come}
-use Rattle.schedule_judge.specs.Come.{AreCounts}
+use Rattle.schedule_judge.specs.Come.{AreCountsOfCome}
 use Rattle.schedule_judge.specs.Memory.{IsMemoryAfter}
 
 -- with an operation, the one before it in its process has come
@@ -16,5 +16,5 @@ IsInProgramOrder names = (process : List ℕ) (k : ℕ) → has_come names (reco
 pub record IsWalk (survey : Survey) (counts : List ℕ) (state : Memory) (count : ℕ) : Type 0 where
   pub faultless : IsFaultless (fault_at survey.trace.now) (take count survey.names.now)
   pub in_program_order : IsInProgramOrder (take count survey.names.now)
-  pub come : AreCounts survey.processes counts (take count survey.names.now)
+  pub come : AreCountsOfCome survey.processes counts (take count survey.names.now)
   pub memory : IsMemoryAfter survey.trace.now survey.names.now (take count survey.names.now) state

@@ -1,7 +1,7 @@
 //! How many operations of each process have come, while they come in program order.
 
 ghost use Rattle.std.specs.Prelude.{◌≡◌, ◌<◌, ◌==◌, ℕ, [], OnOk, vec_len, if◌then◌else◌};
-ghost use Rattle.schedule_judge.specs.Come.{count_in, count_of, is_within, IsCounted};
+ghost use Rattle.schedule_judge.specs.Come.{count_in_row, count_of_process, is_within, IsCountSet};
 
 use std::alloc::{AllocError, Global};
 
@@ -14,7 +14,7 @@ pub struct Come {
 
 /// The count in this row: 0 past the last one.
 fn count_at(counts: &[usize], row: usize) -> usize
-    ensures { result ≡ count_in counts.now row }
+    ensures { result ≡ count_in_row counts.now row }
 {
     if row < counts.len() { counts[row] } else { 0 }
 }
@@ -22,7 +22,7 @@ fn count_at(counts: &[usize], row: usize) -> usize
 /// Makes the table reach to this row. Its counts stay as they are.
 fn make_rows(counts: &mut Vec<usize>, row: usize) -> Result<(), AllocError>
     ensures room { OnOk result (row < vec_len counts.new) }
-    ensures same { (k : ℕ) → count_in counts.new.items k ≡ count_in counts.old.items k }
+    ensures same { (k : ℕ) → count_in_row counts.new.items k ≡ count_in_row counts.old.items k }
 {
     while counts.len() <= row {
         counts.push(0)?;
@@ -32,7 +32,7 @@ fn make_rows(counts: &mut Vec<usize>, row: usize) -> Result<(), AllocError>
 
 /// Puts the count into this row.
 fn put_count(counts: &mut Vec<usize>, row: usize, count: usize) -> Result<(), AllocError>
-    ensures { OnOk result ((k : ℕ) → count_in counts.new.items k ≡ (if row == k then count else count_in counts.old.items k)) }
+    ensures { OnOk result ((k : ℕ) → count_in_row counts.new.items k ≡ (if row == k then count else count_in_row counts.old.items k)) }
 {
     make_rows(counts, row)?;
     counts[row] = count;
@@ -51,7 +51,7 @@ impl Come {
 
     /// Checks whether the operation at this place of the process in this row has come.
     pub fn has(&self, row: Option<u64>, place: usize) -> bool
-        ensures { result ≡ is_within place (count_of self.now.counts.items row) }
+        ensures { result ≡ is_within place (count_of_process self.now.counts.items row) }
     {
         match row {
             Some(row) => 0 < place && place <= count_at(self.counts.as_slice(), row as usize),
@@ -61,7 +61,7 @@ impl Come {
 
     /// Notes that the operation at this place of the process in this row has come, with all before it.
     pub fn take(&mut self, row: Option<u64>, place: usize) -> Result<(), AllocError>
-        ensures { OnOk result (IsCounted self.old.counts.items row place self.new.counts.items) }
+        ensures { OnOk result (IsCountSet self.old.counts.items row place self.new.counts.items) }
     {
         match row {
             Some(row) => put_count(&mut self.counts, row as usize, place),

@@ -4,7 +4,7 @@ ghost use Rattle.std.specs.Prelude.{◌≡◌, List, ℕ, IfOk, take, length};
 ghost use Rattle.std.specs.List.{slice_get, list_all, flat_map};
 ghost use Rattle.trace_semantics.specs.Judgement as judgement;
 ghost use Rattle.trace_semantics.specs.Judgement.{has_come, IsJudgement};
-ghost use Rattle.schedule_judge.specs.Come.{AreCounts};
+ghost use Rattle.schedule_judge.specs.Come.{AreCountsOfCome};
 ghost use Rattle.schedule_judge.specs.Survey.{IsSurvey};
 ghost use Rattle.trace_semantics.specs.NameNumbers.{number_of};
 ghost use Rattle.trace_semantics.specs.Trace.{first_names};
@@ -30,7 +30,7 @@ fn has_come<'a>(
     count: usize,
 ) -> bool
     requires row { row ≡ number_of survey.now.processes process.now }
-    requires come { AreCounts survey.now.processes come.now.counts.items (take count survey.now.names.now) }
+    requires come { AreCountsOfCome survey.now.processes come.now.counts.items (take count survey.now.names.now) }
     ensures { result ≡ has_come (take count survey.now.names.now) (record { process = process.now; place = place }) }
 {
     come.has(row, place)
@@ -46,7 +46,7 @@ fn have_come<'a>(
     count: usize,
 ) -> bool
     requires row { row ≡ number_of survey.now.processes process.now }
-    requires come { AreCounts survey.now.processes come.now.counts.items (take count survey.now.names.now) }
+    requires come { AreCountsOfCome survey.now.processes come.now.counts.items (take count survey.now.names.now) }
     requires order { IsInProgramOrder (take count survey.now.names.now) }
     ensures { result ≡ list_all (has_come (take count survey.now.names.now)) (first_names process.now n) }
 {
@@ -88,7 +88,7 @@ fn fault_of_op<'a>(
 
 /// Checks whether all operations of these processes have come.
 fn has_all<'a>(survey: &Survey<'a>, come: &Come, processes: &'a [Process]) -> bool
-    requires come { AreCounts survey.now.processes come.now.counts.items survey.now.names.now }
+    requires come { AreCountsOfCome survey.now.processes come.now.counts.items survey.now.names.now }
     requires order { IsInProgramOrder survey.now.names.now }
     ensures { result ≡ list_all (has_come survey.now.names.now) (flat_map (λ p. first_names p.name (length p.operations)) processes.now) }
 {

@@ -5,9 +5,10 @@ use crate::whole::WholeRefutation;
 use clause_database::{EncodingHints, FormulaLoader, SmallClauses, number_of};
 use dimacs::{Assignment, ClauseList, Lit};
 use std::alloc::{AllocError, Global};
+use std::sync::atomic::{AtomicU64, Ordering};
 
-/// The clauses of a formula in the form in which every search of one of its cubes begins. It is made once and then only read, so all cubes
-/// share it, in whichever threads they are searched.
+/// The clauses of a formula in the form in which every search of one of its cubes begins. It is made once and then only read, but for a
+/// count of conflicts, so all cubes share it, in whichever threads they are searched.
 ///
 /// Untrusted: using the preparation of a different formula yields answers that the check refuses, and never a wrong verdict (see
 /// `EncodingHints`).
@@ -31,6 +32,8 @@ pub struct PreparedFormula<'a> {
     pub(crate) refutation: Option<WholeRefutation>,
     /// A model of the formula, if one was found before its cubes are searched.
     pub(crate) model: Option<Assignment>,
+    /// The conflicts of the searches that have ended, without those that were taken. No answer depends on it.
+    conflicts: AtomicU64,
 }
 
 impl<'a> PreparedFormula<'a> {
@@ -66,7 +69,19 @@ impl<'a> PreparedFormula<'a> {
             leading: Vec::new(alloc),
             refutation: None,
             model: None,
+            conflicts: AtomicU64::new(0),
         })
+    }
+
+    /// Counts the conflicts of a search that has ended.
+    pub(crate) fn add_conflicts(&self, conflicts: u64) {
+        self.conflicts.fetch_add(conflicts, Ordering::SeqCst);
+    }
+
+    /// Takes the number of conflicts of the searches that have ended since it was last taken: those of cubes, and that of the formula itself.
+    /// It is for reports, and nothing is promised of it.
+    pub fn take_conflicts(&self) -> u64 {
+        self.conflicts.swap(0, Ordering::SeqCst)
     }
 
     /// Returns the largest variable of the formula and of the cube.

@@ -1,6 +1,6 @@
 //! The solver's calls: for one formula, and for one cube of a prepared formula.
 
-ghost use Rattle.std.specs.Prelude.{◌≤◌, IfOk};
+ghost use Rattle.std.specs.Prelude.{◌≤◌, ◌+◌, IfOk};
 ghost use Rattle.proof_log.specs.Answers.{IsWithin};
 
 use crate::prepared_formula::PreparedFormula;
@@ -20,8 +20,8 @@ fn variables_of<L: ClauseList>(formula: &L, cube: &[Lit]) -> u32 {
     variables
 }
 
-/// Begins a search of the prepared formula in the cube of these literals. Its decisions follow a schedule if that is likely to be the
-/// faster of the two.
+/// Begins a search of the prepared formula in the cube of these literals. There are two courses: decisions along a schedule, and decisions by
+/// activity. It takes the one that is likely to be faster.
 pub(crate) fn begin<'a>(
     alloc: Global,
     prepared: &PreparedFormula<'a>,
@@ -34,7 +34,55 @@ pub(crate) fn begin<'a>(
     Ok(search)
 }
 
+/// Goes on with an attempt, and begins a second one on the other course, which takes its turns with the first. The conflicts of the second
+/// are counted.
+fn search_by_two<'a>(
+    alloc: Global,
+    prepared: &PreparedFormula<'a>,
+    cube: &[Lit],
+    first_id: u32,
+    first: &mut Attempt<Search<'a>>,
+    budget: u64,
+) -> Result<Answer, AllocError>
+    ensures { IfOk result (λ answer. IsWithin (first.old.log + budget) answer) }
+{
+    let mut other = begin(alloc, prepared, cube)?;
+    other.change_course()?;
+    let mut second = Attempt::new(alloc, other, first_id);
+    let found = take_turns(&mut second, first, budget);
+    prepared.add_conflicts(second.log.additions());
+    found
+}
+
+/// Searches the cube by this attempt, which has begun and taken no turn. If there is another course, it is tried too, once the first turn was
+/// not enough.
+fn search_from<'a>(
+    alloc: Global,
+    prepared: &PreparedFormula<'a>,
+    cube: &[Lit],
+    first_id: u32,
+    first: &mut Attempt<Search<'a>>,
+    has_another_course: bool,
+    budget: u64,
+) -> Result<Answer, AllocError>
+    ensures { IfOk result (λ answer. IsWithin (first.old.log + budget) answer) }
+{
+    if !has_another_course {
+        return search_alone(first, budget);
+    }
+    let share = budget.min(TURN);
+    let left = budget - share;
+    if let Some(answer) = first.take_turn(share, left)? {
+        return Ok(answer);
+    }
+    if left == 0 {
+        return Ok(Answer::Open);
+    }
+    search_by_two(alloc, prepared, cube, first_id, first, left)
+}
+
 /// Searches the prepared formula in the cube of these literals: counts, and then takes turns. The first step of a derivation has this number.
+/// The conflicts are counted.
 pub(crate) fn search_cube(
     alloc: Global,
     prepared: &PreparedFormula<'_>,
@@ -50,26 +98,21 @@ pub(crate) fn search_cube(
     }
     let has_another_course = suits_a_schedule(&search.trail);
     let mut first = Attempt::new(alloc, search, first_id);
-    if !has_another_course {
-        return search_alone(&mut first, budget);
-    }
-    let share = budget.min(TURN);
-    let left = budget - share;
-    if let Some(answer) = first.take_turn(share, left)? {
-        return Ok(answer);
-    }
-    if left == 0 {
-        return Ok(Answer::Open);
-    }
-    let mut other = begin(alloc, prepared, cube)?;
-    other.change_course()?;
-    let mut second = Attempt::new(alloc, other, first_id);
-    let answer = take_turns(&mut second, &mut first, left)?;
-    Ok(answer)
+    let found = search_from(
+        alloc,
+        prepared,
+        cube,
+        first_id,
+        &mut first,
+        has_another_course,
+        budget,
+    );
+    prepared.add_conflicts(first.log.additions());
+    found
 }
 
-/// Looks for a model of the formula that was prepared which makes all literals of the cube true, or for a derivation that there is none:
-/// as `solve`, for one of many cubes. What is known of the formula itself is the answer, if there is any.
+/// Does what `solve` does, for one of many cubes of a formula that was prepared. If `count_whole` or `search_whole` has refuted the formula
+/// itself, or found a model of it, that gives the answer, and the cube is not searched.
 pub fn solve_cube(
     alloc: Global,
     prepared: &PreparedFormula<'_>,
@@ -94,9 +137,9 @@ pub fn solve_cube(
 ///
 /// At most `budget` conflicts are analysed, where a conflict is a clause all of whose literals have become false, and each of them makes
 /// one addition of the derivation. The next one makes the answer `Open`. Unit propagation runs before the first decision. If counting then
-/// finds a Hall violator, the derivation refutes it in at most `budget` steps, and nothing is searched; if the derivation is longer, the
-/// answer is `Open`, unless the budget has at most one turn. After each turn of the search the count is repeated, with what has been
-/// learned, in at most as many steps as there are conflicts left.
+/// finds a Hall violator, readers that cannot all have a source, a derivation of at most `budget` steps refutes it, and nothing is searched. If
+/// that derivation is longer, the answer is `Open`; only a budget of at most one turn is searched nevertheless. After each turn of the search
+/// the count is repeated, with what has been learned, in at most as many steps as there are conflicts left.
 ///
 /// The hints are what the caller knows of the formula. Neither they nor the answer are trusted: a model is evaluated, a derivation checked.
 pub fn solve<L: ClauseList>(

@@ -91,8 +91,9 @@ impl<'a> PreparedFormula<'a> {
     }
 
     /// Searches the formula itself, before its cubes over these variables, unless it was refuted by counting. These variables are decided
-    /// before all others, so it goes from leaf to leaf, and what it learns in one leaf serves the next. What is found is the answer for all
-    /// cubes. A budget below the conflicts of this search is left to the cubes.
+    /// before all others, so it goes from leaf to leaf, and what it learns in one leaf serves the next. A derivation that it finds is the answer
+    /// for each cube. A model is the answer for the cube that it is in, and the other cubes then stay open. Nothing is searched where the
+    /// budget is below the conflicts of this search: they are left to the cubes.
     pub fn search_whole(
         &mut self,
         alloc: Global,
@@ -117,8 +118,8 @@ impl<'a> PreparedFormula<'a> {
         Ok(())
     }
 
-    /// Returns the answer for this cube that follows from what is known of the formula itself, if there is one. A model settles the whole, so
-    /// cubes that it is not in stay open.
+    /// Returns the answer for this cube that follows from what is known of the formula itself, if there is one. If a model is known, a cube that
+    /// it is not in stays open: one model is enough, so that cube need not be searched.
     pub(crate) fn known_answer(
         &self,
         alloc: Global,

@@ -10,7 +10,7 @@ pub enum Fate {
     Possible,
     /// The reader stands before it.
     ComesLater,
-    /// This writer of the location comes between the two. A final value is read after all operations.
+    /// This writer of the location comes between the two, or this plain read of another value. A final value is read after all operations.
     Hidden(u32),
     /// This update reads it, and no two updates read the same write.
     Taken(u32),

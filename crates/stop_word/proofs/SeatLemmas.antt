@@ -2,12 +2,12 @@
 use Rattle.std.proofs.Common.{◌≡◌, ℕ, ◌+◌, ◌-◌, ◌<◌, ◌≤◌, min, List, [], ◌∷◌, ◌++◌, length, Some, refl, sym, ◌∙◌, ap, subst, arith}
 use Rattle.std.specs.List.{All}
 use Rattle.std.proofs.lemmas.List.{map-append, length-append}
-use Rattle.std.proofs.lemmas.List.Elements.{All-nil, All-push, All-pop}
+use Rattle.std.proofs.lemmas.List.Elements.{All-push, All-pop}
 use Rattle.atomic_table.specs.Seated.{TableId}
 use Rattle.stop_word.specs.declared.views.View.{View}
-use Rattle.stop_word.specs.WordRule.{nothing, view_of, least_of, parts_in}
+use Rattle.stop_word.specs.WordRule.{view_of, least_of, parts_in}
 use Rattle.stop_word.specs.Seats.{SeatValue, known_by, KnowsNothing, AreAllSeats}
-use Rattle.stop_word.proofs.LeastLemmas.{least_small, least-append}
+use Rattle.stop_word.proofs.LeastLemmas.{least-append}
 use Rattle.stop_word.proofs.ViewLemmas.{least_in, least_more, parts_more}
 
 known_more : (seats : List SeatValue) (s : SeatValue) → known_by (seats ++ s ∷ []) ≡ known_by seats ++ s.knows ∷ []
@@ -31,19 +31,6 @@ pub record AreCut (word : TableId) (count : ℕ) (first : SeatValue) (seats : Li
   pub first_new : KnowsNothing first.knows
   pub parts : parts_in (known_by seats) + first.knows.parts ≡ 8
   pub parts_left : first.knows.parts + count ≡ 9
-
-pub none_cut : (word : TableId) (first : SeatValue) → first.word ≡ word → first.knows ≡ view_of [] nothing 8 → AreCut word 1 first []
-none_cut word first at knows =
-    let parts : first.knows.parts ≡ 8 = ap (λ (v : View). v.parts) knows in
-    record {
-      counted = refl;
-      at_word = All-nil _;
-      new = All-nil _;
-      first_at_word = at;
-      first_new = (ap (λ (v : View). v.marks) knows, ap (λ (v : View). v.least) knows);
-      parts = omega (arith, parts);
-      parts_left = omega (arith, parts);
-    }
 
 pub one_cut : (word : TableId) (count : ℕ) (first after new : SeatValue) (seats : List SeatValue) → AreCut word count first seats → 1 < first.knows.parts →
     after.word ≡ first.word → after.knows ≡ view_of first.knows.marks first.knows.least (first.knows.parts - 1) →
@@ -117,15 +104,3 @@ one_joined word all before rest whole seat after joined is after_at both =
       shown = λ n mine others.
           joined.shown n (omega (arith, mine, least)) (subst (λ ss. All (λ (v : View). n ≤ v.least) (known_by ss)) (sym is) (all_known (λ (v : View). n ≤ v.least) rest seat others (omega (arith, mine, least))));
     }
-
--- nothing is left to be joined
-pub all_joined : (word : TableId) (all rest : List SeatValue) (whole : SeatValue) → AreJoined word all whole rest → rest ≡ [] →
-    (whole.knows.parts ≡ 8) × (least_of whole.knows.marks ≡ least_in (known_by all)) × ((n : ℕ) → n ≤ whole.knows.least → All (λ (v : View). n ≤ v.least) (known_by all))
-all_joined word all rest whole joined none =
-    let no_parts : parts_in (known_by rest) ≡ 0 = ap (λ ss. parts_in (known_by ss)) none in
-    let no_marks : least_in (known_by rest) ≡ nothing = ap (λ ss. least_in (known_by ss)) none in
-    let small = least_small whole.knows.marks in (
-      omega (arith, no_parts, joined.parts),
-      omega (arith, no_marks, joined.least, small),
-      λ n mine. joined.shown n mine (subst (λ ss. All (λ (v : View). n ≤ v.least) (known_by ss)) (sym none) (All-nil _)),
-    )

@@ -1,7 +1,7 @@
 -- What the steps on the stop word ask of its table.
-use Rattle.std.proofs.Common.{◌≡◌, ℕ, zero, suc, ◌+◌, ◌-◌, ◌<◌, ◌≤◌, min, List, [], ◌∷◌, ◌++◌, set, get_or, refl, sym, ◌∙◌, ap, subst, arith}
+use Rattle.std.proofs.Common.{◌≡◌, ℕ, ◌+◌, ◌-◌, ◌<◌, ◌≤◌, min, List, [], ◌∷◌, ◌++◌, set, get_or, refl, sym, ◌∙◌, ap, subst, arith}
 use Rattle.std.proofs.lemmas.List.Elements.{All-nil, All-push, All-append}
-use mathlib.Core.Option.{some, some-injective, some-ne-none}
+use mathlib.Core.Option.{some, some-injective}
 use lib.ListN.{get_elem?}
 use Rattle.atomic_table.specs.Table.{State, Me, Allows, keeps, Splits, Joins, Final, Seen}
 use Rattle.atomic_table.proofs.Lists.{set_else}
@@ -75,14 +75,6 @@ marks slots id me k low some_part s rule long there small =
       ),
       (refl, refl),
     )
-
--- the word that no seat has marked, with one seat that has all parts
-pub begins : Keeps (nothing ∷ []) (view_of [] nothing 8 ∷ [])
-begins = (nothing, refl, record { word_is = refl; each = one; parts = refl })
-  where
-    one : (id : ℕ) (v : View) → get_elem? (view_of [] nothing 8 ∷ []) id ≡ some v → Fits nothing v
-    one zero v at = subst (Fits nothing) (some-injective _ _ at) (record { at_most = omega arith; marked = omega arith; small = All-nil _; idle = λ _. refl })
-    one (suc id) v at = absurd (some-ne-none v (sym at))
 
 -- one part is cut off for a new seat
 pub forks : (id : ℕ) (v : View) → 1 < v.parts → Splits holds id v (view_of v.marks v.least (v.parts - 1)) (view_of [] v.least 1)

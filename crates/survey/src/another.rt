@@ -52,7 +52,11 @@ pub fn smaller_core<'a>(
 ) -> Result<Core<'a>, AllocError> {
     let mut share = budget.share(spent.max(LEAST_FOR_ANOTHER));
     let mut core = apart_from_each(alloc, forced, core, &mut share)?;
+    // With a small budget the share is all of it, and the core could not be made smaller with nothing left.
+    let rest = share.left();
+    budget.give_back(share);
     core.shrink(budget)?;
+    let mut share = budget.share(rest);
     let smaller = without_each(alloc, forced, core, &mut share)?;
     budget.give_back(share);
     Ok(smaller)

@@ -44,9 +44,9 @@ impl Surveyor for BySaturation {
         let mut budget = Budget::new(purse.left());
         let walked = walk_over(alloc, &log, &mut budget)?;
         purse.settle(budget.left());
-        let first = purse.taken();
+        let spent = purse.taken();
         let mut budget = Budget::new(purse.left());
-        let finding = finding_of(alloc, trace, &log, walked.numbers, first, &mut budget)?;
+        let finding = finding_of(alloc, trace, &log, walked.numbers, spent, &mut budget)?;
         purse.settle(budget.left());
         Ok(Overview {
             finding,
@@ -117,7 +117,7 @@ fn smallest_core(
     *budget = forced.budget();
     let mut core = Core::new(alloc, &forced, operations)?;
     if forced.is_contradicted() {
-        core.add_writers()?;
+        core.add_writers(budget)?;
         return Vec::from_slice(alloc, core.operations());
     }
     core.close(budget)?;

@@ -1,5 +1,5 @@
 //! The steps that a survey may take in all.
-ghost use Rattle.std.specs.Prelude.{◌≡◌, ◌+◌, ◌≤◌};
+ghost use Rattle.std.specs.Prelude.{◌≡◌, ◌+◌, ◌≤◌, min};
 
 /// A number of steps, of which some are left. What is left only falls, whatever work gives back.
 #[derive(Clone, Copy)]
@@ -30,7 +30,7 @@ impl Purse {
     /// Takes what work has taken that had all that was left, and gives this back. More than it had is not taken back.
     pub(crate) fn settle(&mut self, rest: u64)
         ensures all { self.new.all ≡ self.old.all }
-        ensures left { self.new.left ≤ self.old.left }
+        ensures left { self.new.left ≡ min self.old.left rest }
     {
         self.left = self.left.min(rest);
     }

@@ -90,6 +90,8 @@ impl<'a> Core<'a> {
     pub fn close(&mut self, budget: &mut Budget) -> Result<(), AllocError> {
         for _ in 0..self.forced.log().count() {
             let before = self.count();
+            let looked = before.saturating_add(self.forced.log().count());
+            budget.spend(looked as u64);
             for place in 0..before {
                 let reader = at(self.operations.as_slice(), place, 0);
                 if self.forced.log().operation(reader).reads && !budget.is_spent() {
@@ -110,13 +112,14 @@ impl<'a> Core<'a> {
         Ok(())
     }
 
-    /// Adds the origins of readers, and all writers of the values that they read. With these the part keeps each read, whatever the order
-    /// says.
-    pub fn add_writers(&mut self) -> Result<(), AllocError> {
+    /// Adds the origins of readers, and all writers of the values that they read, until the budget is spent. With these the part keeps each
+    /// read, whatever the order says.
+    pub fn add_writers(&mut self, budget: &mut Budget) -> Result<(), AllocError> {
         let log = self.forced.log();
         for place in 0..self.count() {
             let reader = log.operation(at(self.operations.as_slice(), place, 0));
-            if reader.reads {
+            if reader.reads && !budget.is_spent() {
+                budget.spend(log.count() as u64);
                 for number in 0..log.count() {
                     let writer = log.operation(number);
                     if writer.writes

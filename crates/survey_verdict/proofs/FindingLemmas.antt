@@ -1,14 +1,12 @@
 -- What follows from what a surveyor finds.
-use Rattle.std.proofs.Common.{◌≡◌, ℕ, List, ap, inl, inr, subst, sym, ◌∙◌}
+use Rattle.std.proofs.Common.{◌≡◌, ℕ, List, ap, subst, sym, ◌∙◌}
 use Rattle.std.specs.Prelude.{◌↔◌, Option, Some, None}
 use Rattle.cube_jobs.specs.Options.{OptionsValue}
 use Rattle.surveyor.specs.declared.Extent.{Extent}
-use Rattle.surveyor.specs.declared.Overview.{Overview}
 use Rattle.survey_verdict.specs.declared.surveyed.RefutedCore.{RefutedCore}
-use Rattle.survey_verdict.specs.declared.surveyed.Surveyed.{Surveyed}
 use Rattle.survey_verdict.specs.declared.surveyed.Surveyed.TheVariants.{Decided, Refuted}
-use Rattle.survey_verdict.specs.Findings.{FollowsFrom, IsDecidedWhole, IsShownBy}
-use Rattle.survey_verdict.specs.Surveyed.{IsRefutedChoice, IsSurveyed, core_of}
+use Rattle.survey_verdict.specs.Findings.{IsDecidedWhole}
+use Rattle.survey_verdict.specs.Surveyed.{IsRefutedChoice, core_of}
 use Rattle.survey_verdict.proofs.CoreNameLemmas.{core_of_all}
 use Rattle.trace_decision.specs.declared.decision.Decision.TheVariants.{Inconsistent}
 use Rattle.trace_decision.specs.declared.refutation.Refutation.{Refutation}
@@ -44,15 +42,3 @@ module _ (options : OptionsValue) (t : TraceValue) (all : List OpName) (all_are 
   all_unrefuted refutation decided is extent =
       let here : IsRefutedChoice options t (operation_names t) None = subst (λ (f : Option RefutedCore). IsRefutedChoice options t (operation_names t) f) is of_all in
       ((decided, here), tt)
-
--- what is shown by a finding follows from it
-module _ (options : OptionsValue) (t : TraceValue) (overview : Overview) (shown : Option Surveyed) (given : IsShownBy options t overview.finding shown) where
-  pub shown_surveyed : (surveyed : Surveyed) → shown ≡ Some surveyed → IsSurveyed options t surveyed × FollowsFrom options t overview surveyed
-  shown_surveyed surveyed is =
-      let here : IsShownBy options t overview.finding (Some surveyed) = subst (λ (s : Option Surveyed). IsShownBy options t overview.finding s) is given in
-      (here.0, inl here.1)
-
-  pub shows_nothing : shown ≡ None → (surveyed : Surveyed) → IsDecidedWhole options t overview.extent surveyed → FollowsFrom options t overview surveyed
-  shows_nothing is surveyed whole =
-      let here : IsShownBy options t overview.finding None = subst (λ (s : Option Surveyed). IsShownBy options t overview.finding s) is given in
-      inr (here, whole.1)

@@ -43,7 +43,7 @@ pub struct Overview {
 /// A surveyor: it looks over a trace for a schedule, or for operations by which it has none. Nothing is promised but that the call returns,
 /// and that the steps which it reports are within its budget: what it finds may be wrong.
 pub trait Surveyor {
-    /// The most steps that it may take.
+    /// The most steps that it may report.
     ghost budget: { Self → ℕ };
 
     /// Whether it may find this in a trace: anything, unless it says otherwise. Clauses say by it that a finding is one of this surveyor.

@@ -1,6 +1,6 @@
 //! Tests of calls that no command reaches, and of devices that move few bytes a call or fail: formulas, models, derivations, the
-//! variables of a trace, and the engines that translate, decode and check proofs. `tests/examples` has what a command answers to
-//! a text.
+//! variables of a trace, the guide of the search, and the engines that translate, decode and check proofs. `tests/examples` has what a
+//! command answers to a text.
 #![tactic(auto)]
 
 #[cfg(test)]
@@ -15,6 +15,8 @@ mod engines;
 mod expectations;
 #[cfg(test)]
 mod formulas;
+#[cfg(test)]
+mod guides;
 #[cfg(test)]
 mod layouts;
 #[cfg(test)]

@@ -42,3 +42,5 @@ mod shared_derivations;
 mod small_formulas;
 #[cfg(test)]
 mod traced;
+#[cfg(test)]
+mod whole_formulas;

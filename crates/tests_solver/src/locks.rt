@@ -1,13 +1,10 @@
 //! Locks whose releases are missing: the traces for which the solver searches along a schedule.
 
-use crate::answers::{Shown, shown_by, solved};
+use crate::answers::{Shown, solved};
 use crate::expectations::{ample, expect};
-use crate::formulas::literals_of;
 use crate::traced::{Access, Traced, TracedMistake, formula_of_trace};
-use dimacs::Formula;
-use lrat_check::derivation::Derivation;
-use lrat_check::derivation_copies::are_same;
-use solver::{Answer, PreparedFormula, solve_cube};
+use crate::whole_formulas::{are_one, refuted};
+use solver::PreparedFormula;
 use std::alloc::{AllocError, Global};
 use std::process::Abort;
 
@@ -60,33 +57,6 @@ fn locks_are_searched_along_a_schedule_or_counted(rt: HostRuntime) {
     expect(&rt, two == Shown::Nothing, 3);
     let two = locked(&rt, rt.alloc(), 2, ENOUGH);
     expect(&rt, matches!(two, Shown::NoModel(_)), 4);
-}
-
-/// The derivation that is found for the cube of this literal, if one is and the checker accepts it.
-fn refuted(
-    alloc: Global,
-    formula: &Formula,
-    prepared: &PreparedFormula,
-    literal: i32,
-) -> Result<Option<Derivation>, AllocError> {
-    let cube = literals_of(alloc, &[literal])?;
-    let answer = solve_cube(alloc, prepared, cube.as_slice(), ENOUGH)?;
-    if shown_by(alloc, formula, cube.as_slice(), &answer) == Shown::Mistake {
-        return Ok(None);
-    }
-    match answer {
-        Answer::Refuted(derivation) => Ok(Some(derivation)),
-        Answer::Model(_model) => Ok(None),
-        Answer::Open => Ok(None),
-    }
-}
-
-/// Checks whether both are derivations, and the same.
-fn are_one(one: &Option<Derivation>, other: &Option<Derivation>) -> bool {
-    match (one, other) {
-        (Some(one), Some(other)) => are_same(one, other),
-        _ => false,
-    }
 }
 
 #[test]

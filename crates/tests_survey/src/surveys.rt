@@ -12,6 +12,7 @@ use std::thread::Threads;
 use survey::BySaturation;
 use survey_report::run_survey;
 use surveyor::Surveyor;
+use trace_text::trace_reader::read_trace;
 use verdict_report::{ShortSource, Status, run_judge};
 
 /// Asserts what is reported of the trace, in the case of this number.
@@ -170,4 +171,24 @@ fn leaves_a_trace_of_few_values_undecided(rt: HostRuntime) {
     );
     expect(&rt, outcome == Ok(Status::Unknown), 10);
     expect(&rt, output.as_slice().starts_with(b"UNKNOWN placed="), 10);
+}
+
+/// The number of steps that a survey of the trace with this budget reports.
+fn steps_of(alloc: Global, rt: &impl Abort, trace: &str, budget: u64) -> u64 {
+    let trace = ample(rt, read_trace(alloc, trace.as_bytes()));
+    let survey = BySaturation { budget };
+    let overview = ample(rt, survey.survey(alloc, &trace));
+    overview.extent.steps
+}
+
+// A small budget is spent but for the quarter that is kept for a core, and of a large one some is left.
+#[test]
+fn reports_the_steps_that_it_took(rt: HostRuntime) {
+    let long = ample(&rt, with_many_writes(rt.alloc(), STORE_BUFFERING));
+    let trace = long.as_str();
+    expect(&rt, steps_of(rt.alloc(), &rt, trace, 0) == 0, 21);
+    expect(&rt, steps_of(rt.alloc(), &rt, trace, 1) == 1, 22);
+    expect(&rt, steps_of(rt.alloc(), &rt, trace, 100) == 75, 23);
+    let steps = steps_of(rt.alloc(), &rt, trace, 1_000_000);
+    expect(&rt, steps > 75 && steps < 1_000_000, 24);
 }

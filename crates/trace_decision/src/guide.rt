@@ -1,4 +1,5 @@
-//! Hints for the solver about the structure of a trace's encoding. Untrusted: an error here can only slow the search down.
+//! Hints for the solver about the structure of a trace's encoding. Untrusted: an error here can only slow the search down. So no verdict would
+//! show one, and `tests_formulas` compares the hints with the clause list.
 ghost use Rattle.std.specs.Prelude.{◌<◌, length};
 
 use clause_blocks::trace_clauses::TraceClauses;
@@ -23,7 +24,7 @@ fn id_at(place: usize) -> u32 {
 }
 
 /// Returns hints that name the clauses of transitivity.
-pub(crate) fn guide_to_order<'a>(clauses: &TraceClauses) -> EncodingHints<'a> {
+pub fn guide_to_order<'a>(clauses: &TraceClauses) -> EncodingHints<'a> {
     let operations = clauses.layout().operations();
     EncodingHints::with_order(element_of(operations), id_at(clauses.transitivity_start()))
 }
@@ -111,7 +112,7 @@ fn add_last_writers(
 }
 
 /// Returns who writes what others read, and which clauses say what is read and which writers are the last ones.
-pub(crate) fn reads_from_table(
+pub fn reads_from_table(
     alloc: Global,
     clauses: &TraceClauses,
 ) -> Result<ReadsFromTable, AllocError> {

@@ -7,7 +7,7 @@ mod cubes;
 mod decided;
 mod deciding;
 mod decision;
-mod guide;
+pub mod guide;
 pub mod laws;
 mod refutation;
 mod reporting;

@@ -157,10 +157,6 @@ some_leader : (t : TraceValue) (i a : ℕ) (o : Option OpName) → name_at t i �
 some_leader t i a None e h = absurd (cc)
 some_leader t i a (Some n) e h = (n, e, cc)
 
-no_leader : (t : TraceValue) (i : ℕ) (o : Option OpName) → name_at t i ≡ o → option_map (λ (n : OpName). leader_of t i) o ≡ None → name_at t i ≡ None
-no_leader t i None e h = e
-no_leader t i (Some n) e h = absurd (cc)
-
 pub leaders_tell : (t : TraceValue) (i j a b : ℕ) → leader_at t i ≡ Some a → leader_at t j ≡ Some b → eqb a b ≡ in_one_process t i j
 leaders_tell t i j a b h k =
     let first = some_leader t i a (name_at t i) refl h in

@@ -158,7 +158,7 @@ pub(crate) fn op_table(
 }
 
 /// The number of variables of the operation.
-fn count_of(table: &OpVariables) -> u32
+fn op_variable_count(table: &OpVariables) -> u32
     requires { length table.now.choices ≤ 161 }
     ensures { result ≡ (if table.now.reads then max 1 (length table.now.choices) else 0) }
 {
@@ -185,7 +185,7 @@ pub(crate) fn op_tables(
     let mut next = order_count(count) + 1;
     for i in 0..count {
         let table = op_table(alloc, numbering, trace, i, next)?;
-        next += count_of(&table);
+        next += op_variable_count(&table);
         made.push(table)?;
     }
     Ok((made, next))

@@ -116,7 +116,7 @@ fn final_table<'a>(
 }
 
 /// The number of variables of the final value.
-fn count_of(table: &FinalTable) -> u32
+fn final_variable_count(table: &FinalTable) -> u32
     requires { length table.now.choices ≤ 160 }
     ensures { result ≡ (if is_some table.now.void then 1 else length table.now.choices) }
 {
@@ -147,7 +147,7 @@ pub(crate) fn final_tables(
     let mut next = first;
     for k in 0..values.len() {
         let table = final_table(alloc, numbering, &initial, trace, k, &values[k], next)?;
-        next += count_of(&table);
+        next += final_variable_count(&table);
         made.push(table)?;
     }
     Ok((made, next))

@@ -2,6 +2,7 @@
 
 ghost use Rattle.std.specs.Prelude.{◌≡◌, ◌≢◌, ◌<◌, ◌≤◌, ℕ, List, [], length, map, take, is_some, IsSome, IfOk, slice_get, false};
 ghost use Rattle.std.specs.Option.{option_and_then, option_copied, option_map, option_map_or};
+ghost use Rattle.dimacs.specs.Assignment.{makes_true, value_of};
 ghost use Rattle.trace_semantics.specs.declared.operation.OpName.{OpName};
 ghost use Rattle.trace_semantics.specs.Trace.{IsTrace, operation_count};
 ghost use Rattle.var_layout.specs.ChoiceVariables as choice_variables;
@@ -20,12 +21,15 @@ use crate::final_variables::{FinalTable, final_tables};
 use crate::numbering::Numbering;
 use crate::order_literal::order_lit;
 use crate::split_variables::push_first_splits;
-use dimacs::Lit;
+use dimacs::{Assignment, Lit};
 use reducer::reduced::Reduced;
 use std::alloc::{AllocError, Global};
 use std::marker::Model;
 use std::snapshot::Snapshot;
 use trace_semantics::trace::Trace;
+
+/// The most operations of a trace that has a layout, which is the most that reduction keeps.
+pub const MAX_LAYOUT_OPERATIONS: usize = 160;
 
 /// The owner of some variables: a reading operation, by its number, or a final value, by its place in the trace's list,
 /// from 0.
@@ -134,6 +138,16 @@ impl Layout {
     {
         self.recall_limits();
         order_lit(self.operations(), i, j)
+    }
+
+    /// Checks whether the assignment puts operation i before operation j.
+    pub fn is_put_before(&self, assignment: &Assignment, i: usize, j: usize) -> bool
+        requires apart { i ≢ j }
+        requires first { i < operation_count self.now }
+        requires second { j < operation_count self.now }
+        ensures { result ≡ makes_true (value_of assignment.now) (order.order_lit (operation_count self.now) i j) }
+    {
+        assignment.makes(&[self.order_lit(i, j)])
     }
 
     /// Checks whether both are operations of one process.

@@ -1,6 +1,6 @@
 //! The words of a note, which is made piece by piece.
 
-use note_text::decimal;
+use note_text::{decimal, push_words};
 use std::alloc::{AllocError, Global};
 use trace_semantics::operation::OpName;
 
@@ -25,10 +25,7 @@ impl Sentence {
 
     /// Adds these bytes, one after the other.
     pub fn add(&mut self, words: &[&[u8]]) -> Result<(), AllocError> {
-        for word in words {
-            self.text.extend_from_slice(word)?;
-        }
-        Ok(())
+        push_words(&mut self.text, words)
     }
 
     /// Adds the name of the operation at this place of the process, as `P.1`.

@@ -3,7 +3,7 @@ use Rattle.std.proofs.Common.{◌≡◌, ◌≤◌, ℕ, Bool, List, subst, sym}
 use Rattle.std.specs.Prelude.{Result, Ok, Err}
 use Rattle.dimacs.specs.Assignment.{value_of}
 use Rattle.model_text.specs.ModelText.{SpellsModel}
-use Rattle.dimacs.specs.Models.{IsModel, IsFirstFalse}
+use Rattle.dimacs.specs.Models.{IsModel}
 use Rattle.trace_semantics.specs.declared.operation.OpName.{OpName}
 use Rattle.trace_semantics.specs.Legal.{IsLegal}
 use Rattle.trace_semantics.specs.Trace.{TraceValue, IsTrace, operation_count}
@@ -35,9 +35,6 @@ module _ (r : ReducedValue) (ok : IsReduced r) (truth : List Bool) where
     expanded = expanded;
     legal = subst (λ (s : List OpName). IsLegal r.whole s) (sym expanded) (expansion_legal r.whole kept ok.is_trace (subst (λ (t : TraceValue). IsLegal t kept) ok.reduction legal));
   }
-
-  pub false_clause : (clause : ℕ) → IsFirstFalse (value_of truth) (clauses_of r.kept) clause → IsDecodedFrom r truth (Err (Decode NotAModel clause))
-  false_clause clause first = subst (λ (t : TraceValue). IsFirstFalse (value_of truth) (clauses_of t) clause) ok.reduction first
 
   module _ (trace_text model_text : List ℕ) (spelled : SpellsTrace trace_text r.whole) (read : SpellsModel model_text truth) where
     admitted : Admits trace_text r.whole

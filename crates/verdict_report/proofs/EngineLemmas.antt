@@ -13,7 +13,7 @@ use Rattle.verdict_report.specs.declared.reading.ReadFault.{ReadFault}
 use Rattle.verdict_report.specs.declared.reading.ReadFault.TheVariants.{OutOfMemory as NoReadMemory, Device as SourceFails, TooLong}
 use Rattle.verdict_report.specs.declared.reading.TheConstants.{MAX_INPUT_BYTES}
 use Rattle.verdict_report.specs.declared.status.Status.{Status}
-use Rattle.verdict_report.specs.Engine.{AreUnfailing, AreUntouched, HandOut, FailsWithinLimit, PassesLimit, StopsReading, IsStopOfReading, TakeNothing, Writing, AtOnce, InPieces, Reads, LacksMemory, IsRunOfEngine, IsRunOfWriting}
+use Rattle.verdict_report.specs.Engine.{AreUnfailing, HandOut, IsStopOfReading, TakeNothing, Writing, AtOnce, InPieces, Reads, LacksMemory, IsRunOfEngine, IsRunOfWriting}
 use Rattle.verdict_report.specs.Fault.{fault_of_reading, fault_of_sink}
 use Rattle.verdict_report.specs.Reading.{CountsFailures, AppendsMoreThan, AppendsAtMost}
 use Rattle.verdict_report.specs.Runs.{SourceRun, SinkRun}
@@ -40,22 +40,6 @@ one_stopped source (Ok t) counts long within = tt
 one_stopped source (Err NoReadMemory) counts long within = (counts, tt)
 one_stopped source (Err SourceFails) counts long within = inl ((counts, within refl), tt)
 one_stopped source (Err TooLong) counts long within = inl ((long refl, counts), tt)
-
-stop_first : (Stops : SourceRun → Type 0) (source : SourceRun) (others : List SourceRun) → AreUntouched others → StopsReading Stops (source ∷ []) → StopsReading Stops (source ∷ others)
-stop_first Stops source others untouched (inl stop) = inl (stop.0, untouched)
-stop_first Stops source others untouched (inr stop) = absurd stop.1
-
--- reading stopped at the first source
-pub stopped_first : (source : SourceRun) (others : List SourceRun) → AreUntouched others → AreUnfailing others → (fault : ReadFault) → IsStopOfReading (source ∷ []) fault → IsStopOfReading (source ∷ others) fault
-stopped_first source others untouched well NoReadMemory stop = (stop.0, well)
-stopped_first source others untouched well SourceFails stop = stop_first FailsWithinLimit source others untouched stop
-stopped_first source others untouched well TooLong stop = stop_first PassesLimit source others untouched stop
-
--- reading stopped after the first source
-pub stopped_later : (source : SourceRun) (text : List ℕ) (others : List SourceRun) → HandOut (source ∷ []) (text ∷ []) → (fault : ReadFault) → IsStopOfReading others fault → IsStopOfReading (source ∷ others) fault
-stopped_later source text others handed NoReadMemory stop = (handed.0.1, stop)
-stopped_later source text others handed SourceFails stop = inr ((text, handed.0.0, handed.0.1), stop)
-stopped_later source text others handed TooLong stop = inr ((text, handed.0.0, handed.0.1), stop)
 
 -- ---- the ends of an engine
 

@@ -8,9 +8,9 @@ use std::time::Instant;
 const CLEARED: &str =
     "                                                                              ";
 
-/// A gate that reports each cube that is taken or settled: its number, the worker, the seconds since the start, and how many are
-/// settled. If standard error is a terminal, there is one line, which is written anew each time, and cleared when no cube is in work.
-/// Nothing depends on it.
+/// A gate that reports each cube that is taken or settled: its number, the worker, the seconds since the start, how many are settled, and
+/// how many conflicts there were. If standard error is a terminal, there is one line, which is written anew each time, and cleared when no
+/// cube is in work; the worker is left out there, so that the line fits. Nothing depends on it.
 #[derive(Drop)]
 pub struct Progress<'a> {
     rt: &'a HostRuntime,
@@ -18,6 +18,7 @@ pub struct Progress<'a> {
     is_terminal: bool,
     taken: AtomicU64,
     settled: AtomicU64,
+    conflicts: AtomicU64,
 }
 
 impl<'a> Progress<'a> {
@@ -29,6 +30,7 @@ impl<'a> Progress<'a> {
             is_terminal: rt.stderr().is_terminal(),
             taken: AtomicU64::new(0),
             settled: AtomicU64::new(0),
+            conflicts: AtomicU64::new(0),
         }
     }
 
@@ -44,12 +46,13 @@ impl<'a> Progress<'a> {
     }
 
     /// Writes the one line of a terminal anew, or clears it if no cube is in work.
-    fn show(&self, what: &str, worker: u32, ticket: u32) {
+    fn show(&self, what: &str, ticket: u32) {
         let seconds = self.seconds();
         let settled = self.settled.load(Ordering::SeqCst);
         let taken = self.taken.load(Ordering::SeqCst);
+        let conflicts = self.conflicts.load(Ordering::SeqCst);
         let _ = eprint!(self.rt;
-            "\r{settled} of {taken} cubes settled after {seconds} s, cube {ticket} {what} by worker {worker}   \r"
+            "\r{settled} of {taken} cubes settled after {seconds} s, {conflicts} conflicts, cube {ticket} {what}   \r"
         );
         // The last worker that comes here finds that all are settled, whatever the others wrote meanwhile.
         if self.settled.load(Ordering::SeqCst) == self.taken.load(Ordering::SeqCst) {
@@ -60,11 +63,12 @@ impl<'a> Progress<'a> {
     /// Reports what became of a cube. If standard error fails, nothing is reported.
     fn tell(&self, what: &str, worker: u32, ticket: u32, settled: u64) {
         if self.is_terminal {
-            return self.show(what, worker, ticket);
+            return self.show(what, ticket);
         }
         let seconds = self.seconds();
+        let conflicts = self.conflicts.load(Ordering::SeqCst);
         let _ = eprintln!(self.rt;
-            "cube {ticket} {what} by worker {worker} after {seconds} s, {settled} settled"
+            "cube {ticket} {what} by worker {worker} after {seconds} s, {settled} settled, {conflicts} conflicts"
         );
     }
 }
@@ -75,7 +79,8 @@ impl Gate for Progress<'_> {
         self.tell("taken", worker, ticket, self.settled.load(Ordering::SeqCst));
     }
 
-    fn after(&self, worker: u32, ticket: u32) {
+    fn after(&self, worker: u32, ticket: u32, conflicts: u64) {
+        self.conflicts.fetch_add(conflicts, Ordering::SeqCst);
         let settled = self.settled.fetch_add(1, Ordering::SeqCst).wrapping_add(1);
         self.tell("settled", worker, ticket, settled);
     }

@@ -25,7 +25,7 @@ returns-then-branch-clause-rat g c = λ base h.
     let count = subst (λ (z : ℤ). IsCount active z c.in_ok-count.count) negation (c.in_ok-count.ensures.count base h) in
     let decided : MatchBool c.in_ok-has_all.field-0 (HasAllGroups active pivot groups) (LacksGroup active pivot groups) =
     subst (λ (k : ActiveClauses). IsCount (clause_at clauses k) (neg_ℤ pivot) c.in_ok-count.count → MatchBool c.in_ok-has_all.field-0 (HasAllGroups (clause_at clauses k) pivot groups) (LacksGroup (clause_at clauses k) pivot groups))
-    c.count_of.ensures.same c.in_ok-has_all.ensures count in
+    c.times_active.ensures.same c.in_ok-has_all.ensures count in
     let all = subst (λ (b : Bool). MatchBool b (HasAllGroups active pivot groups) (LacksGroup active pivot groups)) c.if-branch.true decided in
     rat_shows active groups c.args.trues.now c.args.clause.now pivot long c.index-clause-0.is settled all
 
@@ -41,6 +41,6 @@ returns-else-branch-clause-rat g c = λ base h.
     let count = subst (λ (z : ℤ). IsCount active z c.in_ok-count.count) negation (c.in_ok-count.ensures.count base h) in
     let decided : MatchBool c.in_ok-has_all.field-0 (HasAllGroups active pivot groups) (LacksGroup active pivot groups) =
     subst (λ (k : ActiveClauses). IsCount (clause_at clauses k) (neg_ℤ pivot) c.in_ok-count.count → MatchBool c.in_ok-has_all.field-0 (HasAllGroups (clause_at clauses k) pivot groups) (LacksGroup (clause_at clauses k) pivot groups))
-    c.count_of.ensures.same c.in_ok-has_all.ensures count in
+    c.times_active.ensures.same c.in_ok-has_all.ensures count in
     let lacks = subst (λ (b : Bool). MatchBool b (HasAllGroups active pivot groups) (LacksGroup active pivot groups)) c.if-branch.false decided in
     (rat_lacks active groups c.args.trues.now c.args.clause.now pivot c.without_group.result long c.index-clause-0.is settled lacks c.without_group.ensures, refl)

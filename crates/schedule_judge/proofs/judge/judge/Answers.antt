@@ -4,7 +4,7 @@ use Rattle.trace_semantics.specs.declared.judgement.IllegalCause.TheVariants.{Un
 use Rattle.trace_semantics.specs.Judgement.{fault_of_named}
 use Rattle.trace_semantics.specs.Trace.{TraceValue, operation_at}
 use Rattle.trace_semantics.specs.NameNumbers.{number_of}
-use Rattle.schedule_judge.specs.Come.{IsCounted}
+use Rattle.schedule_judge.specs.Come.{IsCountSet}
 use Rattle.schedule_judge.specs.Walk.{IsWalk}
 use Rattle.schedule_judge.proofs.WalkLemmas.{walk_none, walk_more, judged_here, judged_whole, judged_legal, found}
 use Rattle.schedule_judge.proofs.judge.judge.Goals as goal
@@ -40,7 +40,7 @@ loop-i-preserved c =
     let at = found s.names.now c.names-names.result.now c.loop-i.i n c.in_ok-survey.ensures.names c.loop-i-test.true c.index-names-i.is in
     let known : operation_at s.trace.now n ≡ Some c.in-Some.op.now = sym c.operation_at.ensures ∙ ap option_copied c.in-Some.is in
     let row : c.row_of-row.result ≡ number_of s.processes n.process = c.row_of-row.ensures ∙ ap (number_of s.processes) c.as_bytes.ensures in
-    walk_more s c.loop-i.come.counts.items c.take.new.self.counts.items c.loop-i.memory c.run.new.self c.loop-i.i n c.in-Some.op.now c.in_ok-survey.ensures.tables c.loop-i.invariant at known (sym c.fault_of_op.ensures ∙ c.in_default-fault_of_op.is) c.in_ok-run.ensures (subst (λ o. IsCounted c.loop-i.come.counts.items o n.place c.take.new.self.counts.items) row c.in_ok-take.ensures)
+    walk_more s c.loop-i.come.counts.items c.take.new.self.counts.items c.loop-i.memory c.run.new.self c.loop-i.i n c.in-Some.op.now c.in_ok-survey.ensures.tables c.loop-i.invariant at known (sym c.fault_of_op.ensures ∙ c.in_default-fault_of_op.is) c.in_ok-run.ensures (subst (λ o. IsCountSet c.loop-i.come.counts.items o n.place c.take.new.self.counts.items) row c.in_ok-take.ensures)
 
 pub returns : goal.returns
 returns c =

@@ -4,4 +4,4 @@ use Rattle.lrat_check.proofs.active_clauses.ActiveClauses.count_kept.Goals as go
 pub returns : goal.returns
 returns g c =
     let clauses = (g.F.ClauseList.formula c.args.formula.now).clauses in
-    on_ok_weaker c.count_far.result (λ far h. far (c.in_ok-count_near.ensures (c.in_ok-count_cube.ensures clauses h))) c.count_far.ensures
+    on_ok_weaker c.take_tree_off.result (λ far h. far (c.in_ok-take_table_off.ensures (c.in_ok-count_cube.ensures clauses h))) c.take_tree_off.ensures

@@ -3,7 +3,7 @@ use Rattle.std.proofs.lemmas.Result.{IfOk-weaker}
 use Rattle.lrat_check.specs.ClauseAt.{clause_at}
 use Rattle.lrat_check.specs.Counted.{AreRightChanges}
 use Rattle.lrat_check.specs.declared.count_changes.CountChanges.{CountChanges}
-use Rattle.lrat_check.proofs.counted_clauses.CountedClauses.count_of.Goals as goal
+use Rattle.lrat_check.proofs.counted_clauses.CountedClauses.times_active.Goals as goal
 
 pub returns-in-Some-clause-count : goal.returns-in-Some-clause-count
 returns-in-Some-clause-count g c =
