@@ -1,5 +1,5 @@
 -- The lines of a formula's text, one after another.
-use Rattle.std.proofs.Common.{◌≡◌, ℕ, suc, ◌+◌, ◌<◌, ◌≤◌, List, ◌∷◌, length, take, true, false, not, cond, ap, ◌∙◌, arith}
+use Rattle.std.proofs.Common.{◌≡◌, ℕ, suc, ◌+◌, ◌<◌, ◌≤◌, List, [], ◌∷◌, length, take, true, false, not, cond, ap, ◌∙◌, arith}
 use Rattle.std.specs.List.{filter, before_first, position_or_len, prefix_len}
 use Rattle.text_lines.specs.Kept.{is_dimacs_skipped}
 use Rattle.text_lines.specs.Words.{words_of}
