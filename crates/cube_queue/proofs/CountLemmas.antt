@@ -1,6 +1,5 @@
 -- How many jobs were put, and how many results were gathered.
-use Rattle.std.proofs.Common.{◌≡◌, ℕ, suc, ◌+◌, ◌<◌, ◌≤◌, Bool, true, false, ◌&&◌, cond, nat_lt, List, [], ◌∷◌, ◌++◌, length, refl, ◌∙◌, ap, lt-ltb, le-ltb, arith}
-use Rattle.std.specs.Prelude.{IsTrue, IsFalse}
+use Rattle.std.proofs.Common.{◌≡◌, ℕ, suc, ◌+◌, ◌<◌, ◌≤◌, Bool, true, false, cond, nat_lt, List, [], ◌∷◌, ◌++◌, length, refl, ◌∙◌, ap, lt-ltb, le-ltb, arith}
 use Rattle.std.specs.List.{All}
 use Rattle.std.proofs.lemmas.List.{length-append}
 use Rattle.std.proofs.lemmas.List.Elements.{All-head, All-tail}
@@ -12,14 +11,6 @@ use Rattle.cube_queue.specs.Participants.{WithStops}
 -- jobs that came before one that was not put are fewer
 pub put_fewer : (jobs yielded rest put : List Job) (job : Job) → jobs ≡ yielded ++ job ∷ rest → put ≡ yielded → length put < length jobs
 put_fewer jobs yielded rest put job is so = omega (arith, ap length is, ap length so, length-append yielded (job ∷ rest))
-
--- where one of the jobs or of the stop tickets came back, fewer were put than both together
-pub both_fewer : (dealt stopped : Bool) (jobs first all workers : ℕ) → (IsTrue dealt → first ≡ jobs) → (IsFalse dealt → first < jobs) → (IsTrue stopped → all ≡ first + workers) →
-    (IsFalse stopped → all < first + workers) → IsFalse (dealt && stopped) → all < jobs + workers
-both_fewer true true jobs first all workers whole part stops fewer none = absurd (let wrong : true ≡ false = none in cc)
-both_fewer true false jobs first all workers whole part stops fewer none = omega (arith, whole refl, fewer refl)
-both_fewer false true jobs first all workers whole part stops fewer none = omega (arith, part refl, stops refl)
-both_fewer false false jobs first all workers whole part stops fewer none = omega (arith, part refl, fewer refl)
 
 module _ (cubes : ℕ) where
   one_counts : (p : Pair) (rest : List Pair) → nat_lt p.0 cubes ≡ true → length (cond (nat_lt p.0 cubes) (p ∷ rest) rest) ≡ suc (length rest)

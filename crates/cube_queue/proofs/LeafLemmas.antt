@@ -1,17 +1,13 @@
 -- The jobs of leaves, which are made one after the other.
-use Rattle.std.proofs.Common.{◌≡◌, ℕ, suc, ◌+◌, ◌<◌, ◌≤◌, ℤ, List, [], ◌∷◌, ◌++◌, length, take, get_or, Some, refl, sym, ◌∙◌, ap, subst, inl, inr, arith}
+use Rattle.std.proofs.Common.{◌≡◌, ℕ, suc, ◌+◌, ◌<◌, ℤ, List, [], ◌∷◌, ◌++◌, length, take, get_or, Some, sym, ◌∙◌, ap, subst, inl, inr, arith}
 use Rattle.std.specs.List.{slice_get}
 use Rattle.std.proofs.Math.Seq.{take-suc}
-use Rattle.std.proofs.lemmas.List.{map-append, take_all, get_or_default}
+use Rattle.std.proofs.lemmas.List.{map-append, get_or_default}
 use Rattle.std.proofs.lemmas.List.Elements.{Contains-append_cases}
 use Rattle.trace_semantics.proofs.ElementLemmas.{cases_in, none_in}
 use Rattle.cube_jobs.specs.declared.job.Job.{Job}
 use Rattle.cube_jobs.specs.Results.{AreLeaves}
 use Rattle.cube_queue.specs.Participants.{AreJobsOf}
-
--- there is no job yet
-pub no_job : (cubes : List (List ℤ)) (which : List ℕ) → AreJobsOf cubes (take 0 which) []
-no_job cubes which = record { tickets_are = refl; cubes_are = λ job c. absurd (none_in job c) }
 
 -- one more job
 pub one_job : (cubes : List (List ℤ)) (which : List ℕ) (k : ℕ) (jobs : List Job) (job : Job) → AreJobsOf cubes (take k which) jobs → k < length which → job.ticket ≡ get_or which k 0 →
@@ -33,10 +29,6 @@ one_job cubes which k jobs job so below ticket there =
         ]
       ];
     }
-
--- each leaf has its job
-pub all_jobs : (cubes : List (List ℤ)) (which : List ℕ) (k : ℕ) (jobs : List Job) → length which ≤ k → AreJobsOf cubes (take k which) jobs → AreJobsOf cubes which jobs
-all_jobs cubes which k jobs whole so = subst (λ (leaves : List ℕ). AreJobsOf cubes leaves jobs) (take_all k which whole) so
 
 -- a leaf that is asked for is one of the tree's
 pub leaf_low : (cubes : List (List ℤ)) (which : List ℕ) (k : ℕ) → AreLeaves cubes which → k < length which → get_or which k 0 < length cubes

@@ -1,8 +1,7 @@
 -- The order in which jobs and stop tickets are put.
-use Rattle.std.proofs.Common.{◌≡◌, ℕ, ◌+◌, ◌<◌, ◌≤◌, List, [], ◌∷◌, ◌++◌, length, sym, ◌∙◌, ap, subst, append_assoc, arith}
+use Rattle.std.proofs.Common.{◌≡◌, ℕ, ◌+◌, ◌<◌, List, [], ◌∷◌, ◌++◌, length, sym, subst}
 use Rattle.std.specs.List.{All, AllPairs}
-use Rattle.std.proofs.lemmas.List.{append-nil, length-append}
-use Rattle.std.proofs.lemmas.List.Elements.{All-nil, All-cons, All-head, All-tail, All-push, All-weaker}
+use Rattle.std.proofs.lemmas.List.Elements.{All-nil, All-cons, All-head, All-tail}
 use Rattle.cube_jobs.specs.declared.job.Job.{Job}
 use Rattle.cube_queue.specs.Participants.{WithStops}
 use Rattle.cube_queue.proofs.JobLemmas.{all_below}
@@ -31,29 +30,3 @@ pub record ArePutBelow (cubes next : ℕ) (jobs put : List Job) : Type 0 where
   pub dealt : WithStops cubes jobs put
   pub low : All (λ (job : Job). job.ticket < next) put
   pub long : length put + cubes ≡ length jobs + next
-
--- no stop ticket was put yet
-pub no_stop : (cubes next : ℕ) (jobs : List Job) → All (λ (job : Job). job.ticket < cubes) jobs → next ≡ cubes → ArePutBelow cubes next jobs jobs
-no_stop cubes next jobs low is = record {
-  dealt = ([], sym (append-nil jobs), All-nil (λ (job : Job). cubes ≤ job.ticket));
-  low = subst (λ (n : ℕ). All (λ (job : Job). job.ticket < n) jobs) (sym is) low;
-  long = omega (arith, is);
-}
-
--- the next stop ticket was put
-pub one_stop : (cubes next after : ℕ) (jobs before put : List Job) (stop : Job) → ArePutBelow cubes next jobs before → cubes ≤ next → stop.ticket ≡ next → after ≡ next + 1 → put ≡ before ++ stop ∷ [] →
-    ArePutBelow cubes after jobs put
-one_stop cubes next after jobs before put stop so past ticket more is =
-    let stops = so.dealt.0 in
-    record {
-      dealt = (
-        stops ++ stop ∷ [],
-        is ∙ ap (λ (xs : List Job). xs ++ stop ∷ []) so.dealt.1 ∙ append_assoc jobs stops (stop ∷ []),
-        All-push (λ (job : Job). cubes ≤ job.ticket) stops stop so.dealt.2 (omega (arith, past, ticket)),
-      );
-      low = subst
-          (All (λ (job : Job). job.ticket < after))
-          (sym is)
-          (All-push (λ (job : Job). job.ticket < after) before stop (All-weaker (λ (job : Job). job.ticket < next) (λ (job : Job). job.ticket < after) (λ (job : Job) low. omega (arith, low, more)) before so.low) (omega (arith, ticket, more)));
-      long = omega (arith, so.long, more, ap length is, length-append before (stop ∷ []));
-    }

@@ -1,5 +1,5 @@
 -- The results of leaves that are settled one after the other.
-use Rattle.std.proofs.Common.{◌≡◌, ◌≢◌, ◌⊎◌, ℕ, zero, suc, ◌+◌, ◌<◌, ◌≤◌, ℤ, List, [], ◌∷◌, ◌++◌, Some, Bool, true, false, map, length, take, get_or, refl, sym, ◌∙◌, ap, subst, inl, inr, arith}
+use Rattle.std.proofs.Common.{◌≡◌, ◌≢◌, ◌⊎◌, ℕ, zero, suc, ◌+◌, ◌<◌, ◌≤◌, ℤ, List, [], ◌∷◌, ◌++◌, Some, Bool, true, map, length, take, get_or, sym, ◌∙◌, ap, subst, inl, inr, arith}
 use Rattle.std.specs.Prelude.{IsTrue}
 use Rattle.std.specs.List.{AllPairs, Contains, slice_get}
 use Rattle.std.proofs.Math.Seq.{take-suc}
@@ -17,15 +17,6 @@ pub record AreUpTo (clauses cubes : List (List ℤ)) (tickets : List ℕ) (resul
   pub cubes_are : (settled : Settled) → Contains results settled → slice_get cubes settled.ticket ≡ Some settled.cube
   pub skipped : (settled : Settled) → Contains results settled → settled.outcome ≡ Skipped → HasModelBelow clauses results settled.ticket
   pub known : has_model ≡ true → HasModel clauses results
-
--- no leaf is settled yet
-pub none_yet : (clauses cubes : List (List ℤ)) (which : List ℕ) → AreUpTo clauses cubes (take 0 which) [] false
-none_yet clauses cubes which = record {
-  tickets_are = refl;
-  cubes_are = λ settled c. absurd (none_in settled c);
-  skipped = λ settled c s. absurd (none_in settled c);
-  known = λ e. absurd (let wrong : false ≡ true = e in cc);
-}
 
 -- more is known of the same results
 known_on : (clauses : List (List ℤ)) (results : List Settled) (has_model now : Bool) → (has_model ≡ true → HasModel clauses results) →

@@ -1,6 +1,5 @@
 -- What a worker knows and has given, job by job.
-use Rattle.std.proofs.Common.{◌≡◌, ◌⊎◌, ℕ, ◌<◌, ◌≤◌, ℤ, List, [], ◌∷◌, ◌++◌, Option, None, Some, sym, ◌∙◌, ap, subst, inl, inr, arith}
-use Rattle.std.specs.Prelude.{IfSome, IfNone}
+use Rattle.std.proofs.Common.{◌≡◌, ◌⊎◌, ℕ, ◌<◌, ◌≤◌, ℤ, List, [], ◌∷◌, ◌++◌, sym, ◌∙◌, ap, subst, inl, inr, arith}
 use Rattle.std.specs.List.{Contains}
 use Rattle.std.proofs.lemmas.List.Elements.{Contains-append_cases, Contains-append_left, Contains-append_right}
 use Rattle.trace_semantics.proofs.ElementLemmas.{cases_in, head_in, none_in}
@@ -8,26 +7,7 @@ use Rattle.cube_jobs.specs.declared.job.Settled.{Settled}
 use Rattle.cube_jobs.specs.declared.outcome.Outcome.TheVariants.{Skipped}
 use Rattle.cube_jobs.specs.Models.{IsModelResult}
 use Rattle.stop_word.specs.declared.views.View.{View}
-use Rattle.stop_word.specs.Seats.{KnowsNothing}
-use Rattle.stop_word.specs.WordRule.{Looks, or_nothing}
 use Rattle.cube_queue.specs.Workers.{MarkModels, IsHonest}
-
--- a worker that has done nothing
-pub honest_new : (clauses : List (List ℤ)) (knows : View) (given : List Settled) → KnowsNothing knows → given ≡ [] → IsHonest clauses knows given
-honest_new clauses knows given new none = record {
-  marked = λ k c. absurd (none_in k (subst (λ (ks : List ℕ). Contains ks k) new.0 c));
-  skipped = λ settled c s. absurd (none_in settled (subst (λ (l : List Settled). Contains l settled) none c));
-}
-
--- a look only lowers what was shown
-lower_shown : (shown : Option ℕ) (v : View) → IfSome shown (λ k. k ≤ v.least) → IfNone shown (KnowsNothing v) → or_nothing shown ≤ v.least
-lower_shown None v some none = omega (arith, none.1)
-lower_shown (Some k) v some none = some
-
-pub look_lowers : (v w : View) (shown : Option ℕ) → Looks v (or_nothing shown) w → IfSome shown (λ k. k ≤ v.least) → IfNone shown (KnowsNothing v) → w.least ≤ v.least
-look_lowers v w shown looks some none =
-    let least : w.least ≡ or_nothing shown = ap (λ (u : View). u.least) looks.4 in
-    omega (arith, least, lower_shown shown v some none)
 
 -- one result more, after a look and a mark
 module _

@@ -1,7 +1,7 @@
 -- Workers' seats are cut off one after the other.
 use Rattle.std.proofs.Common.{◌≡◌, ◌⊎◌, ℕ, zero, suc, ◌+◌, List, [], ◌∷◌, ◌++◌, length, Some, refl, sym, ◌∙◌, subst, inl, inr, ⊎_elim, length-append, arith}
 use Rattle.std.specs.List.{All, slice_get}
-use Rattle.std.proofs.lemmas.List.Elements.{All-nil, All-push}
+use Rattle.std.proofs.lemmas.List.Elements.{All-push}
 use Rattle.job_board.specs.Seats.{IsWorkerAt, IsIdle}
 use Rattle.job_board.specs.declared.board.Board.{Board}
 use Rattle.job_board.specs.declared.seats.WorkerSeat.{WorkerSeat}
@@ -11,9 +11,6 @@ pub record AreCut (board : Board) (count : ℕ) (seats : List WorkerSeat) : Type
   pub all : length seats ≡ count
   pub each : (number : ℕ) (seat : WorkerSeat) → slice_get seats number ≡ Some seat → IsWorkerAt board seat × (seat.number ≡ number)
   pub idle : All IsIdle seats
-
-pub none_cut : (board : Board) → AreCut board 0 []
-none_cut board = record { all = refl; each = λ number seat at. absurd (cc); idle = All-nil _ }
 
 -- an item is among the first ones, or it is the last one
 at_last : {X : Type 0} (xs : List X) (x y : X) (k : ℕ) → slice_get (xs ++ x ∷ []) k ≡ Some y → (slice_get xs k ≡ Some y) ⊎ ((k ≡ length xs) × (x ≡ y))

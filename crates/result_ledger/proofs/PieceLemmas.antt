@@ -4,7 +4,7 @@ use Rattle.std.specs.Int.{div_ceil}
 use Rattle.std.proofs.lemmas.Grind.{div_ceil_times}
 use Rattle.std.proofs.lemmas.List.{length-append}
 use Rattle.result_ledger.specs.Pieces.{AreWithoutBetween, piece_start}
-use Rattle.result_ledger.proofs.WithoutLemmas.{none_between, both_pieces}
+use Rattle.result_ledger.proofs.WithoutLemmas.{both_pieces}
 
 -- the element at the end of this prefix
 pub at_front : {X : Type 0} (xs front : List X) (x : X) (rest : List X) → xs ≡ front ++ x ∷ rest → (get_or xs (length front) x ≡ x) × (length front < length xs)
@@ -13,12 +13,6 @@ at_front xs front x rest is = (ap (λ l. get_or l (length front) x) is ∙ at_se
     at_seam : {X : Type 0} (front : List X) (x : X) (rest : List X) → get_or (front ++ x ∷ rest) (length front) x ≡ x
     at_seam [] x rest = refl
     at_seam (y ∷ front) x rest = at_seam front x rest
-
--- no piece was joined yet
-pub no_piece : (Has : ℕ → Type 0) (size count : ℕ) → AreWithoutBetween Has 0 (piece_start size count 0) []
-no_piece Has size count =
-    let first : 0 ≡ piece_start size count 0 = omega arith in
-    subst (λ (end : ℕ). AreWithoutBetween Has 0 end []) first (none_between Has 0)
 
 -- the next piece is joined
 pub one_piece : (Has : ℕ → Type 0) (size count piece after : ℕ) (before leaves all : List ℕ) → AreWithoutBetween Has 0 (piece_start size count piece) before →

@@ -2,24 +2,12 @@
 use Rattle.std.proofs.Common.{◌≡◌, ℕ, zero, suc, ◌+◌, ◌<◌, ℤ, List, [], ◌∷◌, ◌++◌, map, length, take, drop, get_or, Some, refl, sym, ◌∙◌, ap, subst, arith}
 use Rattle.std.specs.Prelude.{slice_set, IsSome}
 use Rattle.std.specs.List.{slice_get, insert}
-use Rattle.std.proofs.Math.Seq.{take-suc}
-use Rattle.std.proofs.lemmas.List.{map-append, take-append-le, take_all}
+use Rattle.std.proofs.lemmas.List.{take-append-le, take_all}
 use Rattle.cube_jobs.specs.Results.{AreLeaves}
 use Rattle.cube_jobs.specs.declared.job.Settled.{Settled}
 use Rattle.result_ledger.specs.declared.slot.Slot.{Slot}
 use Rattle.result_ledger.specs.Ledger.{empty_slot, cubes_in, HasAnswerAt, Fills, SplitsCube, IsSplitAt}
 use Rattle.result_ledger.specs.Verdict.{AreWithout}
-
--- one more slot without an answer
-pub empty_on : (cubes : List (List ℤ)) (k : ℕ) (cube : List ℤ) (slots : List Slot) → k < length cubes → cube ≡ get_or cubes k cube → slots ≡ map empty_slot (take k cubes) →
-    slots ++ empty_slot cube ∷ [] ≡ map empty_slot (take (k + 1) cubes)
-empty_on cubes k cube slots below is so =
-    let one : k + 1 ≡ suc k = omega arith in
-    ap (λ (xs : List Slot). xs ++ empty_slot cube ∷ []) so
-    ∙ sym (map-append empty_slot (take k cubes) (cube ∷ []))
-    ∙ ap (λ (c : List ℤ). map empty_slot (take k cubes ++ c ∷ [])) is
-    ∙ ap (map empty_slot) (sym (take-suc cubes k cube below))
-    ∙ ap (λ (n : ℕ). map empty_slot (take n cubes)) (sym one)
 
 -- the cubes of slots without an answer
 pub cubes_of_empty : (cubes : List (List ℤ)) → cubes_in (map empty_slot cubes) ≡ cubes
@@ -64,11 +52,6 @@ next_is (y ∷ before) x after d = next_is before x after d
 pub second_is : (before : List (List ℤ)) (x y : List ℤ) (after : List (List ℤ)) (d : List ℤ) → get_or (before ++ (x ∷ (y ∷ after))) (suc (length before)) d ≡ y
 second_is [] x y after d = refl
 second_is (z ∷ before) x y after d = second_is before x y after d
-
--- there is room for both
-pub two_within : (before : List (List ℤ)) (x y : List ℤ) (after : List (List ℤ)) → suc (length before) < length (before ++ (x ∷ (y ∷ after)))
-two_within [] x y after = omega arith
-two_within (z ∷ before) x y after = let h = two_within before x y after in omega (arith, h)
 
 pub one_within : (before : List (List ℤ)) (x : List ℤ) (after : List (List ℤ)) → length before < length (before ++ x ∷ after)
 one_within [] x after = omega arith

@@ -13,14 +13,6 @@ pub below_next : (leaf end : ℕ) → leaf < end + 1 → (leaf < end) ⊎ (leaf 
 below_next leaf end below = elim (cases_order leaf end) [ inl e ↦ inr e | inr (inl h) ↦ inl h | inr (inr h) ↦ absurd (omega (arith, h, below)) ]
 
 module _ (Has : ℕ → Type 0) where
-  -- no leaf was looked at yet
-  pub none_between : (from : ℕ) → AreWithoutBetween Has from from []
-  none_between from = record {
-    rising = λ i j d below within. absurd (omega (arith, within));
-    each = λ leaf c. absurd (none_in leaf c);
-    every = λ leaf above below. absurd (omega (arith, above, below));
-  }
-
   -- the next leaf has it
   pub had_between : (from end : ℕ) (leaves : List ℕ) → Has end → AreWithoutBetween Has from end leaves → AreWithoutBetween Has from (end + 1) leaves
   had_between from end leaves proved so = record {
@@ -67,9 +59,6 @@ module _ (Has : ℕ → Type 0) where
     each = λ leaf c. let (above, below, lacks) = so.each leaf c in (below, lacks);
     every = λ leaf below. so.every leaf (omega arith) below;
   }
-
-  pub none_yet : AreWithout Has 0 []
-  none_yet = all_before 0 [] (none_between 0)
 
   pub had_on : (end : ℕ) (leaves : List ℕ) → Has end → AreWithout Has end leaves → AreWithout Has (end + 1) leaves
   had_on end leaves proved so = all_before (end + 1) leaves (had_between 0 end leaves proved (from_first end leaves so))

@@ -12,6 +12,10 @@ use lrat_check::derivation_copies::copied;
 use proof_log::{Answer, ProofLog, refuted_within};
 use std::alloc::{AllocError, Global};
 
+/// Conflicts of the search of the first cube. Without it some traces with a schedule in that cube took three times as long: the search of the
+/// formula itself comes upon the same cube first, but by another course, which took far more conflicts.
+const FIRST_CUBE_CONFLICTS: u64 = 2000;
+
 /// Conflicts of the search of the formula itself. Most traces take fewer, and one that takes more is searched cube by cube afterwards.
 const WHOLE_CONFLICTS: u64 = 4000;
 
@@ -47,6 +51,21 @@ fn model_in(
     }
     let copy = model.copied(alloc)?;
     Ok(Some(copy))
+}
+
+/// Returns the first cube over these variables: all of them are true in it.
+fn first_cube(alloc: Global, splits: &[u32]) -> Result<Vec<Lit>, AllocError> {
+    let mut cube = Vec::with_capacity(alloc, splits.len())?;
+    for variable in splits {
+        let literal = match i32::try_from(*variable) {
+            Ok(number) => Lit::new(number),
+            Err(_) => None,
+        };
+        if let Some(literal) = literal {
+            cube.push(literal)?;
+        }
+    }
+    Ok(cube)
 }
 
 impl<'a> PreparedFormula<'a> {
@@ -85,15 +104,27 @@ impl<'a> PreparedFormula<'a> {
         Ok(())
     }
 
+    /// Searches the first cube over these variables for a model. A derivation would serve no other cube, so none is kept.
+    fn search_first_cube(&mut self, alloc: Global, splits: &[u32]) -> Result<(), AllocError> {
+        let cube = first_cube(alloc, splits)?;
+        let first = self.id_in_cube(splits.len());
+        match search_cube(alloc, self, cube.as_slice(), first, FIRST_CUBE_CONFLICTS)? {
+            Answer::Model(model) => self.model = Some(model),
+            Answer::Refuted(_derivation) => {}
+            Answer::Open => {}
+        }
+        Ok(())
+    }
+
     /// Searches the formula itself. The first step of a derivation has this number.
     fn answer_for_whole(&self, alloc: Global, first: u32) -> Result<Answer, AllocError> {
         search_cube(alloc, self, &[], first, WHOLE_CONFLICTS)
     }
 
-    /// Searches the formula itself, before its cubes over these variables, unless it was refuted by counting. These variables are decided
-    /// before all others, so it goes from leaf to leaf, and what it learns in one leaf serves the next. A derivation that it finds is the answer
-    /// for each cube. A model is the answer for the cube that it is in, and the other cubes then stay open. Nothing is searched where the
-    /// budget is below the conflicts of this search: they are left to the cubes.
+    /// Searches the first cube over these variables and then, if it has no model, the formula itself, unless that was refuted by counting. The
+    /// variables are decided before all others, so this search goes from leaf to leaf, and what it learns in one leaf serves the next. A
+    /// derivation that it finds is the answer for each cube. A model is the answer for the cube that it is in, and the other cubes then stay
+    /// open. Nothing is searched if the budget is below the conflicts of these searches: they are left to the cubes.
     pub fn search_whole(
         &mut self,
         alloc: Global,
@@ -101,6 +132,10 @@ impl<'a> PreparedFormula<'a> {
         budget: u64,
     ) -> Result<(), AllocError> {
         if splits.is_empty() || budget < WHOLE_CONFLICTS || self.refutation.is_some() {
+            return Ok(());
+        }
+        self.search_first_cube(alloc, splits)?;
+        if self.model.is_some() {
             return Ok(());
         }
         self.leading = Vec::from_slice(alloc, splits)?;

@@ -1,7 +1,5 @@
 -- From the verdict on the formula of a kept trace to what is decided of the whole trace.
-use Rattle.std.proofs.Common.{◌≡◌, ℕ, suc, ◌+◌, ◌<◌, ◌≤◌, ℤ, Bool, true, List, [], ◌∷◌, ◌++◌, length, map, take, get_or, Some, sym, ◌∙◌, ap, subst, arith}
-use Rattle.std.proofs.Math.Seq.{take-suc}
-use Rattle.std.proofs.lemmas.List.{map-append, take_all}
+use Rattle.std.proofs.Common.{◌≡◌, ℕ, ℤ, Bool, true, List, map, Some, sym, ◌∙◌, ap, subst}
 use Rattle.std.specs.List.{AllZip, list_all, Contains, slice_get}
 use Rattle.trace_semantics.proofs.ElementLemmas.{to_map, from_map}
 use Rattle.trace_semantics.specs.declared.operation.OpName.{OpName}
@@ -41,22 +39,6 @@ expanded_legal r ok kept schedule legal expanded =
     subst (λ (s : List OpName). IsLegal r.whole s) (sym expanded) (expansion_legal r.whole kept ok.is_trace (subst (λ (t : TraceValue). IsLegal t kept) ok.reduction legal))
 
 -- ---- the cubes of leaves
-
--- one cube more
-pub next_cube : (slots : List Slot) (listed : List ℕ) (k : ℕ) (cubes : List (List ℤ)) (cube : List ℤ) → k < length listed → AreCubesOf slots (take k listed) cubes →
-    slice_get (cubes_in slots) (get_or listed k 0) ≡ Some cube → AreCubesOf slots (take (k + 1) listed) (cubes ++ cube ∷ [])
-next_cube slots listed k cubes cube within so there =
-    let one : k + 1 ≡ suc k = omega arith in
-    let longer : take (k + 1) listed ≡ take k listed ++ get_or listed k 0 ∷ [] = ap (λ (n : ℕ). take n listed) one ∙ take-suc listed k 0 within in
-    map-append Some cubes (cube ∷ [])
-    ∙ ap (λ cs. cs ++ Some cube ∷ []) so
-    ∙ ap (λ c. map (slice_get (cubes_in slots)) (take k listed) ++ c ∷ []) (sym there)
-    ∙ sym (map-append (slice_get (cubes_in slots)) (take k listed) (get_or listed k 0 ∷ []))
-    ∙ ap (map (slice_get (cubes_in slots))) (sym longer)
-
--- all of them
-pub all_cubes : (slots : List Slot) (listed : List ℕ) (k : ℕ) (cubes : List (List ℤ)) → length listed ≤ k → AreCubesOf slots (take k listed) cubes → AreCubesOf slots listed cubes
-all_cubes slots listed k cubes whole so = so ∙ ap (map (slice_get (cubes_in slots))) (take_all k listed whole)
 
 -- ---- what follows from the verdict
 

@@ -3,7 +3,7 @@ use Rattle.std.proofs.Common.{◌≡◌, ◌∙◌, ℕ, zero, suc, ◌+◌, ◌
 use Rattle.std.specs.Prelude.{◌⊎◌, if◌then◌else◌, nat_le, slice_index_or}
 use Rattle.std.specs.List.{slice_get}
 use Rattle.std.proofs.lemmas.Bool.{leb-true}
-use Rattle.std.proofs.lemmas.List.{drop_all, drop_more, length-take-le}
+use Rattle.std.proofs.lemmas.List.{drop_more, length-take-le}
 use Rattle.std.proofs.lemmas.Option.{get_or_from_slice_get, slice_get_within}
 use Rattle.cube_tree.proofs.TreeLemmas.{cubes_counted}
 use Rattle.cube_tree.specs.CubeTree.{CubeTree, cubes_of, leaves, with_split}
@@ -164,9 +164,6 @@ pub record IsUnderWay (variables leaves : List ℕ) (k : ℕ) (first now : List 
   pub counted : length now ≡ length first + more
   pub goes_on : (new : List Slot) → AreAfterSplits variables (drop k leaves) more now new → AreAfterSplits variables leaves 0 first new
 
-pub none_yet : (variables leaves : List ℕ) (slots : List Slot) → IsUnderWay variables leaves 0 slots slots
-none_yet variables leaves slots = record { more = 0; counted = omega arith; goes_on = λ new after. after }
-
 module _ (variables leaves : List ℕ) (k leaf : ℕ) (first now new : List Slot) (way : IsUnderWay variables leaves k first now) (within : k < length leaves) (is : leaf ≡ get_or leaves k 0 + way.more) where
   -- from the leaf at this place on
   from_here : (after : List Slot) → AreAfterSplits variables (get_or leaves k 0 ∷ drop (k + 1) leaves) way.more now after → AreAfterSplits variables leaves 0 first after
@@ -188,11 +185,6 @@ module _ (variables leaves : List ℕ) (k leaf : ℕ) (first now new : List Slot
         counted = ap length same ∙ way.counted;
         goes_on = λ after so. from_here after (inr (here, subst (λ (slots : List Slot). AreAfterSplits variables (drop (k + 1) leaves) way.more slots after) same so));
       }
-
-pub all_done : (variables leaves : List ℕ) (k : ℕ) (first now : List Slot) → length leaves ≤ k → IsUnderWay variables leaves k first now → AreAfterSplits variables leaves 0 first now
-all_done variables leaves k first now whole way =
-    let none : drop k leaves ≡ [] = drop_all k leaves whole in
-    way.goes_on now (subst (λ (ls : List ℕ). AreAfterSplits variables ls way.more now now) (sym none) refl)
 
 -- ---- how many leaves there are
 
