@@ -6,9 +6,12 @@ pub trait Gate {
     /// The worker has taken the job of this ticket.
     fn before(&self, worker: u32, ticket: u32);
 
-    /// The worker has settled the job of this ticket. The searches had that many conflicts more since the last call of this kind, so the
-    /// sum over all calls is how many there were so far. Nothing is promised of the number.
-    fn after(&self, worker: u32, ticket: u32, conflicts: u64);
+    /// The worker has settled the job of this ticket.
+    fn after(&self, worker: u32, ticket: u32);
+
+    /// The searches had this number of conflicts since the last call of this kind. It is called before a result is given, and nothing is
+    /// promised of the number. A gate that has no use for it leaves this out.
+    fn conflicts(&self, _count: u64) {}
 }
 
 /// The gate that does nothing.
@@ -18,5 +21,5 @@ pub struct OpenGate;
 impl Gate for OpenGate {
     fn before(&self, _worker: u32, _ticket: u32) {}
 
-    fn after(&self, _worker: u32, _ticket: u32, _conflicts: u64) {}
+    fn after(&self, _worker: u32, _ticket: u32) {}
 }

@@ -50,8 +50,9 @@ pub(crate) fn search_in_turn<L: ClauseList, G: Gate>(
         let job = job_of(alloc, cubes.as_slice(), *leaf);
         gate.before(0, *leaf);
         let settled = settle_job(alloc, prepared, job, budget, has_model);
+        gate.conflicts(prepared.take_conflicts());
         results.push(settled)?;
-        gate.after(0, *leaf, prepared.take_conflicts());
+        gate.after(0, *leaf);
     }
     Ok(results)
 }

@@ -82,9 +82,10 @@ fn settle_next<R: Wait, S: Settler, G: Gate>(
     let ticket = job.ticket();
     let settled = look_and_settle(alloc, site, settler, gate, worker, stop, job);
     mark_model(site, settler, stop, &settled);
+    gate.conflicts(settler.take_conflicts());
     match site.board.give(rt, seat, settled) {
         Ok(()) => {
-            gate.after(worker, ticket, settler.take_conflicts());
+            gate.after(worker, ticket);
             true
         }
         Err(_settled) => false,

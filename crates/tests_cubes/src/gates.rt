@@ -26,7 +26,7 @@ impl Gate for NotingGate {
         self.note(ticket.wrapping_mul(2).wrapping_add(1));
     }
 
-    fn after(&self, _worker: u32, ticket: u32, _conflicts: u64) {
+    fn after(&self, _worker: u32, ticket: u32) {
         self.note(ticket.wrapping_mul(2).wrapping_add(2));
     }
 }

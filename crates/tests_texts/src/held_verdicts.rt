@@ -59,7 +59,7 @@ impl Gate for VerdictGate {
         }
     }
 
-    fn after(&self, _worker: u32, ticket: u32, _conflicts: u64) {
+    fn after(&self, _worker: u32, ticket: u32) {
         if ticket == self.awaited {
             self.is_settled.store(true, Ordering::SeqCst);
         }

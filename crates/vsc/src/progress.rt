@@ -79,9 +79,12 @@ impl Gate for Progress<'_> {
         self.tell("taken", worker, ticket, self.settled.load(Ordering::SeqCst));
     }
 
-    fn after(&self, worker: u32, ticket: u32, conflicts: u64) {
-        self.conflicts.fetch_add(conflicts, Ordering::SeqCst);
+    fn after(&self, worker: u32, ticket: u32) {
         let settled = self.settled.fetch_add(1, Ordering::SeqCst).wrapping_add(1);
         self.tell("settled", worker, ticket, settled);
+    }
+
+    fn conflicts(&self, count: u64) {
+        self.conflicts.fetch_add(count, Ordering::SeqCst);
     }
 }
