@@ -1,5 +1,5 @@
 -- The lines up to the header, and the parts of a text after it.
-use Rattle.std.proofs.Common.{◌≡◌, ℕ, ◌+◌, ◌*◌, ◌<◌, ◌≤◌, List, [], ◌∷◌, ◌++◌, length, drop, true, false, refl, ap, sym, ◌∙◌, inl, inr, arith, append_assoc, append-nil, length-append}
+use Rattle.std.proofs.Common.{◌≡◌, ℕ, ◌+◌, ◌*◌, ◌<◌, ◌≤◌, List, [], ◌∷◌, ◌++◌, length, true, false, refl, ap, sym, ◌∙◌, inl, inr, arith, append_assoc, append-nil, length-append}
 use Rattle.std.specs.List.{list_all}
 use Rattle.std.proofs.lemmas.Bool.{and_from}
 use Rattle.std.proofs.lemmas.List.{length_push}
@@ -7,21 +7,16 @@ use Rattle.std.proofs.lemmas.List.Folds.{list_all-append}
 use Rattle.text_lines.specs.Lines.{lines_of}
 use Rattle.text_lines.specs.Words.{words_of}
 use Rattle.cube_tree.specs.CubeTree.{CubeTree, leaf, split, leaves}
-use Rattle.cube_tree.specs.TreeText.{tree_lines, SpellsTree, line_bytes}
+use Rattle.cube_tree.specs.TreeText.{tree_lines, line_bytes}
 use Rattle.cube_tree.specs.TreeFault.{HasTreeFault}
 use Rattle.cube_tree.specs.declared.tree_fault.TreeCause.{TreeCause}
 use Rattle.cube_tree.proofs.TextLemmas.{most_bytes}
 use Rattle.lrat_check.specs.LratFaults.{HasLratFault}
 use Rattle.lrat_check.specs.declared.lrat_fault.LratCause.{LratCause}
-use Rattle.certificate.specs.CertFaults.{LacksHeader, HasCertFault}
+use Rattle.certificate.specs.CertFaults.{LacksHeader}
 use Rattle.certificate.specs.CertLine.{is_skipped_line, is_header}
-use Rattle.certificate.specs.CertRead.{BeginsWithTree, HasTreeFaultBehind, HasSectionFaultBehind}
 use Rattle.certificate.specs.CertText.{IsHeaded}
-use Rattle.certificate.specs.declared.cert_fault.CertCause.{CertCause}
 use Rattle.certificate.specs.declared.cert_fault.CertCause.TheVariants.{Header}
-use Rattle.text_lines.specs.declared.fault.PlacedFault.{PlacedFault}
-use Rattle.text_lines.specs.declared.fault.PlacedFault.TheVariants.{OutOfMemory, At}
-use Rattle.text_lines.specs.Fault.{IsRefusal}
 
 -- lines that say nothing
 pub record IsSilentSoFar (text : List ℕ) (number : ℕ) (rest : List ℕ) : Type 0 where
@@ -97,27 +92,3 @@ lrat_place text cause place f = omega (arith, few_lines text, within (lines_of t
 pub tree_place : (text : List ℕ) (cause : TreeCause) (place : ℕ) → HasTreeFault text cause place → place ≤ length text + 2
 tree_place text cause place (inl f) = omega (arith, few_lines text, within (lines_of text) f.before f.after f.item place f.parts f.counted)
 tree_place text cause place (inr f) = omega (arith, few_lines text, f.behind)
-
--- refusals of the parts are refusals of the text
-pub no_header : (text : List ℕ) (fault : PlacedFault CertCause) → IsRefusal (LacksHeader text) fault → IsRefusal (HasCertFault text) fault
-no_header text OutOfMemory h = tt
-no_header text (At cause line) h = inl h
-
-pub bad_tree : (text behind : List ℕ) (header : ℕ) (fault : PlacedFault CertCause) → IsHeaded text behind header → IsRefusal (HasTreeFaultBehind header behind) fault → IsRefusal (HasCertFault text) fault
-bad_tree text behind header OutOfMemory headed h = tt
-bad_tree text behind header (At cause line) headed h =
-    inr (inl (record { behind = behind; header = header; tree_cause = h.tree_cause; place = h.place; headed = headed; fault = h.fault; told = h.told; counted = h.counted }))
-
--- what a header and a tree begin
-pub begun_with_tree : (text behind : List ℕ) (header : ℕ) (tree : CubeTree) (bytes lines : ℕ) → IsHeaded text behind header → SpellsTree behind tree bytes → lines ≡ length (tree_lines tree) →
-    BeginsWithTree text tree (header + lines) (drop bytes behind)
-begun_with_tree text behind header tree bytes lines headed spelled count = record {
-  spelled = λ sections h. record { behind = behind; line = header; bytes = bytes; headed = headed; tree = spelled; sections = h };
-  faulty = λ cause line h.
-      inr (inr (record { behind = behind; header = header; tree = tree; bytes = bytes; place = h.place; headed = headed; spelled = spelled; fault = h.fault; counted = h.counted ∙ ap (λ (n : ℕ). (header + n) + h.place) count }));
-}
-
-pub bad_section : (text : List ℕ) (tree : CubeTree) (number : ℕ) (rest : List ℕ) (fault : PlacedFault CertCause) → BeginsWithTree text tree number rest →
-    IsRefusal (HasSectionFaultBehind number (lines_of rest)) fault → IsRefusal (HasCertFault text) fault
-bad_section text tree number rest OutOfMemory h refusal = tt
-bad_section text tree number rest (At cause line) h refusal = h.faulty cause line refusal

@@ -1,11 +1,10 @@
 -- Sections and their leaves.
 use Rattle.std.proofs.Common.{◌≡◌, ◌⊎◌, ℕ, zero, suc, ◌+◌, ◌<◌, ℤ, List, [], ◌∷◌, ◌++◌, length, take, drop, get_or, Bool, true, false, cond, refl, ap, sym, ◌∙◌, subst, inl, inr, arith, append_assoc, take-append-drop}
-use Rattle.std.specs.Prelude.{Some, None, ◌==◌, ◌||◌, nat_lt, nat_le}
+use Rattle.std.specs.Prelude.{Some, None, ◌||◌, nat_lt, nat_le}
 use Rattle.std.specs.List.{list_any, list_all, slice_get}
 use Rattle.std.proofs.Math.Seq.{take-suc, drop-cons}
 use Rattle.std.proofs.lemmas.Bool.{or_from, and_from, true≢false, eqb-true, eq-eqb, leb-false, lt-ltb}
 use Rattle.std.proofs.lemmas.List.{length-take}
-use Rattle.std.proofs.lemmas.List.Folds.{list_any-append}
 use Rattle.std.proofs.lemmas.Option.{slice_get_within}
 use Rattle.text_lines.proofs.FaultLemmas.{faultless_push, faultless_nil, none_is_some}
 use Rattle.cube_tree.specs.CubeTree.{leaves, cubes_of}
@@ -82,11 +81,6 @@ first_found sections leaf place section below is none same = record {
   is = same;
   none_before = none;
 }
-
-pub none_on : (sections : List Section) (leaf place : ℕ) (section : Section) → place < length sections → section ≡ get_or sections place section → list_any (is_of leaf) (take place sections) ≡ false →
-    (section.leaf == leaf) ≡ false → list_any (is_of leaf) (take (place + 1) sections) ≡ false
-none_on sections leaf place section below is none other =
-    ap (list_any (is_of leaf)) (taken_on sections place section below is) ∙ list_any-append (is_of leaf) (take place sections) (section ∷ []) ∙ or_from _ _ none (or_from _ false other refl)
 
 -- nothing is wrong with a section
 clear_parts : (count : ℕ) (before : List Section) (section : Section) (low one : Bool) → nat_le count section.leaf ≡ low → list_any (is_of section.leaf) before ≡ one →

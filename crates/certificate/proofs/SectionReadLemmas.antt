@@ -168,9 +168,6 @@ read_up_to text before number rest sections h = record {
   behind = h.behind;
 }
 
-pub nothing_read : (text : List ℕ) (before : ℕ) → AreReadUpTo before text before text []
-nothing_read text before = record { spelled = λ more h. h; faulty = λ cause line f. f; behind = omega arith }
-
 pub read_on : (text : List ℕ) (before number : ℕ) (rest : List ℕ) (sections : List Section) (further : ℕ) (behind : List ℕ) (others : List Section) →
     AreReadUpTo before text number rest sections → AreReadUpTo number rest further behind others → AreReadUpTo before text further behind (sections ++ others)
 read_on text before number rest sections further behind others h k = record {

@@ -1,5 +1,5 @@
 -- What a sink has taken of a certificate.
-use Rattle.std.proofs.Common.{◌≡◌, ℕ, suc, ◌+◌, List, [], ◌∷◌, ◌++◌, length, refl, ap, sym, ◌∙◌, subst, arith, append_assoc, append-nil}
+use Rattle.std.proofs.Common.{◌≡◌, ℕ, suc, ◌+◌, List, [], ◌∷◌, ◌++◌, length, ap, sym, ◌∙◌, subst, arith, append_assoc, append-nil}
 use Rattle.std.specs.Prelude.{codes}
 use Rattle.std.specs.Fmt.{decimal}
 use Rattle.std.specs.List.{flat_map}
@@ -8,10 +8,6 @@ use Rattle.dimacs.specs.Sink.{AppendsFront}
 use Rattle.lrat_check.specs.LratWritten.{canonical_derivation}
 use Rattle.lrat_check.specs.declared.derivation.Step.{Step}
 use Rattle.certificate.specs.CertWritten.{section_text, sections_from}
-
--- nothing was taken yet
-pub none_taken : (old bytes : List ℕ) → AppendsFront old old bytes
-none_taken old bytes = record { front = []; back = bytes; parts = refl; appended = sym (append-nil old) }
 
 -- a first part was taken whole, and a prefix of the next
 pub front_behind : (old between new first second third : List ℕ) → between ≡ old ++ first → AppendsFront between new second → AppendsFront old new (first ++ (second ++ third))

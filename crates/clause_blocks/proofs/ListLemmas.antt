@@ -57,10 +57,6 @@ piece_count t =
     let all : length (map (transitivity_from (operation_count t)) (numbers t) ++ last_pieces t) ≡ length (map (transitivity_from (operation_count t)) (numbers t)) + 3 = length-append (map (transitivity_from (operation_count t)) (numbers t)) (last_pieces t) in
     omega (arith, triples, all)
 
--- the first piece
-pub order_piece : (t : TraceValue) (k : ℕ) → k ≡ 0 → piece_at t k ≡ program_order t
-order_piece t k e = ap (piece_at t) e
-
 -- those of transitivity
 pub triples_piece : (t : TraceValue) (k m : ℕ) → k ≡ suc m → m < operation_count t → piece_at t k ≡ transitivity_from (operation_count t) m
 triples_piece t k m e within =

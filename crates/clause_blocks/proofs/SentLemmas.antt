@@ -8,7 +8,7 @@ use Rattle.std.proofs.lemmas.Grind.{flat_map-append}
 use Rattle.var_layout.proofs.RangeLemmas.{range_parted}
 use Rattle.dimacs.specs.CnfText.{clause_line}
 use Rattle.dimacs.specs.Sink.{AppendsFront, IsSent}
-use Rattle.dimacs.proofs.ChunkLemmas.{sent_more, sent_on, sent_last, sent_front}
+use Rattle.dimacs.proofs.ChunkLemmas.{sent_more, sent_on, sent_last}
 use Rattle.dimacs.proofs.SinkLemmas.{front-append}
 
 -- the lines of two lists of clauses
@@ -34,10 +34,6 @@ sent_then_front old between new head kept first second s f =
 -- a prefix of the first list's lines is one of the lines of both
 pub front_of_both : (old new head : List ℕ) (first second : List (List ℤ)) → AppendsFront old new (head ++ flat_map clause_line first) → AppendsFront old new (head ++ flat_map clause_line (first ++ second))
 front_of_both old new head first second f = subst (λ made. AppendsFront old new made) (both_lines head first second) (front-append old new (head ++ flat_map clause_line first) (flat_map clause_line second) f)
-
--- so is what the sink has taken once those of the first list were sent
-pub front_of_sent : (old new head kept : List ℕ) (first second : List (List ℤ)) → IsSent old new kept (head ++ flat_map clause_line first) → AppendsFront old new (head ++ flat_map clause_line (first ++ second))
-front_of_sent old new head kept first second s = subst (λ made. AppendsFront old new made) (both_lines head first second) (sent_front old new kept (head ++ flat_map clause_line first) (flat_map clause_line second) s)
 
 -- what the numbers below k give, and then what the others below n do
 pub flat_parted : {A : Type 0} (f : ℕ → List A) (k n : ℕ) → k ≤ n → flat_map f (range_with_len 0 k) ++ flat_map f (range_with_len k (n - k)) ≡ flat_map f (range_with_len 0 n)

@@ -102,7 +102,7 @@ impl StepLog {
         }
         self.push(Step::Deletion {
             first: u64::from(self.next_id),
-            ids: Ids::new(numbers),
+            ids: Ids::from_slice(self.alloc, numbers.as_slice())?,
         })
     }
 

@@ -1,5 +1,5 @@
 -- Steps, one after the other.
-use Rattle.std.proofs.Common.{◌≡◌, ℕ, ◌+◌, Bool, true, false, eqb, List, [], ◌∷◌, ◌<◌, length, drop, drop-cons, get_or, add-one, refl, sym, ◌∙◌, subst, inl, inr}
+use Rattle.std.proofs.Common.{◌≡◌, ℕ, ◌+◌, Bool, true, false, eqb, List, ◌∷◌, ◌<◌, length, drop, drop-cons, get_or, add-one, sym, ◌∙◌, subst, inl, inr}
 use Rattle.std.specs.Prelude.{ℤ, Option, None}
 use Rattle.std.specs.Prelude.{Result, Ok, Err, IfErr}
 use Rattle.std.specs.Result.{IsErrAnd}
@@ -10,7 +10,6 @@ use Rattle.lrat_check.specs.Justified.{IsJustified}
 use Rattle.lrat_check.specs.declared.derivation.Step.{Step}
 use Rattle.lrat_check.specs.declared.derivation.Step.TheVariants.{Addition}
 use Rattle.lrat_check.specs.declared.refusal.StepFault.{StepFault}
-use Rattle.lrat_check.specs.declared.refusal.StepFault.TheVariants.{NoEmptyClause}
 use Rattle.text_lines.specs.declared.fault.PlacedFault.{PlacedFault}
 use Rattle.text_lines.specs.declared.fault.PlacedFault.TheVariants.{OutOfMemory, At}
 use Rattle.text_lines.specs.Fault.{IsRefusal, IsRefusalAt}
@@ -46,11 +45,6 @@ pub walk_fails : (clauses : List (List ℤ)) (cube : List ℤ) (steps : List Ste
 walk_fails clauses cube steps active next left step rest OutOfMemory h e wrong = tt
 walk_fails clauses cube steps active next left step rest (At fault place) h e wrong =
     h.refuses fault place (subst (λ (l : List Step). Refuses active next l fault place) (sym e) (inl wrong))
-
-pub walk_over : (start : ℕ → Option (List ℤ)) (steps : List Step) (active : ℕ → Option (List ℤ)) (next : ℕ) (left : List Step) →
-    IsWalked start steps active next left → left ≡ [] → Refuses start 1 steps NoEmptyClause next
-walk_over start steps active next left h e =
-    h.refuses NoEmptyClause next (subst (λ (l : List Step). Refuses active next l NoEmptyClause next) (sym e) (refl, refl))
 
 -- a clause was added
 pub step_added : (old new : ℕ → Option (List ℤ)) (step : Step) (id : ℕ) (literals hints : List ℤ) (ended : Bool) → step ≡ Addition id literals hints → old id ≡ None → IsJustified old literals hints →

@@ -1,6 +1,6 @@
 -- The lines of a derivation's text and the steps that they are.
 use Rattle.std.proofs.Common.{◌≡◌, ℕ, ◌+◌, ◌<◌, ◌≤◌, List, [], ◌∷◌, ◌++◌, length, true, refl, ap, sym, ◌∙◌, subst, arith, append-nil}
-use Rattle.std.specs.Prelude.{None, Some}
+use Rattle.std.specs.Prelude.{None}
 use Rattle.std.specs.List.{list_all, AllZip}
 use Rattle.std.proofs.lemmas.Bool.{and_from, cond-true, cond-false}
 use Rattle.std.proofs.lemmas.List.{length_push}
@@ -12,14 +12,10 @@ use Rattle.text_lines.specs.Words.{words_of}
 use Rattle.text_lines.proofs.FaultLemmas.{faultless_nil, faultless_push}
 use Rattle.text_lines.proofs.KeptLemmas.{kept_append, kept_skipped, kept_more}
 use Rattle.text_lines.proofs.ListLemmas.{next_parts}
-use Rattle.lrat_check.specs.LratFaults.{line_fault, words_fault, HasLratFault}
+use Rattle.lrat_check.specs.LratFaults.{line_fault, words_fault}
 use Rattle.lrat_check.specs.LratRead.{IsSkippedLine, IsLineOf}
 use Rattle.lrat_check.specs.LratText.{IsStepLine, SpellsDerivation, is_lrat_step}
 use Rattle.lrat_check.specs.declared.derivation.Step.{Step}
-use Rattle.lrat_check.specs.declared.lrat_fault.LratCause.{LratCause}
-use Rattle.text_lines.specs.declared.fault.PlacedFault.{PlacedFault}
-use Rattle.text_lines.specs.declared.fault.PlacedFault.TheVariants.{OutOfMemory, At}
-use Rattle.text_lines.specs.Fault.{IsRefusal, IsRefusalAt}
 use Rattle.lrat_check.proofs.ClearLemmas.{step_clear}
 
 -- two lists side by side, with one more
@@ -70,9 +66,6 @@ pub record IsReadSoFar (text : List ℕ) (number : ℕ) (rest : List ℕ) (steps
   pub spelled : AreSteps done steps
   pub behind : number + length rest ≤ length text
 
-pub at_start : (text : List ℕ) → IsReadSoFar text 0 text []
-at_start text = record { done = []; parts = refl; counted = refl; spelled = no_lines; behind = omega arith }
-
 pub turn_skipped : (text : List ℕ) (number : ℕ) (rest : List ℕ) (steps : List Step) (line after : List ℕ) → IsReadSoFar text number rest steps →
     lines_of rest ≡ line ∷ lines_of after → length after < length rest → IsSkippedLine line → IsReadSoFar text (number + 1) after steps
 turn_skipped text number rest steps line after h cut shorter skipped =
@@ -95,25 +88,6 @@ turn_step text number rest steps line after step h cut shorter new =
       behind = omega (arith, h.behind, shorter);
     }
 
--- a refusal of the next line is one of the text
-pub refused : (text : List ℕ) (number : ℕ) (rest : List ℕ) (steps : List Step) (line after : List ℕ) (fault : PlacedFault LratCause) → IsReadSoFar text number rest steps →
-    lines_of rest ≡ line ∷ lines_of after → IsRefusalAt (λ cause. line_fault [] line ≡ Some cause) (number + 1) fault → IsRefusal (HasLratFault text) fault
-refused text number rest steps line after OutOfMemory h cut refusal = tt
-refused text number rest steps line after (At cause place) h cut refusal =
-    record {
-      before = h.done;
-      item = line;
-      after = lines_of after;
-      parts = h.parts ∙ ap (λ l. h.done ++ l) cut;
-      counted = refusal.1 ∙ ap (λ k. k + 1) h.counted;
-      faulty = refusal.0;
-      first = h.spelled.faultless;
-    }
-
 -- steps of all lines are the derivation
 pub spelled_by : (text : List ℕ) (steps : List Step) → AreSteps (lines_of text) steps → SpellsDerivation text steps
 spelled_by text steps h = record { lines_are = h.lines_are; written = h.written }
-
-pub at_end : (text : List ℕ) (number : ℕ) (rest : List ℕ) (steps : List Step) → IsReadSoFar text number rest steps → lines_of rest ≡ [] → SpellsDerivation text steps
-at_end text number rest steps h none =
-    spelled_by text steps (subst (λ (lines : List (List ℕ)). AreSteps lines steps) (sym (h.parts ∙ ap (λ l. h.done ++ l) none ∙ append-nil h.done)) h.spelled)

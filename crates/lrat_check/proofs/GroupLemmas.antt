@@ -8,7 +8,7 @@ use Rattle.std.proofs.lemmas.List.Folds.{list_any-append}
 use Rattle.lrat_check.specs.Counts.{times, times_at, IsCount}
 use Rattle.lrat_check.specs.Hints.{Group, has_group}
 use Rattle.lrat_check.specs.Propagation.{has}
-use Rattle.lrat_check.specs.Rat.{IsSettled, IsUnsettled, AreSettled, AreUnsettled, HasAllGroups, LacksGroup}
+use Rattle.lrat_check.specs.Rat.{IsSettled, AreSettled, AreUnsettled, HasAllGroups, LacksGroup}
 use Rattle.lrat_check.specs.declared.refusal.StepFault.{StepFault}
 use Rattle.lrat_check.proofs.CountLemmas.{no_times, some_times, count_less, count_same}
 
@@ -17,22 +17,12 @@ pub record AreOnTheWay (active : ℕ → Option (List ℤ)) (pivot : ℤ) (reach
   pub settled : AreSettled active pivot reached left → AreSettled active pivot reached groups
   pub unsettled : (fault : StepFault) → AreUnsettled active pivot reached left fault → AreUnsettled active pivot reached groups fault
 
-pub groups_start : (active : ℕ → Option (List ℤ)) (pivot : ℤ) (reached : List ℤ) (groups : List Group) → AreOnTheWay active pivot reached groups groups
-groups_start active pivot reached groups = record { settled = λ h. h; unsettled = λ fault h. h }
-
 pub group_settled : (active : ℕ → Option (List ℤ)) (pivot : ℤ) (reached : List ℤ) (groups left rest : List Group) (group : Group) → AreOnTheWay active pivot reached groups left → left ≡ group ∷ rest →
     IsSettled active pivot reached group → AreOnTheWay active pivot reached groups rest
 group_settled active pivot reached groups left rest group h e is = record {
   settled = λ later. h.settled (subst (λ (l : List Group). AreSettled active pivot reached l) (sym e) (is, later));
   unsettled = λ fault later. h.unsettled fault (subst (λ (l : List Group). AreUnsettled active pivot reached l fault) (sym e) (inr (is, later)));
 }
-
-pub group_unsettled : (active : ℕ → Option (List ℤ)) (pivot : ℤ) (reached : List ℤ) (groups left rest : List Group) (group : Group) (fault : StepFault) → AreOnTheWay active pivot reached groups left → left ≡ group ∷ rest →
-    IsUnsettled active pivot reached group fault → AreUnsettled active pivot reached groups fault
-group_unsettled active pivot reached groups left rest group fault h e is = h.unsettled fault (subst (λ (l : List Group). AreUnsettled active pivot reached l fault) (sym e) (inl is))
-
-pub groups_end : (active : ℕ → Option (List ℤ)) (pivot : ℤ) (reached : List ℤ) (groups left : List Group) → AreOnTheWay active pivot reached groups left → left ≡ [] → AreSettled active pivot reached groups
-groups_end active pivot reached groups left h e = h.settled (subst (λ (l : List Group). AreSettled active pivot reached l) (sym e) tt)
 
 -- the active clauses without those of these groups
 abbrev pub without_groups : List Group → (ℕ → Option (List ℤ)) → ℕ → Option (List ℤ)

@@ -27,11 +27,6 @@ put_past near id k old new past h =
           ap (slice_index_or near k) (cond-false (eqb id k) true old b) ∙ sym (cond-false (eqb id k) true (slice_index_or near k old) b))
     ]
 
--- what is hidden is taken away
-pub hidden_on : (b hidden : Bool) (o : Option (List ℤ)) → cond (cond b true hidden) None o ≡ cond (b || false) None (cond hidden None o)
-hidden_on true hidden o = refl
-hidden_on false hidden o = refl
-
 all_left : (b hidden : Bool) (o : Option (List ℤ)) → b ≡ true → cond b o (cond hidden None o) ≡ o
 all_left true hidden o h = refl
 all_left false hidden o h = absurd (false≢true h)

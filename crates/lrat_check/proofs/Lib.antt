@@ -16,6 +16,7 @@ pub mod SoundLemmas
 pub mod RatLemmas
 pub mod RefusalLemmas
 pub mod ListLemmas
+pub mod ShortNumberLemmas
 pub mod LratLineLemmas
 pub mod ClearLemmas
 pub mod DerivationTextLemmas

@@ -16,9 +16,6 @@ use Rattle.lrat_check.specs.Propagation.{has, is_tautology, is_falsified, Falsif
 pub int_same : (y z : ℤ) → int_eq y z ≡ true → y ≡ z
 int_same y z h = (Decides-int_eq y z).0 h
 
-pub int_apart : (y z : ℤ) → y ≢ z → int_eq y z ≡ false
-int_apart y z h = false_from_ne_true (int_eq y z) (λ e. h (int_same y z e))
-
 -- what is among one more literal
 pub has_push : (clause : List ℤ) (x z : ℤ) → has (clause ++ x ∷ []) z ≡ (has clause z || (int_eq x z || false))
 has_push clause x z = list_any-append (λ y. int_eq y z) clause (x ∷ [])

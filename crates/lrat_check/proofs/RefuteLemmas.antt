@@ -1,12 +1,12 @@
 -- Hints, one after the other.
 use Rattle.std.proofs.Common.{◌≡◌, ◌≢◌, ℕ, ◌+◌, ◌<◌, false, List, [], ◌∷◌, ◌++◌, length, drop, drop-cons, get_or, add-one, refl, ap, sym, ◌∙◌, subst, inl, inr}
-use Rattle.std.specs.Prelude.{ℤ, pos, negsuc, nat_abs, Option, Some, None}
+use Rattle.std.specs.Prelude.{ℤ, pos, negsuc, nat_abs, Option, Some}
 use Rattle.std.specs.Int.{is_negative}
 use Rattle.std.proofs.lemmas.Bool.{true≢false}
 use Rattle.lrat_check.specs.Hints.{first_hints}
 use Rattle.lrat_check.specs.Rat.{Reaches}
 use Rattle.lrat_check.specs.Refuted.{Refutes, FailsToRefute}
-use Rattle.lrat_check.specs.Propagation.{Falsifies, IsUnit, HasTwoUnfalsified}
+use Rattle.lrat_check.specs.Propagation.{IsUnit, HasTwoUnfalsified}
 use Rattle.lrat_check.specs.declared.refusal.StepFault.{StepFault}
 use Rattle.lrat_check.specs.declared.refusal.StepFault.TheVariants.{UnknownHint, NotUnit, NoConflict}
 
@@ -16,9 +16,6 @@ pub record IsOnTheWay (active : ℕ → Option (List ℤ)) (first : List ℤ) (h
   pub fails : (fault : StepFault) → FailsToRefute active trues left fault → FailsToRefute active first hints fault
   pub reaches : (reached : List ℤ) → Reaches active trues left reached → Reaches active first hints reached
 
-pub on_start : (active : ℕ → Option (List ℤ)) (first : List ℤ) (hints : List ℕ) → IsOnTheWay active first hints first hints
-on_start active first hints = record { refutes = λ h. h; fails = λ fault h. h; reaches = λ reached h. h }
-
 -- the next hint's clause is unit
 pub on_unit : (active : ℕ → Option (List ℤ)) (first : List ℤ) (hints : List ℕ) (trues : List ℤ) (left : List ℕ) (hint : ℕ) (rest : List ℕ) (clause : List ℤ) (unit : ℤ) →
     IsOnTheWay active first hints trues left → left ≡ hint ∷ rest → active hint ≡ Some clause → IsUnit trues clause unit → IsOnTheWay active first hints (trues ++ unit ∷ []) rest
@@ -27,12 +24,6 @@ on_unit active first hints trues left hint rest clause unit h e known is = recor
   fails = λ fault later. h.fails fault (subst (λ (l : List ℕ). FailsToRefute active trues l fault) (sym e) (inr (clause, known, inr (unit, is, later))));
   reaches = λ reached later. h.reaches reached (subst (λ (l : List ℕ). Reaches active trues l reached) (sym e) (clause, known, (unit, is, later)));
 }
-
--- the next hint's clause is false
-pub on_falsified : (active : ℕ → Option (List ℤ)) (first : List ℤ) (hints : List ℕ) (trues : List ℤ) (left : List ℕ) (hint : ℕ) (rest : List ℕ) (clause : List ℤ) →
-    IsOnTheWay active first hints trues left → left ≡ hint ∷ rest → active hint ≡ Some clause → Falsifies trues clause → Refutes active first hints
-on_falsified active first hints trues left hint rest clause h e known is =
-    h.refutes (subst (λ (l : List ℕ). Refutes active trues l) (sym e) (clause, known, inl is))
 
 not_unit : NotUnit ≢ NoConflict
 not_unit e = absurd (cc)
@@ -44,16 +35,6 @@ pub on_two : (active : ℕ → Option (List ℤ)) (first : List ℤ) (hints : Li
     IsOnTheWay active first hints trues left → left ≡ hint ∷ rest → active hint ≡ Some clause → HasTwoUnfalsified trues clause → FailsToRefute active first hints NotUnit × (NotUnit ≢ NoConflict)
 on_two active first hints trues left hint rest clause h e known is =
     (h.fails NotUnit (subst (λ (l : List ℕ). FailsToRefute active trues l NotUnit) (sym e) (inr (clause, known, inl (is, refl)))), not_unit)
-
-pub on_unknown : (active : ℕ → Option (List ℤ)) (first : List ℤ) (hints : List ℕ) (trues : List ℤ) (left : List ℕ) (hint : ℕ) (rest : List ℕ) →
-    IsOnTheWay active first hints trues left → left ≡ hint ∷ rest → active hint ≡ None → FailsToRefute active first hints UnknownHint × (UnknownHint ≢ NoConflict)
-on_unknown active first hints trues left hint rest h e unknown =
-    (h.fails UnknownHint (subst (λ (l : List ℕ). FailsToRefute active trues l UnknownHint) (sym e) (inl (unknown, refl))), unknown_hint)
-
-pub on_end : (active : ℕ → Option (List ℤ)) (first : List ℤ) (hints : List ℕ) (trues : List ℤ) (left : List ℕ) →
-    IsOnTheWay active first hints trues left → left ≡ [] → Reaches active first hints trues
-on_end active first hints trues left h e =
-    h.reaches trues (subst (λ (l : List ℕ). Reaches active trues l trues) (sym e) refl)
 
 -- a hint that is the id of a clause
 id_first : (z : ℤ) (rest : List ℤ) → is_negative z ≡ false → first_hints (z ∷ rest) ≡ nat_abs z ∷ first_hints rest

@@ -21,6 +21,7 @@ pub mod Propagation
 pub mod Rat
 pub mod Refusal
 pub mod Refuted
+pub mod ShortNumbers
 pub mod Sound
 pub mod Standing
 pub mod Trail

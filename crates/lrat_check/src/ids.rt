@@ -1,14 +1,18 @@
 //! Lists of ids of clauses.
 
-ghost use Rattle.std.specs.Prelude.{◌≡◌, IfOk};
+ghost use Rattle.std.specs.Prelude.{◌≡◌, ◌≤◌, length, IsOk, IfOk};
 
+use smallvec::SmallVec;
 use std::alloc::{AllocError, Global};
 use std::marker::Model;
+
+/// Lists up to this length are stored inline.
+const INLINE: usize = 3;
 
 /// A list of ids of clauses.
 #[derive(Drop)]
 pub struct Ids {
-    ids: Vec<u64>,
+    ids: SmallVec<u64, INLINE>,
 }
 
 impl Model for Ids {
@@ -20,11 +24,14 @@ impl Model for Ids {
 }
 
 impl Ids {
-    /// The list of these ids.
-    pub fn new(ids: Vec<u64>) -> Ids
-        ensures { result ≡ ids.items }
+    /// A copy of these ids. Up to three need no memory.
+    pub fn from_slice(alloc: Global, ids: &[u64]) -> Result<Ids, AllocError>
+        ensures ok { IfOk result (λ made. made ≡ ids.now) }
+        ensures short { length ids.now ≤ 3 → IsOk result }
     {
-        Ids { ids }
+        Ok(Ids {
+            ids: SmallVec::from_slice(alloc, ids)?,
+        })
     }
 
     /// The ids, in order.
@@ -38,6 +45,6 @@ impl Ids {
     pub fn copied(&self, alloc: Global) -> Result<Ids, AllocError>
         ensures { IfOk result (λ ids. ids ≡ self.now) }
     {
-        Ok(Ids::new(Vec::from_slice(alloc, self.ids.as_slice())?))
+        Ids::from_slice(alloc, self.ids.as_slice())
     }
 }

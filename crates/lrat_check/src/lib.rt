@@ -28,4 +28,5 @@ pub mod other_cubes;
 mod propagation;
 mod rat;
 pub mod refusal;
+mod short_numbers;
 mod true_literals;

@@ -16,72 +16,102 @@ use crate::hints::Hints;
 use crate::ids::Ids;
 use crate::lrat_fault::{LratCause, LratFault};
 use crate::lrat_number::{read_first, read_hint, read_id, read_literal};
-use dimacs::Clause;
+use crate::short_numbers::{behind_zero, push_short_hints, push_short_ids, push_short_literals};
+use dimacs::{Clause, Lit};
 use std::alloc::Global;
 use text_lines::comments::begins_dimacs_comment;
 use text_lines::lines::cut_line;
 use text_lines::numbers::read_solver_number;
 use text_lines::words::cut_word;
 
-/// The room for the hints of a line before it grows.
-const ROOM: usize = 16;
+/// Lists of the numbers of a line, which all lines of a text use one after the other.
+#[derive(Drop)]
+struct LineRooms {
+    ids: Vec<u64>,
+    hints: Vec<i64>,
+    literals: Vec<Lit>,
+}
 
 /// The ids up to the first 0 of the line of this number, and what follows.
-fn read_ids(alloc: Global, line: &[u8], number: usize) -> Result<(Ids, &[u8]), LratFault>
+fn read_ids<'x>(
+    alloc: Global,
+    ids: &mut Vec<u64>,
+    line: &'x [u8],
+    number: usize,
+) -> Result<(Ids, &'x [u8]), LratFault>
     ensures { MatchResult result
         (λ read. BeginsWithList id_fault is_id_number (words_of line.now) (map pos read.0) (words_of read.1.now))
         (λ fault. IsRefusalAt (λ cause. HasListFault id_fault (words_of line.now) cause) number fault) }
 {
-    let mut ids = Vec::new(alloc);
-    let mut rest = line;
+    ids.clear();
+    let mut rest = push_short_ids(ids, line)?;
+    if let Some(behind) = behind_zero(rest) {
+        return Ok((Ids::from_slice(alloc, ids.as_slice())?, behind));
+    }
     while let Some((word, after)) = cut_word(rest) {
         let id = match read_id(word) {
             Ok(id) => id,
             Err(cause) => return Err(LratFault::At(cause, number)),
         };
         if id == 0 {
-            return Ok((Ids::new(ids), after));
+            return Ok((Ids::from_slice(alloc, ids.as_slice())?, after));
         }
         ids.push(id)?;
-        rest = after;
+        rest = push_short_ids(ids, after)?;
     }
     Err(LratFault::At(LratCause::Unended, number))
 }
 
 /// The hints up to the first 0 of the line of this number, and what follows.
-fn read_hints(alloc: Global, line: &[u8], number: usize) -> Result<(Hints, &[u8]), LratFault>
+fn read_hints<'x>(
+    alloc: Global,
+    hints: &mut Vec<i64>,
+    line: &'x [u8],
+    number: usize,
+) -> Result<(Hints, &'x [u8]), LratFault>
     ensures { MatchResult result
         (λ read. BeginsWithList hint_fault is_id_number (words_of line.now) read.0 (words_of read.1.now))
         (λ fault. IsRefusalAt (λ cause. HasListFault hint_fault (words_of line.now) cause) number fault) }
 {
-    let mut hints = Vec::with_capacity(alloc, ROOM)?;
-    let mut rest = line;
+    hints.clear();
+    let mut rest = push_short_hints(hints, line)?;
+    if let Some(behind) = behind_zero(rest) {
+        return Ok((Hints::compact(alloc, hints.as_slice())?, behind));
+    }
     while let Some((word, after)) = cut_word(rest) {
         match read_hint(word) {
             Ok(Some(hint)) => hints.push(hint)?,
             Ok(None) => return Ok((Hints::compact(alloc, hints.as_slice())?, after)),
             Err(cause) => return Err(LratFault::At(cause, number)),
         }
-        rest = after;
+        rest = push_short_hints(hints, after)?;
     }
     Err(LratFault::At(LratCause::Unended, number))
 }
 
 /// The literals up to the first 0 of the line of this number, and what follows.
-fn read_literals(alloc: Global, line: &[u8], number: usize) -> Result<(Clause, &[u8]), LratFault>
+fn read_literals<'x>(
+    alloc: Global,
+    literals: &mut Vec<Lit>,
+    line: &'x [u8],
+    number: usize,
+) -> Result<(Clause, &'x [u8]), LratFault>
     ensures { MatchResult result
         (λ read. BeginsWithList literal_fault is_literal (words_of line.now) read.0 (words_of read.1.now))
         (λ fault. IsRefusalAt (λ cause. HasListFault literal_fault (words_of line.now) cause) number fault) }
 {
-    let mut literals = Vec::new(alloc);
-    let mut rest = line;
+    literals.clear();
+    let mut rest = push_short_literals(literals, line)?;
+    if let Some(behind) = behind_zero(rest) {
+        return Ok((Clause::from_slice(alloc, literals.as_slice())?, behind));
+    }
     while let Some((word, after)) = cut_word(rest) {
         match read_literal(word) {
             Ok(Some(literal)) => literals.push(literal)?,
             Ok(None) => return Ok((Clause::from_slice(alloc, literals.as_slice())?, after)),
             Err(cause) => return Err(LratFault::At(cause, number)),
         }
-        rest = after;
+        rest = push_short_literals(literals, after)?;
     }
     Err(LratFault::At(LratCause::Unended, number))
 }
@@ -105,7 +135,13 @@ fn end_line(rest: &[u8], number: usize) -> Result<(), LratFault>
 }
 
 /// The addition whose id is this word and whose other words follow.
-fn read_addition(alloc: Global, word: &[u8], rest: &[u8], number: usize) -> Result<Step, LratFault>
+fn read_addition(
+    alloc: Global,
+    rooms: &mut LineRooms,
+    word: &[u8],
+    rest: &[u8],
+    number: usize,
+) -> Result<Step, LratFault>
     ensures { MatchResult result
         (λ step. IsWrittenStep (word.now ∷ words_of rest.now) step)
         (λ fault. IsRefusalAt (λ cause. option_or (first_fault 1 (solver_number word.now)) (addition_fault (words_of rest.now)) ≡ Some cause) number fault) }
@@ -114,8 +150,8 @@ fn read_addition(alloc: Global, word: &[u8], rest: &[u8], number: usize) -> Resu
         Ok(id) => id,
         Err(cause) => return Err(LratFault::At(cause, number)),
     };
-    let (literals, after) = read_literals(alloc, rest, number)?;
-    let (hints, behind) = read_hints(alloc, after, number)?;
+    let (literals, after) = read_literals(alloc, &mut rooms.literals, rest, number)?;
+    let (hints, behind) = read_hints(alloc, &mut rooms.hints, after, number)?;
     end_line(behind, number)?;
     Ok(Step::Addition {
         id,
@@ -125,7 +161,13 @@ fn read_addition(alloc: Global, word: &[u8], rest: &[u8], number: usize) -> Resu
 }
 
 /// The deletion whose first number is this word and whose ids follow.
-fn read_deletion(alloc: Global, word: &[u8], rest: &[u8], number: usize) -> Result<Step, LratFault>
+fn read_deletion(
+    alloc: Global,
+    rooms: &mut LineRooms,
+    word: &[u8],
+    rest: &[u8],
+    number: usize,
+) -> Result<Step, LratFault>
     ensures { MatchResult result
         (λ step. IsWrittenStep (word.now ∷ (codes "d" ∷ words_of rest.now)) step)
         (λ fault. IsRefusalAt (λ cause. option_or (first_fault 0 (solver_number word.now)) (deletion_fault (words_of rest.now)) ≡ Some cause) number fault) }
@@ -134,7 +176,7 @@ fn read_deletion(alloc: Global, word: &[u8], rest: &[u8], number: usize) -> Resu
         Ok(first) => first,
         Err(cause) => return Err(LratFault::At(cause, number)),
     };
-    let (ids, behind) = read_ids(alloc, rest, number)?;
+    let (ids, behind) = read_ids(alloc, &mut rooms.ids, rest, number)?;
     end_line(behind, number)?;
     Ok(Step::Deletion { first, ids })
 }
@@ -152,7 +194,12 @@ fn behind_letter(rest: &[u8]) -> Option<&[u8]>
 }
 
 /// The step on the line of this number; nothing if the line is skipped.
-fn read_line(alloc: Global, line: &[u8], number: usize) -> Result<Option<Step>, LratFault>
+fn read_line(
+    alloc: Global,
+    rooms: &mut LineRooms,
+    line: &[u8],
+    number: usize,
+) -> Result<Option<Step>, LratFault>
     ensures { MatchResult result
         (λ found. MatchOption found (IsSkippedLine line.now) (λ step. IsLineOf line.now step))
         (λ fault. IsRefusalAt (λ cause. line_fault [] line.now ≡ Some cause) number fault) }
@@ -164,8 +211,8 @@ fn read_line(alloc: Global, line: &[u8], number: usize) -> Result<Option<Step>, 
         return Ok(None);
     }
     let step = match behind_letter(rest) {
-        Some(after) => read_deletion(alloc, word, after, number)?,
-        None => read_addition(alloc, word, rest, number)?,
+        Some(after) => read_deletion(alloc, rooms, word, after, number)?,
+        None => read_addition(alloc, rooms, word, rest, number)?,
     };
     Ok(Some(step))
 }
@@ -179,11 +226,16 @@ pub fn read_lrat(alloc: Global, text: &[u8]) -> Result<Derivation, LratFault>
     ensures faulty { IfErr result (λ fault. IsRefusal (HasLratFault text.now) fault) }
 {
     let mut steps = Vec::new(alloc);
+    let mut rooms = LineRooms {
+        ids: Vec::new(alloc),
+        hints: Vec::new(alloc),
+        literals: Vec::new(alloc),
+    };
     let mut number = 0usize;
     let mut rest = text;
     while let Some((line, after)) = cut_line(rest) {
         number += 1;
-        if let Some(step) = read_line(alloc, line, number)? {
+        if let Some(step) = read_line(alloc, &mut rooms, line, number)? {
             steps.push(step)?;
         }
         rest = after;

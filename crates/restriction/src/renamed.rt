@@ -46,6 +46,7 @@ fn new_place<'a>(trace: &Trace, all: &'a [LeftPlaces<'a>], name: &OpName) -> u16
     match places_at(trace.processes(), all, name.process.as_bytes()) {
         Some(left) => {
             let count = count_up_to(left.as_slice(), name.place);
+            // as many as stay up to a place are at most the place, and the bound shows that the cast loses nothing
             count.min(name.place as usize) as u16
         }
         None => 0,

@@ -7,7 +7,7 @@ use Rattle.schedule_judge.specs.declared.op_numbers.OpNumbers.{OpNumbers}
 use Rattle.trace_semantics.specs.declared.operation.OpName.{OpName}
 use Rattle.trace_semantics.specs.Judgement.{has_come, put_before}
 use Rattle.trace_semantics.specs.Operation.{same_op}
-use Rattle.schedule_judge.specs.Tables.{number_at, is_broken, first_in, FindsFirst, FindsEarly, FindsEarlyIn}
+use Rattle.schedule_judge.specs.Tables.{number_at, is_broken, first_in, FindsEarlyIn}
 use Rattle.trace_semantics.specs.Trace.{TraceValue}
 use Rattle.trace_semantics.proofs.NameLemmas.{same_name}
 use Rattle.schedule_judge.proofs.PlaceLemmas.{below_first, first_at, same_op_refl}
@@ -57,11 +57,6 @@ any_not_all : {P : Type 0} (q b : P → Bool) (first : P → OpName) (h : OpName
 any_not_all q b first h each [] = refl
 any_not_all q b first h each (x ∷ xs) =
     any_step (q x) (b x) first h x (filter q xs) (list_any (λ x. q x && b x) xs) (each x) (any_not_all q b first h each xs)
-
--- what comes early by where operations come first, by the names themselves
-pub early_by_names : (before : List (OpName × OpName)) (names : List OpName) (places early : OpNumbers) → FindsFirst names places → FindsEarly before places early → FindsEarlyIn before names early
-early_by_names before names places early first finds n =
-    finds n ∙ (λ i. list_any (λ (pair : OpName × OpName). same_op pair.1 n && is_broken (first pair.0 i) (first pair.1 i)) before)
 
 -- an operation that comes first here comes before one that the trace puts before it, if and only if not all of those have come
 pub early_is : (t : TraceValue) (names : List OpName) (early : OpNumbers) (i : ℕ) (n : OpName) → FindsEarlyIn t.before names early → slice_get names i ≡ Some n → has_come (take i names) n ≡ false → is_some (number_at early n) ≡ not (list_all (has_come (take i names)) (put_before t n))

@@ -71,9 +71,8 @@ fn add_copy(
         return Ok(());
     }
     if kind == 1 {
-        let mut ids = Vec::new(alloc);
-        ids.push(u64::from(random.next() % 40))?;
-        let ids = Ids::new(ids);
+        let dropped = [u64::from(random.next() % 40)];
+        let ids = Ids::from_slice(alloc, &dropped)?;
         steps.push(Step::Deletion { first: 0, ids })?;
     }
     let id = if kind == 2 {

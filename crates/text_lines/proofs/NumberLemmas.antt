@@ -1,13 +1,17 @@
 -- The value of digits, one digit at a time.
-use Rattle.std.proofs.Common.{◌≡◌, ℕ, ◌+◌, ◌*◌, ◌<◌, ◌≤◌, List, [], ◌∷◌, ◌++◌, inl, inr, length, take, drop, get_or, cond, refl, ap, sym, ◌∙◌, arith, ltb, take-append-drop}
+use Rattle.std.proofs.Common.{◌≡◌, ℕ, ◌+◌, ◌-◌, ◌*◌, ◌^◌, ◌<◌, ◌≤◌, List, [], ◌∷◌, ◌++◌, inl, inr, length, take, drop, get_or, true, cond, refl, ap, sym, ◌∙◌, arith, ltb, leb, take-append-drop}
 use Rattle.std.specs.Prelude.{Some, None}
-use Rattle.std.specs.Char.{digit_value}
+use Rattle.std.specs.Char.{digit_value, is_ascii_digit}
+use Rattle.std.specs.List.{list_all}
 use Rattle.std.specs.Str.Parse.{digits_value, digits_value_after}
 use Rattle.std.proofs.lemmas.Bool.Decides.{nat_tests}
-use Rattle.std.proofs.lemmas.Bool.{cases_lt, cond_below, ltb-true}
+use Rattle.std.proofs.lemmas.Bool.{and_parts, and_from, cases_lt, cond_below, leb-true, ltb-true}
 use Rattle.std.proofs.lemmas.Option.{cond_some}
 use Rattle.std.proofs.lemmas.Int.Digits.{digits_value_more}
-use Rattle.std.proofs.lemmas.List.{take_all}
+use Rattle.std.proofs.lemmas.List.{take_all, length-take}
+use Rattle.std.proofs.lemmas.List.Folds.{list_all_more}
+use Rattle.std.proofs.lemmas.Str.Parse.{digits_value_short}
+use Rattle.text_lines.proofs.PlainLemmas.{own}
 
 pub value_grows : (n : ℕ) (ds : List ℕ) → n ≤ digits_value_after 10 n ds
 value_grows n [] = omega arith
@@ -57,3 +61,29 @@ pub within : (m : ℕ) (ds : List ℕ) (i value : ℕ) → length ds ≤ i → I
 within m ds i value l so_far =
     let whole : value ≡ digits_value 10 ds = so_far.is ∙ ap (digits_value 10) (take_all i ds l) in
     ap Some whole ∙ cond_below (digits_value 10 ds) m (Some (digits_value 10 ds)) None (omega (arith, so_far.small, whole))
+
+-- a digit's value as the code computes it
+digit_minus : (d : ℕ) → is_ascii_digit d ≡ true → digit_value d ≡ d - 48
+digit_minus d h =
+    let parts = and_parts (leb 48 d) (leb d 57) h in
+    let low : 48 ≤ d = leb-true 48 d parts.0 in
+    let high : d ≤ 57 = leb-true d 57 parts.1 in
+    grind (arith, nat_tests, low, high)
+
+-- what the loop over at most 19 bytes keeps: one more digit leaves the value below 2^64
+pub record AreFewDigits (ds : List ℕ) (i value : ℕ) : Type 0 where
+  pub digits : list_all is_ascii_digit (take i ds) ≡ true
+  pub is : value ≡ digits_value 10 (take i ds)
+  pub small : i ≤ 18 → value < 10 ^ 18
+
+few_value : (ds : List ℕ) (i value : ℕ) → list_all is_ascii_digit (take i ds) ≡ true → value ≡ digits_value 10 (take i ds) → i ≤ 18 → value < 10 ^ 18
+few_value ds i value d e l =
+    let short : length (take i ds) ≤ 18 = grind (arith, length-take i ds, l) in
+    let small : digits_value 10 (take i ds) < 10 ^ 18 = digits_value_short own (take i ds) 18 d short in
+    omega (arith, e, small)
+
+pub one_more_digit : (ds : List ℕ) (i value : ℕ) → i < length ds → AreFewDigits ds i value → is_ascii_digit (get_or ds i 0) ≡ true → AreFewDigits ds (i + 1) (value * 10 + (get_or ds i 0 - 48))
+one_more_digit ds i value l so_far digit =
+    let digits : list_all is_ascii_digit (take (i + 1) ds) ≡ true = list_all_more is_ascii_digit ds i 0 l ∙ and_from _ _ so_far.digits digit in
+    let is : value * 10 + (get_or ds i 0 - 48) ≡ digits_value 10 (take (i + 1) ds) = ap (λ d. value * 10 + d) (sym (digit_minus (get_or ds i 0) digit)) ∙ value_more ds i value l so_far.is in
+    record { digits = digits; is = is; small = few_value ds (i + 1) _ digits is }

@@ -4,11 +4,13 @@ ghost use Rattle.std.specs.Prelude.{◌≡◌, ◌<◌, [], ◌∷◌, ◌++◌,
 ghost use Rattle.std.specs.List.{before_first, after_first, list_any};
 ghost use Rattle.text_lines.specs.Lines.{lines_of, is_line_feed};
 
+use memchr::memchr;
+
 /// The place of the first line feed.
 fn find_line_feed(text: &[u8]) -> Option<usize>
     ensures { result ≡ position is_line_feed text.now }
 {
-    text.iter().position(|byte| *byte == b'\n')
+    memchr(b'\n', text)
 }
 
 /// Gives what stands before the first line feed, and what stands after it.

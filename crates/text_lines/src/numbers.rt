@@ -1,6 +1,6 @@
 //! The numbers of the texts.
 
-ghost use Rattle.std.specs.Prelude.{◌≡◌, ◌<◌, ◌+◌, ◌*◌, ◌^◌, ◌↔◌, ℕ, ℤ, List, Some, None, MatchOption, decimal, true, nat_lt, if◌then◌else◌};
+ghost use Rattle.std.specs.Prelude.{◌≡◌, ◌<◌, ◌≤◌, ◌+◌, ◌*◌, ◌^◌, ◌&&◌, ◌↔◌, ℕ, ℤ, List, Some, None, MatchOption, decimal, true, length, nat_lt, if◌then◌else◌};
 ghost use Rattle.std.specs.Char.{is_ascii_digit, digit_value};
 ghost use Rattle.std.specs.List.{list_all};
 ghost use Rattle.std.specs.Str.Parse.{digits_value};
@@ -43,24 +43,54 @@ fn value_of_digits(digits: &[u8]) -> Option<u64>
     Some(value)
 }
 
+/// The value of at most 19 bytes, if all of them are digits. It is below 10^19, and so below 2^64.
+#[inline(always)]
+fn value_of_few(word: &[u8]) -> Option<u64>
+    requires { length word.now ≤ 19 }
+    ensures { result ≡ (if list_all is_ascii_digit word.now then Some (digits_value 10 word.now) else None) }
+{
+    let mut value = 0u64;
+    for byte in word {
+        if !byte.is_ascii_digit() {
+            return None;
+        }
+        value = value * 10 + u64::from(*byte - b'0');
+    }
+    Some(value)
+}
+
+/// The value of a word, if all of its bytes are digits and it is below 2^64. A word of up to 19 bytes is gone over once.
+#[inline(never)]
+fn value_of_word(word: &[u8]) -> Option<u64>
+    ensures { result ≡ (if list_all is_ascii_digit word.now && nat_lt (digits_value 10 word.now) (2 ^ 64) then Some (digits_value 10 word.now) else None) }
+{
+    if word.len() <= 19 {
+        value_of_few(word)
+    } else if all_digits(word) {
+        value_of_digits(word)
+    } else {
+        None
+    }
+}
+
 /// The value of a plain number, `0` or a digit from 1 to 9 followed by digits, if it is at most `most`.
 pub fn read_plain(word: &[u8], most: u64) -> Option<u64>
     ensures { result ≡ plain_number_up_to most word.now }
 {
-    if !has_digits_alone(word) || (word.len() > 1 && word[0] == b'0') {
+    if word.is_empty() || (word.len() > 1 && word[0] == b'0') {
         return None;
     }
-    value_of_digits(word).filter(|value| *value <= most)
+    value_of_word(word).filter(|value| *value <= most)
 }
 
 /// Reads a word of digits alone, leading zeros allowed, whose value is at most `most`.
 pub fn read_digits(word: &[u8], most: u64) -> Option<u64>
     ensures { result ≡ digits_up_to most word.now }
 {
-    if !has_digits_alone(word) {
+    if word.is_empty() {
         return None;
     }
-    value_of_digits(word).filter(|value| *value <= most)
+    value_of_word(word).filter(|value| *value <= most)
 }
 
 /// A number as solvers write it: its sign and its absolute value, if that is below 2^64.

@@ -1,11 +1,11 @@
 //! The words of a line.
 
-ghost use Rattle.std.specs.Prelude.{◌≡◌, ◌<◌, [], ◌∷◌, ◌++◌, ℕ, List, true, false, length, take, map, not, position, IfOk, MatchOption};
+ghost use Rattle.std.specs.Prelude.{◌≡◌, ◌<◌, [], ◌∷◌, ◌++◌, ℕ, List, true, false, length, take, map, not, position, MatchOption};
 ghost use Rattle.std.specs.List.{before_first, after_first, list_any};
 ghost use Rattle.std.specs.Str.{bytes_eq};
 ghost use Rattle.text_lines.specs.Words.{words_of, is_blank};
 
-use std::alloc::{AllocError, Global};
+use arrayvec::ArrayVec;
 
 /// Checks whether the byte is a space, a tab or a carriage return.
 pub fn is_blank_byte(byte: u8) -> bool
@@ -57,22 +57,22 @@ pub fn cut_word(line: &[u8]) -> Option<(&[u8], &[u8])>
     }
 }
 
-/// The first words of the line, at most `most` of them.
-pub fn first_words(alloc: Global, line: &[u8], most: usize) -> Result<Vec<&[u8]>, AllocError>
-    ensures { IfOk result (λ words. map (λ word. word.now) words.items ≡ take most (words_of line.now)) }
+/// The first words of the line, at most eight of them, which is more than a line of a trace has.
+pub fn first_words(line: &[u8]) -> ArrayVec<&[u8], 8>
+    ensures { map (λ word. word.now) result.items ≡ take 8 (words_of line.now) }
 {
-    let mut words = Vec::with_capacity(alloc, most)?;
+    let mut words = ArrayVec::new();
     let mut rest = line;
-    while words.len() < most {
+    while !words.is_full() {
         match cut_word(rest) {
             Some((word, after)) => {
-                words.push(word)?;
+                words.push(word);
                 rest = after;
             }
             None => break,
         }
     }
-    Ok(words)
+    words
 }
 
 /// Bytes without a blank, after which one stands, are the first word; and bytes without a blank are one word. A law, proved in

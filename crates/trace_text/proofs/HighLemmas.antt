@@ -1,10 +1,12 @@
 -- Bytes above 127: a line has one where one of its words has, and names and numbers have none.
-use Rattle.std.proofs.Common.{◌≡◌, ℕ, ◌^◌, ◌<◌, ◌≤◌, List, [], ◌∷◌, Bool, true, false, not, ◌||◌, ltb, leb, eqb, refl, ap, sym, ◌∙◌, arith, inl, inr}
+use Rattle.std.proofs.Common.{◌≡◌, ℕ, ◌+◌, ◌^◌, ◌<◌, ◌≤◌, List, [], ◌∷◌, length, take, get_or, max, Bool, true, false, not, ◌||◌, ltb, leb, eqb, refl, ap, sym, ◌∙◌, arith, inl, inr}
 use Rattle.std.specs.Char.{is_ascii_alphabetic, is_ascii_digit}
 use Rattle.std.specs.Fmt.{decimal}
 use Rattle.std.specs.Int.{is_in_range}
 use Rattle.std.specs.List.{list_any, list_all, filter, slice_split, onto_first}
 use Rattle.std.proofs.lemmas.Bool.{and_parts, or_from, or_cases, eqb-true, ltb-true, leb-true, false_from_ne_true}
+use Rattle.std.proofs.lemmas.Bool.Decides.{nat_tests}
+use Rattle.std.proofs.lemmas.List.Folds.{list_any_more}
 use Rattle.std.proofs.lemmas.Fmt.{decimal_is_IsNumeral}
 use Rattle.std.proofs.lemmas.List.Splits.{slice_split-cons_no, slice_split-cons_yes}
 use Rattle.text_lines.specs.Words.{words_of, is_blank, is_empty}
@@ -91,3 +93,11 @@ digits_low (d ∷ ds) h =
 
 pub low_decimal : (n : ℕ) → n < 2 ^ 64 → high_word (decimal n) ≡ false
 low_decimal n small = digits_low (decimal n) (own.from (decimal n) (decimal_is_IsNumeral n small).0.1)
+
+-- the larger of two bytes is above 127 where one of them is
+high_larger : (a b : ℕ) → is_high (max a b) ≡ (is_high a || is_high b)
+high_larger a b = grind (arith, nat_tests)
+
+-- the largest byte so far, and one more
+pub high_more : (line : List ℕ) (i most : ℕ) → i < length line → is_high most ≡ list_any is_high (take i line) → is_high (max most (get_or line i 0)) ≡ list_any is_high (take (i + 1) line)
+high_more line i most l e = high_larger most (get_or line i 0) ∙ ap (λ b. b || is_high (get_or line i 0)) e ∙ sym (list_any_more is_high line i 0 l)

@@ -17,15 +17,11 @@ ghost use Rattle.trace_text.specs.Version.{is_two};
 use crate::line::has_high_byte;
 use crate::trace_fault::{LineRefusal, TraceCause, TraceFault};
 use crate::version::Version;
-use std::alloc::Global;
 use text_lines::comments::is_skipped_line;
 use text_lines::fault::PlacedFault;
 use text_lines::lines::cut_line;
 use text_lines::plain_fault::PlainFault;
 use text_lines::words::first_words;
-
-/// Words of a line that are read: one more than a header has.
-const MAX_WORDS: usize = 3;
 
 /// The header of a text, and what follows it.
 #[derive(Drop)]
@@ -59,11 +55,11 @@ fn version_of(words: &[&[u8]]) -> Option<Version>
 }
 
 /// Returns the version of the header on this line, or `None` if the line is skipped.
-fn read_header_line(alloc: Global, line: &[u8]) -> Result<Option<Version>, LineRefusal>
+fn read_header_line(line: &[u8]) -> Result<Option<Version>, LineRefusal>
     ensures refused { IfErr result (IsRefusedFor (header_fault line.now)) }
     ensures read { IfOk result (λ version. MatchOption version (is_skipped (words_of line.now) ≡ true) (λ version. IsHeaderLine line.now (is_two version))) }
 {
-    let words = first_words(alloc, line, MAX_WORDS)?;
+    let words = first_words(line);
     if is_skipped_line(words.as_slice()) {
         return Ok(None);
     }
@@ -77,14 +73,14 @@ fn read_header_line(alloc: Global, line: &[u8]) -> Result<Option<Version>, LineR
 }
 
 /// Reads the lines up to the header.
-pub fn read_header(alloc: Global, text: &[u8]) -> Result<Header<'_>, TraceFault>
+pub fn read_header(text: &[u8]) -> Result<Header<'_>, TraceFault>
     ensures refused { IfErr result (IsRefusal (HasTraceFault text.now)) }
     ensures read { IfOk result (λ header. HasHeader text.now (is_two header.version) header.rest.now header.next) }
 {
     let mut rest = text;
     let mut next = 1usize;
     while let Some((line, after)) = cut_line(rest) {
-        match read_header_line(alloc, line) {
+        match read_header_line(line) {
             Ok(Some(version)) => {
                 return Ok(Header {
                     version,

@@ -15,16 +15,12 @@ ghost use Rattle.trace_text.specs.Version.{is_two};
 use crate::statement::{ReadsFrom, Statement, read_statement};
 use crate::trace_fault::{LineRefusal, TraceCause, TraceFault};
 use crate::version::Version;
-use std::alloc::Global;
 use text_lines::comments::is_skipped_line;
 use text_lines::lines::cut_line;
 use text_lines::plain_fault::PlainFault;
 use text_lines::words::first_words;
 use trace_semantics::place::read_place;
 use trace_semantics::trace::Process;
-
-/// Words of a line that are read: more than a line of any form has.
-const MAX_WORDS: usize = 8;
 
 /// Checks whether the process has this name, and an operation at this place.
 fn has_place(process: &Process, name: &[u8], place: u16) -> bool
@@ -102,16 +98,11 @@ fn fault_of_names(processes: &[Process], statement: Statement<'_>) -> Result<(),
 }
 
 /// Checks the operations that a line names.
-fn check_line(
-    alloc: Global,
-    version: Version,
-    processes: &[Process],
-    line: &[u8],
-) -> Result<(), LineRefusal>
+fn check_line(version: Version, processes: &[Process], line: &[u8]) -> Result<(), LineRefusal>
     ensures refused { IfErr result (IsRefusedFor (fault_of_line (is_two version) processes.now line.now)) }
     ensures fine { OnOk result (fault_of_line (is_two version) processes.now line.now ≡ None) }
 {
-    let words = first_words(alloc, line, MAX_WORDS)?;
+    let words = first_words(line);
     if is_skipped_line(words.as_slice()) {
         return Ok(());
     }
@@ -122,19 +113,14 @@ fn check_line(
 }
 
 /// Checks the operations that each line of a text names.
-fn check_lines(
-    alloc: Global,
-    version: Version,
-    processes: &[Process],
-    text: &[u8],
-) -> Result<(), TraceFault>
+fn check_lines(version: Version, processes: &[Process], text: &[u8]) -> Result<(), TraceFault>
     ensures refused { IfErr result (IsRefusedByReferences (is_two version) processes.now text.now) }
     ensures fine { OnOk result (IsFaultless (λ (before : List (List ℕ)) (here : List ℕ). fault_of_line (is_two version) processes.now here) (lines_of text.now)) }
 {
     let mut rest = text;
     let mut next = 1usize;
     while let Some((line, after)) = cut_line(rest) {
-        if let Err(refusal) = check_line(alloc, version, processes, line) {
+        if let Err(refusal) = check_line(version, processes, line) {
             return Err(refusal.at(next));
         }
         rest = after;
@@ -146,7 +132,6 @@ fn check_lines(
 /// Checks that the operations that the lines of a text name are operations of these processes. A text of version 1
 /// names none.
 pub fn check_references(
-    alloc: Global,
     version: Version,
     processes: &[Process],
     text: &[u8],
@@ -157,5 +142,5 @@ pub fn check_references(
     if !version.is_two() {
         return Ok(());
     }
-    check_lines(alloc, version, processes, text)
+    check_lines(version, processes, text)
 }

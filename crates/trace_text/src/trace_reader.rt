@@ -29,9 +29,6 @@ use text_lines::plain_fault::PlainFault;
 use text_lines::words::first_words;
 use trace_semantics::trace::Trace;
 
-/// Words of a line that are read: more than a line of any form has.
-const MAX_WORDS: usize = 8;
-
 /// What has been read so far of the lines after the header.
 #[derive(Drop)]
 pub struct TraceReader<'a> {
@@ -94,7 +91,7 @@ impl<'a> TraceReader<'a> {
             IsRefusedFor (trace_line_fault before line.now) refusal) }
         ensures taken { OnOk result ((before : List (List ℕ)) (ss : List Said) → AreSaid (is_two version) before ss → IsProgress ss self.old → TakesLine (is_two version) before line.now self.new) }
     {
-        let words = first_words(alloc, line, MAX_WORDS)?;
+        let words = first_words(line);
         if is_skipped_line(words.as_slice()) {
             return Ok(());
         }
@@ -129,19 +126,14 @@ fn read_body<'a>(
 }
 
 /// The trace of a text whose lines are all read.
-fn finish(
-    alloc: Global,
-    text: &[u8],
-    version: Version,
-    reader: TraceReader<'_>,
-) -> Result<Trace, TraceFault>
+fn finish(text: &[u8], version: Version, reader: TraceReader<'_>) -> Result<Trace, TraceFault>
     requires { IsAllRead text.now (is_two version) reader }
     ensures refused { IfErr result (IsRefusal (HasTraceFault text.now)) }
     ensures spelled { IfOk result (SpellsTrace text.now) }
 {
     let TraceReader { mut gathered, .. } = reader;
     gathered.close_process()?;
-    check_references(alloc, version, gathered.processes(), text)?;
+    check_references(version, gathered.processes(), text)?;
     gathered.arrange()?;
     Ok(gathered.into_trace())
 }
@@ -154,7 +146,7 @@ pub fn read_trace(alloc: Global, text: &[u8]) -> Result<Trace, TraceFault>
     ensures spelled { IfOk result (SpellsTrace text.now) }
     ensures refused { IfErr result (IsRefusal (HasTraceFault text.now)) }
 {
-    let header = read_header(alloc, text)?;
+    let header = read_header(text)?;
     let reader = read_body(alloc, text, &header)?;
-    finish(alloc, text, header.version, reader)
+    finish(text, header.version, reader)
 }

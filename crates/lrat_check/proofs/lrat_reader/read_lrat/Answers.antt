@@ -1,8 +1,11 @@
 use Rattle.std.proofs.Common.{◌+◌, List, sym, subst}
 use Rattle.std.proofs.lemmas.Option.{MatchOption-at_some, MatchOption-at_none}
 use Rattle.lrat_check.specs.declared.derivation.Step.{Step}
-use Rattle.lrat_check.proofs.DerivationTextLemmas.{IsReadSoFar, turn_skipped, turn_step}
+use Rattle.lrat_check.proofs.DerivationTextLemmas.{IsReadSoFar, at_start, turn_skipped, turn_step}
 use Rattle.lrat_check.proofs.lrat_reader.read_lrat.Goals as goal
+
+pub loop-line-init : goal.loop-line-init
+loop-line-init c = subst (λ (steps : List Step). IsReadSoFar c.args.text.now 0 c.args.text.now steps) (sym c.new-steps.ensures.items) (at_start c.args.text.now)
 
 pub loop-line-preserved-in_ok-push : goal.loop-line-preserved-in_ok-push
 loop-line-preserved-in_ok-push c =

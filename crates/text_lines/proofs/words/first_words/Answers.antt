@@ -1,4 +1,5 @@
 use Rattle.std.proofs.Common.{◌≡◌, List, ℕ, ◌∷◌, ◌++◌, [], ◌<◌, ◌∙◌, length, map, ap, sym, subst, arith}
+use Rattle.std.proofs.lemmas.Bool.Decides.{nat_tests}
 use Rattle.std.proofs.lemmas.List.{map-append, length-map}
 use Rattle.std.specs.Borrow.{Bor}
 use Rattle.text_lines.proofs.TakeLemmas.{AreFirstWords, one_more_word}
@@ -8,7 +9,8 @@ pub loop-rest-preserved : goal.loop-rest-preserved
 loop-rest-preserved c =
     let seen : Bor (List ℕ) → List ℕ = λ (w : Bor (List ℕ)). w.now in
     let added : map seen c.push.new.self.items ≡ map seen c.loop-rest.words.items ++ c.in-Some.word.now ∷ [] =
-    ap (map seen) c.in_ok-push-in-Some.ensures.items ∙ map-append seen c.loop-rest.words.items (c.in-Some.word ∷ []) in
-    let room : length (map seen c.loop-rest.words.items) < c.args.most = omega (arith, length-map c.loop-rest.words.items seen, c.loop-rest-test.true, c.len.ensures) in
-    subst (λ ws. AreFirstWords c.args.most c.args.line.now ws c.in-Some.after.now) (sym added)
-    (one_more_word c.args.most c.args.line.now c.loop-rest.rest.now c.in-Some.after.now c.in-Some.word.now (map seen c.loop-rest.words.items) c.loop-rest.invariant room c.in-Some.ensures.words)
+    ap (map seen) c.push.ensures.items ∙ map-append seen c.loop-rest.words.items (c.in-Some.word ∷ []) in
+    let few : length c.loop-rest.words.items < 8 = grind (arith, nat_tests, c.loop-rest-test.true, c.is_full.ensures.value, c.is_full.ensures.fits) in
+    let room : length (map seen c.loop-rest.words.items) < 8 = omega (arith, length-map c.loop-rest.words.items seen, few) in
+    subst (λ ws. AreFirstWords 8 c.args.line.now ws c.in-Some.after.now) (sym added)
+    (one_more_word 8 c.args.line.now c.loop-rest.rest.now c.in-Some.after.now c.in-Some.word.now (map seen c.loop-rest.words.items) c.loop-rest.invariant room c.in-Some.ensures.words)
