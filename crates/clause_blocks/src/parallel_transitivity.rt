@@ -1,4 +1,4 @@
-//! Pieces of transitivity that threads make, through `rayon`.
+//! Transitivity clauses, made in parallel by the threads of `rayon`.
 
 ghost use Rattle.std.specs.Prelude.{◌≡◌, ◌<◌, ◌≤◌, ◌*◌, ◌++◌, map, IsTrue, IfOk, OnOk};
 ghost use Rattle.std.specs.List.{filter, flat_map, range_with_len};
@@ -20,7 +20,7 @@ pub(crate) struct TripleClauses {
 }
 
 impl TripleClauses {
-    /// The two clauses of three operations i, j and k. They need no memory.
+    /// The two clauses of three operations i, j and k. A clause of three literals allocates nothing.
     fn of(alloc: Global, layout: &Layout, i: usize, j: usize, k: usize) -> TripleClauses
         requires rising { i < j }
         requires above { j < k }
@@ -37,8 +37,8 @@ impl TripleClauses {
     }
 }
 
-/// The clauses of operation i and each two above it, by the lower and then by the higher of these. As many threads make them as
-/// `rayon` starts; what is given does not depend on that.
+/// The clauses of all operations i < j < k for this i, by j and then by k. The index j * n + k stands for the two, so that `rayon` keeps
+/// this order. The result does not depend on the number of threads.
 fn cycles_from<R: Threads + Sync>(
     alloc: Global,
     rt: &R,
@@ -48,6 +48,7 @@ fn cycles_from<R: Threads + Sync>(
     requires { i < operation_count layout.now }
     ensures { IfOk result (λ cycles. cycles.items ≡ map (cycle_at (operation_count layout.now) i) (filter (is_above (operation_count layout.now) i) (range_with_len 0 (operation_count layout.now * operation_count layout.now)))) }
 {
+    // A law, which does nothing when run: the number of operations is small enough for its square.
     layout.recall_limits();
     let n = layout.operations();
     (0..n * n)
@@ -67,7 +68,7 @@ fn cycles_from<R: Threads + Sync>(
         .collect(rt, alloc)
 }
 
-/// Appends the clauses of each three operations, one three after the other.
+/// Appends the clauses, triple by triple.
 fn push_cycles(cycles: Vec<TripleClauses>, clauses: &mut Vec<Clause>) -> Result<(), AllocError>
     ensures { OnOk result (clauses.new.items ≡ clauses.old.items ++ flat_map both cycles.items) }
 {
@@ -78,8 +79,8 @@ fn push_cycles(cycles: Vec<TripleClauses>, clauses: &mut Vec<Clause>) -> Result<
     Ok(())
 }
 
-/// Appends the clauses of three operations of which this one is the lowest. They are those of `push_transitivity_from`, but
-/// threads make them.
+/// Appends the transitivity clauses of all operations i < j < k for this i: the same ones in the same order as `push_transitivity_from`,
+/// but made in parallel. If there is no operation i, it appends nothing.
 pub(crate) fn push_transitivity_in_threads<R: Threads + Sync>(
     alloc: Global,
     rt: &R,

@@ -15,7 +15,7 @@ use std::alloc::{AllocError, Global};
 
 const ABOUT: &str = "Writes the formula of a trace as DIMACS text";
 
-const EXAMPLE: &str = "The text goes to standard output. The trace alone fixes it. If TRACE is '-',
+const AFTER_HELP: &str = "The text goes to standard output. The trace alone fixes it. If TRACE is '-',
 standard input is read.
 
 Example, which can be pasted:
@@ -37,7 +37,7 @@ pub fn new_cnf_command<'a>(alloc: Global) -> Result<Command<'a>, AllocError>
 {
     let trace = trace_argument(alloc);
     let workers = workers_argument(alloc, "Taken as by verify, 1 to 8, and has no effect");
-    command_of_two(alloc, "cnf", ABOUT, EXAMPLE, trace, workers)
+    command_of_two(alloc, "cnf", ABOUT, AFTER_HELP, trace, workers)
 }
 
 /// Gives what the matches of the command ask for.

@@ -14,7 +14,7 @@ use std::alloc::{AllocError, Global};
 
 const ABOUT: &str = "Turns a model of a trace's clause list into a schedule of the trace";
 
-const EXAMPLE: &str =
+const AFTER_HELP: &str =
     "The schedule goes to standard output, one name a line, as 'vsc judge' reads it.
 One of the two files may be '-', standard input.
 
@@ -40,7 +40,7 @@ pub fn new_decode_command<'a>(alloc: Global) -> Result<Command<'a>, AllocError>
         "MODEL",
         "A file with a solver's answer: 's' lines and 'v' lines",
     );
-    command_of_two(alloc, "decode", ABOUT, EXAMPLE, trace, model)
+    command_of_two(alloc, "decode", ABOUT, AFTER_HELP, trace, model)
 }
 
 /// Gives what the matches of the command ask for.

@@ -14,7 +14,7 @@ use std::alloc::{AllocError, Global};
 
 const ABOUT: &str = "Judges whether a schedule explains a trace";
 
-const EXAMPLE: &str = "One of the two files may be '-', standard input.
+const AFTER_HELP: &str = "One of the two files may be '-', standard input.
 
 Example, which can be pasted:
     printf 'vsc 1\\nproc P\\nW x 1\\nproc Q\\nR x 1\\n' > hand-off.trace
@@ -39,7 +39,7 @@ pub fn new_judge_command<'a>(alloc: Global) -> Result<Command<'a>, AllocError>
         "SCHEDULE",
         "A file with a schedule: the name of one operation a line",
     );
-    command_of_two(alloc, "judge", ABOUT, EXAMPLE, trace, schedule)
+    command_of_two(alloc, "judge", ABOUT, AFTER_HELP, trace, schedule)
 }
 
 /// Gives what the matches of the command ask for.

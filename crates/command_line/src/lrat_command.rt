@@ -14,7 +14,7 @@ use std::alloc::{AllocError, Global};
 
 const ABOUT: &str = "Checks an LRAT proof that a formula has no model";
 
-const EXAMPLE: &str = "One of the two files may be '-', standard input.
+const AFTER_HELP: &str = "One of the two files may be '-', standard input.
 
 Example, which can be pasted:
     printf 'p cnf 1 2\\n1 0\\n-1 0\\n' > both.cnf
@@ -33,7 +33,7 @@ pub fn new_lrat_command<'a>(alloc: Global) -> Result<Command<'a>, AllocError>
 {
     let cnf = path_argument(alloc, "cnf", "CNF", "A file with a formula, as DIMACS text");
     let proof = path_argument(alloc, "proof", "PROOF", "A file with an LRAT proof");
-    command_of_two(alloc, "lrat", ABOUT, EXAMPLE, cnf, proof)
+    command_of_two(alloc, "lrat", ABOUT, AFTER_HELP, cnf, proof)
 }
 
 /// Gives what the matches of the command ask for.

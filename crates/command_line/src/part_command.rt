@@ -16,7 +16,7 @@ use std::alloc::{AllocError, Global};
 
 const ABOUT: &str = "Writes the part of a trace that some of its operations make up";
 
-const EXAMPLE: &str =
+const AFTER_HELP: &str =
     "The part goes to standard output, as a trace. If it has no legal schedule, TRACE
 has none, whatever was chosen. A read is left out, and an update becomes a
 write, if an operation from which the value may be is not named. One of the two
@@ -58,7 +58,7 @@ pub fn new_part_command<'a>(alloc: Global) -> Result<Command<'a>, AllocError>
         "A file with names of operations, one a line, in any order",
     );
     let shows_names = show_names_argument(alloc);
-    command_of_three(alloc, "part", ABOUT, EXAMPLE, trace, names, shows_names)
+    command_of_three(alloc, "part", ABOUT, AFTER_HELP, trace, names, shows_names)
 }
 
 /// Gives what the matches of the command ask for.

@@ -16,7 +16,7 @@ use std::alloc::{AllocError, Global};
 
 const ABOUT: &str = "Checks a certificate that a trace has no legal schedule";
 
-const EXAMPLE: &str =
+const AFTER_HELP: &str =
     "Nothing is searched for, and whoever wrote CERT is not trusted. With --part it
 is one of the part that 'vsc part TRACE NAMES' writes. ACCEPTED always says that
 TRACE itself has no legal schedule. One of the files may be '-', standard input.
@@ -58,7 +58,7 @@ pub fn new_recheck_command<'a>(alloc: Global) -> Result<Command<'a>, AllocError>
         "A file with a certificate, as 'vsc verify --cert' writes it",
     );
     let part = part_argument(alloc);
-    command_of_three(alloc, "recheck", ABOUT, EXAMPLE, trace, cert, part)
+    command_of_three(alloc, "recheck", ABOUT, AFTER_HELP, trace, cert, part)
 }
 
 /// Gives what the matches of the command ask for.

@@ -13,9 +13,9 @@ use std::alloc::{AllocError, Global};
 
 const ABOUT: &str = "Lists all refusals, with a sentence on each";
 
-const EXAMPLE: &str =
+const AFTER_HELP: &str =
     "A refusal is one line on standard error: 'refused: ', the file or the step that
-it concerns, a number, a name, and mostly 'at' and the number of a line. The
+it concerns, a number, a name, and usually 'at' and the number of a line. The
 list goes to standard output, and no file is read.
 
 Example, which can be pasted:
@@ -26,14 +26,15 @@ Exit status:
     2  the command line is refused
     4  standard output failed";
 
-/// The command, as `clap` takes it.
+/// Builds the command `refusals` for `clap`, with no argument of its own. `new_program` adds `--explain` to it, as to each command, and
+/// takes a `Result`, since others run out of memory while they are built.
 pub fn new_refusals_command<'a>(alloc: Global) -> Result<Command<'a>, AllocError>
     ensures app { IfOk result (λ c. app_of c ≡ refusals_app) }
     ensures local { IfOk result (λ c. (out-Command c).has_globals ≡ false) }
 {
     let command = Command::new(alloc, "refusals")
         .about(ABOUT)
-        .after_help(EXAMPLE);
+        .after_help(AFTER_HELP);
     Ok(command)
 }
 

@@ -19,7 +19,7 @@ use std::alloc::{AllocError, Global};
 
 const ABOUT: &str = "Decides whether a long trace is sequentially consistent, by a survey";
 
-const EXAMPLE: &str = "TRACE has up to 4096 operations; if it is '-', standard input is read.
+const AFTER_HELP: &str = "TRACE has up to 4096 operations; if it is '-', standard input is read.
 The answer is one of
     CONSISTENT, and a legal schedule of all operations, one name a line;
     INCONSISTENT operations=N cubes=M, and the N names of a core: the part that
@@ -87,7 +87,7 @@ pub fn new_survey_command<'a>(alloc: Global) -> Result<Command<'a>, AllocError>
     let trace = trace_argument(alloc);
     let cert = cert_argument(alloc);
     let names = names_argument(alloc);
-    let command = command_of_three(alloc, "survey", ABOUT, EXAMPLE, trace, cert, names)?;
+    let command = command_of_three(alloc, "survey", ABOUT, AFTER_HELP, trace, cert, names)?;
     let part = part_argument(alloc);
     let budget = steps_argument(alloc);
     let command = with_two(command, part, budget)?;

@@ -22,7 +22,7 @@ use std::alloc::{AllocError, Global};
 
 const ABOUT: &str = "Decides whether a trace is sequentially consistent";
 
-const EXAMPLE: &str = "The answer is one of
+const AFTER_HELP: &str = "The answer is one of
     CONSISTENT, and a legal schedule of all operations, one name a line;
     INCONSISTENT cubes=N: there is none; each of N cases has a checked proof;
     UNKNOWN open=N: the search was given up. A legal schedule can only be in one
@@ -61,7 +61,7 @@ pub fn new_verify_command<'a>(alloc: Global) -> Result<Command<'a>, AllocError>
 {
     let trace = trace_argument(alloc);
     let cert = cert_argument(alloc);
-    let command = command_of_two(alloc, "verify", ABOUT, EXAMPLE, trace, cert)?;
+    let command = command_of_two(alloc, "verify", ABOUT, AFTER_HELP, trace, cert)?;
     let workers = workers_argument(alloc, "How many threads may search, 1 to 8");
     let split = split_argument(alloc);
     let command = with_two(command, workers, split)?;

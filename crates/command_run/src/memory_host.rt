@@ -8,38 +8,39 @@ use dimacs::{Failed, MemorySink};
 use std::alloc::Global;
 use verdict_report::ShortSource;
 
-/// Files that are slices, and one that may be made. It keeps the file that was made, after it was given back, and the last search that was
-/// reported to it.
+/// A host whose input files are slices in memory. It keeps the last output file that was closed, and the last search that was reported to
+/// it.
 #[derive(Drop)]
 pub struct MemoryHost<'p> {
     alloc: Global,
     files: &'p [(&'p str, &'p [u8])],
     most: usize,
-    can_make: bool,
+    can_create: bool,
+    /// The last output file that was closed.
     made: Option<MemorySink>,
     searched: Option<SearchRequest>,
 }
 
 impl<'p> MemoryHost<'p> {
-    /// A host that has these files, each with its path, and that hands out at most the given number of bytes of them a call.
+    /// A host that has these files, each with its path, and that gives at most `most` bytes of a file per read.
     pub fn new(alloc: Global, files: &'p [(&'p str, &'p [u8])], most: usize) -> MemoryHost<'p> {
         MemoryHost {
             alloc,
             files,
             most,
-            can_make: true,
+            can_create: true,
             made: None,
             searched: None,
         }
     }
 
-    /// The same host, where no file can be made.
+    /// The same host, where no file can be created.
     pub fn read_only(mut self) -> MemoryHost<'p> {
-        self.can_make = false;
+        self.can_create = false;
         self
     }
 
-    /// Gives what the file that was made has taken, after it was given back.
+    /// Gives the bytes of the last output file that was closed.
     pub fn made(&self) -> Option<&[u8]> {
         self.made.as_ref().map(|file| file.as_slice())
     }
@@ -49,7 +50,7 @@ impl<'p> MemoryHost<'p> {
         self.searched
     }
 
-    /// The bytes of the file at this path.
+    /// The bytes of the file at this path, if there is one.
     fn bytes_at(&self, path: &str) -> Option<&'p [u8]> {
         for (name, bytes) in self.files {
             if *name == path {
@@ -70,12 +71,13 @@ impl<'p> Host<'p> for MemoryHost<'p> {
     fn source(&mut self, path: &'p str) -> ShortSource<'p> {
         match self.bytes_at(path) {
             Some(bytes) => ShortSource::new(bytes, self.most),
+            // As a file that cannot be opened: its first read fails.
             None => ShortSource::new(b"", 1).failing_at(1),
         }
     }
 
     fn create(&mut self, _path: &'p str) -> Result<MemorySink, Failed> {
-        if self.can_make {
+        if self.can_create {
             Ok(MemorySink::new(self.alloc))
         } else {
             Err(Failed)

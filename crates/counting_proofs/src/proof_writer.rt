@@ -19,7 +19,7 @@ impl Definition {
     pub fn same(literal: u32) -> Definition {
         Definition {
             literal,
-            clauses: [ShortClause::nothing(); 4],
+            clauses: [ShortClause::tautology(); 4],
         }
     }
 }
@@ -76,21 +76,22 @@ impl ProofWriter {
     }
 
     /// Offers the clause as a hint of the step. It becomes one only if it is unit or false, since the checker refuses any other hint.
-    pub fn take(&mut self, known: ShortClause) -> Result<(), AllocError> {
-        self.replay.take(known)
+    pub fn offer(&mut self, known: ShortClause) -> Result<(), AllocError> {
+        self.replay.propagate(known)
     }
 
-    /// Ends the step's hints with the clause of this number, which is false after all hints so far.
-    pub fn end(&mut self, id: u32) -> Result<(), AllocError> {
-        self.replay.end(id)
+    /// Adds the clause of this number as a hint of the step, without a look at its literals. The last one that is added so must be false
+    /// after all hints before it.
+    pub fn add_hint(&mut self, id: u32) -> Result<(), AllocError> {
+        self.replay.add_unchecked(id)
     }
 
     /// Adds the step. One whose clause is a tautology is left out.
     pub fn add(&mut self) -> Result<ShortClause, AllocError> {
         if is_tautology(self.literals) {
-            return Ok(ShortClause::nothing());
+            return Ok(ShortClause::tautology());
         }
-        if !self.replay.is_done() {
+        if !self.replay.has_conflict() {
             self.log.spoil();
         }
         let id = self.log.add(&self.literals, self.replay.hints())?;
@@ -108,7 +109,7 @@ impl ProofWriter {
     ) -> Result<ShortClause, AllocError> {
         self.begin(literals)?;
         for known in hints {
-            self.take(*known)?;
+            self.offer(*known)?;
         }
         self.add()
     }
@@ -121,7 +122,7 @@ impl ProofWriter {
         opposed: (ShortClause, ShortClause),
     ) -> Result<ShortClause, AllocError> {
         if literals[1] == ALWAYS || literals[2] == ALWAYS {
-            return Ok(ShortClause::nothing());
+            return Ok(ShortClause::tautology());
         }
         let (first, second) = opposed;
         let id = if second.id == 0 {
@@ -142,14 +143,14 @@ impl ProofWriter {
         if second == NEVER || second == first {
             return Ok(Definition::same(first));
         }
-        let nothing = (ShortClause::nothing(), ShortClause::nothing());
+        let nothing = (ShortClause::tautology(), ShortClause::tautology());
         let literal = self.log.new_variable();
         let by_first = self.define([literal, first ^ 1, NEVER], nothing)?;
         let by_second = self.define([literal, second ^ 1, NEVER], nothing)?;
         let only = self.define([literal ^ 1, first, second], (by_first, by_second))?;
         Ok(Definition {
             literal,
-            clauses: [by_first, by_second, only, ShortClause::nothing()],
+            clauses: [by_first, by_second, only, ShortClause::tautology()],
         })
     }
 
@@ -169,7 +170,7 @@ impl ProofWriter {
         if alone == NEVER && other == ALWAYS {
             return Ok(Definition::same(one));
         }
-        let nothing = (ShortClause::nothing(), ShortClause::nothing());
+        let nothing = (ShortClause::tautology(), ShortClause::tautology());
         let literal = self.log.new_variable();
         let by_alone = self.define([literal, alone ^ 1, NEVER], nothing)?;
         let by_both = self.define([literal, one ^ 1, other ^ 1], nothing)?;

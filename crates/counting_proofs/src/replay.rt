@@ -15,7 +15,7 @@ pub struct ShortClause {
 
 impl ShortClause {
     /// Returns a tautology. It is no hint.
-    pub fn nothing() -> ShortClause {
+    pub fn tautology() -> ShortClause {
         ShortClause {
             id: 0,
             literals: [ALWAYS; 3],
@@ -29,8 +29,8 @@ impl ShortClause {
 pub struct Replay {
     trues: Vec<u32>,
     hints: Vec<i64>,
-    /// A clause has become false.
-    is_done: bool,
+    /// Whether a conflict was reached: a clause all of whose literals are false.
+    has_conflict: bool,
 }
 
 impl Replay {
@@ -39,13 +39,13 @@ impl Replay {
         Replay {
             trues: Vec::new(alloc),
             hints: Vec::new(alloc),
-            is_done: false,
+            has_conflict: false,
         }
     }
 
     /// Begins with the literals of this clause as false, and nothing else known.
     pub fn begin(&mut self, literals: [u32; 3]) -> Result<(), AllocError> {
-        self.is_done = false;
+        self.has_conflict = false;
         self.hints.clear();
         self.trues.clear();
         self.trues.push(ALWAYS)?;
@@ -55,13 +55,14 @@ impl Replay {
         Ok(())
     }
 
-    /// Checks whether the literal is true.
+    /// Returns whether the literal is true.
     fn is_true(&self, literal: u32) -> bool {
         self.trues.as_slice().iter().any(|other| *other == literal)
     }
 
-    /// Returns the literal of the clause that is left, if none is true: one that is not false, or the constant if all are false.
-    fn left_of(&self, known: ShortClause) -> Option<u32> {
+    /// Returns `NEVER` if all literals of the clause are false, and its literal if exactly one is open. Returns `None` if a literal is
+    /// true, or if two are open.
+    fn unit_or_conflict(&self, known: ShortClause) -> Option<u32> {
         let mut left = NEVER;
         for literal in known.literals {
             if self.is_true(literal) {
@@ -78,32 +79,34 @@ impl Replay {
         Some(left)
     }
 
-    /// Propagates the clause, if it is unit or false. A clause with two open literals is left out: the checker refuses it as a hint.
-    pub fn take(&mut self, known: ShortClause) -> Result<(), AllocError> {
-        if self.is_done || known.id == 0 {
+    /// Adds the clause as a hint if it is unit or false. A unit clause makes its literal true; a false one is a conflict, after which no
+    /// more hints are added. Any other clause is left out, since the checker refuses it as a hint.
+    pub fn propagate(&mut self, known: ShortClause) -> Result<(), AllocError> {
+        if self.has_conflict || known.id == 0 {
             return Ok(());
         }
-        let Some(left) = self.left_of(known) else {
+        let Some(left) = self.unit_or_conflict(known) else {
             return Ok(());
         };
         if left == NEVER {
-            return self.end(known.id);
+            return self.add_unchecked(known.id);
         }
         self.hints.push(i64::from(known.id))?;
         self.trues.push(left)?;
         Ok(())
     }
 
-    /// Adds a clause all of whose literals are false as the last hint.
-    pub fn end(&mut self, id: u32) -> Result<(), AllocError> {
+    /// Adds the clause of this number as a hint without a look at its literals, which the caller knows. The last one that is added so is
+    /// the conflict, and any before it are unit.
+    pub fn add_unchecked(&mut self, id: u32) -> Result<(), AllocError> {
         self.hints.push(i64::from(id))?;
-        self.is_done = true;
+        self.has_conflict = true;
         Ok(())
     }
 
-    /// Checks whether a clause has become false.
-    pub fn is_done(&self) -> bool {
-        self.is_done
+    /// Returns whether a conflict was reached: a clause all of whose literals are false.
+    pub fn has_conflict(&self) -> bool {
+        self.has_conflict
     }
 
     /// Returns the hints so far.

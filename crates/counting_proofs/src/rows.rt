@@ -46,8 +46,8 @@ impl CountRow {
             sources,
             served: Grid::new(alloc, 1, size, Definition::same(NEVER))?,
             counts: Grid::new(alloc, size, size, Definition::same(NEVER))?,
-            without_last: Grid::new(alloc, size, size, ShortClause::nothing())?,
-            one_fewer: Grid::new(alloc, size, size, ShortClause::nothing())?,
+            without_last: Grid::new(alloc, size, size, ShortClause::tautology())?,
+            one_fewer: Grid::new(alloc, size, size, ShortClause::tautology())?,
         })
     }
 
@@ -97,7 +97,7 @@ impl CountRow {
         if which < clauses.len() {
             clauses[which]
         } else {
-            ShortClause::nothing()
+            ShortClause::tautology()
         }
     }
 
@@ -131,10 +131,10 @@ impl CountRow {
         writer.begin([before, last, NEVER])?;
         for source in (1..self.sources).rev() {
             let definition = self.served.get(0, source);
-            writer.take(definition.clauses[0])?;
-            writer.take(definition.clauses[1])?;
+            writer.offer(definition.clauses[0])?;
+            writer.offer(definition.clauses[1])?;
         }
-        writer.end(clause)?;
+        writer.add_hint(clause)?;
         let mut definition = Definition::same(ALWAYS);
         definition.clauses[2] = writer.add()?;
         self.served.set(0, self.sources, definition);

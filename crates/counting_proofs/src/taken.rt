@@ -38,10 +38,10 @@ fn add_pair(
     source: u32,
 ) -> Result<ShortClause, AllocError> {
     let Some(first) = shortage.choice(readers.0, source) else {
-        return Ok(ShortClause::nothing());
+        return Ok(ShortClause::tautology());
     };
     let Some(second) = shortage.choice(readers.1, source) else {
-        return Ok(ShortClause::nothing());
+        return Ok(ShortClause::tautology());
     };
     let numbers = (shortage.reader(readers.0), shortage.reader(readers.1));
     let hints = reads.hints_of_pair(numbers, (first, second));
@@ -53,7 +53,7 @@ fn add_pair(
     writer.begin(literals)?;
     for hint in hints {
         if hint != 0 {
-            writer.end(hint)?;
+            writer.add_hint(hint)?;
         }
     }
     writer.add()
@@ -72,7 +72,7 @@ impl Taken {
         let mut taken = Taken {
             columns,
             definitions: Grid::new(alloc, rows, columns, Definition::same(NEVER))?,
-            exclusions: Grid::new(alloc, rows, columns, ShortClause::nothing())?,
+            exclusions: Grid::new(alloc, rows, columns, ShortClause::tautology())?,
         };
         for source in 1..columns {
             taken.add_source(alloc, writer, reads, shortage, source)?;
@@ -89,7 +89,7 @@ impl Taken {
         shortage: &HallViolator,
         source: u32,
     ) -> Result<(), AllocError> {
-        let mut pairs = vec![in alloc; ShortClause::nothing(); shortage.readers() as usize]?;
+        let mut pairs = vec![in alloc; ShortClause::tautology(); shortage.readers() as usize]?;
         let mut old = Vec::new(alloc);
         for reader in 1..=shortage.readers() {
             for other in 1..reader {
@@ -123,8 +123,8 @@ impl Taken {
         let before = self.literal(reader.wrapping_sub(1), source);
         writer.begin([before ^ 1, literal ^ 1, NEVER])?;
         for other in (1..reader).rev() {
-            writer.take(at(pairs, other, ShortClause::nothing()))?;
-            writer.take(self.definitions.get(other, source).clauses[2])?;
+            writer.offer(at(pairs, other, ShortClause::tautology()))?;
+            writer.offer(self.definitions.get(other, source).clauses[2])?;
         }
         let exclusion = writer.add()?;
         self.exclusions.set(reader, source, exclusion);

@@ -129,7 +129,7 @@ impl<'a> DerivedOrder<'a> {
         self.sources = sources_of(alloc, self.log, &self.rows, &self.writers, &mut self.budget)?;
         let initial = initial_numbers(alloc, self.log)?;
         self.concerned = Concerned::of(alloc, &self.sources, readers, initial.as_slice())?;
-        self.budget.spend(self.sources.count() as u64);
+        self.budget.spend(self.sources.source_count() as u64);
         self.have_all_wait();
         Ok(())
     }
@@ -196,7 +196,7 @@ impl<'a> DerivedOrder<'a> {
         self.budget.spend(steps);
     }
 
-    /// Returns whether one operation stands before the other.
+    /// Returns whether the first operation stands before the second.
     #[inline(always)]
     pub fn stands_before(&self, first: u32, second: u32) -> bool {
         self.rows.stands_before(self.log, first, second)
@@ -275,7 +275,7 @@ impl<'a> DerivedOrder<'a> {
         for place in from..self.log.length(process).wrapping_add(1) {
             let number = self.log.number(process, place);
             self.budget.spend(1);
-            if self.rows.is_raised(number) {
+            if self.rows.needs_no_raise(number) {
                 break;
             }
             self.budget.spend(self.rows.news() as u64);
@@ -295,7 +295,7 @@ impl<'a> DerivedOrder<'a> {
         for back in 0..from {
             let number = self.log.number(process, from.wrapping_sub(back));
             self.budget.spend(1);
-            if self.rows.is_lowered(number) {
+            if self.rows.needs_no_lowering(number) {
                 break;
             }
             self.budget.spend(self.rows.news() as u64);

@@ -84,7 +84,7 @@ struct Finder<'a> {
     budget: Budget,
 }
 
-/// The possible sources of all readers, until the budget is spent. A reader that is not reached is untold.
+/// The possible sources of all readers, until the budget is spent. A reader that is not reached is unlisted.
 pub fn sources_of(
     alloc: Global,
     log: &NumberedLog,
@@ -107,7 +107,7 @@ pub fn sources_of(
         } else if finder.add_of_reader(&mut sources, number)? {
             sources.end_reader()?;
         } else {
-            sources.end_untold()?;
+            sources.end_unlisted()?;
         }
     }
     for location in 0..log.locations() {
@@ -117,7 +117,7 @@ pub fn sources_of(
         } else if finder.add_of_last(&mut sources, location)? {
             sources.end_reader()?;
         } else {
-            sources.end_untold()?;
+            sources.end_unlisted()?;
         }
     }
     sources.begin_reader()?;

@@ -5,35 +5,36 @@ use crate::memory_sink::MemorySink;
 use crate::sink::{Failed, Sink};
 use std::alloc::Global;
 
-/// A sink in memory that takes at most some bytes a call, and may fail at one call.
+/// A sink in memory that takes at most `max_per_call` bytes per call, and can be made to fail at one call.
 #[derive(Drop)]
 pub struct ShortSink {
     memory: MemorySink,
-    most: usize,
+    max_per_call: usize,
+    /// The number of calls that succeed before the one that fails, or `u64::MAX` if none is to fail.
     calls_before_failure: u64,
 }
 
 impl ShortSink {
-    /// A sink that takes at most `most` bytes a call, and at least one, and that fails only if memory runs out.
-    pub fn new(alloc: Global, most: usize) -> ShortSink
+    /// A sink that takes at most `max_per_call` bytes per call, or one byte if that is 0, and that fails only if memory runs out.
+    pub fn new(alloc: Global, max_per_call: usize) -> ShortSink
         ensures written { ⟦<ShortSink as Sink>⟧.written result ≡ [] }
         ensures failures { ⟦<ShortSink as Sink>⟧.failures result ≡ 0 }
     {
         ShortSink {
             memory: MemorySink::new(alloc),
-            most,
+            max_per_call,
             calls_before_failure: u64::MAX,
         }
     }
 
-    /// The same sink, which fails at that call, counted from 1, and at no later one.
+    /// The same sink, which fails once: at the given call from now on, where 1 is the next one, and 0 too.
     pub fn failing_at(self, call: u64) -> ShortSink
         ensures written { ⟦<ShortSink as Sink>⟧.written result ≡ ⟦<ShortSink as Sink>⟧.written self }
         ensures failures { ⟦<ShortSink as Sink>⟧.failures result ≡ ⟦<ShortSink as Sink>⟧.failures self }
     {
         ShortSink {
             memory: self.memory,
-            most: self.most,
+            max_per_call: self.max_per_call,
             calls_before_failure: call.saturating_sub(1),
         }
     }
@@ -57,7 +58,7 @@ impl Sink for ShortSink {
             return self.memory.fail();
         }
         self.calls_before_failure -= 1;
-        let count = self.most.max(1).min(bytes.len());
+        let count = self.max_per_call.max(1).min(bytes.len());
         self.memory.write(&bytes[..count])
     }
 }

@@ -1,4 +1,7 @@
-//! The board.
+//! The board: the two channels over which a dealer, workers and a collector pass cubes and results.
+//!
+//! A *seat* is the view that one of these participants has of the board. A *ticket* is the number of a job, which is that of its leaf in
+//! the tree of cubes.
 ghost use Rattle.std.specs.Prelude.{◌≡◌};
 ghost use Rattle.crossbeam_channel.specs.Ends.{sends_on, receives_on};
 
@@ -7,8 +10,8 @@ use crate::channel_view::ChannelView;
 use crossbeam_channel::{RuledReceiver, RuledSender};
 use cube_jobs::{Job, Settled};
 
-/// A channel of jobs from one dealer to the workers, and a channel of results from these to one collector. It has both ends of both, and
-/// all seats share it.
+/// A channel of jobs from one dealer to the workers, and a channel of results from these to one collector. It holds both ends of both
+/// channels, and all seats share it.
 #[derive(Drop)]
 pub struct Board {
     pub(crate) workers: u32,

@@ -9,16 +9,16 @@ use dimacs::Lit;
 use std::alloc::{AllocError, Global};
 use std::collections::BTreeSet;
 
-/// The number of places of a table that one entry pays for.
-const PLACES_FOR_EACH: usize = 64;
+/// The number of places by which a table may be longer for each entry.
+const PLACES_PER_ENTRY: usize = 64;
 
-/// The number of entries whose places are paid for before any was made, so that a table serves small formulas at once.
+/// The number of entries that are counted before any was made, so that small formulas have a table at once.
 const PAID_AT_START: usize = 256;
 
-/// Checks whether a table that reaches to this place is paid for by this number of entries. Then its time and its memory are at most a fixed
-/// multiple of what was read, whichever variables a derivation names. No answer rests on this.
+/// Returns whether a table with this number of entries may reach to this place. So its time and its memory are at most a fixed multiple of
+/// what was read, whichever variables a derivation names. Only time and memory depend on this, never the result.
 pub fn is_paid(place: usize, entries: usize) -> bool {
-    place / PLACES_FOR_EACH <= entries.saturating_add(PAID_AT_START)
+    place / PLACES_PER_ENTRY <= entries.saturating_add(PAID_AT_START)
 }
 
 /// The place of the literal in a table of marks.
@@ -33,7 +33,7 @@ pub fn place_of(literal: Lit) -> usize
     }
 }
 
-/// Checks whether there is a mark at this place.
+/// Returns whether there is a mark at this place.
 pub fn marked_at(marks: &[bool], place: usize) -> bool
     ensures { result ≡ marked_at marks.now place }
 {
@@ -68,11 +68,13 @@ pub fn unmark_at(marks: &mut Vec<bool>, place: usize)
     }
 }
 
-/// Marks by their places. A table has the places that the marks made before pay for; a mark past those stands in a tree.
+/// A set of places. Low places are marked in the table `near`, which may be as long as the number of marks made so far allows (`is_paid`),
+/// and others are in the tree `far`. A place may be marked in both, once the table has grown past it.
 #[derive(Drop)]
 pub struct LiteralMarks {
     near: Vec<bool>,
     far: BTreeSet<usize>,
+    /// The number of marks that were made.
     made: usize,
 }
 
@@ -88,7 +90,7 @@ impl LiteralMarks {
         }
     }
 
-    /// Checks whether there is a mark at this place in the tree.
+    /// Returns whether there is a mark at this place in the tree.
     fn is_far(&self, place: usize) -> bool
         ensures { result ≡ contains nat_cmp self.now.far place }
     {
@@ -98,7 +100,7 @@ impl LiteralMarks {
         self.far.contains(&place)
     }
 
-    /// Checks whether there is a mark at this place.
+    /// Returns whether there is a mark at this place.
     #[inline(always)]
     pub fn has(&self, place: usize) -> bool
         ensures { result ≡ is_marked self.now place }

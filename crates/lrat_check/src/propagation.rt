@@ -17,14 +17,15 @@ use crate::true_literals::{TrueLiterals, keep_first};
 use dimacs::{ClauseList, Lit, recall_literals};
 use std::alloc::AllocError;
 
-/// The status of a clause under the literals that are true.
+/// The status of a clause under the literals that are true. In variables, functions and the specification it is called the clause's
+/// standing.
 #[derive(Clone, Copy)]
 pub enum ClauseStatus {
     /// All of its literals are false.
     Falsified,
-    /// This literal alone is not false.
+    /// This literal alone is not false. It may be true already.
     Unit(Lit),
-    /// Two distinct literals are not false.
+    /// At least two distinct literals are not false. (A unit clause is not falsified either, but has a variant of its own.)
     Unfalsified,
 }
 
@@ -57,7 +58,7 @@ fn with_literal(standing: ClauseStatus, literal: Lit, trues: &TrueLiterals) -> C
     }
 }
 
-/// The status of the clause.
+/// Says whether the clause is falsified, unit, or neither under the literals that are true.
 fn standing_of(clause: &[Lit], trues: &TrueLiterals) -> ClauseStatus
     ensures { IsStanding trues.now clause.now result }
 {
@@ -83,11 +84,12 @@ fn standing_at<'b, F: ClauseList>(
     Some(standing_of(clause.as_slice(), trues))
 }
 
-/// Makes the negations of the clause's literals true and no other literal. If the clause is a tautology this cannot be,
-/// and the answer is true.
+/// Makes the negations of the clause's literals true and no other literal. Returns whether the clause is a tautology: then this is
+/// impossible, and what is true is of no use.
 fn assume_negation(trues: &mut TrueLiterals, clause: &[Lit]) -> Result<bool, AllocError>
     ensures { IfOk result (λ is_tautology. IsAssumed clause.now trues.new is_tautology) }
 {
+    // A law, which does nothing when run: no literal is 0.
     recall_literals(clause);
     keep_first(trues, 0);
     for literal in clause {
@@ -100,8 +102,8 @@ fn assume_negation(trues: &mut TrueLiterals, clause: &[Lit]) -> Result<bool, All
     Ok(false)
 }
 
-/// Follows the hints before the first group, of the step of this number. Returns whether they refute that the literals are all
-/// true; if not, the literals that are true with those that were reached.
+/// Propagates along the hints up to the first negative one, which begins a group of RAT hints. Returns true if they lead to a conflict;
+/// otherwise `trues` has the propagated literals too. `number` is the number of the step, which a refusal names.
 pub fn propagate<F: ClauseList>(
     formula: &F,
     active: &ActiveClauses,
@@ -132,8 +134,8 @@ pub fn propagate<F: ClauseList>(
     Ok(false)
 }
 
-/// Checks that the clause of the step of this number follows (RUP): it is a tautology, or its hints before the first group
-/// refute that all of its literals are false. If not, it leaves the literals that are true then.
+/// Checks that the clause of the step of this number follows (RUP): it is a tautology, or its hints before the first group refute that all
+/// of its literals are false. If not, `trues` is left with the literals that were propagated.
 pub fn is_implied<F: ClauseList>(
     formula: &F,
     active: &ActiveClauses,

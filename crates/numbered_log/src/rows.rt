@@ -4,16 +4,16 @@ use crate::numbered_log::NumberedLog;
 use order_sets::tables::{at, put};
 use std::alloc::{AllocError, Global};
 
-/// An entry of a row as it was.
+/// A change of an entry of a row: the entry's index in its table, and its value before.
 #[derive(Clone, Copy)]
 struct Change {
-    entry: u32,
+    index: u32,
     old: u16,
     is_after: bool,
 }
 
-/// The most changes that are kept: without a limit they grow with the decisions times the rows, which is memory for some 50 MB while it
-/// grows.
+/// The most changes that are kept. Without a limit they would grow with the decisions times the rows. At 8 bytes each they take 32 MB, and
+/// half as much again while the list grows.
 const MAX_CHANGES: usize = 1 << 22;
 
 /// For each operation two rows with a place for each process: the first of its operations that stands after this one, and the last one
@@ -55,9 +55,9 @@ const NO_BOUND: Bound = Bound {
     place: 0,
 };
 
-/// The place as an entry of a row. A process has at most 4,096 operations, so 16 bits are enough, and the rows take half the memory.
+/// The place as a row holds it. A process has at most 4,096 operations, so 16 bits are enough, and the rows take half the memory.
 #[inline(always)]
-fn entry_of(place: u32) -> u16 {
+fn short_place(place: u32) -> u16 {
     (place & 0xffff) as u16
 }
 
@@ -66,7 +66,7 @@ fn bound_of(log: &NumberedLog, number: u32) -> Bound {
     let operation = log.operation(number);
     Bound {
         process: operation.process,
-        place: entry_of(operation.place),
+        place: short_place(operation.place),
     }
 }
 
@@ -98,46 +98,46 @@ impl Rows {
         let operation = log.operation(number);
         let base = number.wrapping_mul(self.width);
         for process in 0..self.width {
-            let entry = base.wrapping_add(process);
+            let index = base.wrapping_add(process);
             let mut after = log.length(process).wrapping_add(1);
             if process == operation.process {
                 after = operation.place.wrapping_add(1);
-                let before = entry_of(operation.place.wrapping_sub(1));
-                put(self.before.as_mut_slice(), entry, before);
+                let before = short_place(operation.place.wrapping_sub(1));
+                put(self.before.as_mut_slice(), index, before);
             }
-            put(self.after.as_mut_slice(), entry, entry_of(after));
+            put(self.after.as_mut_slice(), index, short_place(after));
         }
     }
 
     /// The place of the process's first operation that stands after this one.
     #[inline(always)]
     pub fn after(&self, number: u32, process: u32) -> u32 {
-        let entry = number.wrapping_mul(self.width).wrapping_add(process);
-        at(self.after.as_slice(), entry, 0) as u32
+        let index = number.wrapping_mul(self.width).wrapping_add(process);
+        at(self.after.as_slice(), index, 0) as u32
     }
 
     /// The place of the process's last operation that stands before this one, or 0.
     #[inline(always)]
     pub fn before(&self, number: u32, process: u32) -> u32 {
-        let entry = number.wrapping_mul(self.width).wrapping_add(process);
-        at(self.before.as_slice(), entry, 0) as u32
+        let index = number.wrapping_mul(self.width).wrapping_add(process);
+        at(self.before.as_slice(), index, 0) as u32
     }
 
-    /// Returns whether one operation stands before the other.
+    /// Returns whether the first operation stands before the second.
     #[inline(always)]
     pub fn stands_before(&self, log: &NumberedLog, first: u32, second: u32) -> bool {
         let other = log.operation(second);
         self.after(first, other.process) <= other.place
     }
 
-    /// The number of entries of a row.
+    /// The number of entries of a row, which is that of the processes.
     #[inline(always)]
     pub fn width(&self) -> u32 {
         self.width
     }
 
-    /// Notes what a new pair says that is news. Rows grow along the order, so what is no news to the pair's second operation is none to those
-    /// after it, and what is none to the first is none to those before it.
+    /// Notes what a new pair says that is new, for `raise` and `lower`. Rows grow along the order, so what is no news to the pair's second
+    /// operation is none to those after it, and what is none to the first is none to those before it.
     pub fn begin_pair(&mut self, log: &NumberedLog, first: u32, second: u32) {
         self.first = bound_of(log, first);
         self.second = bound_of(log, second);
@@ -149,14 +149,14 @@ impl Rows {
                 floor = self.first.place as u32;
             }
             if floor > self.before(second, process) {
-                self.add_floor(process, entry_of(floor));
+                self.add_floor(process, short_place(floor));
             }
             let mut ceiling = self.after(second, process);
             if process == self.second.process {
                 ceiling = self.second.place as u32;
             }
             if ceiling < self.after(first, process) {
-                self.add_ceiling(process, entry_of(ceiling));
+                self.add_ceiling(process, short_place(ceiling));
             }
         }
     }
@@ -173,83 +173,87 @@ impl Rows {
         self.ceiling_count = self.ceiling_count.wrapping_add(1);
     }
 
-    /// Returns whether the new pair says nothing of what stands before this operation, which stands after the pair. Rows are closed, so one
-    /// that has the pair's first operation has all of its row too: a look at one entry is enough.
+    /// Returns whether the new pair says nothing new of what stands before this operation, which stands after the pair: its first operation
+    /// is known to stand before this one. Rows are transitively closed, so this row then has all that stands before the first operation
+    /// too, and a look at one entry is enough.
     #[inline(always)]
-    pub fn is_raised(&self, number: u32) -> bool {
+    pub fn needs_no_raise(&self, number: u32) -> bool {
         self.before(number, self.first.process) >= self.first.place as u32
     }
 
-    /// Returns whether the new pair says nothing of what stands after this operation, which stands before the pair.
+    /// Returns whether the new pair says nothing new of what stands after this operation, which stands before the pair: its second
+    /// operation is known to stand after this one.
     #[inline(always)]
-    pub fn is_lowered(&self, number: u32) -> bool {
+    pub fn needs_no_lowering(&self, number: u32) -> bool {
         self.after(number, self.second.process) <= self.second.place as u32
     }
 
-    /// Raises what stands before this operation, which stands after the new pair.
+    /// Raises what stands before this operation, which stands after the new pair, to what the pair says.
     pub fn raise(&mut self, number: u32) -> Result<(), AllocError> {
         let base = number.wrapping_mul(self.width);
-        for place in 0..self.floor_count {
-            let floor = at(self.floors.as_slice(), place, NO_BOUND);
-            let entry = base.wrapping_add(floor.process);
-            let old = at(self.before.as_slice(), entry, 0);
+        for number in 0..self.floor_count {
+            let floor = at(self.floors.as_slice(), number, NO_BOUND);
+            let index = base.wrapping_add(floor.process);
+            let old = at(self.before.as_slice(), index, 0);
             if old < floor.place {
                 if self.keeps_changes {
                     let is_after = false;
                     self.changes.push(Change {
-                        entry,
+                        index,
                         old,
                         is_after,
                     })?;
                 }
-                put(self.before.as_mut_slice(), entry, floor.place);
+                put(self.before.as_mut_slice(), index, floor.place);
             }
         }
         Ok(())
     }
 
-    /// Lowers what stands after this operation, which stands before the new pair.
+    /// Lowers what stands after this operation, which stands before the new pair, to what the pair says.
     pub fn lower(&mut self, number: u32) -> Result<(), AllocError> {
         let base = number.wrapping_mul(self.width);
-        for place in 0..self.ceiling_count {
-            let ceiling = at(self.ceilings.as_slice(), place, NO_BOUND);
-            let entry = base.wrapping_add(ceiling.process);
-            let old = at(self.after.as_slice(), entry, 0);
+        for number in 0..self.ceiling_count {
+            let ceiling = at(self.ceilings.as_slice(), number, NO_BOUND);
+            let index = base.wrapping_add(ceiling.process);
+            let old = at(self.after.as_slice(), index, 0);
             if old > ceiling.place {
                 if self.keeps_changes {
                     let is_after = true;
                     self.changes.push(Change {
-                        entry,
+                        index,
                         old,
                         is_after,
                     })?;
                 }
-                put(self.after.as_mut_slice(), entry, ceiling.place);
+                put(self.after.as_mut_slice(), index, ceiling.place);
             }
         }
         Ok(())
     }
 
-    /// The number of entries of a row of which the new pair says something, before it or after it.
+    /// The largest number of entries of one row that `raise` or `lower` looks at for the new pair, by which the caller counts the steps of
+    /// each.
     #[inline(always)]
     pub fn news(&self) -> u32 {
         self.floor_count.max(self.ceiling_count)
     }
 
-    /// Returns whether there is no room for a further change.
+    /// Returns whether there is no room for a further change. `raise` and `lower` do not look at this: after each pair the caller does, and
+    /// ends its work.
     #[inline(always)]
     pub fn is_full(&self) -> bool {
         self.changes.len() >= MAX_CHANGES
     }
 
-    /// The number of changes that are kept. From now on each change is kept, so that it can be taken back.
+    /// Keeps each change from now on, so that it can be undone. Returns how many are kept so far, to be given to `take_back`.
     pub fn keep_changes(&mut self) -> usize {
         self.keeps_changes = true;
         self.changes.len()
     }
 
     /// Undoes changes, the last ones first, until the given number is left: in another order an entry that changed twice would not get its
-    /// first place back. If no change is left, none is kept from now on.
+    /// first place back. `keeps_changes` says whether changes are kept from now on.
     pub fn take_back(&mut self, left: usize, keeps_changes: bool) {
         self.keeps_changes = keeps_changes;
         for _ in left..self.changes.len() {
@@ -257,9 +261,9 @@ impl Rows {
                 break;
             };
             if change.is_after {
-                put(self.after.as_mut_slice(), change.entry, change.old);
+                put(self.after.as_mut_slice(), change.index, change.old);
             } else {
-                put(self.before.as_mut_slice(), change.entry, change.old);
+                put(self.before.as_mut_slice(), change.index, change.old);
             }
         }
     }

@@ -1,4 +1,13 @@
 //! Why there is a contradiction: the operations and the decisions from which it follows.
+//!
+//! A `DerivedOrder` keeps a reason and a time for each pair that it added (a *pair* is an `Edge`: its first operation stands before its
+//! second one) and for each possible source that it dropped. An explanation goes back from the contradiction by these reasons, and marks
+//! the operations and decisions that it meets as needed. A question about a time is answered by what is older than that time, so no answer
+//! rests on itself.
+//!
+//! A walk (`walk`) takes back the last decision that is needed and turns it round, and lets a knot of processes that wait for one another
+//! ask its own questions. The crate `survey` makes a smaller part of the needed operations, and saturates it again. No answer of the
+//! program rests on an explanation: one that names too few operations costs a core, as their part is not refuted then.
 
 use derived_order::{DerivedOrder, OrderContradiction};
 use numbered_log::NOBODY;
@@ -11,7 +20,7 @@ use std::alloc::{AllocError, Global};
 enum Question {
     /// The question why the first operation stood before the second by that time.
     Order { first: u32, second: u32, time: u32 },
-    /// The question why sources of the reader were dropped by that time.
+    /// The question why those sources of the reader were dropped that were dropped by that time.
     Drops { reader: u32, time: u32 },
 }
 
@@ -19,49 +28,56 @@ enum Question {
 #[derive(Clone, Copy)]
 enum Arrival {
     Start,
-    /// By the operation before it in its process.
+    /// By the operation before it in its process, whose number is one less.
     ProgramOrder,
-    /// By the pair of this number.
+    /// By the pair of this number, of which it is the second operation.
     Pair(u32),
 }
 
-/// A node of the search for the shortest way.
+/// A visit of an operation in the search for the shortest way.
 #[derive(Clone, Copy)]
-struct PathNode {
-    /// The search in which that was.
+struct Visit {
+    /// The number of the search that made the visit.
     search: u32,
-    /// The number of new pairs on the way.
+    /// The number of new pairs on the way to the operation: pairs that the explanation did not use before.
     distance: u32,
     arrival: Arrival,
 }
 
-/// No visit.
-const UNSEEN: PathNode = PathNode {
+/// No visit. Searches are counted from 1.
+const UNSEEN: Visit = Visit {
     search: 0,
     distance: 0,
     arrival: Arrival::Start,
 };
 
-/// The most questions that wait, beyond which the explanation is given up, which is memory for some 50 MB while they grow.
+/// The most questions that may wait. Beyond that the explanation is given up. They take 16 MB, and half as much again while the list grows.
 const MAX_QUESTIONS: usize = 1 << 20;
 
 /// The operations and decisions that a contradiction needs.
 #[derive(Drop)]
 pub struct Explanation {
+    /// For each operation whether it is needed.
     is_needed: Vec<bool>,
-    /// For each pair the number of the last explanation that used it.
+    /// For each pair the number of the last explanation that used it, so that the table need not be cleared for each explanation.
     used_in: Vec<u32>,
+    /// The number of this explanation.
     number: u32,
+    /// For each decision, counted from 1, whether it is needed.
     is_decided: Vec<bool>,
-    /// For each reader the time up to which its drops are explained.
-    told: Vec<u32>,
+    /// For each reader the time up to which the drops of its sources are explained.
+    explained_to: Vec<u32>,
+    /// The questions that wait. The last one is answered first.
     questions: Vec<Question>,
-    visits: Vec<PathNode>,
+    /// For each operation its last visit.
+    visits: Vec<Visit>,
+    /// The number of the last search.
     search: u32,
     /// The operations to go on from at the distance at hand, and at the next one.
     near: Vec<u32>,
     far: Vec<u32>,
     steps: u64,
+    /// The steps that the order's budget had left when the explanation began.
     most_steps: u64,
 }
 
@@ -75,7 +91,7 @@ impl Explanation {
             used_in: Vec::new(alloc),
             number: 0,
             is_decided: Vec::new(alloc),
-            told: vec![in alloc; 0; readers]?,
+            explained_to: vec![in alloc; 0; readers]?,
             questions: Vec::new(alloc),
             visits: vec![in alloc; UNSEEN; operations]?,
             search: 0,
@@ -86,7 +102,8 @@ impl Explanation {
         })
     }
 
-    /// Explains the contradiction of the order.
+    /// Explains the contradiction of the order. `operations` and `decisions` then give what it follows from. If the budget of the order
+    /// runs out, or too many questions wait, they give too few; the caller takes `steps` out of its budget, which is spent then.
     pub fn explain(&mut self, order: &DerivedOrder<'_>) -> Result<(), AllocError> {
         self.begin(order)?;
         match order.contradiction() {
@@ -99,19 +116,20 @@ impl Explanation {
         }
         self.answer(order)?;
         if let OrderContradiction::NoSource(reader) = order.contradiction() {
-            self.need_some_writer(order, reader);
+            self.need_a_writer_of_final_value(order, reader);
         }
         Ok(())
     }
 
-    /// Begins the explanation of a contradiction.
+    /// Begins an explanation with no question and nothing needed. Questions are then asked by `ask_order` and `ask_drops`, and answered by
+    /// `answer`.
     pub fn begin(&mut self, order: &DerivedOrder<'_>) -> Result<(), AllocError> {
         self.number = self.number.wrapping_add(1);
         for operation in 0..size(self.is_needed.as_slice()) {
             put(self.is_needed.as_mut_slice(), operation, false);
         }
-        for reader in 0..size(self.told.as_slice()) {
-            put(self.told.as_mut_slice(), reader, 0);
+        for reader in 0..size(self.explained_to.as_slice()) {
+            put(self.explained_to.as_mut_slice(), reader, 0);
         }
         self.is_decided.clear();
         for _ in 0..order.decisions() {
@@ -123,18 +141,21 @@ impl Explanation {
         self.questions.clear();
         self.most_steps = order.budget().left();
         self.steps = 0;
-        let looked = size(self.is_needed.as_slice()).wrapping_add(size(self.told.as_slice()));
+        let looked = size(self.is_needed.as_slice()).wrapping_add(size(
+            self.explained_to.as_slice(),
+        ));
         self.step(looked.wrapping_add(order.decisions()));
         Ok(())
     }
 
-    /// Takes `steps` steps.
+    /// Counts these steps against the budget.
     #[inline(always)]
     fn step(&mut self, steps: u32) {
         self.steps = self.steps.saturating_add(steps as u64);
     }
 
-    /// Notes a question. If too many wait, all steps count as taken: what is found then explains too little.
+    /// Notes a question. If too many wait, the explanation is given up: all steps count as taken, so that `answer` stops, and the needed
+    /// operations are too few.
     fn ask(&mut self, question: Question) -> Result<(), AllocError> {
         self.step(1);
         if self.questions.len() >= MAX_QUESTIONS {
@@ -145,13 +166,14 @@ impl Explanation {
         Ok(())
     }
 
-    /// The operation is needed.
+    /// Marks the operation as needed. A number that is no operation's is ignored: `NOBODY`, which stands for an initial value, and the
+    /// number of a reader that is a final value.
     #[inline(always)]
     pub fn need(&mut self, operation: u32) {
         put(self.is_needed.as_mut_slice(), operation, true);
     }
 
-    /// Asks why the first operation stood before the second by that time. The same operation twice asks nothing.
+    /// Asks why the first operation stood before the second by that time. Both are needed. The same operation twice asks nothing.
     pub fn ask_order(&mut self, first: u32, second: u32, time: u32) -> Result<(), AllocError> {
         self.need(first);
         self.need(second);
@@ -165,14 +187,15 @@ impl Explanation {
         Ok(())
     }
 
-    /// Asks why sources of the reader were dropped by that time.
+    /// Asks why those sources of the reader were dropped that were dropped by that time. The reader is needed.
     pub fn ask_drops(&mut self, reader: u32, time: u32) -> Result<(), AllocError> {
         self.need(reader);
         self.ask(Question::Drops { reader, time })
     }
 
-    /// Answers all that was asked, and what is asked by the answers, until the budget of the order is spent.
+    /// Answers the questions that wait, and those that the answers ask, until none waits or the budget of the order is spent.
     pub fn answer(&mut self, order: &DerivedOrder<'_>) -> Result<(), AllocError> {
+        // Each loop here has a bound, by which the checker sees that it returns. This one is never reached.
         for _ in 0..u64::MAX {
             if self.steps >= self.most_steps {
                 self.questions.clear();
@@ -195,7 +218,8 @@ impl Explanation {
     }
 
     /// Explains why one operation stood before the other, by a way with few new pairs. Each new pair draws its own reasons into the
-    /// explanation, so ways that are longer than needed make larger cores and decisions that are turned round for nothing.
+    /// explanation, so a longer way than needed makes the core larger, and turns round decisions that need not be turned round. If both
+    /// operations are of one process, program order is the way, and nothing is needed for it.
     fn explain_order(
         &mut self,
         order: &DerivedOrder<'_>,
@@ -209,6 +233,7 @@ impl Explanation {
             return Ok(());
         }
         self.find_way(order, first, second, time)?;
+        // Back from the second operation, by the step that each visit has kept.
         let mut operation = second;
         for _ in 0..u32::MAX {
             if operation == first {
@@ -231,9 +256,9 @@ impl Explanation {
         Ok(())
     }
 
-    /// The visit of this search to the operation, or none.
+    /// The visit of this search to the operation, or `UNSEEN`.
     #[inline(always)]
-    fn visit(&self, operation: u32) -> PathNode {
+    fn visit(&self, operation: u32) -> Visit {
         let visit = at(self.visits.as_slice(), operation, UNSEEN);
         if visit.search == self.search {
             visit
@@ -242,8 +267,10 @@ impl Explanation {
         }
     }
 
-    /// Searches a way by program order and pairs that are older than that time, with as few pairs as can be that this explanation does
-    /// not use yet.
+    /// Searches a way from the first operation to the second one by program order and pairs that are older than that time, with as few new
+    /// pairs as possible: pairs that this explanation does not use yet. Each visit keeps the step by which the search came, so the way is
+    /// read from the second operation backwards. It is a breadth-first search in which only new pairs count: `near` has the operations at
+    /// the distance at hand, and `far` those at the next one.
     fn find_way(
         &mut self,
         order: &DerivedOrder<'_>,
@@ -276,7 +303,7 @@ impl Explanation {
         Ok(())
     }
 
-    /// Notes the visit. The search goes on from there at the next distance.
+    /// Notes a visit, from which the search goes on at the next distance.
     #[inline(always)]
     fn arrive(
         &mut self,
@@ -285,7 +312,7 @@ impl Explanation {
         arrival: Arrival,
     ) -> Result<(), AllocError> {
         let search = self.search;
-        let visit = PathNode {
+        let visit = Visit {
             search,
             distance,
             arrival,
@@ -296,7 +323,7 @@ impl Explanation {
     }
 
     /// Returns whether a way with this number of new pairs would be the best one to the operation so far, and may lead on to the second
-    /// one.
+    /// one. An operation that does not stand before the second one is on no way to it.
     #[inline(always)]
     fn is_better(
         &self,
@@ -310,7 +337,8 @@ impl Explanation {
             && (operation == second || order.stands_before(operation, second))
     }
 
-    /// Goes on from this operation.
+    /// Visits the operations that one step from this one leads to: the next one of its process, and the second one of each pair that has it
+    /// as its first and is older than that time.
     fn go_on(
         &mut self,
         order: &DerivedOrder<'_>,
@@ -349,7 +377,7 @@ impl Explanation {
         Ok(())
     }
 
-    /// Notes the visit. The search goes on from there at the same distance.
+    /// Notes a visit, from which the search goes on at the same distance.
     #[inline(always)]
     fn arrive_near(
         &mut self,
@@ -358,7 +386,7 @@ impl Explanation {
         arrival: Arrival,
     ) -> Result<(), AllocError> {
         let search = self.search;
-        let visit = PathNode {
+        let visit = Visit {
             search,
             distance,
             arrival,
@@ -368,7 +396,8 @@ impl Explanation {
         Ok(())
     }
 
-    /// Explains a pair by its reason.
+    /// Explains a pair by its reason: marks its operations as needed, and asks about what the reason rests on. A pair that the trace gives
+    /// needs no more.
     fn explain_pair(&mut self, order: &DerivedOrder<'_>, edge: Edge) -> Result<(), AllocError> {
         self.need(edge.first);
         self.need(edge.second);
@@ -387,10 +416,12 @@ impl Explanation {
         Ok(())
     }
 
+    /// Marks the decision of this number, counted from 1, as needed.
     fn need_decision(&mut self, number: u32) {
         put(self.is_decided.as_mut_slice(), number.wrapping_sub(1), true);
     }
 
+    /// Marks the operations and decisions of the lemma as needed. They were explained when it was learned, so nothing is asked.
     fn need_lemma(&mut self, order: &DerivedOrder<'_>, number: u32) {
         let operations = order.reasons().lemma_operations(number);
         let decisions = order.reasons().lemma_decisions(number);
@@ -408,7 +439,8 @@ impl Explanation {
         source.is_possible() || source.time >= time
     }
 
-    /// Explains why the first operation stood before all sources of the reader.
+    /// Explains why the first operation of the pair stood before all sources of the reader that were possible at its time: it asks about
+    /// each of them, and why the others were dropped.
     fn explain_before(
         &mut self,
         order: &DerivedOrder<'_>,
@@ -426,7 +458,7 @@ impl Explanation {
         Ok(())
     }
 
-    /// Explains why the second operation stood after all sources of the reader.
+    /// Explains why the second operation of the pair stood after all sources of the reader that were possible at its time, likewise.
     fn explain_after(
         &mut self,
         order: &DerivedOrder<'_>,
@@ -444,18 +476,18 @@ impl Explanation {
         Ok(())
     }
 
-    /// Explains why sources of the reader were dropped by that time. All its sources are needed, since a part that lacks one loses the
-    /// read.
+    /// Explains why those sources of the reader were dropped that were dropped by that time. All its sources are needed, since a part that
+    /// lacks one loses the read. What was explained up to that time before is not explained again.
     fn explain_drops(
         &mut self,
         order: &DerivedOrder<'_>,
         reader: u32,
         time: u32,
     ) -> Result<(), AllocError> {
-        if at(self.told.as_slice(), reader, time) >= time {
+        if at(self.explained_to.as_slice(), reader, time) >= time {
             return Ok(());
         }
-        put(self.told.as_mut_slice(), reader, time);
+        put(self.explained_to.as_mut_slice(), reader, time);
         for place in order.sources().begin(reader)..order.sources().end(reader) {
             let source = order.sources().source(place);
             self.step(1);
@@ -467,6 +499,7 @@ impl Explanation {
         Ok(())
     }
 
+    /// Asks about what makes the source impossible for the reader.
     fn explain_drop(
         &mut self,
         order: &DerivedOrder<'_>,
@@ -490,8 +523,8 @@ impl Explanation {
         Ok(())
     }
 
-    /// Needs an operation that stands between a source and its reader. If it writes nothing it is a read of another value, so that all its
-    /// sources are needed too: a part that lacks one loses the read.
+    /// Marks an operation as needed that stands between a source and its reader. If it writes nothing it is a read of another value, so
+    /// that all its sources are needed too: a part that lacks one loses the read.
     fn need_between(&mut self, order: &DerivedOrder<'_>, operation: u32) {
         self.need(operation);
         if order.log().operation(operation).writes {
@@ -504,8 +537,9 @@ impl Explanation {
         }
     }
 
-    /// A final value that no operation can have written is kept in a part that has some writer of the location.
-    fn need_some_writer(&mut self, order: &DerivedOrder<'_>, reader: u32) {
+    /// If the reader is a final value, sees to it that some writer of its location is needed: a part without one drops the final value, and
+    /// this contradiction with it (`part_of` in the crate `survey`). Any writer will do, so one that is needed already is enough.
+    fn need_a_writer_of_final_value(&mut self, order: &DerivedOrder<'_>, reader: u32) {
         let log = order.log();
         if reader < log.count() {
             return;
@@ -521,6 +555,7 @@ impl Explanation {
                 }
             }
         }
+        // If nothing writes the location, `found` is `NOBODY`, which `need` ignores.
         self.need(found);
     }
 
@@ -562,7 +597,8 @@ impl Explanation {
         0
     }
 
-    /// The number of steps that the last explanation took.
+    /// The number of steps that the last explanation took, which the caller takes out of its budget. It is as large as a number can be if
+    /// too many questions waited.
     pub fn steps(&self) -> u64 {
         self.steps
     }

@@ -5,7 +5,7 @@ use text_lines::fault::{FaultCause, PlacedFault};
 /// What is wrong with a trace that is not reduced.
 #[derive(Clone, Copy, Debug, PartialEq, Eq)]
 pub enum ReduceCause {
-    /// This number of operations is left, which is more than 160.
+    /// More than 160 operations are left. The number at which the fault is placed is how many.
     StillTooLarge,
 }
 
@@ -21,6 +21,7 @@ impl FaultCause for ReduceCause {
 
     fn number(&self) -> u8 {
         match self {
+            // 1 was that memory ran out, which all faults share now. A number is printed, and is not used again for another cause.
             ReduceCause::StillTooLarge => 2,
         }
     }

@@ -1,4 +1,4 @@
-//! Whether answers are right.
+//! Whether the answers of workers, which are claims, are right.
 ghost use Rattle.std.specs.Prelude.{◌≡◌, ◌<◌, ◌↔◌, Bool, List, length, IsTrue, IfOk, IfSome, MatchOption, Some};
 ghost use Rattle.cube_jobs.specs.declared.outcome.Outcome.TheVariants.{Model, Refuted};
 ghost use Rattle.lrat_check.specs.Checked.{IsAccepted};
@@ -17,7 +17,7 @@ use lrat_check::other_cubes::are_served;
 use lrat_check::refusal::Refusal;
 use std::alloc::{AllocError, Global};
 
-/// The truth values of an answer that says that they are a model.
+/// The assignment that the answer claims to be a model, not yet checked.
 fn said_model(outcome: &Option<Outcome>) -> Option<&Assignment>
     ensures { MatchOption result
         ((truth : List Bool) → outcome.now ≡ Some (Model truth) → ⊥)
@@ -32,7 +32,7 @@ fn said_model(outcome: &Option<Outcome>) -> Option<&Assignment>
     }
 }
 
-/// The derivation of an answer that says that there is no model.
+/// The derivation by which the answer claims that there is no model, not yet checked.
 fn said_derivation(outcome: &Option<Outcome>) -> Option<&Derivation>
     ensures { MatchOption result
         ((steps : List Step) → outcome.now ≡ Some (Refuted steps) → ⊥)
@@ -56,6 +56,7 @@ fn is_accepted<L: ClauseList>(
 ) -> Result<bool, AllocError>
     ensures { IfOk result (λ accepted. IsTrue accepted ↔ IsAccepted (L.formula formula.now).clauses cube.now derivation.now) }
 {
+    // A law, which does nothing when run: no derivation is both accepted and refused.
     never_accepted_and_refused();
     match check(alloc, formula, cube, derivation) {
         Ok(_) => Ok(true),
@@ -64,7 +65,8 @@ fn is_accepted<L: ClauseList>(
     }
 }
 
-/// Returns whether the derivation can be written as LRAT, so that others can check it again, and is accepted for the cube.
+/// Returns whether the derivation proves that the formula has no model in the cube: the checker accepts it for the cube, and it can be
+/// written as LRAT, so that others can check it again.
 fn is_proof_in<L: ClauseList>(
     alloc: Global,
     formula: &L,
@@ -109,11 +111,12 @@ pub(crate) fn is_proved<L: ClauseList>(
     Ok(proved)
 }
 
-/// Returns whether both answers are one derivation, which does not need the first cube in place of the second. If the first is then
-/// proved, so is the second.
+/// Returns whether both answers are the same derivation, and no step of it rests on what only the first cube has (`are_served`). If the
+/// first answer is proved, so is the second.
 fn serves<L: ClauseList>(formula: &L, first: &Slot, second: &Slot) -> bool
     ensures { IsTrue result → IsProofAnswer (L.formula formula.now).clauses first.now → IsProofAnswer (L.formula formula.now).clauses second.now }
 {
+    // A law, which does nothing when run: what is served by a derivation is proved by it.
     accepted_for_other_cubes();
     let Some(derivation) = said_derivation(&first.outcome) else {
         return false;
@@ -133,7 +136,7 @@ fn serves<L: ClauseList>(formula: &L, first: &Slot, second: &Slot) -> bool
     )
 }
 
-/// Returns whether the slot is proved without a check, by the derivation of one that is known to be proved.
+/// Returns whether the slot's answer is proved without a check, since it is the derivation of one that is known to be proved.
 pub(crate) fn is_served<L: ClauseList>(formula: &L, known: Option<&Slot>, slot: &Slot) -> bool
     requires { IfSome known (λ first. IsProofAnswer (L.formula formula.now).clauses first.now) }
     ensures { IsTrue result → IsProofAnswer (L.formula formula.now).clauses slot.now }

@@ -10,13 +10,13 @@ use std::alloc::AllocError;
 pub const UNSEEN: u8 = 0;
 /// It is in the learned clause, or in a clause that was resolved away.
 pub const SEEN: u8 = 1;
-/// It is implied by other literals of the learned clause, so it can be left out.
-pub const IMPLIED: u8 = 2;
+/// Its literal is redundant: other literals of the learned clause imply it, so that it can be left out.
+pub const REDUNDANT: u8 = 2;
 /// Its reason is a hint of the learned clause.
 pub const NEEDED: u8 = 3;
 
 impl<'a> Search<'a> {
-    /// Returns the mark of the variable.
+    /// Returns the mark of the variable. The table has an entry for each variable of the formula.
     #[inline(always)]
     pub fn mark(&self, variable: u32) -> u8 {
         at(self.marks.as_slice(), variable, SEEN)
@@ -30,7 +30,8 @@ impl<'a> Search<'a> {
         Ok(())
     }
 
-    /// Clears all marks.
+    /// Sets all variables that were marked back to `UNSEEN`. `marked` lists them, so this costs as much as was marked, whatever the number
+    /// of variables.
     pub fn clear_marks(&mut self) {
         for variable in &self.marked {
             put(self.marks.as_mut_slice(), *variable, UNSEEN);
@@ -38,8 +39,8 @@ impl<'a> Search<'a> {
         self.marked.clear();
     }
 
-    /// Resolves with this clause. Its literals of earlier levels join the learned clause; those of level 0 are false for good, and are
-    /// justified by hints. Returns how many new literals are of the current level.
+    /// Resolves with this clause. Its literals of earlier levels join the learned clause; those of level 0 are false for good: they are
+    /// left out, and their reasons become hints. Returns how many new literals are of the current level.
     fn resolve(&mut self, reason: ReasonClause) -> Result<u32, AllocError> {
         self.resolved.push(reason.id)?;
         if reason.place != 0 {
@@ -75,6 +76,7 @@ impl<'a> Search<'a> {
         self.learned.clear();
         self.resolved.clear();
         self.pending.clear();
+        // Room for the literal of the first unique implication point.
         self.learned.push(0)?;
         let mut open = self.resolve(conflict)?;
         if open == 0 {

@@ -1,7 +1,7 @@
 //! Recursive minimisation of learned clauses: a literal that the others imply is left out (Sörensson and Biere, "Minimizing learned
 //! clauses", 2009). Shorter clauses propagate sooner, and cost the checker less.
 
-use crate::analyze::{IMPLIED, NEEDED, UNSEEN};
+use crate::analyze::{REDUNDANT, NEEDED, UNSEEN};
 use crate::search::Search;
 use order_sets::tables::{at, put, size};
 use std::alloc::AllocError;
@@ -41,7 +41,7 @@ impl<'a> Search<'a> {
             if self.trail.was_decided(other) || levels & self.level_bit(antecedent) == 0 {
                 return Ok(true);
             }
-            self.set_mark(antecedent, IMPLIED)?;
+            self.set_mark(antecedent, REDUNDANT)?;
             self.stack.push(antecedent)?;
         }
         Ok(false)

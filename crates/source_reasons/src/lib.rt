@@ -10,5 +10,5 @@ mod waiting;
 
 pub use concerned::Concerned;
 pub use reasons::{Edge, EdgeReason, NO_EDGE, Reasons};
-pub use sources::{Fate, PossibleSource, Sources, UNBOUND, UNTOLD};
+pub use sources::{Fate, PossibleSource, Sources, UNBOUND, UNLISTED};
 pub use waiting::Waiting;

@@ -34,16 +34,17 @@ impl PossibleSource {
     }
 }
 
-/// The number of living sources of what is no reader.
+/// Stands for the number of possible sources of an entry that needs none: an operation that does not read, or a location without a final
+/// value that some writer has to leave.
 pub const UNBOUND: u32 = u32::MAX;
 
-/// The number of living sources of a reader whose sources were too many to be found or kept.
-pub const UNTOLD: u32 = u32::MAX - 1;
+/// Stands for the number of possible sources of a reader whose sources were too many to be found or kept, so that none is listed.
+pub const UNLISTED: u32 = u32::MAX - 1;
 
-/// A source that was dropped, and its reader.
+/// The place of a source that was dropped, and its reader.
 #[derive(Clone, Copy)]
 struct Dropped {
-    source: u32,
+    place: u32,
     reader: u32,
 }
 
@@ -68,12 +69,12 @@ const NOTHING: PossibleSource = PossibleSource {
     time: 0,
 };
 
-/// The most sources that are kept in all, which is memory for some 50 MB. Readers for which there is no room are untold: nothing is derived
-/// of them, so more goes to the search, and nothing gets wrong.
+/// The most sources that are kept in all, which is memory for some 50 MB. Readers for which there is no room are unlisted: nothing is
+/// derived of them, so more is left to the search, and no answer becomes wrong.
 const MAX_SOURCES: usize = 1 << 21;
 
 impl Sources {
-    /// No reader.
+    /// No reader yet. For each number in turn the caller begins an entry, adds its sources, and ends it in one of three ways.
     pub fn new(alloc: Global) -> Sources {
         Sources {
             sources: Vec::new(alloc),
@@ -84,13 +85,13 @@ impl Sources {
         }
     }
 
-    /// Begins the next reader.
+    /// Begins the entry of the next number. After the last one it is called once more, so that the sources of that one have an end.
     pub fn begin_reader(&mut self) -> Result<(), AllocError> {
         self.begins.push(size(self.sources.as_slice()))?;
         Ok(())
     }
 
-    /// Adds a source to the reader at hand. Returns whether there is room for it.
+    /// Adds a source to the reader at hand. Returns whether there was room for it; if not, the caller ends the entry as unlisted.
     pub fn add(&mut self, operation: u32) -> Result<bool, AllocError> {
         if self.sources.len() >= MAX_SOURCES {
             return Ok(false);
@@ -111,17 +112,17 @@ impl Sources {
         Ok(())
     }
 
-    /// Ends the number at hand, which is no reader that has to have one of some sources.
+    /// Ends the entry at hand, which needs no source (`UNBOUND`).
     pub fn end_unbound(&mut self) -> Result<(), AllocError> {
         self.end_without(UNBOUND)
     }
 
-    /// Ends the reader at hand, whose sources are too many to be found or kept.
-    pub fn end_untold(&mut self) -> Result<(), AllocError> {
-        self.end_without(UNTOLD)
+    /// Ends the entry of a reader whose sources are too many to be found or kept (`UNLISTED`). Those that were added are taken out.
+    pub fn end_unlisted(&mut self) -> Result<(), AllocError> {
+        self.end_without(UNLISTED)
     }
 
-    /// Ends the number at hand, of which no source is kept.
+    /// Ends the entry at hand without sources.
     fn end_without(&mut self, living: u32) -> Result<(), AllocError> {
         let begin = at(self.begins.as_slice(), size(self.living.as_slice()), 0);
         self.sources.truncate(begin as usize);
@@ -129,13 +130,13 @@ impl Sources {
         Ok(())
     }
 
-    /// The number of entries: of readers, and of numbers that are no reader's.
+    /// The number of entries: of all operations and locations, those that are no readers as well.
     pub fn readers(&self) -> u32 {
         size(self.living.as_slice())
     }
 
-    /// The number of sources of all readers.
-    pub fn count(&self) -> u32 {
+    /// The number of sources that are held for all readers, those that were dropped as well.
+    pub fn source_count(&self) -> u32 {
         size(self.sources.as_slice())
     }
 
@@ -161,29 +162,29 @@ impl Sources {
         at(self.sources.as_slice(), place, NOTHING)
     }
 
-    /// The number of the reader's sources that are possible, or `UNBOUND`, or `UNTOLD`.
+    /// The number of the reader's sources that are possible, or `UNBOUND`, or `UNLISTED`.
     #[inline(always)]
     pub fn living(&self, reader: u32) -> u32 {
         at(self.living.as_slice(), reader, UNBOUND)
     }
 
-    /// Returns whether the number is of a reader that has to have one of its sources.
+    /// Returns whether the number is of a reader whose sources are listed, so that it must have one of them.
     #[inline(always)]
     pub fn is_bound(&self, reader: u32) -> bool {
-        self.living(reader) < UNTOLD
+        self.living(reader) < UNLISTED
     }
 
-    /// Returns whether it is not known which of several sources the reader has.
+    /// Returns whether it is open which source the reader has. Of an unlisted reader it is, in contrast to `has_several`.
     pub fn is_undecided(&self, reader: u32) -> bool {
         let living = self.living(reader);
         living > 1 && living != UNBOUND
     }
 
-    /// Returns whether the reader has more than one possible source.
+    /// Returns whether the reader has more than one possible source among those that are listed. An unlisted reader has not.
     #[inline(always)]
     pub fn has_several(&self, reader: u32) -> bool {
         let living = self.living(reader);
-        living > 1 && living < UNTOLD
+        living > 1 && living < UNLISTED
     }
 
     /// The number of places that must be looked at for one of the reader's sources.
@@ -192,7 +193,7 @@ impl Sources {
         self.end(reader).saturating_sub(self.begin(reader)) as u64
     }
 
-    /// The reader's only possible source. The initial value is named by `NOBODY`.
+    /// The reader's only possible source, where `NOBODY` stands for the initial value. `None` if it has none, several, or unlisted ones.
     pub fn only(&self, reader: u32) -> Option<u32> {
         if self.living(reader) != 1 {
             return None;
@@ -217,8 +218,8 @@ impl Sources {
         false
     }
 
-    /// Drops the source at this place, one of the reader's, as not possible. Each drop has a time, so that an explanation never cites a
-    /// drop that came later: it would be a circle.
+    /// Drops the source at this place as not possible. It must be one of the reader's and still possible, or else the reader's possible
+    /// ones are counted wrongly. Each drop has a time, so that an explanation never cites a drop that came later: it would be a circle.
     pub fn drop_source(
         &mut self,
         reader: u32,
@@ -236,32 +237,31 @@ impl Sources {
         let living = self.living(reader).wrapping_sub(1);
         put(self.living.as_mut_slice(), reader, living);
         if self.keeps_drops {
-            let source = place;
-            self.dropped.push(Dropped { source, reader })?;
+            self.dropped.push(Dropped { place, reader })?;
         }
         Ok(())
     }
 
-    /// The number of drops that are kept. From now on each is kept, so that it can be taken back.
+    /// Keeps each drop from now on, so that it can be undone. Returns how many are kept so far, to be given to `take_back`.
     pub fn keep_drops(&mut self) -> usize {
         self.keeps_drops = true;
         self.dropped.len()
     }
 
-    /// Undoes drops, the last ones first, until the given number is left.
+    /// Undoes drops, the last ones first, until the given number is left. `keeps_drops` says whether drops are kept from now on.
     pub fn take_back(&mut self, left: usize, keeps_drops: bool) {
         self.keeps_drops = keeps_drops;
         for _ in left..self.dropped.len() {
             let Some(dropped) = self.dropped.pop() else {
                 break;
             };
-            let source = self.source(dropped.source);
+            let source = self.source(dropped.place);
             let changed = PossibleSource {
                 operation: source.operation,
                 fate: Fate::Possible,
                 time: 0,
             };
-            put(self.sources.as_mut_slice(), dropped.source, changed);
+            put(self.sources.as_mut_slice(), dropped.place, changed);
             let living = self.living(dropped.reader).wrapping_add(1);
             put(self.living.as_mut_slice(), dropped.reader, living);
         }

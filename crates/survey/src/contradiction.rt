@@ -1,4 +1,7 @@
 //! The contradiction of a part, and what it follows from.
+//!
+//! `shrinking` looks by it whether fewer operations of a core explain its contradiction, and `another` whether a part of the trace without
+//! the operations of other cores has a contradiction too. Both make the part of what they get and refute it again before they use it.
 
 use crate::part::{Chosen, part_of};
 use derived_order::{DerivedOrder, Saturation};
@@ -7,8 +10,13 @@ use order_sets::tables::at;
 use order_walk::Explanation;
 use std::alloc::{AllocError, Global};
 
-/// The operations from which a contradiction of the part follows, by their numbers in the whole, or none if saturation finds none. The
-/// operations of the part stand by rising numbers and are those that are chosen.
+/// Saturates the part of the chosen operations. If that contradicts itself, gives the operations from which the contradiction follows, by
+/// their numbers in the whole trace. Gives `None` if saturation finds no contradiction, and also if the budget runs out before: then
+/// nothing is known of the part.
+///
+/// If the budget runs out while the contradiction is explained, the operations may be too few for a contradiction, and the budget is spent.
+/// `operations` and `chosen` are the same set, as a list by rising numbers and as a table. `forced` is the whole trace with the order that
+/// its program order and pairs force.
 pub fn contradicting(
     alloc: Global,
     forced: &DerivedOrder<'_>,

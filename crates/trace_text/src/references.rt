@@ -22,7 +22,7 @@ use text_lines::words::first_words;
 use trace_semantics::place::read_place;
 use trace_semantics::trace::Process;
 
-/// Checks whether the process has this name, and an operation at this place.
+/// Returns whether the process has this name, and an operation at this place. Places are counted from 1.
 fn has_place(process: &Process, name: &[u8], place: u16) -> bool
     ensures { result ≡ is_of name.now place process.now }
 {
@@ -37,8 +37,8 @@ fn some_has_place(processes: &[Process], name: &[u8], place: u16) -> bool
         .any(|process| has_place(process, name, place))
 }
 
-/// Checks whether one of the processes has the operation that is named.
-fn has_named(processes: &[Process], name: &[u8], place: &[u8]) -> bool
+/// Returns whether one of the processes has the operation that is named. A word that is no place names none.
+fn has_operation(processes: &[Process], name: &[u8], place: &[u8]) -> bool
     ensures { result ≡ is_among processes.now (name.now, place.now) }
 {
     match read_place(place) {
@@ -51,13 +51,13 @@ fn source_is_known(processes: &[Process], source: ReadsFrom<'_>) -> bool
     ensures { result ≡ list_all (is_among processes.now) (references_of_source (said_source source.entry)) }
 {
     match source {
-        ReadsFrom::FromOp(process, place) => has_named(processes, process, place),
+        ReadsFrom::FromOp(process, place) => has_operation(processes, process, place),
         ReadsFrom::Unsaid => true,
         ReadsFrom::FromInit => true,
     }
 }
 
-/// Checks whether the operations are known that a line names.
+/// Returns whether all operations that a line names exist.
 fn all_are_known(processes: &[Process], statement: Statement<'_>) -> bool
     ensures { result ≡ list_all (is_among processes.now) (references_of (said statement.entry)) }
 {
@@ -65,14 +65,14 @@ fn all_are_known(processes: &[Process], statement: Statement<'_>) -> bool
         Statement::Read(_, _, source) => source_is_known(processes, source),
         Statement::Update(_, _, _, source) => source_is_known(processes, source),
         Statement::Before(process, place, other, other_place) => {
-            has_named(processes, process, place) && has_named(processes, other, other_place)
+            has_operation(processes, process, place) && has_operation(processes, other, other_place)
         }
         _ => true,
     }
 }
 
-/// Checks whether a line puts an operation before itself.
-fn is_of_one(statement: Statement<'_>) -> bool
+/// Returns whether a line puts an operation before itself. A place is written in one way only, so the words are compared as they stand.
+fn is_before_itself(statement: Statement<'_>) -> bool
     ensures { result ≡ is_before_itself (said statement.entry) }
 {
     match statement {
@@ -91,7 +91,7 @@ fn fault_of_names(processes: &[Process], statement: Statement<'_>) -> Result<(),
     if !all_are_known(processes, statement) {
         return Err(PlainFault::For(TraceCause::NoSuchOp));
     }
-    if is_of_one(statement) {
+    if is_before_itself(statement) {
         return Err(PlainFault::For(TraceCause::BeforeItself));
     }
     Ok(())

@@ -1,4 +1,7 @@
 //! What must be known of the earlier lines of a trace text to judge the next one.
+//!
+//! In the contracts `Notes` says too that the earlier lines make no fault of the new one, `IsRefusedFor` for which fault it is refused, and
+//! 4096 is `MAX_LOCATIONS`. Values and places are not looked at here, so `[]` stands for any, and `Write` for each operation.
 
 ghost use Rattle.std.specs.Prelude.{◌≡◌, ◌≤◌, [], List, ℕ, Some, None, false, OnOk, IfErr};
 ghost use Rattle.trace_semantics.specs.NameNumbers.{number_of};
@@ -14,7 +17,8 @@ use text_lines::plain_fault::PlainFault;
 use trace_semantics::limits::{MAX_LOCATIONS, MAX_OPERATIONS, MAX_PAIRS, MAX_PROCESSES};
 use trace_semantics::name_table::NameTable;
 
-/// What must be known of the earlier lines to judge the next one: the names that they name, and the number of each kind.
+/// What must be known of the earlier lines to judge the next one: the names that they name, and the number of each kind. The tables are
+/// used as sets: the number under a name is not read.
 #[derive(Drop)]
 pub struct Seen<'a> {
     initial: NameTable<'a>,
@@ -50,8 +54,8 @@ impl<'a> Seen<'a> {
         }
     }
 
-    /// Takes the location of a line.
-    fn take_location(&mut self, location: &'a [u8]) -> Result<(), LineRefusal>
+    /// Notes the location of a line, unless it is one too many.
+    fn note_location(&mut self, location: &'a [u8]) -> Result<(), LineRefusal>
         requires { self.old.location_count ≤ 4096 }
         ensures refused { IfErr result (IsRefusedFor (fault_of_location self.old location.now)) }
         ensures fine { OnOk result (fault_of_location self.old location.now ≡ None) }
@@ -74,8 +78,8 @@ impl<'a> Seen<'a> {
         Ok(())
     }
 
-    /// Takes an initial value.
-    fn take_initial(&mut self, location: &'a [u8]) -> Result<(), LineRefusal>
+    /// Notes that a line gives this location an initial value, and refuses a second such line.
+    fn note_initial(&mut self, location: &'a [u8]) -> Result<(), LineRefusal>
         requires { self.old.location_count ≤ 4096 }
         ensures refused { IfErr result (IsRefusedFor (fault_behind self.old (Init location.now []))) }
         ensures noted { OnOk result (Notes self.old self.new (Init location.now [])) }
@@ -84,11 +88,11 @@ impl<'a> Seen<'a> {
             return Err(PlainFault::For(TraceCause::InitTwice));
         }
         self.initial.insert(location, 0)?;
-        self.take_location(location)
+        self.note_location(location)
     }
 
-    /// Takes a final value.
-    fn take_final(&mut self, location: &'a [u8]) -> Result<(), LineRefusal>
+    /// Notes that a line gives this location a final value, and refuses a second such line.
+    fn note_final(&mut self, location: &'a [u8]) -> Result<(), LineRefusal>
         requires { self.old.location_count ≤ 4096 }
         ensures refused { IfErr result (IsRefusedFor (fault_behind self.old (Final location.now []))) }
         ensures noted { OnOk result (Notes self.old self.new (Final location.now [])) }
@@ -97,11 +101,11 @@ impl<'a> Seen<'a> {
             return Err(PlainFault::For(TraceCause::FinalTwice));
         }
         self.final_values.insert(location, 0)?;
-        self.take_location(location)
+        self.note_location(location)
     }
 
-    /// Takes a process.
-    fn take_process(&mut self, name: &'a [u8]) -> Result<(), LineRefusal>
+    /// Notes that a process of this name begins, and refuses a second one and one too many.
+    fn note_process(&mut self, name: &'a [u8]) -> Result<(), LineRefusal>
         requires { self.old.location_count ≤ 4096 }
         ensures refused { IfErr result (IsRefusedFor (fault_behind self.old (Proc name.now))) }
         ensures noted { OnOk result (Notes self.old self.new (Proc name.now)) }
@@ -117,8 +121,8 @@ impl<'a> Seen<'a> {
         Ok(())
     }
 
-    /// Takes an operation on a location.
-    fn take_operation(&mut self, location: &'a [u8]) -> Result<(), LineRefusal>
+    /// Notes that a line is an operation on this location, and refuses one too many.
+    fn note_operation(&mut self, location: &'a [u8]) -> Result<(), LineRefusal>
         requires { self.old.location_count ≤ 4096 }
         ensures refused { IfErr result (IsRefusedFor (fault_behind self.old (Write location.now []))) }
         ensures noted { OnOk result (Notes self.old self.new (Write location.now [])) }
@@ -127,11 +131,11 @@ impl<'a> Seen<'a> {
             return Err(PlainFault::For(TraceCause::TooManyOps));
         }
         self.operation_count += 1;
-        self.take_location(location)
+        self.note_location(location)
     }
 
-    /// Takes a `before` line.
-    fn take_before(&mut self) -> Result<(), LineRefusal>
+    /// Notes that a line is a `before` line, and refuses one too many.
+    fn note_before(&mut self) -> Result<(), LineRefusal>
         requires { self.old.location_count ≤ 4096 }
         ensures refused { IfErr result (IsRefusedFor (fault_behind self.old (Before [] [] [] []))) }
         ensures noted { OnOk result (Notes self.old self.new (Before [] [] [] [])) }
@@ -143,20 +147,20 @@ impl<'a> Seen<'a> {
         Ok(())
     }
 
-    /// Takes what a line says, unless the lines before it make a fault of it.
+    /// Notes what a line says, unless the lines before it make a fault of it.
     pub fn take(&mut self, statement: Statement<'a>) -> Result<(), LineRefusal>
         requires { self.old.location_count ≤ 4096 }
         ensures refused { IfErr result (IsRefusedFor (fault_behind self.old (said statement.entry))) }
         ensures noted { OnOk result (Notes self.old self.new (said statement.entry)) }
     {
         match statement {
-            Statement::Init(location, _) => self.take_initial(location),
-            Statement::Final(location, _) => self.take_final(location),
-            Statement::Proc(name) => self.take_process(name),
-            Statement::Read(location, _, _) => self.take_operation(location),
-            Statement::Write(location, _) => self.take_operation(location),
-            Statement::Update(location, _, _, _) => self.take_operation(location),
-            Statement::Before(_, _, _, _) => self.take_before(),
+            Statement::Init(location, _) => self.note_initial(location),
+            Statement::Final(location, _) => self.note_final(location),
+            Statement::Proc(name) => self.note_process(name),
+            Statement::Read(location, _, _) => self.note_operation(location),
+            Statement::Write(location, _) => self.note_operation(location),
+            Statement::Update(location, _, _, _) => self.note_operation(location),
+            Statement::Before(_, _, _, _) => self.note_before(),
         }
     }
 }

@@ -53,7 +53,7 @@ impl<'a> TraceReader<'a> {
         ensures taken { OnOk result ((ss : List Said) → IsProgress ss self.old →
             (statement_fault ss (said statement.entry) ≡ None) × IsProgress (ss ++ said statement.entry ∷ []) self.new) }
     {
-        if let Some(cause) = fault_of_place(self.gathered.has_begun(), statement) {
+        if let Some(cause) = fault_of_place(self.gathered.has_open_process(), statement) {
             return Err(PlainFault::For(cause));
         }
         let entry = read_entry(alloc, statement)?;

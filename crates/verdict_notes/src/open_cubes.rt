@@ -1,4 +1,4 @@
-//! The cubes that a report leaves open.
+//! The cubes that a report leaves open: how many they are, and the first ones in words.
 
 use crate::kept_operations::kept_ops;
 use crate::open_orders::OpenOrders;
@@ -13,7 +13,7 @@ use var_layout::layout::Layout;
 /// The most open cubes that are shown.
 const MAX_SHOWN: u64 = 5;
 
-/// The words after `open` of a line that begins so.
+/// The words after `open` of a line that begins so. `None` for any other line.
 fn literals_of(line: &[u8]) -> Option<&[u8]> {
     match cut_word(line) {
         Some((word, rest)) => {
@@ -31,6 +31,7 @@ fn literals_of(line: &[u8]) -> Option<&[u8]> {
 fn count_open(report: &[u8]) -> u64 {
     let mut count: u64 = 0;
     let mut rest = report;
+    // The bound is never reached: each turn takes a line away. The checker sees by it that the loop returns.
     for _ in 0..u64::MAX {
         let Some((line, after)) = cut_line(rest) else {
             break;
@@ -66,7 +67,8 @@ pub fn explain_open_cubes(
     }
 }
 
-/// Notes the first open cubes as orders of operations, under their names in the whole trace.
+/// Notes the first open cubes as orders of operations, under their names in the whole trace. The operations that the layout numbers are
+/// found again in the trace; if their number is not the layout's, no cube is noted rather than a wrong one.
 fn explain_of_reduced(
     alloc: Global,
     notes: &mut Notes,
@@ -85,13 +87,14 @@ fn explain_of_reduced(
     };
     let mut shown = 0;
     let mut rest = report;
+    // The bound is never reached: each turn takes a line away. The checker sees by it that the loop returns.
     for _ in 0..u64::MAX {
         let Some((line, after)) = cut_line(rest) else {
             break;
         };
         if let Some(literals) = literals_of(line) {
             if shown < MAX_SHOWN {
-                orders.explain(alloc, notes, literals)?;
+                orders.note_open_cube(alloc, notes, literals)?;
                 shown += 1;
             }
         }

@@ -1,4 +1,8 @@
 //! The literals of an open cube as orders of operations.
+//!
+//! A report that a trace is undecided has a line `open LITERAL .. 0` for each cube that stayed open. `open_cubes` notes the first of them
+//! in words, by the trace and the layout of its variables. A cube is made by splitting on order variables alone, so each of its literals
+//! says of two operations which one stands before the other.
 
 use crate::kept_operations::KeptOp;
 use crate::sentence::Sentence;
@@ -8,7 +12,7 @@ use text_lines::numbers::{SolverNumber, read_solver_number};
 use text_lines::words::cut_word;
 use var_layout::layout::Layout;
 
-/// The operations of a trace that have variables, and these variables.
+/// The operations of a trace that have variables, by their numbers in the layout, and these variables.
 #[derive(Clone, Copy)]
 pub struct OpenOrders<'t> {
     pub ops: &'t [KeptOp<'t>],
@@ -16,7 +20,7 @@ pub struct OpenOrders<'t> {
 }
 
 impl<'t> OpenOrders<'t> {
-    /// The operation after operation i of which the variable says that i stands before it.
+    /// The number j above i for which the variable says that operation i stands before operation j, if there is one.
     fn partner(&self, i: usize, variable: u64) -> Option<usize> {
         let count = self.layout.operations();
         for j in 0..count {
@@ -27,7 +31,8 @@ impl<'t> OpenOrders<'t> {
         None
     }
 
-    /// The operations of which the variable says that the first stands before the second.
+    /// The numbers of the operations of which the variable says that the first stands before the second. `None` if it is not the variable
+    /// of an order.
     fn pair_of(&self, variable: u64) -> Option<(usize, usize)> {
         for i in 0..self.layout.operations() {
             if let Some(j) = self.partner(i, variable) {
@@ -37,7 +42,8 @@ impl<'t> OpenOrders<'t> {
         None
     }
 
-    /// Adds the name of the operation of this number, counted from 0.
+    /// Adds the name of the operation of this number, counted from 0. The caller has compared the number of operations with that of the
+    /// layout, so none is missing.
     fn add_name(&self, sentence: &mut Sentence, number: usize) -> Result<(), AllocError> {
         match self.ops.get(number) {
             Some(op) => sentence.add_name(op.process, op.place),
@@ -45,7 +51,9 @@ impl<'t> OpenOrders<'t> {
         }
     }
 
-    /// Adds what the literal says, after what the ones before it say.
+    /// Adds the order that the literal says, as `A before B`, after a comma if there is an order before it. Adds nothing for the 0 at the
+    /// end of a line, which is no variable; a number of 2^64 or more (`magnitude` is `None` then) and a variable that is not of an order
+    /// are in no report of the trace.
     fn add_literal(
         &self,
         sentence: &mut Sentence,
@@ -66,15 +74,18 @@ impl<'t> OpenOrders<'t> {
         self.add_name(sentence, second)
     }
 
-    /// Notes the cube of these literals.
-    pub fn explain(
+    /// Adds the note `open: A before B, ..` for the cube of these literals, which are words with spaces between. A cube without literals,
+    /// of a search that was not split, leaves every order open, and its note says so. A word that is no literal is passed over, as notes
+    /// are no verdict and refuse nothing.
+    pub fn note_open_cube(
         &self,
         alloc: Global,
         notes: &mut Notes,
-        literals: &[u8],
+        cube_text: &[u8],
     ) -> Result<(), AllocError> {
         let mut sentence = Sentence::new(alloc);
-        let mut rest = literals;
+        let mut rest = cube_text;
+        // The bound is never reached: each turn takes a word away. The checker sees by it that the loop returns.
         for _ in 0..u64::MAX {
             let Some((word, after)) = cut_word(rest) else {
                 break;

@@ -4,12 +4,13 @@ ghost use Rattle.std.specs.Prelude.{◌≡◌, ◌≤◌, [], length, take, fals
 use crate::source::Source;
 use dimacs::{Failed, FailureCount};
 
-/// Hands out the bytes of a slice, at most some a call, and may fail at one call.
+/// A source that gives the bytes of a slice, at most `max_per_call` of them per call, and can be made to fail at one call.
 #[derive(Drop)]
 pub struct ShortSource<'a> {
     bytes: &'a [u8],
     place: usize,
-    most: usize,
+    max_per_call: usize,
+    /// The number of calls that succeed before the one that fails, or `u64::MAX` if none is to fail.
     calls_before_failure: u64,
     is_at_end: bool,
     failures: FailureCount,
@@ -17,8 +18,8 @@ pub struct ShortSource<'a> {
 }
 
 impl<'a> ShortSource<'a> {
-    /// A source that hands out at most `most` bytes a call, and at least one before its end, and that never fails.
-    pub fn new(bytes: &'a [u8], most: usize) -> ShortSource<'a>
+    /// A source that gives at most `max_per_call` bytes per call, and at least one before its end, and that never fails.
+    pub fn new(bytes: &'a [u8], max_per_call: usize) -> ShortSource<'a>
         ensures handed_out { ⟦<ShortSource<'a> as Source>⟧.handed_out result ≡ [] }
         ensures is_at_end { ⟦<ShortSource<'a> as Source>⟧.is_at_end result ≡ false }
         ensures failures { ⟦<ShortSource<'a> as Source>⟧.failures result ≡ 0 }
@@ -26,14 +27,14 @@ impl<'a> ShortSource<'a> {
         ShortSource {
             bytes,
             place: 0,
-            most,
+            max_per_call,
             calls_before_failure: u64::MAX,
             is_at_end: false,
             failures: FailureCount::new(),
         }
     }
 
-    /// The same source, which fails at that call, counted from 1, and at no later one.
+    /// The same source, which fails once: at the given call from now on, where 1 is the next one, and 0 too.
     pub fn failing_at(mut self, call: u64) -> ShortSource<'a>
         ensures handed_out { ⟦<ShortSource<'a> as Source>⟧.handed_out result ≡ ⟦<ShortSource<'a> as Source>⟧.handed_out self.entry }
         ensures is_at_end { ⟦<ShortSource<'a> as Source>⟧.is_at_end result ≡ ⟦<ShortSource<'a> as Source>⟧.is_at_end self.entry }
@@ -59,7 +60,7 @@ impl Source for ShortSource<'_> {
         }
         self.calls_before_failure -= 1;
         let left = &self.bytes[self.place..];
-        let count = self.most.max(1).min(buffer.len()).min(left.len());
+        let count = self.max_per_call.max(1).min(buffer.len()).min(left.len());
         buffer[..count].copy_from_slice(&left[..count]);
         self.place += count;
         self.is_at_end = count == 0;
