@@ -111,7 +111,7 @@ impl<'a> OrderedTrail<'a> {
         }
     }
 
-    /// Checks whether the literal is a decision.
+    /// Returns whether the literal is a decision.
     pub fn was_decided(&self, literal: u32) -> bool {
         matches!(self.trail.state(literal >> 1).reason, Reason::Decision)
     }

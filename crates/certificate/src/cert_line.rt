@@ -7,7 +7,7 @@ ghost use Rattle.certificate.specs.CertLine.{is_header, begun_by, is_end};
 use text_lines::numbers::read_plain;
 use text_lines::words::{cut_word, is_word};
 
-/// Checks whether the line is the header, `vsc-cert 1`.
+/// Returns whether the line is the header, `vsc-cert 1`.
 pub(crate) fn is_header_line(line: &[u8]) -> bool
     ensures { result ≡ is_header (words_of line.now) }
 {
@@ -38,7 +38,7 @@ pub(crate) fn read_begin(line: &[u8]) -> Option<u32>
     }
 }
 
-/// Checks whether the line ends a section.
+/// Returns whether the line ends a section.
 pub(crate) fn is_end_line(line: &[u8]) -> bool
     ensures { result ≡ is_end (words_of line.now) }
 {

@@ -21,7 +21,7 @@ use lrat_check::formula_counts::FormulaCounts;
 use lrat_check::refusal::Refusal;
 use std::alloc::{AllocError, Global};
 
-/// Checks whether one of the sections is of this leaf.
+/// Returns whether one of the sections is of this leaf.
 fn has_section(sections: &[Section], leaf: u32) -> bool
     ensures { result ≡ list_any (is_of leaf) sections.now }
 {
@@ -78,7 +78,7 @@ fn section_of(sections: &[Section], leaf: u32) -> Option<&Section>
     None
 }
 
-/// Checks whether the derivation is accepted for the cube.
+/// Returns whether the derivation is accepted for the cube.
 fn is_accepted<L: ClauseList>(
     alloc: Global,
     clauses: &L,

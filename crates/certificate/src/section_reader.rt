@@ -31,7 +31,7 @@ fn read_steps(alloc: Global, lines: &[u8], before: usize) -> Result<Derivation, 
     }
 }
 
-/// Checks whether no more of the text is left than was read.
+/// Returns whether no more of the text is left than was read.
 fn is_past_half(rest: &[u8], text: &[u8]) -> bool
     ensures { result ≡ nat_le (length rest.now) (length text.now - length rest.now) }
 {

@@ -29,7 +29,7 @@ fn ranks(layout: &Layout, assignment: &Assignment) -> [u8; MAX_LAYOUT_OPERATIONS
     ranks
 }
 
-/// Checks whether the assignment says of an operation and each later one that the one of the lower rank stands first.
+/// Returns whether the assignment says of an operation and each later one that the one of the lower rank stands first.
 fn agrees_from(
     layout: &Layout,
     assignment: &Assignment,
@@ -48,7 +48,7 @@ fn agrees_from(
     true
 }
 
-/// Checks whether the assignment puts the operations in an order, so that no three of them stand in a cycle.
+/// Returns whether the assignment puts the operations in an order, so that no three of them stand in a cycle.
 pub(crate) fn puts_in_order(layout: &Layout, assignment: &Assignment) -> bool
     ensures { IsTrue result → IsModel (value_of assignment.now) (blocks.transitivity (operation_count layout.now)) }
 {

@@ -172,7 +172,7 @@ impl ReadsFromTable {
         self.variable(reader, self.elements)
     }
 
-    /// Checks whether the element writes a location of others.
+    /// Returns whether the element writes a location of others.
     #[inline(always)]
     pub fn writes(&self, element: u32) -> bool {
         at(self.writing.as_slice(), element, 0) != 0
@@ -188,7 +188,7 @@ impl ReadsFromTable {
         }
     }
 
-    /// Checks whether the element reads.
+    /// Returns whether the element reads.
     pub fn reads(&self, element: u32) -> bool {
         at(self.reading.as_slice(), element, 0) != 0
     }

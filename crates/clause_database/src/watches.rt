@@ -119,7 +119,7 @@ impl Watches {
         }
     }
 
-    /// Checks whether no clause watches the literal.
+    /// Returns whether no clause watches the literal.
     #[inline(always)]
     pub fn is_empty(&self, literal: u32) -> bool {
         let place = self.place(literal);

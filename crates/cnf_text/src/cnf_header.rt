@@ -51,7 +51,7 @@ fn read_header_line(line: &[u8]) -> Option<Counts>
     read_counts(variables, clauses)
 }
 
-/// Checks whether the first word of the line is `p`.
+/// Returns whether the first word of the line is `p`.
 fn begins_with_p(line: &[u8]) -> bool
     ensures { result ≡ begins_header (words_of line.now) }
 {

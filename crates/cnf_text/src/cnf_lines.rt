@@ -20,7 +20,7 @@ pub(crate) struct ContentLine<'a> {
     pub rest: &'a [u8],
 }
 
-/// Checks whether the word begins with that byte.
+/// Returns whether the word begins with that byte.
 fn begins_with_byte(word: &[u8], byte: u8) -> bool
     requires { 0 < byte }
     ensures { result ≡ (slice_index word.now 0 == byte) }
@@ -28,7 +28,7 @@ fn begins_with_byte(word: &[u8], byte: u8) -> bool
     !word.is_empty() && word[0] == byte
 }
 
-/// Checks whether the text ends at the line.
+/// Returns whether the text ends at the line.
 fn is_end_line(line: &[u8]) -> bool
     ensures { result ≡ is_end line.now }
 {

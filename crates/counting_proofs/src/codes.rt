@@ -5,12 +5,12 @@
 /// A literal that is always true.
 pub const ALWAYS: u32 = 1;
 
-/// Checks whether one of two literals is true under all assignments.
+/// Returns whether one of two literals is true under all assignments.
 fn is_settled(first: u32, second: u32) -> bool {
     first == ALWAYS || second == ALWAYS || (first ^ 1) == second
 }
 
-/// Checks whether a clause of these literals is a tautology.
+/// Returns whether a clause of these literals is a tautology.
 pub fn is_tautology(literals: [u32; 3]) -> bool {
     let [first, second, third] = literals;
     is_settled(first, second) || is_settled(first, third) || is_settled(second, third)

@@ -33,7 +33,7 @@ pub fn chain_between(
     Ok(chain)
 }
 
-/// Checks whether the first operation stands before the second in one process.
+/// Returns whether the first operation stands before the second in one process.
 pub fn is_program_order(ops: &[KeptOp<'_>], first: usize, second: usize) -> bool {
     match (ops.get(first), ops.get(second)) {
         (Some(first), Some(second)) => {
@@ -58,7 +58,7 @@ pub fn shortened(
     Ok(kept)
 }
 
-/// Checks whether the operation at this place stands between its neighbours in their process.
+/// Returns whether the operation at this place stands between its neighbours in their process.
 fn is_inner(ops: &[KeptOp<'_>], chain: &[usize], k: usize) -> bool {
     if k == 0 || k >= chain.len() {
         return false;

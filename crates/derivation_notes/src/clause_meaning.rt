@@ -209,7 +209,7 @@ fn meaning_of_final(layout: &Layout, place: usize) -> Option<ClauseMeaning> {
     meaning_of_pair(layout, rest)
 }
 
-/// Checks whether nothing leaves the final value of this number.
+/// Returns whether nothing leaves the final value of this number.
 fn is_void_final(layout: &Layout, k: usize) -> bool {
     layout
         .void_var(var_layout::layout::ReadsFromOwner::Final(k))

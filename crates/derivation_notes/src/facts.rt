@@ -72,7 +72,7 @@ impl Facts {
         Ok(())
     }
 
-    /// Checks whether the literal of this number is true.
+    /// Returns whether the literal of this number is true.
     fn is_true(&self, number: i64) -> bool {
         for literal in &self.literals {
             if literal.number() as i64 == number {

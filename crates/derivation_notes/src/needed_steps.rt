@@ -47,7 +47,7 @@ impl Wanted {
         }
     }
 
-    /// Checks whether the clause of this id is wanted.
+    /// Returns whether the clause of this id is wanted.
     fn wants(&self, id: u64) -> bool {
         match self.place(id) {
             Some(place) => self.marks.get(place).copied().unwrap_or(false),

@@ -27,7 +27,7 @@ fn chosen(layout: &Layout, reader: usize, variable: u32) -> Option<Candidate> {
     None
 }
 
-/// Checks whether the line of the operation of this number says from where it reads.
+/// Returns whether the line of the operation of this number says from where it reads.
 fn has_origin(story: &Story<'_>, number: usize) -> bool {
     match story.ops().get(number) {
         Some(op) => match origin_of(op.op) {

@@ -66,7 +66,7 @@ impl<'t> Teller<'t> {
         }
     }
 
-    /// Checks whether a sentence has said that the first operation stands before the second.
+    /// Returns whether a sentence has said that the first operation stands before the second.
     fn has_said(&self, first: usize, second: usize) -> bool {
         for pair in &self.said {
             if pair.0 == first && pair.1 == second {

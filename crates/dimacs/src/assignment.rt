@@ -53,21 +53,21 @@ impl Assignment {
         1 <= place && place <= self.values.len() && self.values[place - 1]
     }
 
-    /// Checks whether it makes the literal true.
+    /// Returns whether it makes the literal true.
     fn makes_one(&self, literal: Lit) -> bool
         ensures { result ≡ makes_true (value_of self.now) literal }
     {
         self.value(literal.variable()) == literal.is_positive()
     }
 
-    /// Checks whether it makes all of the literals true.
+    /// Returns whether it makes all of the literals true.
     pub fn makes(&self, literals: &[Lit]) -> bool
         ensures { result ≡ makes_all (value_of self.now) literals.now }
     {
         literals.iter().all(|literal| self.makes_one(*literal))
     }
 
-    /// Checks whether it makes one of the literals true.
+    /// Returns whether it makes one of the literals true.
     pub fn satisfies(&self, clause: &[Lit]) -> bool
         ensures { result ≡ makes_some (value_of self.now) clause.now }
     {

@@ -81,7 +81,7 @@ impl Clause {
         }
     }
 
-    /// Checks whether all of its variables are among 1 to that.
+    /// Returns whether all of its variables are among 1 to that.
     pub fn is_over(&self, variables: u32) -> bool
         ensures { result ≡ is_clause_up_to variables self.now }
     {

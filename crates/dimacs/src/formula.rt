@@ -54,7 +54,7 @@ fn recall_clauses(clauses: &[Clause])
 }
 
 impl Formula {
-    /// Checks whether the clauses are over the variables 1 to that, as `new` asks.
+    /// Returns whether the clauses are over the variables 1 to that, as `new` asks.
     pub fn fits(variables: u32, clauses: &[Clause]) -> bool
         ensures { result ≡ is_formula (record { variables = variables; clauses = clauses.now }) }
     {

@@ -78,14 +78,14 @@ impl Lit {
         self.number.unsigned_abs()
     }
 
-    /// Checks whether its variable is among 1 to that.
+    /// Returns whether its variable is among 1 to that.
     pub fn is_over(self, variables: u32) -> bool
         ensures { result ≡ is_literal_up_to variables self }
     {
         self.variable() <= variables
     }
 
-    /// Checks whether it says that its variable is true.
+    /// Returns whether it says that its variable is true.
     pub fn is_positive(self) -> bool
         ensures { result ≡ is_positive self }
     {

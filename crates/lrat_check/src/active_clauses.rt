@@ -119,7 +119,7 @@ impl<'a> ActiveClauses<'a> {
         }
     }
 
-    /// Checks whether a clause is active under this id.
+    /// Returns whether a clause is active under this id.
     pub fn contains<F: ClauseList>(&self, formula: &F, id: u64) -> bool
         ensures { result ≡ is_some (clause_at (F.formula formula.now).clauses self.now id) }
     {
@@ -162,7 +162,7 @@ impl<'a> ActiveClauses<'a> {
         Ok(())
     }
 
-    /// Checks whether a clause that was active under this id at the start is not hidden.
+    /// Returns whether a clause that was active under this id at the start is not hidden.
     fn is_kept<F: ClauseList>(&self, formula: &F, id: u64) -> bool
         ensures { result ≡ is_some (kept_at (F.formula formula.now).clauses self.now id) }
     {
@@ -247,7 +247,7 @@ impl<'a> ActiveClauses<'a> {
         self.take_tree_off(formula, changes)
     }
 
-    /// Checks whether a clause is active under this id that does not stand in the tree of those added.
+    /// Returns whether a clause is active under this id that does not stand in the tree of those added.
     fn is_in_front<F: ClauseList>(&self, formula: &F, id: u64) -> bool
         ensures { result ≡ is_some (in_front (F.formula formula.now).clauses self.now id) }
     {

@@ -87,7 +87,7 @@ fn times_at<F: ClauseList>(formula: &F, active: &ActiveClauses, id: u64, literal
     }
 }
 
-/// Checks whether each active clause that holds the pivot's negation has a group among the hints, if the negation stands `count` times in
+/// Returns whether each active clause that holds the pivot's negation has a group among the hints, if the negation stands `count` times in
 /// the active clauses. What the clauses of the distinct groups hold of it is taken off the count, and no other clause is read, so
 /// the check costs no walk through all clauses.
 pub fn has_all<F: ClauseList>(

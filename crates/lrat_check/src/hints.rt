@@ -93,14 +93,14 @@ fn lengthen_all(numbers: &mut Vec<i64>, short: &[i32]) -> Result<(), AllocError>
     Ok(())
 }
 
-/// Checks whether these are the same numbers in the same order.
+/// Returns whether these are the same numbers in the same order.
 fn are_same_short(first: &[i32], second: &[i32]) -> bool
     ensures { IsTrue result ↔ (first.now ≡ second.now) }
 {
     first == second
 }
 
-/// Checks whether these are the same numbers in the same order.
+/// Returns whether these are the same numbers in the same order.
 fn are_same_long(first: &[i64], second: &[i64]) -> bool
     ensures { IsTrue result ↔ (first.now ≡ second.now) }
 {
@@ -157,7 +157,7 @@ impl Hints {
         }
     }
 
-    /// Checks whether each of them can be written: it is an id or the negative of one.
+    /// Returns whether each of them can be written: it is an id or the negative of one.
     pub fn are_ids(&self) -> bool
         ensures { result ≡ list_all is_id_number self.now }
     {
@@ -171,7 +171,7 @@ impl Hints {
         }
     }
 
-    /// Checks whether none of them is, or is the negative of, an id of a cube of this length, after this many clauses.
+    /// Returns whether none of them is, or is the negative of, an id of a cube of this length, after this many clauses.
     pub(crate) fn are_outside(&self, clauses: usize, cube: usize) -> bool
         ensures { result ≡ list_all (λ hint. is_outside clauses cube (nat_abs hint)) self.now }
     {
@@ -207,7 +207,7 @@ impl Hints {
         Ok(Hints { numbers })
     }
 
-    /// Checks whether these are the same hints in the same order, kept in the same way. The same hints may be kept in another.
+    /// Returns whether these are the same hints in the same order, kept in the same way. The same hints may be kept in another.
     pub fn are_same(&self, other: &Hints) -> bool
         ensures { IsTrue result → self.now ≡ other.now }
     {
@@ -218,7 +218,7 @@ impl Hints {
         }
     }
 
-    /// Checks whether these are those few numbers.
+    /// Returns whether these are those few numbers.
     fn are_few(&self, numbers: &[i32]) -> bool
         ensures { IsTrue result → numbers.now ≡ self.now }
     {
@@ -229,7 +229,7 @@ impl Hints {
         }
     }
 
-    /// Checks whether these are those numbers, and kept in 32 bits each.
+    /// Returns whether these are those numbers, and kept in 32 bits each.
     fn are_short(&self, numbers: &[i32]) -> bool
         ensures { IsTrue result → numbers.now ≡ self.now }
     {
@@ -240,7 +240,7 @@ impl Hints {
         }
     }
 
-    /// Checks whether these are those numbers, and kept in 64 bits each.
+    /// Returns whether these are those numbers, and kept in 64 bits each.
     fn are_long(&self, numbers: &[i64]) -> bool
         ensures { IsTrue result → numbers.now ≡ self.now }
     {

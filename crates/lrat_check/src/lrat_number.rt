@@ -13,14 +13,14 @@ use text_lines::numbers::{SolverNumber, read_solver_number};
 /// The largest id.
 pub const MAX_ID: u64 = 9_223_372_036_854_775_807;
 
-/// Checks whether the number is an id of a clause.
+/// Returns whether the number is an id of a clause.
 pub fn is_id(number: u64) -> bool
     ensures { result ≡ is_id number }
 {
     0 < number && number <= MAX_ID
 }
 
-/// Checks whether the hint is an id or the negative of one.
+/// Returns whether the hint is an id or the negative of one.
 pub fn is_hint(hint: i64) -> bool
     ensures { result ≡ is_id_number hint }
 {

@@ -11,7 +11,7 @@ use crate::true_literals::TrueLiterals;
 use dimacs::Lit;
 use std::alloc::AllocError;
 
-/// Checks whether the clause holds the literal.
+/// Returns whether the clause holds the literal.
 pub fn holds(clause: &[Lit], literal: Lit) -> bool
     ensures { result ≡ has clause.now literal }
 {
@@ -20,7 +20,7 @@ pub fn holds(clause: &[Lit], literal: Lit) -> bool
         .any(|other| other.number() == literal.number())
 }
 
-/// Checks whether the literal is the pivot's negation.
+/// Returns whether the literal is the pivot's negation.
 fn opposes(literal: Lit, pivot: Lit) -> bool
     ensures { result ≡ int_eq literal (neg_ℤ pivot) }
 {
@@ -28,7 +28,7 @@ fn opposes(literal: Lit, pivot: Lit) -> bool
     literal.number() == opposite.number()
 }
 
-/// Checks whether the literal is true and not the pivot's negation.
+/// Returns whether the literal is true and not the pivot's negation.
 fn is_true_other(trues: &TrueLiterals, pivot: Lit, literal: Lit) -> bool
     ensures { result ≡ list_any (has trues.now) (others pivot (literal ∷ [])) }
 {
@@ -39,7 +39,7 @@ fn is_true_other(trues: &TrueLiterals, pivot: Lit, literal: Lit) -> bool
     }
 }
 
-/// Checks whether one of the clause's literals but the pivot's negation is true.
+/// Returns whether one of the clause's literals but the pivot's negation is true.
 pub fn other_holds(trues: &TrueLiterals, pivot: Lit, clause: &[Lit]) -> bool
     ensures { result ≡ list_any (has trues.now) (others pivot clause.now) }
 {

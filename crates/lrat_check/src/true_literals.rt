@@ -47,14 +47,14 @@ impl TrueLiterals {
         }
     }
 
-    /// Checks whether the literal is false.
+    /// Returns whether the literal is false.
     pub fn is_false(&self, literal: Lit) -> bool
         ensures { result ≡ is_falsified self.now literal }
     {
         self.marks.has(place_of(literal.negated()))
     }
 
-    /// Checks whether the literal is true.
+    /// Returns whether the literal is true.
     pub fn holds(&self, literal: Lit) -> bool
         ensures { result ≡ has self.now literal }
     {

@@ -66,7 +66,7 @@ impl ModelReader {
         }
     }
 
-    /// Checks whether the negation of the literal has come.
+    /// Returns whether the negation of the literal has come.
     fn has_negation(&self, literal: Lit) -> bool
         ensures { result ≡ has_number self.now (neg_ℤ literal) }
     {

@@ -73,7 +73,7 @@ impl ElementSets {
         put(self.sets.as_mut_slice(), place, word);
     }
 
-    /// Checks whether the element is in the set of the owner.
+    /// Returns whether the element is in the set of the owner.
     #[inline(always)]
     pub fn has(&self, owner: u32, element: u32) -> bool {
         at(self.sets.as_slice(), word_of(owner, element), 0) & bit(element) != 0

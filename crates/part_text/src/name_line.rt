@@ -10,7 +10,7 @@ use text_lines::comments::begins_comment;
 use text_lines::lines::cut_line;
 use text_lines::words::cut_word;
 
-/// Checks whether the line is blank or a comment.
+/// Returns whether the line is blank or a comment.
 fn is_passed_over(line: &[u8]) -> bool
     ensures { result ≡ is_skipped (words_of line.now) }
 {

@@ -43,7 +43,7 @@ fn head_of(kind: ArrowKind) -> &'static [u8] {
     }
 }
 
-/// Checks whether operations between the two boxes of a process are left out.
+/// Returns whether operations between the two boxes of a process are left out.
 pub(crate) fn skips_between(first: &PictureItem<'_>, second: &PictureItem<'_>) -> bool {
     first.place.saturating_add(1) < second.place
 }

@@ -124,12 +124,12 @@ impl FoundOrder {
         }
     }
 
-    /// Checks whether the box lacks a source.
+    /// Returns whether the box lacks a source.
     pub fn is_lacking(&self, number: usize) -> bool {
         number < self.lacking.len() && self.lacking[number]
     }
 
-    /// Checks whether the box is of the cycle.
+    /// Returns whether the box is of the cycle.
     pub fn is_in_cycle(&self, number: usize) -> bool {
         for arrow in &self.arrows {
             if arrow.is_marked && (arrow.from == number || arrow.to == number) {

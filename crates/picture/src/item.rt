@@ -34,7 +34,7 @@ pub(crate) struct PictureItem<'t> {
 }
 
 impl<'t> PictureItem<'t> {
-    /// Checks whether it is an initial value.
+    /// Returns whether it is an initial value.
     pub fn is_initial(&self) -> bool {
         match self.kind {
             ItemKind::Initial => true,
@@ -43,7 +43,7 @@ impl<'t> PictureItem<'t> {
         }
     }
 
-    /// Checks whether it is a final value.
+    /// Returns whether it is a final value.
     pub fn is_final(&self) -> bool {
         match self.kind {
             ItemKind::Initial => false,
@@ -52,17 +52,17 @@ impl<'t> PictureItem<'t> {
         }
     }
 
-    /// Checks whether it is an operation.
+    /// Returns whether it is an operation.
     pub fn is_operation(&self) -> bool {
         self.op.is_some()
     }
 
-    /// Checks whether it is the operation at this place of the process.
+    /// Returns whether it is the operation at this place of the process.
     pub fn is_named(&self, process: &[u8], place: u64) -> bool {
         self.op.is_some() && self.place == place && self.process == process
     }
 
-    /// Checks whether it leaves a value at the location.
+    /// Returns whether it leaves a value at the location.
     pub fn writes_at(&self, location: &[u8]) -> bool {
         self.left.is_some() && self.location == location
     }
@@ -76,7 +76,7 @@ impl<'t> PictureItem<'t> {
         }
     }
 
-    /// Checks whether its line lets it read from the other one.
+    /// Returns whether its line lets it read from the other one.
     fn allows(&self, writer: &PictureItem<'t>) -> bool {
         match self.origin() {
             Some(Origin::Any) => true,
@@ -88,7 +88,7 @@ impl<'t> PictureItem<'t> {
         }
     }
 
-    /// Checks whether it may have its value from the other one, but for their order.
+    /// Returns whether it may have its value from the other one, but for their order.
     pub fn may_read_from(&self, writer: &PictureItem<'t>) -> bool {
         self.read.is_some()
             && self.read == writer.left

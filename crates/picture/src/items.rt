@@ -81,7 +81,7 @@ fn add_process<'t>(
     Ok(())
 }
 
-/// Checks whether one of the boxes is of the location.
+/// Returns whether one of the boxes is of the location.
 fn is_used(items: &[PictureItem<'_>], location: &[u8]) -> bool {
     for item in items {
         if item.location == location {

@@ -24,7 +24,7 @@ impl Relation {
         first.wrapping_mul(self.size).wrapping_add(second)
     }
 
-    /// Checks whether the first stands before the second.
+    /// Returns whether the first stands before the second.
     pub fn holds(&self, first: usize, second: usize) -> bool {
         match self.cells.get(self.cell(first, second)) {
             Some(holds) => *holds,

@@ -25,7 +25,7 @@ enum PossibleSources {
 }
 
 impl<'t> DrawnPart<'t> {
-    /// Checks whether the operation at this place of the process is drawn.
+    /// Returns whether the operation at this place of the process is drawn.
     fn is_drawn(&self, process: &[u8], place: u64) -> bool {
         for item in self.items {
             if item.is_named(process, place) {
@@ -35,7 +35,7 @@ impl<'t> DrawnPart<'t> {
         false
     }
 
-    /// Checks whether an operation of the process that is not drawn may give the box its value.
+    /// Returns whether an operation of the process that is not drawn may give the box its value.
     fn is_given_by(&self, process: &Process, reader: &PictureItem<'t>) -> bool {
         let name = process.name.as_bytes();
         let ops = process.operations.as_slice();
@@ -51,7 +51,7 @@ impl<'t> DrawnPart<'t> {
         false
     }
 
-    /// Checks whether an operation that is not drawn may give the box its value.
+    /// Returns whether an operation that is not drawn may give the box its value.
     fn has_hidden_source(&self, reader: &PictureItem<'t>) -> bool {
         match reader.origin() {
             Some(Origin::Initial) => return false,
@@ -68,7 +68,7 @@ impl<'t> DrawnPart<'t> {
         false
     }
 
-    /// Checks whether another write comes between the writer and the reader.
+    /// Returns whether another write comes between the writer and the reader.
     fn is_overwritten(
         &self,
         found: &FoundOrder,
@@ -89,7 +89,7 @@ impl<'t> DrawnPart<'t> {
         false
     }
 
-    /// Checks whether the order lets the reader have its value from the writer.
+    /// Returns whether the order lets the reader have its value from the writer.
     fn is_in_time(
         &self,
         found: &FoundOrder,

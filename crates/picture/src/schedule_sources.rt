@@ -5,7 +5,7 @@ use crate::item::PictureItem;
 use std::alloc::{AllocError, Global};
 use trace_semantics::trace::Trace;
 
-/// Checks whether the box stands before the other one: initial values first, final ones last.
+/// Returns whether the box stands before the other one: initial values first, final ones last.
 fn stands_before(first: &PictureItem<'_>, second: &PictureItem<'_>) -> bool {
     if first.is_initial() || second.is_final() {
         return true;
@@ -38,7 +38,7 @@ fn later_of(items: &[PictureItem<'_>], first: usize, second: usize) -> usize {
     }
 }
 
-/// Checks whether the reader may have its value from the box of this number.
+/// Returns whether the reader may have its value from the box of this number.
 fn is_right(items: &[PictureItem<'_>], reader: usize, writer: usize) -> bool {
     reader < items.len() && writer < items.len() && items[reader].may_read_from(&items[writer])
 }

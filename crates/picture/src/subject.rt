@@ -40,7 +40,7 @@ impl<'t> PictureSubject<'t> {
         }
     }
 
-    /// Checks whether the rows are those of a schedule.
+    /// Returns whether the rows are those of a schedule.
     pub(crate) fn is_in_order(&self) -> bool {
         match self {
             PictureSubject::Whole => false,

@@ -9,7 +9,7 @@ use certificate::CertCause;
 use note_text::{AskedTexts, NamedText, Notes, decimal};
 use std::alloc::{AllocError, Global};
 
-/// Checks whether the cause is one of the text, and its place a line.
+/// Returns whether the cause is one of the text, and its place a line.
 fn is_of_text(cause: CertCause) -> bool {
     match cause {
         CertCause::Header

@@ -5,12 +5,12 @@ use note_text::word_at;
 use text_lines::lines::cut_line;
 use text_lines::words::is_word;
 
-/// Checks whether the header says version 2.
+/// Returns whether the header says version 2.
 pub(crate) fn is_version_2(bytes: &[u8]) -> bool {
     is_word(word_at(first_kept_line(bytes), 1), "2")
 }
 
-/// Checks whether the first word of the line is the key, and the second one this word, or any if none is given.
+/// Returns whether the first word of the line is the key, and the second one this word, or any if none is given.
 fn begins_with(line: &[u8], key: &[u8], word: Option<&[u8]>) -> bool {
     if word_at(line, 0) != key {
         return false;

@@ -40,7 +40,7 @@ fn clause_words(alloc: Global, literals: &[Lit]) -> Result<Vec<u8>, AllocError> 
     Ok(words)
 }
 
-/// Checks whether the literal of this number is among these.
+/// Returns whether the literal of this number is among these.
 fn has(literals: &[Lit], number: i64) -> bool {
     for literal in literals {
         if literal.number() as i64 == number {
@@ -84,7 +84,7 @@ enum LastWord<'d> {
     Silence,
 }
 
-/// Checks whether the number is among these.
+/// Returns whether the number is among these.
 fn is_among(ids: &[u64], id: u64) -> bool {
     for other in ids {
         if *other == id {

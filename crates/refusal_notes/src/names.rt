@@ -4,7 +4,7 @@ use text_lines::numbers::read_plain;
 use trace_semantics::name::is_name_word;
 use trace_semantics::place::read_place;
 
-/// Checks whether the word is a value.
+/// Returns whether the word is a value.
 pub(crate) fn is_value(word: &[u8]) -> bool {
     read_plain(word, u64::MAX).is_some()
 }
@@ -27,7 +27,7 @@ pub(crate) fn cut_at_dot(word: &[u8]) -> Option<(&[u8], &[u8])> {
     None
 }
 
-/// Checks whether the word names an operation, as `P.1`.
+/// Returns whether the word names an operation, as `P.1`.
 pub(crate) fn is_operation_name(word: &[u8]) -> bool {
     match cut_at_dot(word) {
         Some((process, place)) => is_name_word(process) && place_of(place) > 0,
@@ -35,12 +35,12 @@ pub(crate) fn is_operation_name(word: &[u8]) -> bool {
     }
 }
 
-/// Checks whether a byte is among those of the word.
+/// Returns whether a byte is among those of the word.
 pub(crate) fn has_byte(word: &[u8], wanted: u8) -> bool {
     word.iter().any(|byte| *byte == wanted)
 }
 
-/// Checks whether the word is this text, in small or in capital letters.
+/// Returns whether the word is this text, in small or in capital letters.
 pub(crate) fn is_word_in_any_case(word: &[u8], text: &str) -> bool {
     let text = text.as_bytes();
     if word.len() != text.len() {

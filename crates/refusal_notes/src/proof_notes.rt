@@ -9,7 +9,7 @@ use std::alloc::{AllocError, Global};
 use text_lines::comments::begins_dimacs_comment;
 use text_lines::lines::cut_line;
 
-/// Checks whether the line is a step: neither blank nor a comment.
+/// Returns whether the line is a step: neither blank nor a comment.
 fn is_step(line: &[u8]) -> bool {
     let first = word_at(line, 0);
     !first.is_empty() && !begins_dimacs_comment(first)

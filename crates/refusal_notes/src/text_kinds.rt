@@ -37,7 +37,7 @@ impl TextKind {
     }
 }
 
-/// Checks whether the line is blank or a comment of any of the texts.
+/// Returns whether the line is blank or a comment of any of the texts.
 fn is_passed_over(line: &[u8]) -> bool {
     let first = word_at(line, 0);
     first.is_empty() || first[0] == b'#' || is_word(first, "c")

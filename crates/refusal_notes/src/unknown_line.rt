@@ -112,7 +112,7 @@ fn hint_of_key(line: &[u8], is_version_2: bool) -> Option<Hint> {
     Some(Hint { word: 0, says })
 }
 
-/// Checks whether the word is a usual name of a read, a write or an update.
+/// Returns whether the word is a usual name of a read, a write or an update.
 fn is_access(key: &[u8]) -> bool {
     is_word_in_any_case(key, "read")
         || is_word_in_any_case(key, "write")

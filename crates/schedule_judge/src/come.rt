@@ -49,7 +49,7 @@ impl Come {
         }
     }
 
-    /// Checks whether the operation at this place of the process in this row has come.
+    /// Returns whether the operation at this place of the process in this row has come.
     pub fn has(&self, row: Option<u64>, place: usize) -> bool
         ensures { result ≡ is_within place (count_of_process self.now.counts.items row) }
     {

@@ -20,7 +20,7 @@ use trace_semantics::operation::{Op, OpName};
 use trace_semantics::schedule::Schedule;
 use trace_semantics::trace::{Process, Trace};
 
-/// Checks whether the operation at this place of this process, which is the one in this row, is among the first `count` names.
+/// Returns whether the operation at this place of this process, which is the one in this row, is among the first `count` names.
 fn has_come<'a>(
     survey: &Survey<'a>,
     come: &Come,
@@ -36,7 +36,7 @@ fn has_come<'a>(
     come.has(row, place)
 }
 
-/// Checks whether the first `n` operations of the process, which is the one in this row, are among the first `count` names.
+/// Returns whether the first `n` operations of the process, which is the one in this row, are among the first `count` names.
 fn have_come<'a>(
     survey: &Survey<'a>,
     come: &Come,
@@ -86,7 +86,7 @@ fn fault_of_op<'a>(
     }
 }
 
-/// Checks whether all operations of these processes have come.
+/// Returns whether all operations of these processes have come.
 fn has_all<'a>(survey: &Survey<'a>, come: &Come, processes: &'a [Process]) -> bool
     requires come { AreCountsOfCome survey.now.processes come.now.counts.items survey.now.names.now }
     requires order { IsInProgramOrder survey.now.names.now }
@@ -103,7 +103,7 @@ fn has_all<'a>(survey: &Survey<'a>, come: &Come, processes: &'a [Process]) -> bo
     true
 }
 
-/// Checks whether memory holds each of these values.
+/// Returns whether memory holds each of these values.
 fn holds_all<'a>(memory: &Memory<'a>, values: &'a [(Name, u64)]) -> bool
     ensures { result ≡ list_all (λ (entry : List ℕ × ℕ). judgement.is_held (number_of memory.now.values entry.0) entry.1) values.now }
 {

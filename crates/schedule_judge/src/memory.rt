@@ -23,14 +23,14 @@ pub struct Memory<'a> {
     pub writers: NameTable<'a>,
 }
 
-/// Checks whether two names are the same.
+/// Returns whether two names are the same.
 fn same_op(m: &OpName, n: &OpName) -> bool
     ensures { result ≡ operation.same_op m.now n.now }
 {
     m.process.as_bytes() == n.process.as_bytes() && m.place == n.place
 }
 
-/// Checks whether the operation is this one.
+/// Returns whether the operation is this one.
 fn is_the_op(writer: Option<&OpName>, name: &OpName) -> bool
     ensures { result ≡ judgement.is_the_op (option_copied writer.entry) name.now }
 {
@@ -60,7 +60,7 @@ impl<'a> Memory<'a> {
         Ok(Memory { values, writers })
     }
 
-    /// Checks whether the operation reads here what its location holds.
+    /// Returns whether the operation reads here what its location holds.
     pub fn reads_right(&self, op: &'a Op) -> bool
         ensures { result ≡ judgement.is_right_read (number_of self.now.values (operation.location_of op.now)) (operation.value_read op.now) }
     {
@@ -77,7 +77,7 @@ impl<'a> Memory<'a> {
         name_at(names, self.writers.get(location))
     }
 
-    /// Checks whether the origin names what last wrote the location.
+    /// Returns whether the origin names what last wrote the location.
     fn is_from(&self, names: &'a [OpName], location: &'a [u8], origin: &'a Origin) -> bool
         ensures { result ≡ judgement.is_right_source (writer_of names.now self.now location.now) origin.now }
     {
@@ -88,7 +88,7 @@ impl<'a> Memory<'a> {
         }
     }
 
-    /// Checks whether the operation reads here from where its origin says.
+    /// Returns whether the operation reads here from where its origin says.
     pub fn has_right_source(&self, names: &'a [OpName], op: &'a Op) -> bool
         ensures { result ≡ judgement.is_right_source (writer_of names.now self.now (operation.location_of op.now)) (operation.origin_of op.now) }
     {
@@ -107,7 +107,7 @@ impl<'a> Memory<'a> {
         }
     }
 
-    /// Checks whether the location holds the value.
+    /// Returns whether the location holds the value.
     pub fn holds(&self, location: &'a [u8], value: u64) -> bool
         ensures { result ≡ judgement.is_held (number_of self.now.values location.now) value }
     {

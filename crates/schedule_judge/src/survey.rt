@@ -50,7 +50,7 @@ fn first_places<'a>(alloc: Global, names: &'a [OpName]) -> Result<OpNumbers<'a>,
     Ok(places)
 }
 
-/// Checks whether what comes first at this place is among the first `count`.
+/// Returns whether what comes first at this place is among the first `count`.
 fn is_below(first: Option<usize>, count: usize) -> bool
     ensures { result ≡ tables.is_below first count }
 {
@@ -60,7 +60,7 @@ fn is_below(first: Option<usize>, count: usize) -> bool
     }
 }
 
-/// Checks whether what comes first at the second place comes there without the first before it.
+/// Returns whether what comes first at the second place comes there without the first before it.
 fn is_broken(first: Option<usize>, second: Option<usize>) -> bool
     ensures { result ≡ tables.is_broken first second }
 {
@@ -70,7 +70,7 @@ fn is_broken(first: Option<usize>, second: Option<usize>) -> bool
     }
 }
 
-/// Checks whether the second operation comes, and the first not before it.
+/// Returns whether the second operation comes, and the first not before it.
 fn breaks<'a>(places: &OpNumbers<'a>, first: &'a OpName, second: &'a OpName) -> bool
     ensures { result ≡ tables.is_broken (number_at places.now first.now) (number_at places.now second.now) }
 {
@@ -178,7 +178,7 @@ impl<'a> Survey<'a> {
         op_of(process_at(self.trace.processes(), row), name.place as usize)
     }
 
-    /// Checks whether the operation, where it comes first, comes before one that the trace puts before it.
+    /// Returns whether the operation, where it comes first, comes before one that the trace puts before it.
     pub fn is_early(&self, name: &'a OpName) -> bool
         requires { IsSurvey self.now }
         ensures { (count : ℕ) → slice_get self.now.names.now count ≡ Some name.now

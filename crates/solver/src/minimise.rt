@@ -47,7 +47,7 @@ impl<'a> Search<'a> {
         Ok(false)
     }
 
-    /// Checks whether the other literals of the learned clause imply this one. Visited variables stay marked as implied if so, and lose their
+    /// Returns whether the other literals of the learned clause imply this one. Visited variables stay marked as implied if so, and lose their
     /// marks if not.
     fn is_implied(&mut self, literal: u32, levels: u32) -> Result<bool, AllocError> {
         if self.trail.was_decided(literal) {

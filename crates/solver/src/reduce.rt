@@ -38,7 +38,7 @@ impl<'a> Search<'a> {
         lbd
     }
 
-    /// Checks whether the clause is the reason of its first literal. Such a clause is kept, since later analysis asks for it.
+    /// Returns whether the clause is the reason of its first literal. Such a clause is kept, since later analysis asks for it.
     fn is_in_use(&self, clause: u32) -> bool {
         let literal = self.store.literal(clause, 0);
         match self.trail.trail.state(literal >> 1).reason {

@@ -50,7 +50,7 @@ fn states(trail: &OrderedTrail<'_>) -> u32 {
     states.saturating_mul(prefixes)
 }
 
-/// Checks whether fewer than half of the events can come first. If all processes are short, a schedule says little.
+/// Returns whether fewer than half of the events can come first. If all processes are short, a schedule says little.
 fn has_long_processes(trail: &OrderedTrail<'_>) -> bool {
     let elements = trail.order().elements();
     let mut first: u32 = 0;
@@ -62,7 +62,7 @@ fn has_long_processes(trail: &OrderedTrail<'_>) -> bool {
     first.wrapping_mul(2) < elements
 }
 
-/// Checks whether more than half of the events are read-modify-writes.
+/// Returns whether more than half of the events are read-modify-writes.
 fn are_mostly_updates(trail: &OrderedTrail<'_>) -> bool {
     let Some(reads_from) = trail.reads_from else {
         return false;
@@ -77,13 +77,13 @@ fn are_mostly_updates(trail: &OrderedTrail<'_>) -> bool {
     updates.wrapping_mul(2) > elements
 }
 
-/// Checks whether a search begins with decisions along a schedule. What an update reads, and so where it may come next, the last one before it
+/// Returns whether a search begins with decisions along a schedule. What an update reads, and so where it may come next, the last one before it
 /// alone decides, so a schedule that goes on with a value which fits may be right at once.
 pub fn begins_with_a_schedule(trail: &OrderedTrail<'_>) -> bool {
     are_mostly_updates(trail) && has_long_processes(trail)
 }
 
-/// Checks whether a search along a schedule may be the better one of two: most elements are updates, or there are not too many states.
+/// Returns whether a search along a schedule may be the better one of two: most elements are updates, or there are not too many states.
 pub fn suits_a_schedule(trail: &OrderedTrail<'_>) -> bool {
     trail.reads_from.is_some()
         && has_long_processes(trail)
@@ -117,7 +117,7 @@ impl ScheduleHeuristic {
         self.restarts = self.restarts.wrapping_add(1);
     }
 
-    /// Checks whether all predecessors of the event are placed.
+    /// Returns whether all predecessors of the event are placed.
     #[inline(always)]
     fn can_be_next(&self, trail: &OrderedTrail<'_>, element: u32) -> bool {
         for number in 0..self.sets.words() {
@@ -166,7 +166,7 @@ impl ScheduleHeuristic {
         }
     }
 
-    /// Checks whether the event reads nothing, or may read the last write of the prefix.
+    /// Returns whether the event reads nothing, or may read the last write of the prefix.
     fn fits(&self, trail: &OrderedTrail<'_>, reads_from: &ReadsFromTable, element: u32) -> bool {
         if !reads_from.reads(element) {
             return true;

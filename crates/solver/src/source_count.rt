@@ -34,7 +34,7 @@ fn known_order<'b>(
     }
 }
 
-/// Checks whether there is a read-modify-write. Without one, readers can share their sources, so there is no Hall violator.
+/// Returns whether there is a read-modify-write. Without one, readers can share their sources, so there is no Hall violator.
 pub(crate) fn has_updates(encoding: EncodingHints<'_>) -> bool {
     let Some(reads_from) = encoding.reads_from() else {
         return false;
@@ -55,12 +55,12 @@ fn most_steps(found: &SourceContradiction) -> u64 {
 }
 
 impl<'a> Search<'a> {
-    /// Checks whether there is a read-modify-write.
+    /// Returns whether there is a read-modify-write.
     pub fn has_updates(&self) -> bool {
         has_updates(self.encoding)
     }
 
-    /// Checks whether there is a Hall violator. Mostly there is none, so a greedy matching is tried first.
+    /// Returns whether there is a Hall violator. Mostly there is none, so a greedy matching is tried first.
     fn has_hall_violator(&self, reads_from: &ReadsFromTable) -> Result<bool, AllocError> {
         let known = known_order(self.encoding, &self.trail, reads_from);
         if has_enough_sources(self.alloc, &self.trail, reads_from, known)? {

@@ -9,7 +9,7 @@ use counting_proofs::{
 use order_sets::tables::{at, size};
 use std::alloc::{AllocError, Global};
 
-/// Checks whether the reads-from variable is false.
+/// Returns whether the reads-from variable is false.
 fn is_excluded(trail: &OrderedTrail<'_>, variable: u32) -> bool {
     trail.value(variable.wrapping_mul(2)) == FALSE
 }
@@ -207,7 +207,7 @@ pub fn possible_sources(
     }
 }
 
-/// Checks whether a greedy matching saturates all readers. It does if there is no read-modify-write, since the final values of different
+/// Returns whether a greedy matching saturates all readers. It does if there is no read-modify-write, since the final values of different
 /// locations have no source in common.
 pub fn has_enough_sources(
     alloc: Global,

@@ -30,7 +30,7 @@ pub struct GreedyMatching<'a> {
     heads: Vec<u32>,
 }
 
-/// Checks whether one of the sources of the update is not in the set.
+/// Returns whether one of the sources of the update is not in the set.
 #[inline(always)]
 fn has_one_outside(sources: &ElementSets, update: u32, set: &[u64]) -> bool {
     for number in 0..sources.words() {
@@ -86,7 +86,7 @@ impl<'a> GreedyMatching<'a> {
         }
     }
 
-    /// Checks whether there is an update.
+    /// Returns whether there is an update.
     pub fn has_updates(&self) -> bool {
         self.updates.iter().any(|word| *word != 0)
     }
@@ -142,7 +142,7 @@ impl<'a> GreedyMatching<'a> {
         Ok(())
     }
 
-    /// Checks whether each update has a possible source that is no update, or one of an update that has, and so on. Otherwise there is a cycle of
+    /// Returns whether each update has a possible source that is no update, or one of an update that has, and so on. Otherwise there is a cycle of
     /// reads-from, which a matching does not see.
     fn has_no_cycle(&self, alloc: Global) -> Result<bool, AllocError> {
         let mut inside = Vec::new(alloc);
@@ -228,7 +228,7 @@ impl<'a> GreedyMatching<'a> {
         false
     }
 
-    /// Checks whether each update is matched.
+    /// Returns whether each update is matched.
     fn have_sources(&mut self) -> bool {
         // The first free source has a small number, and stands mostly before an update with a large one. So these are matched first.
         for number in (0..self.known.writers.words()).rev() {
@@ -248,7 +248,7 @@ impl<'a> GreedyMatching<'a> {
         true
     }
 
-    /// Checks whether in the location of this writer one that may be the last is free, or is freed along an alternating path.
+    /// Returns whether in the location of this writer one that may be the last is free, or is freed along an alternating path.
     fn has_end(&mut self, writer: u32, may_end: &[u64]) -> bool {
         for number in 0..self.known.writers.words() {
             let word = at(self.ends.as_slice(), number, 0);
@@ -265,7 +265,7 @@ impl<'a> GreedyMatching<'a> {
         false
     }
 
-    /// Checks whether in each location a writer is free that may be the last one.
+    /// Returns whether in each location a writer is free that may be the last one.
     fn have_ends(&mut self, may_end: &[u64]) -> bool {
         for number in 0..size(self.heads.as_slice()) {
             let head = at(self.heads.as_slice(), number, 0);
@@ -276,7 +276,7 @@ impl<'a> GreedyMatching<'a> {
         true
     }
 
-    /// Checks whether the greedy matching saturates all readers. False means unknown, not infeasible.
+    /// Returns whether the greedy matching saturates all readers. False means unknown, not infeasible.
     pub fn shows_enough(&mut self, alloc: Global) -> Result<bool, AllocError> {
         self.add_locations()?;
         let mut may_end = Vec::new(alloc);

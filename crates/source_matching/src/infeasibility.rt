@@ -57,7 +57,7 @@ pub fn find_lack(
     find_ending(alloc, known, &mut matching)
 }
 
-/// Checks whether `find_contradiction` finds something if these sources are possible. This takes less time, since it needs no choices: a search
+/// Returns whether `find_contradiction` finds something if these sources are possible. This takes less time, since it needs no choices: a search
 /// asks after each turn, and mostly finds nothing.
 pub fn has_hall_violator(
     alloc: Global,

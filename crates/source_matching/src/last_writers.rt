@@ -16,7 +16,7 @@ pub struct LastWriters {
     candidates: Vec<u32>,
 }
 
-/// Checks whether no writer of its location surely comes after this one.
+/// Returns whether no writer of its location surely comes after this one.
 pub fn may_be_last(known: KnownOrder<'_>, writer: u32) -> bool {
     // The next one of its process has mostly a number in the same word.
     let likeliest = writer >> 6;
@@ -132,7 +132,7 @@ impl LastWriters {
     }
 }
 
-/// Checks whether a free source may be the last writer of this one's location. (Of those in a word only the last one is examined, which is the
+/// Returns whether a free source may be the last writer of this one's location. (Of those in a word only the last one is examined, which is the
 /// likeliest.)
 fn has_free_end(known: KnownOrder<'_>, free: &[u64], writer: u32) -> bool {
     for number in 0..known.writers.words() {

@@ -78,7 +78,7 @@ impl Matching {
         Ok(smallest)
     }
 
-    /// Checks whether one more reader with these sources would remain unmatched.
+    /// Returns whether one more reader with these sources would remain unmatched.
     pub fn has_none_for(&mut self, sources: &[u32]) -> Result<bool, AllocError> {
         self.possible.set_last(sources);
         let found = self.walk(self.readers)?;

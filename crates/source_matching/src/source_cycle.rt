@@ -36,7 +36,7 @@ fn readers_by_source(alloc: Global, possible: &SourceSets) -> Result<Vec<u32>, A
     Ok(readers)
 }
 
-/// Checks whether all possible sources of the reader are among these.
+/// Returns whether all possible sources of the reader are among these.
 #[inline(always)]
 fn has_all_within(possible: &SourceSets, reader: u32, within: &[u64]) -> bool {
     for number in 0..possible.words() {
@@ -47,7 +47,7 @@ fn has_all_within(possible: &SourceSets, reader: u32, within: &[u64]) -> bool {
     true
 }
 
-/// Checks whether the source is in the set.
+/// Returns whether the source is in the set.
 #[inline(always)]
 pub fn is_member(set: &[u64], source: u32) -> bool {
     at(set, source >> 6, 0) >> (source & 63) & 1 == 1

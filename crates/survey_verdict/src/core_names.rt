@@ -39,14 +39,14 @@ pub(crate) fn all_names(alloc: Global, trace: &Trace) -> Result<Vec<OpName>, All
     Ok(names)
 }
 
-/// Checks whether the two are one name.
+/// Returns whether the two are one name.
 fn are_one(first: &OpName, second: &OpName) -> bool
     ensures { result ≡ same_op first.now second.now }
 {
     first.process.as_bytes() == second.process.as_bytes() && first.place == second.place
 }
 
-/// Checks whether the name is among these.
+/// Returns whether the name is among these.
 fn is_among(names: &[OpName], name: &OpName) -> bool
     ensures { result ≡ has_come names.now name.now }
 {

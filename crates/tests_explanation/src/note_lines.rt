@@ -58,7 +58,7 @@ fn shows_lines_and_marks_words(rt: HostRuntime) -> Result<(), AllocError> {
     Ok(())
 }
 
-/// Checks whether the words of a line are found by their places.
+/// Returns whether the words of a line are found by their places.
 fn finds_words(line: &[u8]) -> bool {
     count_words(line) == 2
         && word_at(line, 1) == b"cd".as_slice()
@@ -66,7 +66,7 @@ fn finds_words(line: &[u8]) -> bool {
         && word_start(line, 1) == Some(5)
 }
 
-/// Checks whether lines are found by their numbers.
+/// Returns whether lines are found by their numbers.
 fn finds_lines(text: &[u8]) -> bool {
     line_of_text(text, 2) == Some(b"b".as_slice())
         && line_of_text(text, 0).is_none()
@@ -79,7 +79,7 @@ fn finds_words_and_lines(rt: HostRuntime) {
     assert!(rt; finds_lines(b"a\nb\n"));
 }
 
-/// Checks whether a word is quoted so.
+/// Returns whether a word is quoted so.
 fn is_quoted(alloc: Global, word: &[u8], wanted: &[u8]) -> Result<bool, AllocError> {
     let text = quoted(alloc, word)?;
     Ok(text.as_slice() == wanted)

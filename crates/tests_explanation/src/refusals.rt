@@ -239,7 +239,7 @@ fn texts_of(case: &Case) -> AskedTexts<'static> {
     texts
 }
 
-/// Checks whether these are the notes on the fault of the case.
+/// Returns whether these are the notes on the fault of the case.
 fn is_explained(alloc: Global, case: &Case) -> Result<bool, AllocError> {
     let mut notes = Notes::new(alloc);
     explain_refusal(alloc, &mut notes, &case.fault, &texts_of(case))?;
@@ -262,7 +262,7 @@ const UNREAD: &str = "note: s: the file cannot be opened or read\n\
     note: n: cannot be opened: no such file\n\
     note: c: cannot be made\n";
 
-/// Checks whether the file that could not be read again is named, and one that was written, and no other.
+/// Returns whether the file that could not be read again is named, and one that was written, and no other.
 fn names_unread(alloc: Global) -> Result<bool, AllocError> {
     let mut texts = AskedTexts::none();
     texts.trace = Some(NamedText {
@@ -286,7 +286,7 @@ fn names_unread(alloc: Global) -> Result<bool, AllocError> {
     Ok(notes.as_slice() == UNREAD.as_bytes())
 }
 
-/// Checks whether the list begins with the first cause of a trace and has a line for each refusal.
+/// Returns whether the list begins with the first cause of a trace and has a line for each refusal.
 fn lists_all(alloc: Global) -> Result<bool, AllocError> {
     let mut notes = Notes::new(alloc);
     refusal_list(&mut notes)?;

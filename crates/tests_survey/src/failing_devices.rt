@@ -54,7 +54,7 @@ fn sink_failing_after(alloc: Global, count: usize) -> ShortSink {
     sink(alloc).failing_at(count.wrapping_add(1) as u64)
 }
 
-/// Checks whether the first bytes of the text were taken, this many of them.
+/// Returns whether the first bytes of the text were taken, this many of them.
 fn is_front(taken: &[u8], text: &[u8], length: usize) -> bool {
     taken.len() == length && text.starts_with(taken)
 }

@@ -13,7 +13,7 @@ fn all_digits(word: &[u8]) -> bool
     word.iter().all(|byte| byte.is_ascii_digit())
 }
 
-/// Checks whether the word is one digit or more and nothing else.
+/// Returns whether the word is one digit or more and nothing else.
 fn has_digits_alone(word: &[u8]) -> bool
     ensures { result ≡ is_digits word.now }
 {

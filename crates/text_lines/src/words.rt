@@ -7,14 +7,14 @@ ghost use Rattle.text_lines.specs.Words.{words_of, is_blank};
 
 use arrayvec::ArrayVec;
 
-/// Checks whether the byte is a space, a tab or a carriage return.
+/// Returns whether the byte is a space, a tab or a carriage return.
 pub fn is_blank_byte(byte: u8) -> bool
     ensures { result ≡ is_blank byte }
 {
     byte == b' ' || byte == b'\t' || byte == b'\r'
 }
 
-/// Checks whether the word is this text.
+/// Returns whether the word is this text.
 pub fn is_word(word: &[u8], text: &str) -> bool
     ensures { result ≡ bytes_eq word.now text.now }
 {

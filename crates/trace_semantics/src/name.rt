@@ -44,14 +44,14 @@ impl Name {
     }
 }
 
-/// Checks whether a name may begin with the byte: a letter or an underscore.
+/// Returns whether a name may begin with the byte: a letter or an underscore.
 fn may_begin(byte: u8) -> bool
     ensures { result ≡ may_begin_name byte }
 {
     byte.is_ascii_alphabetic() || byte == b'_'
 }
 
-/// Checks whether the byte may stand in a name: a letter, a digit or an underscore.
+/// Returns whether the byte may stand in a name: a letter, a digit or an underscore.
 fn may_stand(byte: u8) -> bool
     ensures { result ≡ may_be_in_name byte }
 {
@@ -64,7 +64,7 @@ fn all_may_stand(word: &[u8]) -> bool
     word.iter().all(|byte| may_stand(*byte))
 }
 
-/// Checks whether the word is a name: 1 to 32 bytes, a letter or an underscore and then letters, digits and underscores.
+/// Returns whether the word is a name: 1 to 32 bytes, a letter or an underscore and then letters, digits and underscores.
 pub fn is_name_word(word: &[u8]) -> bool
     ensures { result ≡ is_name word.now }
 {

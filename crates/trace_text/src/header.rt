@@ -34,7 +34,7 @@ pub struct Header<'a> {
     pub next: usize,
 }
 
-/// Checks whether the words are those of the header of this version.
+/// Returns whether the words are those of the header of this version.
 fn is_header_of(words: &[&[u8]], version: &str) -> bool
     ensures { result ≡ pointwise bytes_eq (map (λ word. word.now) words.now) (codes "vsc" ∷ version.now ∷ []) }
 {

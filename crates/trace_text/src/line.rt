@@ -4,7 +4,7 @@ ghost use Rattle.std.specs.Prelude.{◌≡◌};
 ghost use Rattle.std.specs.List.{list_any};
 ghost use Rattle.trace_text.specs.TraceFault.{is_high};
 
-/// Checks whether a byte of the line is above 127. No byte ends the loop early, so the compiler can look at many at once.
+/// Returns whether a byte of the line is above 127. No byte ends the loop early, so the compiler can look at many at once.
 pub fn has_high_byte(line: &[u8]) -> bool
     ensures { result ≡ list_any is_high line.now }
 {

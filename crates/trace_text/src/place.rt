@@ -36,7 +36,7 @@ fn source_is_named(source: ReadsFrom<'_>) -> bool
     }
 }
 
-/// Checks whether the words that should be names are names.
+/// Returns whether the words that should be names are names.
 fn is_named(statement: Statement<'_>) -> bool
     ensures { result ≡ list_all is_name (names_of (said statement.entry)) }
 {

@@ -57,14 +57,14 @@ fn of_three_words<'a>(words: &[&'a [u8]]) -> Option<Statement<'a>>
     }
 }
 
-/// Checks whether a word is this text and another one `from`.
+/// Returns whether a word is this text and another one `from`.
 fn is_key_from(key: &[u8], text: &str, from: &[u8]) -> bool
     ensures { result ≡ (bytes_eq key.now text.now && bytes_eq from.now (codes "from")) }
 {
     is_word(key, text) && is_word(from, "from")
 }
 
-/// Checks whether a word is this text, and two others are `from` and `init`.
+/// Returns whether a word is this text, and two others are `from` and `init`.
 fn is_key_from_init(key: &[u8], text: &str, from: &[u8], init: &[u8]) -> bool
     ensures { result ≡ (bytes_eq key.now text.now && bytes_eq from.now (codes "from") && bytes_eq init.now (codes "init")) }
 {

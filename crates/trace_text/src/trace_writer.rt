@@ -16,7 +16,7 @@ use trace_semantics::name::Name;
 use trace_semantics::operation::{Op, OpName, Origin};
 use trace_semantics::trace::{Process, Trace};
 
-/// Checks whether it is said where the value of the operation comes from.
+/// Returns whether it is said where the value of the operation comes from.
 fn says_origin(op: &Op) -> bool
     ensures { result ≡ spelled.has_origin op.now }
 {
@@ -51,7 +51,7 @@ fn any_says_origin(processes: &[Process]) -> bool
     processes.iter().any(|process| process_says_origin(process))
 }
 
-/// Checks whether the trace says what version 1 has no line for.
+/// Returns whether the trace says what version 1 has no line for.
 fn wants_version_2(trace: &Trace) -> bool
     ensures { result ≡ spelled.needs_version_2 trace.now }
 {

@@ -39,7 +39,7 @@ impl Model for FinalTable {
     ghost view = { λ table. record { writers = table.writers.items; choices = table.choices.items; void = table.void } };
 }
 
-/// Checks whether the operation leaves the value at the location.
+/// Returns whether the operation leaves the value at the location.
 fn leaves(numbering: &Numbering<'_>, entry: &(Name, u64), w: usize) -> bool
     ensures { result ≡ judgement.is_held (numbers.left_at numbering.now entry.now.0 w) entry.now.1 }
 {
@@ -63,7 +63,7 @@ fn leavers(
         .collect(alloc)
 }
 
-/// Checks whether the location has no writer, and its initial value, which the table has, is the final one.
+/// Returns whether the location has no writer, and its initial value, which the table has, is the final one.
 fn is_untouched<'a>(initial: &NameTable<'a>, entry: &'a (Name, u64), writers: &[usize]) -> bool
     ensures { result ≡ (length writers.now == 0) && judgement.is_held (number_of initial.now entry.now.0) entry.now.1 }
 {

@@ -140,7 +140,7 @@ impl Layout {
         order_lit(self.operations(), i, j)
     }
 
-    /// Checks whether the assignment puts operation i before operation j.
+    /// Returns whether the assignment puts operation i before operation j.
     pub fn is_put_before(&self, assignment: &Assignment, i: usize, j: usize) -> bool
         requires apart { i ≢ j }
         requires first { i < operation_count self.now }
@@ -150,7 +150,7 @@ impl Layout {
         assignment.makes(&[self.order_lit(i, j)])
     }
 
-    /// Checks whether both are operations of one process.
+    /// Returns whether both are operations of one process.
     #[inline]
     pub fn in_one_process(&self, i: usize, j: usize) -> bool
         ensures { result ≡ numbers.in_one_process self.now i j }
@@ -161,7 +161,7 @@ impl Layout {
         }
     }
 
-    /// Checks whether the operation of this number reads.
+    /// Returns whether the operation of this number reads.
     pub fn is_reader(&self, r: usize) -> bool
         ensures { result ≡ is_some (numbers.read_at self.now r) }
     {

@@ -47,7 +47,7 @@ fn push_process<'a>(
     Ok(())
 }
 
-/// Checks whether this is the operation's name.
+/// Returns whether this is the operation's name.
 fn is_name_of(named: &NamedOp<'_>, name: &OpName) -> bool
     ensures { result ≡ same_op named.now.name name.now }
 {
@@ -129,7 +129,7 @@ impl<'a> Numbering<'a> {
         }
     }
 
-    /// Checks whether both are operations of one process.
+    /// Returns whether both are operations of one process.
     pub fn in_one_process(&self, i: usize, j: usize) -> bool
         ensures { result ≡ number.in_one_process self.now i j }
     {
@@ -159,7 +159,7 @@ impl<'a> Numbering<'a> {
         }
     }
 
-    /// Checks whether the operation of this number has this name.
+    /// Returns whether the operation of this number has this name.
     pub fn is_named(&self, i: usize, name: &OpName) -> bool
         ensures { result ≡ is_the_op (number.name_at self.now i) name.now }
     {

@@ -41,7 +41,7 @@ fn value_from(
     }
 }
 
-/// Checks whether there is a value, and it is the one that is read.
+/// Returns whether there is a value, and it is the one that is read.
 fn is_read(value: Option<u64>, read: Option<u64>) -> bool
     ensures { result ≡ candidates.is_read value read }
 {
@@ -51,7 +51,7 @@ fn is_read(value: Option<u64>, read: Option<u64>) -> bool
     }
 }
 
-/// Checks whether the candidate is what the origin says, if that says anything.
+/// Returns whether the candidate is what the origin says, if that says anything.
 fn is_said(numbering: &Numbering<'_>, origin: &Origin, candidate: Candidate) -> bool
     ensures { result ≡ candidates.is_allowed numbering.now origin.now candidate }
 {
@@ -68,7 +68,7 @@ fn is_said(numbering: &Numbering<'_>, origin: &Origin, candidate: Candidate) -> 
     }
 }
 
-/// Checks whether the candidate is what the operation's origin says, if that says anything.
+/// Returns whether the candidate is what the operation's origin says, if that says anything.
 fn is_allowed(numbering: &Numbering<'_>, op: &Op, candidate: Candidate) -> bool
     ensures { result ≡ candidates.is_allowed numbering.now (origin_of op.now) candidate }
 {
@@ -79,7 +79,7 @@ fn is_allowed(numbering: &Numbering<'_>, op: &Op, candidate: Candidate) -> bool
     }
 }
 
-/// Checks whether the operation may have its value from there.
+/// Returns whether the operation may have its value from there.
 fn is_candidate(numbering: &Numbering<'_>, trace: &Trace, op: &Op, candidate: Candidate) -> bool
     requires { numbering.now ≡ trace.now }
     ensures { result ≡ candidates.is_candidate trace.now op.now candidate }

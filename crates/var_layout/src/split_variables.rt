@@ -11,14 +11,14 @@ use crate::layout::Layout;
 use crate::order_literal::order_var;
 use std::alloc::AllocError;
 
-/// Checks whether operation j writes where operation i works.
+/// Returns whether operation j writes where operation i works.
 fn is_written_by(layout: &Layout, i: usize, j: usize) -> bool
     ensures { result ≡ list_any (λ w. w == j) (other_writers layout.now i) }
 {
     layout.other_writers(i).iter().any(|w| *w == j)
 }
 
-/// Checks whether they are in conflict and of different processes.
+/// Returns whether they are in conflict and of different processes.
 fn is_split(layout: &Layout, i: usize, j: usize) -> bool
     ensures { result ≡ (not (in_one_process layout.now i j) && (list_any (λ w. w == j) (other_writers layout.now i) || list_any (λ w. w == i) (other_writers layout.now j))) }
 {

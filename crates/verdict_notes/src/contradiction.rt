@@ -32,7 +32,7 @@ fn explain_no_core(notes: &mut Notes) -> Result<(), AllocError> {
     notes.note(&[b"a short survey finds no few operations that contradict each other"])
 }
 
-/// Checks whether one of these operations works on the location.
+/// Returns whether one of these operations works on the location.
 fn is_used(trace: &Trace, names: &[OpName], location: &[u8]) -> bool {
     for name in names {
         if let Some(op) = operation_of(trace, name) {

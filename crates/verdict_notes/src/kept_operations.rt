@@ -15,7 +15,7 @@ pub struct KeptOp<'t> {
     pub op: &'t Op,
 }
 
-/// Checks whether the operation of this name stands in a before pair.
+/// Returns whether the operation of this name stands in a before pair.
 fn is_in_pair(trace: &Trace, process: &[u8], place: u64) -> bool {
     for pair in trace.before() {
         if is_named(&pair.0, process, place) || is_named(&pair.1, process, place) {
@@ -25,7 +25,7 @@ fn is_in_pair(trace: &Trace, process: &[u8], place: u64) -> bool {
     false
 }
 
-/// Checks whether one of these operations reads, by its line, from the operation of this name.
+/// Returns whether one of these operations reads, by its line, from the operation of this name.
 fn is_source_of(ops: &[Op], process: &[u8], place: u64) -> bool {
     for op in ops {
         if let Some(Origin::Operation(name)) = origin_of(op) {
@@ -37,7 +37,7 @@ fn is_source_of(ops: &[Op], process: &[u8], place: u64) -> bool {
     false
 }
 
-/// Checks whether a before pair or an origin names the operation.
+/// Returns whether a before pair or an origin names the operation.
 fn is_spoken_of(trace: &Trace, process: &[u8], place: u64) -> bool {
     if is_in_pair(trace, process, place) {
         return true;
@@ -58,7 +58,7 @@ fn value_behind(op: &Op) -> Option<u64> {
     }
 }
 
-/// Checks whether the second is a plain read of what its location holds directly after the first, of which nothing is said from where.
+/// Returns whether the second is a plain read of what its location holds directly after the first, of which nothing is said from where.
 fn repeats(earlier: &Op, op: &Op) -> bool {
     match op {
         Op::Read {
@@ -73,7 +73,7 @@ fn repeats(earlier: &Op, op: &Op) -> bool {
     }
 }
 
-/// Checks whether the reduction leaves out the operation at this place of the process, counted from 0.
+/// Returns whether the reduction leaves out the operation at this place of the process, counted from 0.
 fn is_left_out(trace: &Trace, process: &Process, k: usize) -> bool {
     let ops = process.operations.as_slice();
     if k == 0 || k >= ops.len() {

@@ -29,12 +29,12 @@ pub fn operation_of<'t>(trace: &'t Trace, name: &OpName) -> Option<&'t Op> {
     }
 }
 
-/// Checks whether the operation has this name.
+/// Returns whether the operation has this name.
 pub fn is_named(name: &OpName, process: &[u8], place: u64) -> bool {
     name.process.as_bytes() == process && name.place as u64 == place
 }
 
-/// Checks whether an operation of this name is among these.
+/// Returns whether an operation of this name is among these.
 pub fn has_come(names: &[OpName], process: &[u8], place: u64) -> bool {
     for name in names {
         if is_named(name, process, place) {

@@ -9,7 +9,7 @@ use trace_part::writers::{ChosenWriter, writers_of};
 use trace_semantics::op_set::OpSet;
 use trace_semantics::trace::Trace;
 
-/// Checks whether one of these writers leaves the value.
+/// Returns whether one of these writers leaves the value.
 fn is_left(writers: &[ChosenWriter], value: u64) -> bool {
     for writer in writers {
         if leaves(writer, value) {
@@ -19,7 +19,7 @@ fn is_left(writers: &[ChosenWriter], value: u64) -> bool {
     false
 }
 
-/// Checks whether some order of the operations may leave the value at the location, which these write.
+/// Returns whether some order of the operations may leave the value at the location, which these write.
 pub fn may_be_final(trace: &Trace, writers: &[ChosenWriter], location: &[u8], value: u64) -> bool {
     if writers.is_empty() {
         return initial_value(trace, location) == Some(value);

@@ -35,7 +35,7 @@ pub enum MissingSource<'t> {
     FromItself,
 }
 
-/// Checks whether another operation writes the value, of these writers.
+/// Returns whether another operation writes the value, of these writers.
 fn is_written_by_another(writers: &[ChosenWriter], number: usize, k: usize, value: u64) -> bool {
     for writer in writers {
         let is_itself = writer.name.process as usize == number
@@ -47,7 +47,7 @@ fn is_written_by_another(writers: &[ChosenWriter], number: usize, k: usize, valu
     false
 }
 
-/// Checks whether the operation of this name writes the value at the location.
+/// Returns whether the operation of this name writes the value at the location.
 fn writes(trace: &Trace, name: &OpName, location: &[u8], value: u64) -> bool {
     match operation_of(trace, name) {
         Some(op) => { op.location().as_bytes() == location && op.written_value() == Some(value) }
