@@ -15,7 +15,8 @@ use std::alloc::{AllocError, Global};
 
 const ABOUT: &str = "Writes the formula of a trace as DIMACS text";
 
-const AFTER_HELP: &str = "The text goes to standard output. The trace alone fixes it. If TRACE is '-',
+const AFTER_HELP: &str =
+    "The text goes to standard output. The trace alone fixes it. If TRACE is '-',
 standard input is read.
 
 Example, which can be pasted:

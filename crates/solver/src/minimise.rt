@@ -1,7 +1,7 @@
 //! Recursive minimisation of learned clauses: a literal that the others imply is left out (Sörensson and Biere, "Minimizing learned
 //! clauses", 2009). Shorter clauses propagate sooner, and cost the checker less.
 
-use crate::analyze::{REDUNDANT, NEEDED, UNSEEN};
+use crate::analyze::{NEEDED, REDUNDANT, UNSEEN};
 use crate::search::Search;
 use order_sets::tables::{at, put, size};
 use std::alloc::AllocError;
