@@ -66,7 +66,7 @@ pub struct ReadsFromTable {
 }
 
 impl ReadsFromTable {
-    /// Starts without reads-from variables, over at most 192 events.
+    /// Starts without reads-from variables, over this number of elements, or 192 if there are more.
     pub fn new(alloc: Global, elements: u32) -> Result<ReadsFromTable, AllocError> {
         let elements = elements.min(MAX_ELEMENTS);
         let pairs = elements.wrapping_mul(elements.wrapping_add(1));
@@ -82,7 +82,8 @@ impl ReadsFromTable {
         })
     }
 
-    /// Records that the writer writes the location that the element reads or writes, and is another one.
+    /// Notes that the writer writes the location that the element reads or writes. Does nothing if both are the same, or if the writer is
+    /// no element of the order.
     pub fn add_writer(&mut self, element: u32, writer: u32) {
         if element != writer && writer < self.elements {
             self.writers.insert(element, writer);

@@ -16,7 +16,7 @@ use std::marker::Model;
 #[derive(Debug, Drop)]
 pub struct LineFault {
     error: Error,
-    // The option that has no number of its range, if that is the fault.
+    // The option whose value is no number of its range, if that is the fault.
     missed: Option<NumberOption>,
 }
 
@@ -28,7 +28,8 @@ impl Model for LineFault {
 }
 
 impl LineFault {
-    /// The same fault of these words, which reports the range of the option that has no number of it, if that is the fault.
+    /// The same fault, of a command line of these words. If the fault is that an option's value is no number of its range, the text then
+    /// names the range.
     pub(crate) fn with_range(self, words: &[&str]) -> LineFault
         ensures { result ≡ self }
     {
@@ -39,7 +40,7 @@ impl LineFault {
         }
     }
 
-    /// Gives what kind of fault it is.
+    /// The kind of the fault, as `clap` has it.
     pub fn kind(&self) -> ErrorKind
         ensures { result ≡ self.now }
     {

@@ -48,7 +48,8 @@ fn start<'s, E, R: Wait + Sync, S: Settler + Sync, G: Gate + Sync>(
     }
 }
 
-/// Starts a thread for each of these workers. The first that cannot be started ends it, and those started before it work on.
+/// Starts a thread for each of these workers. Gives the threads' handles in the order of the workers, or, if a thread cannot be started or
+/// memory runs out, the refusal: the threads that were started work on then, until the caller puts stop tickets.
 pub(crate) fn start_all<'s, E, R: Wait + Sync, S: Settler + Sync, G: Gate + Sync>(
     alloc: Global,
     rt: &'s R,

@@ -88,7 +88,7 @@ fn begin_document(svg: &mut SvgText, width: u64, height: u64) -> Result<(), Allo
     svg.add(&[b"/>\n"])
 }
 
-/// The number of boxes that are of operations.
+/// The number of boxes that are operations; the others are initial and final values.
 fn count_operations(items: &[PictureItem<'_>]) -> u64 {
     let mut count: u64 = 0;
     for item in items {

@@ -15,10 +15,10 @@ pub trait Learner {
     /// Analyses the conflict and learns a clause.
     fn learn(&mut self) -> Result<(), AllocError>;
 
-    /// Returns the literals of the last learned clause.
+    /// Returns the literals of the last learned clause, by their codes.
     fn learned(&self) -> &[u32];
 
-    /// Returns its LRAT hints.
+    /// Returns the LRAT hints of the last learned clause, as ids of clauses.
     fn hints(&self) -> &[u32];
 
     /// Backjumps and asserts the last learned clause, which has this id.

@@ -12,7 +12,7 @@ use schedule_text::schedule_writer::write_schedule;
 use std::alloc::{AllocError, Global};
 use trace_semantics::schedule::Schedule;
 
-/// Puts the literal and a space at the end of the text.
+/// Appends the literal and a space.
 fn push_literal(alloc: Global, text: &mut Vec<u8>, literal: Lit) -> Result<(), AllocError>
     ensures { OnOk result (text.new.items ≡ text.old.items ++ literal_text literal) }
 {
@@ -21,7 +21,7 @@ fn push_literal(alloc: Global, text: &mut Vec<u8>, literal: Lit) -> Result<(), A
     text.extend_from_slice(word.as_bytes())
 }
 
-/// Puts the line of an open cube at the end of the text.
+/// Appends the line of an open cube.
 fn push_open_line(alloc: Global, text: &mut Vec<u8>, cube: &[Lit]) -> Result<(), AllocError>
     ensures { OnOk result (text.new.items ≡ text.old.items ++ open_line cube.now) }
 {
@@ -32,7 +32,7 @@ fn push_open_line(alloc: Global, text: &mut Vec<u8>, cube: &[Lit]) -> Result<(),
     text.extend_from_slice(b"0\n")
 }
 
-/// Puts the lines of open cubes at the end of the text.
+/// Appends the lines of open cubes.
 fn push_open_lines(alloc: Global, text: &mut Vec<u8>, cubes: &[Cube]) -> Result<(), AllocError>
     ensures { OnOk result (text.new.items ≡ text.old.items ++ flat_map open_line cubes.now) }
 {
@@ -53,7 +53,7 @@ fn consistent_report(alloc: Global, schedule: &Schedule) -> Result<Vec<u8>, Allo
     Ok(text)
 }
 
-/// The report of a tree whose cubes are refuted.
+/// The report of a trace that has no legal schedule, which says how many cubes were refuted: the leaves of the tree.
 fn inconsistent_report(alloc: Global, refutation: &Refutation) -> Result<Vec<u8>, AllocError>
     ensures { IfOk result (λ text. text.items ≡ report (Inconsistent refutation.now)) }
 {

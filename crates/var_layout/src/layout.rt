@@ -238,7 +238,7 @@ impl Layout {
         self.before.as_slice()
     }
 
-    /// The number of variables of the trace.
+    /// The number of variables of the formula of the trace.
     pub fn count(&self) -> u32
         ensures { result ≡ final_variables.variable_count self.now }
     {

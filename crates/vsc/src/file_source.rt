@@ -49,6 +49,7 @@ impl<'a> FileSource<'a> {
 fn read_open<F: Read>(file: &mut F, buffer: &mut [u8]) -> Result<usize, DeviceFailure>
     ensures { IfOk result (λ count. count ≤ length buffer.old) }
 {
+    // The bound is never reached; the checker sees by it that the loop returns.
     for _ in 0..u64::MAX {
         match file.read(buffer) {
             Ok(count) => return Ok(count),

@@ -35,6 +35,7 @@ fn write_some<W: Write>(stream: &mut W, bytes: &[u8]) -> Result<usize, DeviceFai
     ensures within { IfOk result (λ count. count ≤ length bytes.now) }
     ensures some { 0 < length bytes.now → IfOk result (λ count. 0 < count) }
 {
+    // The bound is never reached; the checker sees by it that the loop returns.
     for _ in 0..u64::MAX {
         match stream.write(bytes) {
             Ok(count) if count > 0 || bytes.is_empty() => return Ok(count),
