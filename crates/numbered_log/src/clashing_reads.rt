@@ -20,7 +20,7 @@ pub struct ClashingReads {
 const NO_NEXT: u16 = 0xffff;
 
 #[inline(always)]
-fn entry_of(place: u32) -> u16 {
+fn short_place(place: u32) -> u16 {
     (place & 0xffff) as u16
 }
 
@@ -93,7 +93,7 @@ impl ClashingReads {
             let earlier = log.operation(read);
             let mut place = at(self.previous.as_slice(), read, 0);
             if earlier.needed != operation.needed {
-                place = entry_of(earlier.place);
+                place = short_place(earlier.place);
             }
             put(self.previous.as_mut_slice(), number, place);
         }
@@ -107,7 +107,7 @@ impl ClashingReads {
             let later = log.operation(read);
             let mut place = at(self.next.as_slice(), read, NO_NEXT);
             if later.needed != value_after(operation) {
-                place = entry_of(later.place);
+                place = short_place(later.place);
             }
             put(self.next.as_mut_slice(), number, place);
         }

@@ -16,7 +16,7 @@ pub struct WriterPlaces {
 }
 
 #[inline(always)]
-fn entry_of(place: u32) -> u16 {
+fn short_place(place: u32) -> u16 {
     (place & 0xffff) as u16
 }
 
@@ -66,7 +66,11 @@ impl WriterPlaces {
                 .pair_of(operation.location, operation.process)
                 .wrapping_add(1);
             let free = at(self.begins.as_slice(), place, 0);
-            put(self.places.as_mut_slice(), free, entry_of(operation.place));
+            put(
+                self.places.as_mut_slice(),
+                free,
+                short_place(operation.place),
+            );
             put(self.begins.as_mut_slice(), place, free.wrapping_add(1));
         }
     }

@@ -120,7 +120,7 @@ fn push_entry(text: &mut Vec<u8>, key: &[u8], location: &Name, value: u64) -> Re
     push_number(text, value)
 }
 
-/// Appends the words of an operation's line.
+/// Appends the words of an operation's line. An update reads the value `read` and leaves the value `left`.
 fn push_op_words(text: &mut Vec<u8>, op: &Op) -> Result<(), AllocError>
     ensures { OnOk result (text.new.items ≡ text.old.items ++ joined (spelled.op_line op.now)) }
 {
