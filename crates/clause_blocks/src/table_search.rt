@@ -2,6 +2,11 @@
 
 ghost use Rattle.std.specs.Prelude.{◌<◌, ◌≤◌, ◌+◌, length, slice_index};
 
+use std::alloc::{AllocError, Global};
+
+/// How many numbers share a landmark.
+const APART: u32 = 128;
+
 /// An entry, of those between these two, that the number reaches while it does not reach the next one.
 pub(crate) fn reached(table: &[u32], first: usize, last: usize, number: u32) -> usize
     requires rising { first < last }
@@ -23,4 +28,52 @@ pub(crate) fn reached(table: &[u32], first: usize, last: usize, number: u32) -> 
         }
     }
     low
+}
+
+/// For each 128 numbers the entry that the first of them reaches, so that a search has few entries to look at. Nothing is promised of
+/// landmarks: a search looks whether the number is between two of them.
+#[derive(Drop)]
+pub(crate) struct Landmarks {
+    entries: Vec<u16>,
+}
+
+impl Landmarks {
+    /// The landmarks of a table.
+    pub(crate) fn of(alloc: Global, table: &[u32]) -> Result<Landmarks, AllocError> {
+        let mut entries = Vec::new(alloc);
+        for next in 1..table.len() {
+            let entry = u16::try_from(next - 1).unwrap_or(0);
+            for _ in entries.len()..(table[next] / APART) as usize + 1 {
+                entries.push(entry)?;
+            }
+        }
+        Ok(Landmarks { entries })
+    }
+
+    /// An entry, of those between these two, that the number reaches while it does not reach the next one.
+    pub(crate) fn reached(&self, table: &[u32], first: usize, last: usize, number: u32) -> usize
+        requires rising { first < last }
+        requires within { last < length table.now }
+        requires above { slice_index table.now first ≤ number }
+        requires below { number < slice_index table.now last }
+        ensures first { first ≤ result }
+        ensures last { result < last }
+        ensures above { slice_index table.now result ≤ number }
+        ensures below { number < slice_index table.now (result + 1) }
+    {
+        let place = (number / APART) as usize;
+        if place + 1 < self.entries.len() {
+            let low = first.max(usize::from(self.entries[place]));
+            let high = last.min(usize::from(self.entries[place + 1]) + 1);
+            if first <= low
+                && low < high
+                && high <= last
+                && table[low] <= number
+                && number < table[high]
+            {
+                return reached(table, low, high, number);
+            }
+        }
+        reached(table, first, last, number)
+    }
 }

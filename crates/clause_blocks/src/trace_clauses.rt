@@ -8,7 +8,7 @@ ghost use Rattle.clause_blocks.specs.Pieces.{clauses_before, clauses_in};
 
 use crate::laws::few_clauses;
 use crate::pieces::{Piece, Pieces};
-use crate::table_search::reached;
+use crate::table_search::Landmarks;
 use crate::triple_table::TripleTable;
 use reducer::reduced::Reduced;
 use std::alloc::{AllocError, Global};
@@ -21,6 +21,7 @@ use var_layout::layout::Layout;
 pub struct TraceClauses {
     pieces: Pieces,
     starts: Vec<u32>,
+    near: Landmarks,
     triples: TripleTable,
 }
 
@@ -59,10 +60,12 @@ impl TraceClauses {
         let pieces = Pieces::of(alloc, reduced)?;
         pieces.recall_limits();
         let starts = starts_of(alloc, &pieces)?;
+        let near = Landmarks::of(alloc, starts.as_slice())?;
         let triples = TripleTable::of(alloc, pieces.layout().operations())?;
         Ok(TraceClauses {
             pieces,
             starts,
+            near,
             triples,
         })
     }
@@ -146,7 +149,8 @@ impl TraceClauses {
     {
         self.recall_limits();
         few_clauses();
-        reached(self.starts.as_slice(), 0, self.pieces(), place as u32)
+        self.near
+            .reached(self.starts.as_slice(), 0, self.pieces(), place as u32)
     }
 
     /// The number of clauses. It stands in a table, since each look-up of a clause needs it.

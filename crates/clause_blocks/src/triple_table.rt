@@ -5,7 +5,7 @@ ghost use Rattle.std.specs.List.{range_with_len};
 ghost use Rattle.clause_blocks.specs.Blocks.{transitivity_from};
 ghost use Rattle.clause_blocks.specs.Triples.{below_middle, clause_of_triple};
 
-use crate::table_search::reached;
+use crate::table_search::Landmarks;
 use std::alloc::{AllocError, Global};
 use std::marker::Model;
 
@@ -23,6 +23,7 @@ pub(crate) struct Triple {
 pub(crate) struct TripleTable {
     operations: usize,
     middle: Vec<u32>,
+    near: Landmarks,
 }
 
 impl Model for TripleTable {
@@ -59,9 +60,12 @@ impl TripleTable {
         requires { operations ≤ 160 }
         ensures { IfOk result (λ table. table ≡ operations) }
     {
+        let middle = middle_table(alloc, operations)?;
+        let near = Landmarks::of(alloc, middle.as_slice())?;
         Ok(TripleTable {
             operations,
-            middle: middle_table(alloc, operations)?,
+            middle,
+            near,
         })
     }
 
@@ -75,7 +79,7 @@ impl TripleTable {
     {
         let middle = self.middle.as_slice();
         let row = place as u32 + middle[i + 1];
-        let j = reached(middle, i + 1, self.operations, row);
+        let j = self.near.reached(middle, i + 1, self.operations, row);
         let left = row - middle[j];
         Triple {
             lowest: i,

@@ -105,6 +105,7 @@ impl<'a> ActiveClauses<'a> {
     }
 
     /// The clause that is active under this id, if one is.
+    #[inline(always)]
     pub fn get<'b, F: ClauseList>(&'b self, formula: &'b F, id: u64) -> Option<ListedClause<'b>>
         ensures { MatchOption result
             (clause_at (F.formula formula.now).clauses self.now id ≡ None)

@@ -83,7 +83,8 @@ impl<'a> AddedClauses<'a> {
         }
     }
 
-    /// The clause of this id in the tree, if there is one.
+    /// The clause of this id in the tree, if there is one. The search is long and seldom made, so it stands apart.
+    #[inline(never)]
     fn in_tree(&self, id: u64) -> Option<&'a Clause>
         ensures { MatchOption result (in_tree_at self.now id ≡ None) (λ clause. in_tree_at self.now id ≡ Some clause.now) }
     {

@@ -45,6 +45,14 @@ impl HiddenIds {
         marked_at(self.near.as_slice(), id)
     }
 
+    /// Looks for the id in the tree. The search is long and seldom made, so it stands apart from what is done for each id.
+    #[inline(never)]
+    fn search_tree(&self, id: usize) -> bool
+        ensures { result ≡ contains nat_cmp self.now.far id }
+    {
+        self.far.contains(&id)
+    }
+
     /// Checks whether the id stands in the tree.
     fn tree_hides(&self, id: usize) -> bool
         ensures { result ≡ contains nat_cmp self.now.far id }
@@ -52,7 +60,7 @@ impl HiddenIds {
         if self.far.is_empty() {
             return false;
         }
-        self.far.contains(&id)
+        self.search_tree(id)
     }
 
     /// Checks whether the id is hidden.

@@ -108,6 +108,22 @@ impl LiteralMarks {
         marked_at(self.near.as_slice(), place) || self.is_far(place)
     }
 
+    /// Checks whether the table reaches to this place and the tree is empty, so that the table alone is looked at.
+    pub fn is_at_hand(&self, place: usize) -> bool
+        ensures { result ≡ true → place < vec_len self.now.near }
+    {
+        place < self.near.len() && self.far.is_empty()
+    }
+
+    /// Makes a mark at this place, to which the table reaches.
+    pub fn add_at_hand(&mut self, place: usize)
+        requires { place < vec_len self.old.near }
+        ensures { (k : ℕ) → is_marked self.new k ≡ (if place == k then true else is_marked self.old k) }
+    {
+        self.made = self.made.saturating_add(1);
+        mark_at(&mut self.near, place);
+    }
+
     /// Makes a mark at this place of the table.
     fn add_near(&mut self, place: usize) -> Result<(), AllocError>
         ensures added { OnOk result ((k : ℕ) → is_marked self.new k ≡ (if place == k then true else is_marked self.old k)) }

@@ -68,8 +68,10 @@ impl TrueLiterals {
         self.trail.len()
     }
 
-    /// Assigns the literal.
-    pub fn push(&mut self, literal: Lit) -> Result<(), AllocError>
+    /// Assigns the literal, for which the trail or the table may have to grow. Calls of this in the midst of [`TrueLiterals::push`] would
+    /// make it save registers for each literal.
+    #[inline(never)]
+    fn push_with_room(&mut self, literal: Lit) -> Result<(), AllocError>
         ensures { OnOk result (self.new ≡ self.old ++ literal ∷ []) }
     {
         let place = place_of(literal);
@@ -83,6 +85,20 @@ impl TrueLiterals {
                 Err(error)
             }
         }
+    }
+
+    /// Assigns the literal.
+    pub fn push(&mut self, literal: Lit) -> Result<(), AllocError>
+        ensures { OnOk result (self.new ≡ self.old ++ literal ∷ []) }
+    {
+        let place = place_of(literal);
+        if self.trail.len() < self.trail.capacity() && self.marks.is_at_hand(place) {
+            let is_new = !self.marks.has(place);
+            self.trail.push(TrueLiteral { literal, is_new })?;
+            self.marks.add_at_hand(place);
+            return Ok(());
+        }
+        self.push_with_room(literal)
     }
 
     /// Takes the last one back.
