@@ -1,4 +1,3 @@
-pub mod AlwaysLemmas
 pub mod EitherLemmas
 pub mod HeaderLemmas
 pub mod LineCutLemmas

@@ -1,5 +1,3 @@
-pub mod BeforeLemmas
-pub mod CycleLemmas
 pub mod CountLemmas
 pub mod FewLemmas
 pub mod FinalLemmas
@@ -17,7 +15,6 @@ pub mod OrderLiteralLemmas
 pub mod PartLemmas
 pub mod PieceLemmas
 pub mod RangeSentLemmas
-pub mod RankCountLemmas
 pub mod RankLemmas
 pub mod ReadLemmas
 pub mod ScheduleChoiceLemmas
@@ -32,5 +29,4 @@ pub mod StepLemmas
 pub mod TripleLemmas
 pub mod VariableLemmas
 pub mod VariableRangeLemmas
-pub mod WiderLemmas
 pub mod WriterNumberLemmas

@@ -7,8 +7,5 @@ pub mod JoinLemmas
 pub mod LeafLemmas
 pub mod PairLemmas
 pub mod PartLemmas
-pub mod ParticipantLemmas
 pub mod PutLemmas
 pub mod ResultLemmas
-pub mod RunLemmas
-pub mod WorkerLemmas

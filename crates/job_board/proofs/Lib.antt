@@ -6,7 +6,6 @@ pub mod JobRuleLemmas
 pub mod ResultRuleLemmas
 pub mod StepLemmas
 pub mod TotalLemmas
-pub mod SeatLemmas
 pub mod AccountLemmas
 pub mod AnswerLemmas
 pub mod CloseLemmas

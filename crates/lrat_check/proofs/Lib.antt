@@ -1,6 +1,5 @@
 pub mod PropagationLemmas
 pub mod RefuteLemmas
-pub mod CountTableLemmas
 pub mod TrailLemmas
 pub mod ActiveLemmas
 pub mod OtherCubeLemmas
@@ -11,7 +10,6 @@ pub mod ChangeLemmas
 pub mod HiddenLemmas
 pub mod KeptLemmas
 pub mod GroupLemmas
-pub mod OpposeLemmas
 pub mod SoundLemmas
 pub mod RatLemmas
 pub mod RefusalLemmas

@@ -8,7 +8,6 @@ pub mod LastLemmas
 pub mod LineLemmas
 pub mod ListLemmas
 pub mod NumberLemmas
-pub mod PlaceLemmas
 pub mod PlainLemmas
 pub mod SolverLemmas
 pub mod TakeLemmas

@@ -4,7 +4,6 @@ pub mod ClearLemmas
 pub mod CountLemmas
 pub mod EntryLemmas
 pub mod EntryOfLemmas
-pub mod FinishLemmas
 pub mod GatherLemmas
 pub mod GatheredLemmas
 pub mod HighLemmas
@@ -17,15 +16,12 @@ pub mod OrderedLemmas
 pub mod OwnReferenceLemmas
 pub mod PairOrderLemmas
 pub mod ReferenceLemmas
-pub mod RefusalLemmas
 pub mod RisingLemmas
 pub mod SaidLemmas
 pub mod SeenLemmas
 pub mod SortLemmas
 pub mod SpellLemmas
 pub mod StatedLemmas
-pub mod TakeLemmas
-pub mod TextLawLemmas
 pub mod ToldLemmas
 pub mod TraceClearLemmas
 pub mod TraceReadLemmas
