@@ -7,7 +7,7 @@ use Rattle.trace_semantics.specs.Trace.{TraceValue, IsTrace, operation_count}
 use Rattle.var_layout.specs.FinalVariables.{variable_count}
 use Rattle.var_layout.proofs.BoundLemmas.{few_variables}
 use Rattle.clause_blocks.specs.Clauses.{clauses_of}
-use Rattle.clause_blocks.proofs.FormulaLemmas.{clauses_over}
+use Rattle.clause_blocks.proofs.ClauseList.FormulaLemmas.{clauses_over}
 use Rattle.clause_blocks.proofs.laws.clauses_are_clauses.Goals as goal
 
 -- Clauses over a trace's variables are clauses.

@@ -8,10 +8,10 @@ use Rattle.trace_semantics.proofs.ElementLemmas.{all_pass}
 use Rattle.var_layout.specs.OrderVariables.{order_lit}
 use Rattle.clause_blocks.specs.Ranks.{count_before, AreRanks}
 use Rattle.clause_blocks.specs.Blocks.{transitivity}
-use Rattle.clause_blocks.proofs.RankLemmas.{ranked_true}
-use Rattle.clause_blocks.proofs.ModelClauseLemmas.{order_trans}
-use Rattle.clause_blocks.proofs.OrderLiteralLemmas.{turned}
-use Rattle.clause_blocks.proofs.StepLemmas.{is_other, is_same}
+use Rattle.clause_blocks.proofs.TransitivityClauses.RankLemmas.{ranked_true}
+use Rattle.clause_blocks.proofs.ModelToSchedule.ModelClauseLemmas.{order_trans}
+use Rattle.clause_blocks.proofs.NumbersOfNames.OrderLiteralLemmas.{turned}
+use Rattle.clause_blocks.proofs.InPieces.StepLemmas.{is_other, is_same}
 use Rattle.clause_blocks.proofs.laws.transitive_exactly_by_counts.Goals as goal
 
 -- If each clause of transitivity is true, fewer operations stand before the one that stands first.

@@ -6,9 +6,9 @@ use Rattle.std.proofs.lemmas.Nat.{div-mul-add, mod-mul-add}
 use Rattle.trace_semantics.specs.Trace.{operation_count}
 use Rattle.clause_blocks.specs.Blocks.{transitivity_from, no_cycle}
 use Rattle.clause_blocks.specs.Cycles.{both, cycle_at, is_above}
-use Rattle.clause_blocks.proofs.RangeSentLemmas.{of_pair}
-use Rattle.clause_blocks.proofs.SentLemmas.{flat_parted}
-use Rattle.clause_blocks.proofs.StepLemmas.{flat_more}
+use Rattle.clause_blocks.proofs.InPieces.RangeSentLemmas.{of_pair}
+use Rattle.clause_blocks.proofs.InPieces.SentLemmas.{flat_parted}
+use Rattle.clause_blocks.proofs.InPieces.StepLemmas.{flat_more}
 use Rattle.clause_blocks.proofs.parallel_transitivity.push_transitivity_in_threads.Goals as goal
 
 -- The clauses of transitivity, made pair by pair over all pairs of operations, of which those above the lowest one count.

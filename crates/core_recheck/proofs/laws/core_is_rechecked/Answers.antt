@@ -6,7 +6,7 @@ use Rattle.trace_semantics.specs.declared.operation.OpName.{OpName}
 use Rattle.trace_semantics.specs.Trace.{TraceValue, IsTrace, operation_count}
 use Rattle.trace_text.specs.TraceText.{SpellsTrace}
 use Rattle.trace_text.proofs.OneTraceLemmas.{one_spelled as one_trace}
-use Rattle.trace_text.proofs.TraceClearLemmas.{never_both as trace_never_faulty}
+use Rattle.trace_text.proofs.NeverFaulty.TraceClearLemmas.{never_both as trace_never_faulty}
 use Rattle.schedule_text.specs.ScheduleText.{SpellsSchedule}
 use Rattle.schedule_text.proofs.ScheduleTextLemmas.{one_spelled as one_schedule, never_both as schedule_never_faulty}
 use Rattle.reducer.specs.Reduction.{kept_trace}
@@ -20,7 +20,7 @@ use Rattle.certificate.specs.Rechecked.{HasRecheckFault}
 use Rattle.certificate.specs.declared.cert_fault.CertCause.{CertCause}
 use Rattle.certificate.specs.declared.certificate.Certificate.{Certificate}
 use Rattle.certificate.proofs.RefusalLemmas.{never_both as never_refused}
-use Rattle.certificate.proofs.TextLawLemmas.{one_spelled as one_certificate, never_both as cert_never_faulty}
+use Rattle.certificate.proofs.CertificateText.TextLawLemmas.{one_spelled as one_certificate, never_both as cert_never_faulty}
 use Rattle.cube_jobs.specs.Options.{OptionsValue}
 use Rattle.survey_verdict.specs.declared.surveyed.RefutedCore.{RefutedCore}
 use Rattle.survey_verdict.specs.declared.surveyed.Surveyed.TheVariants.{Refuted}

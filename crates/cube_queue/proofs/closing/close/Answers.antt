@@ -19,7 +19,7 @@ use Rattle.cube_queue.specs.declared.participants.Worker.{Worker}
 use Rattle.cube_queue.specs.declared.participants.Returned.{Returned}
 use Rattle.cube_queue.specs.declared.shared_search.SharedSearch.{SharedSearch}
 use Rattle.cube_queue.proofs.CountLemmas.{results_counted}
-use Rattle.cube_queue.proofs.AnswerLemmas.{are_results, model_below}
+use Rattle.cube_queue.proofs.AllResults.AnswerLemmas.{are_results, model_below}
 use Rattle.cube_queue.proofs.closing.close.Goals as goal
 
 -- The results of an honest run.

@@ -7,7 +7,7 @@ use Rattle.trace_semantics.specs.declared.operation.OpName.{OpName}
 use Rattle.var_layout.specs.Numbers.{name_at}
 use Rattle.clause_blocks.specs.Clauses.{clauses_of}
 use Rattle.clause_blocks.specs.ModelOrder.{IsInOrderOf}
-use Rattle.clause_blocks.proofs.ModelReadLemmas.{model_legal}
+use Rattle.clause_blocks.proofs.ModelToSchedule.ModelReadLemmas.{model_legal}
 use Rattle.schedule_decode.proofs.decode.schedule_of.Goals as goal
 
 -- The order of a model as a schedule.

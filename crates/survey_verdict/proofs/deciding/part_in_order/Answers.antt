@@ -13,7 +13,7 @@ use Rattle.restriction.proofs.StandLemmas.{out_of_filter}
 use Rattle.trace_part.specs.Choice.{fault_of_choice}
 use Rattle.trace_part.specs.declared.part_fault.PartCause.{PartCause}
 use Rattle.trace_part.specs.declared.part_fault.PartCause.TheVariants.{UnknownOp, RepeatedOp}
-use Rattle.clause_blocks.proofs.OperationNumberLemmas.{names_once}
+use Rattle.clause_blocks.proofs.NumbersOfNames.OperationNumberLemmas.{names_once}
 use Rattle.survey_verdict.specs.Surveyed.{core_of}
 use Rattle.survey_verdict.proofs.deciding.part_in_order.Goals as goal
 

@@ -12,7 +12,7 @@ use Rattle.lrat_check.specs.declared.derivation.Step.{Step}
 use Rattle.certificate.specs.CertText.{SpellsCertificate}
 use Rattle.certificate.specs.Rechecked.{IsRechecked}
 use Rattle.certificate.proofs.RecheckLawLemmas.{proofs_accepted}
-use Rattle.certificate.proofs.WrittenLemmas.{written_read}
+use Rattle.certificate.proofs.CertificateText.WrittenLemmas.{written_read}
 use Rattle.cube_jobs.specs.Options.{OptionsValue}
 use Rattle.result_ledger.specs.Verdict.{IsProofIn}
 use Rattle.trace_decision.specs.Decision.{IsDecided, IsRefutation, certificate_text, certificate_in}

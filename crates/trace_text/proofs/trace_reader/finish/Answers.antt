@@ -11,8 +11,8 @@ use Rattle.trace_text.specs.Version.{is_two}
 use Rattle.trace_text.specs.declared.trace_builder.TraceBuilder.{TraceBuilder}
 use Rattle.trace_text.specs.declared.trace_reader.TraceReader.{TraceReader}
 use Rattle.trace_text.specs.Read.{IsAllRead}
-use Rattle.trace_text.proofs.KnownLemmas.{refused_by_references}
-use Rattle.trace_text.proofs.ArrangedLemmas.{AreGathered, trace_arranged, spells_arranged}
+use Rattle.trace_text.proofs.LineWords.KnownLemmas.{refused_by_references}
+use Rattle.trace_text.proofs.Reading.ArrangedLemmas.{AreGathered, trace_arranged, spells_arranged}
 use Rattle.trace_text.proofs.trace_reader.finish.Goals as goal
 
 -- The trace of all lines.

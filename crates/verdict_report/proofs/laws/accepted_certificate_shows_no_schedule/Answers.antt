@@ -7,12 +7,12 @@ use Rattle.certificate.specs.Rechecked.{are_sections_of_clauses}
 use Rattle.certificate.specs.declared.certificate.Section.{Section}
 use Rattle.clause_blocks.specs.Clauses.{formula_of}
 use Rattle.dimacs.specs.Literal.{is_clause}
-use Rattle.lrat_check.proofs.LratWrittenLemmas.{steps_add_clauses}
+use Rattle.lrat_check.proofs.DerivationText.LratWrittenLemmas.{steps_add_clauses}
 use Rattle.lrat_check.specs.Derivation.{are_steps, is_step}
 use Rattle.lrat_check.specs.LratText.{is_id, is_id_number, is_lrat_step}
 use Rattle.lrat_check.specs.declared.derivation.Step.TheVariants.{Addition, Deletion}
 use Rattle.lrat_check.specs.declared.derivation.Step.{Step}
-use Rattle.reducer.proofs.TraceLemmas.{kept_is_trace}
+use Rattle.reducer.proofs.KeptTrace.TraceLemmas.{kept_is_trace}
 use Rattle.reducer.specs.Reduction.{kept_trace}
 use Rattle.verdict_report.proofs.MeaningLemmas.{model_of_schedule}
 use Rattle.verdict_report.proofs.laws.accepted_certificate_shows_no_schedule.Goals as goal

@@ -9,7 +9,7 @@ use Rattle.job_board.specs.ChannelRules.{list_in, with_item}
 use Rattle.job_board.specs.Pairs.{Pair, of_job, of_jobs, below, Rise}
 use Rattle.job_board.specs.declared.channel_view.ChannelView.{ChannelView}
 use Rattle.job_board.specs.declared.channel_view.ChannelView.TheVariants.{Single}
-use Rattle.job_board.proofs.StepLemmas.{puts}
+use Rattle.job_board.proofs.TwoRules.StepLemmas.{puts}
 use Rattle.job_board.proofs.board.Board.put.Goals as goal
 
 -- What a seat keeps when its lists grow.

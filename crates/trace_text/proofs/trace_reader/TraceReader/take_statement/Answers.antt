@@ -16,9 +16,9 @@ use Rattle.trace_text.specs.Entry.{statement_for, has_numbers, number_fault, ent
 use Rattle.trace_text.specs.Gathered.{Adds, IsGathered}
 use Rattle.trace_text.specs.Progress.{IsProgress}
 use Rattle.trace_text.specs.Statement.{Statement}
-use Rattle.trace_text.proofs.EntryLemmas.{written_more}
-use Rattle.trace_text.proofs.GatheredLemmas.{gathered_more, begun_more, distinct_more}
-use Rattle.trace_text.proofs.SeenLemmas.{fault_early, fault_number, fault_late, fault_seen, seen_more, early_of, late_fault}
+use Rattle.trace_text.proofs.Reading.EntryLemmas.{written_more}
+use Rattle.trace_text.proofs.Reading.GatheredLemmas.{gathered_more, begun_more, distinct_more}
+use Rattle.trace_text.proofs.Reading.SeenLemmas.{fault_early, fault_number, fault_late, fault_seen, seen_more, early_of, late_fault}
 use Rattle.trace_text.proofs.trace_reader.TraceReader.take_statement.Goals as goal
 
 -- One more statement.
