@@ -66,6 +66,9 @@ pub record IsReadSoFar (text : List ℕ) (number : ℕ) (rest : List ℕ) (steps
   pub spelled : AreSteps done steps
   pub behind : number + length rest ≤ length text
 
+pub at_start : (text : List ℕ) → IsReadSoFar text 0 text []
+at_start text = record { done = []; parts = refl; counted = refl; spelled = no_lines; behind = omega arith }
+
 pub turn_skipped : (text : List ℕ) (number : ℕ) (rest : List ℕ) (steps : List Step) (line after : List ℕ) → IsReadSoFar text number rest steps →
     lines_of rest ≡ line ∷ lines_of after → length after < length rest → IsSkippedLine line → IsReadSoFar text (number + 1) after steps
 turn_skipped text number rest steps line after h cut shorter skipped =

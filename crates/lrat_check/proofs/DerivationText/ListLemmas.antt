@@ -16,6 +16,9 @@ use Rattle.lrat_check.specs.LratText.{is_id, is_id_number, most_id}
 use Rattle.lrat_check.specs.declared.lrat_fault.LratCause.{LratCause}
 use Rattle.lrat_check.specs.declared.lrat_fault.LratCause.TheVariants.{BadNumber, Unended}
 
+pub at_front : (fault : Option ℤ → Option LratCause) (passes : ℤ → Bool) (words : List (List ℕ)) → BeginsWith fault passes words [] words
+at_front fault passes words = record { front = []; parts = refl; says = refl; good = refl; faultless = λ next. refl }
+
 -- the next word says a number of the list
 pub list_step : (fault : Option ℤ → Option LratCause) (next : List (List ℕ) → Option LratCause) (word : List ℕ) (words : List (List ℕ)) (z : ℤ) → solver_number word ≡ Some z → fault (Some z) ≡ None → is_zero (Some z) ≡ false →
     list_fault fault next (word ∷ words) ≡ list_fault fault next words
