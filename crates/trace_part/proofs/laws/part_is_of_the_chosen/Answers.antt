@@ -1,16 +1,15 @@
-use Rattle.std.proofs.Common.{◌≡◌, ℕ, zero, suc, List, map, true, refl, ap, sym, ◌∙◌}
+use Rattle.std.proofs.Common.{◌≡◌, List, true, refl, ap, sym, ◌∙◌}
 use Rattle.std.specs.Prelude.{Option, Some, IsSome, is_some, position}
 use Rattle.std.specs.List.{filter, slice_get}
 use Rattle.std.specs.Option.{option_and_then, option_map}
 use Rattle.std.specs.Str.{bytes_eq}
-use Rattle.std.proofs.lemmas.Option.{slice_get-map}
 use Rattle.trace_semantics.specs.declared.operation.Op.{Op}
 use Rattle.trace_semantics.specs.declared.operation.OpName.{OpName}
 use Rattle.trace_semantics.specs.declared.trace.Process.{Process}
 use Rattle.trace_semantics.specs.Judgement.{has_come}
 use Rattle.trace_semantics.specs.Trace.{TraceValue, IsTrace, at_place, operation_at}
 use Rattle.restriction.specs.Left.{is_left, new_name, names_of}
-use Rattle.restriction.proofs.LeftLemmas.{has_old, old_known}
+use Rattle.restriction.proofs.LeftLemmas.{has_old, old_known, place_map}
 use Rattle.restriction.proofs.CountLemmas.{found_by_place}
 use Rattle.part_law.specs.Part.{stays, part}
 use Rattle.part_law.proofs.PartLemmas.{comes}
@@ -18,10 +17,6 @@ use Rattle.trace_part.specs.TraceParts.{PartValue, IsPart, left_places, places_o
 use Rattle.trace_part.proofs.laws.part_is_of_the_chosen.Goals as goal
 
 -- What a part says of the whole.
-
-placed_map : {X Y : Type 0} (f : X → Y) (xs : List X) (k : ℕ) → at_place (map f xs) k ≡ option_map f (at_place xs k)
-placed_map f xs zero = refl
-placed_map f xs (suc k) = slice_get-map f xs k
 
 record IsOf (t : TraceValue) (names : List OpName) (p : PartValue) (left : OpName → Option Op) (x n : OpName) : Type 0 where
   called : whole_name t p x ≡ Some n
@@ -43,7 +38,7 @@ part_of_chosen t ok names p given x h =
     ∙ ap (option_map (left_places left)) old.1.found in
     let placed : option_and_then (λ all. at_place all x.place) (places_of t p x.process) ≡ Some n.place =
     ap (option_and_then (λ all. at_place all x.place)) places
-    ∙ placed_map (λ (k : OpName). k.place) (filter (is_left left) (names_of old.1.process)) x.place
+    ∙ place_map (λ (k : OpName). k.place) (filter (is_left left) (names_of old.1.process)) x.place
     ∙ ap (option_map (λ (k : OpName). k.place)) old.1.placed in (
       n,
       record {
