@@ -1,5 +1,5 @@
 -- The first words of a line, one word after another.
-use Rattle.std.proofs.Common.{◌≡◌, ℕ, ◌-◌, ◌<◌, ◌≤◌, List, [], ◌∷◌, ◌++◌, length, take, refl, ap, sym, ◌∙◌, arith, append_assoc, append-nil, length-append, suc, zero}
+use Rattle.std.proofs.Common.{◌≡◌, ℕ, ◌-◌, ◌<◌, ◌≤◌, List, [], ◌∷◌, ◌++◌, length, take, ap, sym, ◌∙◌, arith, append_assoc, length-append, suc}
 use Rattle.text_lines.specs.Words.{words_of}
 
 -- the words so far, and as many of the rest as are still wanted, are the first words of the line
