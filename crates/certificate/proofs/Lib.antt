@@ -1,13 +1,4 @@
-pub mod AlwaysLemmas
-pub mod EitherLemmas
-pub mod HeaderLemmas
-pub mod LineCutLemmas
-pub mod SectionCutLemmas
-pub mod SectionLemmas
-pub mod SectionReadLemmas
-pub mod RecheckLemmas
-pub mod WriteLemmas
-pub mod TextLawLemmas
+pub mod CertificateText
 pub mod RecheckLawLemmas
+pub mod RecheckLemmas
 pub mod RefusalLemmas
-pub mod WrittenLemmas

@@ -15,7 +15,7 @@ use Rattle.certificate.specs.declared.certificate.Certificate.{Certificate}
 use Rattle.certificate.specs.declared.certificate.Section.{Section}
 use Rattle.certificate.proofs.RecheckLawLemmas.{passes_at}
 use Rattle.certificate.proofs.RecheckLemmas.{any_at, of_itself}
-use Rattle.certificate.proofs.SectionLemmas.{picked}
+use Rattle.certificate.proofs.CertificateText.SectionLemmas.{picked}
 
 -- an element of a list that has one at each place
 pub cube_at : (cubes : List (List ℤ)) (leaf : ℕ) → leaf < length cubes → (cube : List ℤ) × (slice_get cubes leaf ≡ Some cube)

@@ -6,7 +6,7 @@ use Rattle.std.proofs.lemmas.Bool.{and_parts, and_from, cond-false, eq-eqb, and_
 use Rattle.std.proofs.lemmas.Bool.Decides.{nat_tests}
 use Rattle.std.proofs.lemmas.Option.{cond_some, none-some}
 use Rattle.text_lines.specs.Numbers.{is_digits, has_minus, digits_after_sign, is_solver_number, solver_number}
-use Rattle.text_lines.proofs.SolverLemmas.{HasParts, read_number}
+use Rattle.text_lines.proofs.Decimals.SolverLemmas.{HasParts, read_number}
 use Rattle.cnf_text.specs.CnfReading.{is_zero, number_fault}
 use Rattle.dimacs.specs.Literal.{is_literal_up_to}
 use Rattle.cnf_text.specs.declared.cnf_fault.CnfCause.{CnfCause}

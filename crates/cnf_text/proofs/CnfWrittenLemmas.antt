@@ -16,10 +16,10 @@ use Rattle.text_lines.specs.Kept.{is_dimacs_skipped}
 use Rattle.text_lines.specs.Lines.{lines_of, is_line_feed}
 use Rattle.text_lines.specs.Words.{words_of, is_blank, is_empty}
 use Rattle.text_lines.specs.Numbers.{is_digits, has_minus, digits_after_sign, digits_up_to, solver_number}
-use Rattle.text_lines.proofs.LineLemmas.{line_ended, word_ended, one_word}
-use Rattle.text_lines.proofs.PlainLemmas.{own}
-use Rattle.text_lines.proofs.SolverLemmas.{chosen}
-use Rattle.text_lines.proofs.DigitLemmas.{digit_no_feed, digit_no_blank, none_in_digits}
+use Rattle.text_lines.proofs.Cutting.LineLemmas.{line_ended, word_ended, one_word}
+use Rattle.text_lines.proofs.Decimals.PlainLemmas.{own}
+use Rattle.text_lines.proofs.Decimals.SolverLemmas.{chosen}
+use Rattle.text_lines.proofs.Decimals.DigitLemmas.{digit_no_feed, digit_no_blank, none_in_digits}
 use Rattle.cnf_text.specs.CnfLines.{begins_with, is_end, said_from, said_lines, words_of_line, placed_words}
 use Rattle.cnf_text.specs.CnfReading.{header_of, header_of_counts, ended, SpellsCnf}
 use Rattle.dimacs.specs.CnfText.{literal_text, clause_line, cnf_text}

@@ -1,15 +1,5 @@
-mod CnfLemmas
 mod CommandLemmas
-mod DecodeLemmas
 mod EnterLemmas
 mod EntryLemmas
 mod FoundLemmas
 mod GivenLemmas
-mod JudgeLemmas
-mod LratLemmas
-mod NumberLemmas
-mod PartLemmas
-mod RecheckLemmas
-mod RefusalsLemmas
-mod SurveyLemmas
-mod VerifyLemmas

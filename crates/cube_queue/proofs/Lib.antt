@@ -1,14 +1,5 @@
-pub mod AnswerLemmas
+pub mod AllResults
 pub mod CountLemmas
-pub mod FaultLemmas
-pub mod HandleLemmas
-pub mod JobLemmas
-pub mod JoinLemmas
-pub mod LeafLemmas
+pub mod JobsPut
 pub mod PairLemmas
-pub mod PartLemmas
-pub mod ParticipantLemmas
-pub mod PutLemmas
-pub mod ResultLemmas
-pub mod RunLemmas
-pub mod WorkerLemmas
+pub mod Workers

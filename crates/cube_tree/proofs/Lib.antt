@@ -1,5 +1,4 @@
 pub mod CoverLemmas
-pub mod GrownLemmas
 pub mod LeafLemmas
 pub mod ReaderLemmas
 pub mod SplitLemmas

@@ -14,7 +14,7 @@ use Rattle.text_lines.specs.FirstFault.{IsFaultless}
 use Rattle.text_lines.specs.Numbers.{plain_number, plain_number_up_to}
 use Rattle.text_lines.specs.Words.{words_of}
 use Rattle.text_lines.proofs.FaultLemmas.{faultless_nil, faultless_push}
-use Rattle.text_lines.proofs.PlainLemmas.{decimal_is_plain, plain_is_decimal}
+use Rattle.text_lines.proofs.Decimals.PlainLemmas.{decimal_is_plain, plain_is_decimal}
 use Rattle.trace_semantics.proofs.NameLemmas.{same_bytes}
 use Rattle.cube_tree.specs.declared.node.Node.{Node}
 use Rattle.cube_tree.specs.declared.node.Node.TheVariants.{Leaf, Split}

@@ -7,7 +7,7 @@ use Rattle.std.proofs.lemmas.Bool.{cases_lt}
 use Rattle.std.proofs.lemmas.List.{length-map, length_push, take_at, reverse-append, drop_all, length-take}
 use Rattle.text_lines.specs.Lines.{lines_of, is_line_feed}
 use Rattle.text_lines.specs.Words.{words_of}
-use Rattle.text_lines.proofs.CutLemmas.{lines_cut}
+use Rattle.text_lines.proofs.Cutting.CutLemmas.{lines_cut}
 use Rattle.cube_tree.specs.declared.node.Node.{Node}
 use Rattle.cube_tree.specs.declared.node.Node.TheVariants.{Leaf, Split}
 use Rattle.cube_tree.specs.declared.tree_fault.TreeCause.{TreeCause}

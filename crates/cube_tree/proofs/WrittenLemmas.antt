@@ -10,10 +10,10 @@ use Rattle.std.proofs.lemmas.List.Folds.{list_any-append}
 use Rattle.dimacs.specs.Literal.{most_variable}
 use Rattle.text_lines.specs.Lines.{lines_of, is_line_feed}
 use Rattle.text_lines.specs.Words.{words_of, is_blank}
-use Rattle.text_lines.proofs.CutLemmas.{lines_cut}
-use Rattle.text_lines.proofs.LineLemmas.{line_ended, word_ended, one_word}
-use Rattle.text_lines.proofs.PlainLemmas.{own}
-use Rattle.text_lines.proofs.DigitLemmas.{none_in_digits, digit_no_feed, digit_no_blank}
+use Rattle.text_lines.proofs.Cutting.CutLemmas.{lines_cut}
+use Rattle.text_lines.proofs.Cutting.LineLemmas.{line_ended, word_ended, one_word}
+use Rattle.text_lines.proofs.Decimals.PlainLemmas.{own}
+use Rattle.text_lines.proofs.Decimals.DigitLemmas.{none_in_digits, digit_no_feed, digit_no_blank}
 use Rattle.cube_tree.specs.CubeTree.{CubeTree, leaf, split, is_variable, splits_variables, IsCubeTree}
 use Rattle.cube_tree.specs.TreeText.{tree_lines, line_bytes, front_bytes, SpellsTree, tree_text}
 use Rattle.cube_tree.proofs.TextLemmas.{line_bytes-append}

@@ -1,5 +1,4 @@
 pub mod ListLemmas
-pub mod StepLemmas
 pub mod TimesLemmas
 pub mod CountedLemmas
 pub mod RunLemmas

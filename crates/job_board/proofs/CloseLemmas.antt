@@ -20,9 +20,9 @@ use Rattle.job_board.specs.declared.seats.DealerSeat.{DealerSeat}
 use Rattle.job_board.specs.declared.seats.WorkerSeat.{WorkerSeat}
 use Rattle.job_board.specs.declared.seats.CollectorSeat.{CollectorSeat}
 use Rattle.crossbeam_channel.specs.Claims.{view}
-use Rattle.job_board.proofs.TotalLemmas.{total-append, total-map, total_same, merge_total}
-use Rattle.job_board.proofs.AccountLemmas.{only, one, job_weight, result_weight, hand_weight, taken_weight, given_weight, jobs_counted, results_counted, taken_counted, given_counted, seats_weigh, got_weighs, add_up, settles}
-use Rattle.job_board.proofs.AnswerLemmas.{answers}
+use Rattle.job_board.proofs.Balance.TotalLemmas.{total-append, total-map, total_same, merge_total}
+use Rattle.job_board.proofs.Balance.AccountLemmas.{only, one, job_weight, result_weight, hand_weight, taken_weight, given_weight, jobs_counted, results_counted, taken_counted, given_counted, seats_weigh, got_weighs, add_up, settles}
+use Rattle.job_board.proofs.Balance.AnswerLemmas.{answers}
 
 pub one_joined : (cubes workers : ℕ) (put : List Job) (got : List Settled) (seats : List WorkerSeat) (seat : WorkerSeat) (v v' : ChannelView Job) (w w' : ChannelView Settled) (taken taken' given given' : ℕ) →
     AreJoined cubes workers put got seats v w taken given → seat.cubes ≡ cubes → v' ≡ with_worker_joined v (view seat.jobs) → w' ≡ with_worker_joined w (view seat.results) →

@@ -1,14 +1,4 @@
-pub mod MergeLemmas
-pub mod ViewLemmas
-pub mod PassLemmas
-pub mod WorkerLemmas
-pub mod JobRuleLemmas
-pub mod ResultRuleLemmas
-pub mod StepLemmas
-pub mod TotalLemmas
-pub mod SeatLemmas
-pub mod AccountLemmas
-pub mod AnswerLemmas
+pub mod Balance
 pub mod CloseLemmas
 pub mod OpenLemmas
-pub mod LawLemmas
+pub mod TwoRules

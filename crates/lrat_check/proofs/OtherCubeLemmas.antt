@@ -16,7 +16,7 @@ use Rattle.lrat_check.specs.Rat.{Reaches, others, IsSettled, AreSettled, HasAllG
 use Rattle.lrat_check.specs.Refuted.{Refutes, negated}
 use Rattle.lrat_check.specs.declared.derivation.Step.{Step}
 use Rattle.lrat_check.specs.declared.derivation.Step.TheVariants.{Addition, Deletion}
-use Rattle.lrat_check.proofs.ActiveLemmas.{behind, nothing_at, unit_of}
+use Rattle.lrat_check.proofs.Counting.ActiveLemmas.{behind, nothing_at, unit_of}
 
 -- the same clauses are active under the ids that are outside
 abbrev Agree : (ℕ → Bool) → (ℕ → Option (List ℤ)) → (ℕ → Option (List ℤ)) → Type 0

@@ -16,7 +16,7 @@ use Rattle.lrat_check.specs.declared.derivation.Step.{Step}
 use Rattle.lrat_check.specs.declared.derivation.Step.TheVariants.{Addition, Deletion}
 use Rattle.lrat_check.specs.declared.refusal.StepFault.{StepFault}
 use Rattle.lrat_check.specs.declared.refusal.StepFault.TheVariants.{UnknownHint, NotUnit, NoConflict, IdInUse, NoEmptyClause, NotOpposed, NoPivot, GroupMissing}
-use Rattle.lrat_check.proofs.PropagationLemmas.{each_has, falsified_more, unit_more, two_more, first_unit, same_unit, second_unfalsified, cases_same}
+use Rattle.lrat_check.proofs.Justifying.PropagationLemmas.{each_has, falsified_more, unit_more, two_more, first_unit, same_unit, second_unfalsified, cases_same}
 
 -- a clause stands in one way
 one_unit : (trues clause : List ℤ) (u v : ℤ) → IsUnit trues clause u → IsUnit trues clause v → u ≡ v

@@ -7,7 +7,7 @@ use Rattle.std.proofs.lemmas.Bool.{cases_Bool, or_cases, or_left, or_right, or_p
 use Rattle.std.proofs.lemmas.Option.{same_Some, none-some}
 use Rattle.std.proofs.lemmas.List.Folds.{list_all-append, list_any-append}
 use Rattle.text_lines.proofs.BoolLemmas.{not_not}
-use Rattle.text_lines.proofs.IntegerLemmas.{same_integer, twice_negated}
+use Rattle.text_lines.proofs.Decimals.IntegerLemmas.{same_integer, twice_negated}
 use Rattle.dimacs.specs.Assignment.{makes_true, makes_some}
 use Rattle.dimacs.specs.Models.{HasNoModelIn}
 use Rattle.dimacs.specs.Literal.{is_literal_up_to, is_clause_up_to, is_clause}
@@ -22,7 +22,7 @@ use Rattle.lrat_check.specs.Propagation.{has, is_tautology, is_falsified}
 use Rattle.lrat_check.specs.Sound.{has_no_zero, HaveNoZero, Satisfies, HasModel}
 use Rattle.lrat_check.specs.declared.derivation.Step.{Step}
 use Rattle.lrat_check.specs.declared.derivation.Step.TheVariants.{Addition, Deletion}
-use Rattle.lrat_check.proofs.PropagationLemmas.{each_has, has_any, any_has, has_cases, has_negated, taut_pair, cases_same, int_same}
+use Rattle.lrat_check.proofs.Justifying.PropagationLemmas.{each_has, has_any, any_has, has_cases, has_negated, taut_pair, cases_same, int_same}
 
 suc_not_zero : (n : ℕ) → (suc n == 0) ≡ true → ⊥
 suc_not_zero n h = omega (arith, eqb-true (suc n) 0 h)

@@ -1,7 +1,7 @@
 //! Groups of hints, one for each candidate of a RAT check (Järvisalo, Heule, Biere 2012): an active clause that holds
 //! the negation of the added clause's first literal, the pivot.
 
-ghost use Rattle.std.specs.Prelude.{◌≡◌, List, ℤ, neg_ℤ, take, IfOk, MatchBool, MatchResult, OnOk};
+ghost use Rattle.std.specs.Prelude.{◌≡◌, neg_ℤ, take, IfOk, MatchBool, MatchResult, OnOk};
 ghost use Rattle.lrat_check.specs.ClauseAt.{clause_at};
 ghost use Rattle.lrat_check.specs.Counts.{IsCount, times_at};
 ghost use Rattle.lrat_check.specs.Hints.{first_hints, groups_of};

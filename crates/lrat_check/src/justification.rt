@@ -1,7 +1,7 @@
 //! Whether a clause may be added: it follows by unit propagation along its hints (RUP), or it is RAT on its first
 //! literal (Järvisalo, Heule, Biere 2012).
 
-ghost use Rattle.std.specs.Prelude.{◌≡◌, [], ℕ, ℤ, List, Option, OnOk, MatchResult};
+ghost use Rattle.std.specs.Prelude.{◌≡◌, [], ℕ, ℤ, List, Option, MatchResult};
 ghost use Rattle.lrat_check.specs.ClauseAt.{clause_at};
 ghost use Rattle.lrat_check.specs.Counted.{AreFormulaCounts, HasRightChanges};
 ghost use Rattle.lrat_check.specs.Hints.{groups_of};

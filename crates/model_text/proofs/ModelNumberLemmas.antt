@@ -11,7 +11,7 @@ use Rattle.std.proofs.lemmas.List.Folds.{list_any-append, list_all-append}
 use Rattle.std.proofs.lemmas.Map.Views.{Contains-from_any, list_any-from_Contains}
 use Rattle.std.proofs.lemmas.Option.{option_and_then_some, cond_some}
 use Rattle.text_lines.specs.Numbers.{solver_number}
-use Rattle.text_lines.proofs.IntegerLemmas.{other_integer, twice_negated}
+use Rattle.text_lines.proofs.Decimals.IntegerLemmas.{other_integer, twice_negated}
 use Rattle.dimacs.specs.Literal.{is_clause, is_literal, most_variable}
 use Rattle.model_text.specs.ModelText.{Said, Word, small, model_number}
 use Rattle.model_text.specs.ModelFirstFault.{writes}

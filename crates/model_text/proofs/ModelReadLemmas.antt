@@ -14,7 +14,7 @@ use Rattle.text_lines.specs.FirstFault.{IsFaultless}
 use Rattle.text_lines.specs.Lines.{lines_of}
 use Rattle.text_lines.specs.Words.{words_of}
 use Rattle.text_lines.proofs.FaultLemmas.{faultless_nil, faultless_push}
-use Rattle.text_lines.proofs.IntegerLemmas.{other_integer}
+use Rattle.text_lines.proofs.Decimals.IntegerLemmas.{other_integer}
 use Rattle.text_lines.proofs.BoolLemmas.{or_last}
 use Rattle.model_text.specs.declared.model_reader.ModelReader.{ModelReader}
 use Rattle.model_text.specs.declared.model_fault.ModelCause.{ModelCause}

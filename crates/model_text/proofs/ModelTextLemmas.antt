@@ -14,7 +14,7 @@ use Rattle.text_lines.specs.FirstFault.{IsFaultless}
 use Rattle.text_lines.specs.Lines.{lines_of}
 use Rattle.text_lines.specs.Words.{words_of}
 use Rattle.text_lines.proofs.FaultLemmas.{none_is_some, one_first, either, faultless_nil, faultless_push}
-use Rattle.text_lines.proofs.IntegerLemmas.{same_integer, other_integer}
+use Rattle.text_lines.proofs.Decimals.IntegerLemmas.{same_integer, other_integer}
 use Rattle.model_text.specs.declared.model_fault.ModelCause.{ModelCause}
 use Rattle.model_text.specs.declared.model_fault.ModelCause.TheVariants.{SaysUnsatisfiable, BadLine, BadNumber, Clash, Unended}
 use Rattle.dimacs.specs.Assignment.{value_of}

@@ -1,4 +1,3 @@
 mod Examples
-pub mod DerivedLemmas
 pub mod PartLemmas
 pub mod TraceLemmas

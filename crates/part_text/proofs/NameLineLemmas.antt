@@ -5,7 +5,7 @@ use Rattle.text_lines.specs.FirstFault.{IsFirstFault}
 use Rattle.text_lines.specs.Kept.{kept, is_skipped}
 use Rattle.text_lines.specs.Lines.{lines_of}
 use Rattle.text_lines.specs.Words.{words_of}
-use Rattle.text_lines.proofs.KeptLemmas.{kept_append, kept_skipped, kept_more}
+use Rattle.text_lines.proofs.Cutting.KeptLemmas.{kept_append, kept_skipped, kept_more}
 use Rattle.text_lines.proofs.ListLemmas.{next_parts}
 use Rattle.trace_semantics.specs.declared.operation.OpName.{OpName}
 use Rattle.trace_semantics.specs.Trace.{TraceValue}

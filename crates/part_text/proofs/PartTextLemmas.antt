@@ -12,7 +12,7 @@ use Rattle.std.proofs.lemmas.List.Sums.{get_or-le-sum_by}
 use Rattle.text_lines.specs.Kept.{kept, is_skipped}
 use Rattle.text_lines.specs.Lines.{lines_of, is_line_feed}
 use Rattle.text_lines.specs.Words.{is_blank, is_empty}
-use Rattle.text_lines.proofs.LineLemmas.{line_ended}
+use Rattle.text_lines.proofs.Cutting.LineLemmas.{line_ended}
 use Rattle.trace_semantics.specs.declared.operation.Op.{Op}
 use Rattle.trace_semantics.specs.declared.operation.OpName.{OpName}
 use Rattle.trace_semantics.specs.declared.trace.Process.{Process}
@@ -24,8 +24,8 @@ use Rattle.part_law.specs.Part.{stays}
 use Rattle.part_law.proofs.TraceLemmas.{part_is_trace}
 use Rattle.trace_text.specs.TraceText.{SpellsTrace, header_line, init_line, final_line, op_line, proc_line, process_lines, before_line, needs_version_2}
 use Rattle.trace_text.specs.TraceWritten.{canonical_lines, canonical_trace, line_text}
-use Rattle.trace_text.proofs.LineTextLemmas.{is_line, is_word, name_is_word, no_line_feed_joined, number_is_word, words_joined, written_kept}
-use Rattle.trace_text.proofs.TraceWrittenLemmas.{lines_kept_of, written_spells}
+use Rattle.trace_text.proofs.Writing.LineTextLemmas.{is_line, is_word, name_is_word, no_line_feed_joined, number_is_word, words_joined, written_kept}
+use Rattle.trace_text.proofs.Writing.TraceWrittenLemmas.{lines_kept_of, written_spells}
 use Rattle.trace_part.specs.TraceParts.{PartValue, IsPart, left_places}
 use Rattle.part_text.specs.PartText.{name_comment, named_op, named_ops, named_process, named_processes, named_lines, part_text}
 

@@ -21,7 +21,7 @@ use Rattle.reducer.specs.Expansion.{expanded}
 use Rattle.reducer.specs.Reduced.{ReducedValue, IsReduced}
 use Rattle.reducer.specs.Reduction.{is_dropped, kept_op, is_kept, kept_names, kept_trace}
 use Rattle.reducer.specs.Runs.{bounds_of, AreBounds}
-use Rattle.reducer.proofs.KeptLemmas.{known_kept, kept_first}
+use Rattle.reducer.proofs.KeptTrace.KeptLemmas.{known_kept, kept_first}
 use Rattle.reducer.proofs.RunLemmas.{standing, expanded_first, behind_it, behind_known}
 
 -- the bounds are found by the names of the kept processes

@@ -1,12 +1,5 @@
-pub mod BoundsLemmas
-pub mod CopyLemmas
+pub mod DroppedReads
 pub mod ExpandLemmas
-pub mod InterleavingLemmas
-pub mod KeptLemmas
-pub mod PairLemmas
+pub mod KeptTrace
 pub mod PartsLemmas
-pub mod ReadLemmas
 pub mod RunLemmas
-pub mod ScheduleLemmas
-pub mod TraceLemmas
-pub mod ValueLemmas

@@ -19,7 +19,7 @@ use Rattle.restriction.proofs.LeftLemmas.{IsOld, found_process, process_of, list
 use Rattle.restriction.proofs.PlaceLemmas.{joined_names, length_names, in_names}
 use Rattle.restriction.proofs.StandLemmas.{out_of_filter}
 use Rattle.reducer.specs.Reduction.{repeats, is_in_pair, is_an_origin, is_dropped, kept_op, kept_names}
-use Rattle.reducer.proofs.KeptLemmas.{known_kept, dropped_goes}
+use Rattle.reducer.proofs.KeptTrace.KeptLemmas.{known_kept, dropped_goes}
 use Rattle.reducer.proofs.PartsLemmas.{rising_places}
 
 -- a later place is no lower in the kept trace

@@ -119,7 +119,7 @@ known_old t ok stays n known left =
           ∙ choose (is_left stays) (first_names p.name before) n (names_from p.name (1 + before + 1) behind) left;
     }
 
-place_map : {X Y : Type 0} (f : X → Y) (xs : List X) (k : ℕ) → at_place (map f xs) k ≡ option_map f (at_place xs k)
+pub place_map : {X Y : Type 0} (f : X → Y) (xs : List X) (k : ℕ) → at_place (map f xs) k ≡ option_map f (at_place xs k)
 place_map f xs zero = refl
 place_map f xs (suc k) = slice_get-map f xs k
 

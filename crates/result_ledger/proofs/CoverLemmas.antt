@@ -8,7 +8,7 @@ use Rattle.dimacs.specs.Assignment.{makes_all}
 use Rattle.dimacs.specs.Formula.{FormulaValue, is_formula}
 use Rattle.dimacs.specs.Literal.{is_clause}
 use Rattle.dimacs.specs.Models.{IsModel}
-use Rattle.lrat_check.proofs.LratWrittenLemmas.{steps_add_clauses}
+use Rattle.lrat_check.proofs.DerivationText.LratWrittenLemmas.{steps_add_clauses}
 use Rattle.lrat_check.proofs.SoundLemmas.{no_model, formula_no_zero, cube_no_zero}
 use Rattle.result_ledger.specs.declared.slot.Slot.{Slot}
 use Rattle.result_ledger.specs.declared.verdict.Verdict.TheVariants.{Inconsistent, Unknown}

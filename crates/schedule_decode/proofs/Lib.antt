@@ -1,4 +1,3 @@
-pub mod DecodeLemmas
 pub mod ModelLemmas
 pub mod NameLemmas
 pub mod OrderLemmas

@@ -4,7 +4,7 @@ ghost use Rattle.std.specs.Prelude.{◌≡◌, IfOk, IfErr, OnOk};
 ghost use Rattle.dimacs.specs.Assignment.{value_of};
 ghost use Rattle.dimacs.specs.Models.{IsModel};
 ghost use Rattle.trace_semantics.specs.Legal.{IsLegal};
-ghost use Rattle.clause_blocks.specs.Clauses.{clauses_of, formula_of};
+ghost use Rattle.clause_blocks.specs.Clauses.{formula_of};
 ghost use Rattle.clause_blocks.specs.ModelOrder.{IsInOrderOf};
 ghost use Rattle.text_lines.specs.Fault.{IsRefusal};
 ghost use Rattle.schedule_decode.specs.Decode.{HasDecodeFault, IsModelOfKept};

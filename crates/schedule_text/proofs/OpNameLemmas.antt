@@ -11,7 +11,7 @@ use Rattle.std.proofs.lemmas.List.{take_at, drop_at, length_push}
 use Rattle.std.proofs.lemmas.List.Folds.{list_any-append, list_any_at}
 use Rattle.std.proofs.lemmas.List.Sums.{split_at_first, passes_at_first}
 use Rattle.text_lines.specs.Numbers.{plain_number, plain_number_up_to}
-use Rattle.text_lines.proofs.PlainLemmas.{plain_is_decimal, decimal_is_plain}
+use Rattle.text_lines.proofs.Decimals.PlainLemmas.{plain_is_decimal, decimal_is_plain}
 use Rattle.trace_semantics.specs.declared.operation.OpName.{OpName}
 use Rattle.schedule_text.specs.declared.schedule_fault.ScheduleCause.{ScheduleCause}
 use Rattle.schedule_text.specs.declared.schedule_fault.ScheduleCause.TheVariants.{BadName, BadNumber, TooMany}

@@ -11,7 +11,7 @@ use Rattle.text_lines.specs.FirstFault.{IsFaultless}
 use Rattle.text_lines.specs.Lines.{lines_of}
 use Rattle.text_lines.specs.Words.{words_of}
 use Rattle.text_lines.proofs.FaultLemmas.{faultless_nil, faultless_push}
-use Rattle.text_lines.proofs.KeptLemmas.{kept_append, kept_skipped, kept_more}
+use Rattle.text_lines.proofs.Cutting.KeptLemmas.{kept_append, kept_skipped, kept_more}
 use Rattle.text_lines.proofs.ListLemmas.{next_parts}
 use Rattle.trace_semantics.specs.declared.operation.OpName.{OpName}
 use Rattle.text_lines.specs.declared.fault.PlacedFault.{PlacedFault}

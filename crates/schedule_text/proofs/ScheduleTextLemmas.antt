@@ -17,7 +17,7 @@ use Rattle.schedule_text.specs.ScheduleLine.{IsSkippedLine, IsNameLine}
 use Rattle.schedule_text.specs.ScheduleText.{SpellsSchedule, HasScheduleFault, name_word, is_op_name, schedule_words_fault, schedule_line_fault}
 use Rattle.schedule_text.proofs.OpNameLemmas.{same_name, some_name}
 use Rattle.schedule_text.proofs.ScheduleLemmas.{AreNames, name_lines, no_lines, fault_here, push_skipped, push_name, name_line_clear, spelled_by}
-use Rattle.text_lines.proofs.KeptLemmas.{kept_append, kept_more}
+use Rattle.text_lines.proofs.Cutting.KeptLemmas.{kept_append, kept_more}
 
 -- the same lines, the same names
 same_names : (m n : List OpName) → list_all is_op_name m ≡ true → list_all is_op_name n ≡ true → name_lines m ≡ name_lines n → m ≡ n

@@ -8,8 +8,8 @@ use Rattle.std.proofs.lemmas.Fmt.{decimal_is_IsNumeral}
 use Rattle.std.proofs.lemmas.List.Folds.{list_any-append}
 use Rattle.text_lines.specs.Lines.{lines_of, is_line_feed}
 use Rattle.text_lines.specs.Words.{words_of, is_blank}
-use Rattle.text_lines.proofs.LineLemmas.{line_ended, one_word}
-use Rattle.text_lines.proofs.PlainLemmas.{own}
+use Rattle.text_lines.proofs.Cutting.LineLemmas.{line_ended, one_word}
+use Rattle.text_lines.proofs.Decimals.PlainLemmas.{own}
 use Rattle.trace_semantics.specs.declared.operation.OpName.{OpName}
 use Rattle.text_lines.specs.Kept.{kept, is_skipped}
 use Rattle.trace_semantics.specs.Names.{may_begin_name, may_be_in_name}
@@ -18,7 +18,7 @@ use Rattle.schedule_text.specs.ScheduleWritten.{canonical_schedule}
 use Rattle.schedule_text.proofs.OpNameLemmas.{writable}
 use Rattle.trace_semantics.proofs.NameByteLemmas.{name_bytes, apart, none_in_name, begins_no_comment}
 use Rattle.schedule_text.proofs.ScheduleLemmas.{name_lines}
-use Rattle.text_lines.proofs.KeptLemmas.{kept_more}
+use Rattle.text_lines.proofs.Cutting.KeptLemmas.{kept_more}
 
 digits_in_name : (ds : List ℕ) → list_all is_ascii_digit ds ≡ true → list_all may_be_in_name ds ≡ true
 digits_in_name [] h = refl

@@ -1,5 +1,3 @@
-mod ChoiceLemmas
 mod CoreNameLemmas
 mod FindingLemmas
-mod NameTextLemmas
 mod SurveyedLemmas

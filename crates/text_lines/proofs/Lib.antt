@@ -1,14 +1,6 @@
 pub mod BoolLemmas
-pub mod CutLemmas
-pub mod DigitLemmas
+pub mod Cutting
+pub mod Decimals
 pub mod FaultLemmas
-pub mod IntegerLemmas
-pub mod KeptLemmas
 pub mod LastLemmas
-pub mod LineLemmas
 pub mod ListLemmas
-pub mod NumberLemmas
-pub mod PlaceLemmas
-pub mod PlainLemmas
-pub mod SolverLemmas
-pub mod TakeLemmas

@@ -6,12 +6,12 @@ use Rattle.trace_semantics.specs.declared.operation.OpName.{OpName}
 use Rattle.trace_semantics.specs.Legal.{IsLegal}
 use Rattle.reducer.specs.Reduced.{ReducedValue, IsReduced}
 use Rattle.reducer.specs.Reduction.{kept_trace}
-use Rattle.reducer.proofs.InterleavingLemmas.{reduced}
-use Rattle.reducer.proofs.ScheduleLemmas.{expansion_legal, reduction_legal}
+use Rattle.reducer.proofs.DroppedReads.InterleavingLemmas.{reduced}
+use Rattle.reducer.proofs.DroppedReads.ScheduleLemmas.{expansion_legal, reduction_legal}
 use Rattle.reducer.specs.Expansion.{expansion}
-use Rattle.reducer.proofs.TraceLemmas.{kept_is_trace}
+use Rattle.reducer.proofs.KeptTrace.TraceLemmas.{kept_is_trace}
 use Rattle.trace_semantics.specs.Trace.{TraceValue, IsTrace}
-use Rattle.clause_blocks.proofs.ScheduleLawLemmas.{schedule_values}
+use Rattle.clause_blocks.proofs.ScheduleToModel.ScheduleLawLemmas.{schedule_values}
 use Rattle.clause_blocks.specs.Clauses.{clauses_of, formula_of}
 use Rattle.cube_jobs.specs.Options.{OptionsValue}
 use Rattle.cube_tree.specs.Covers.{Covers}

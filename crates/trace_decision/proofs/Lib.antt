@@ -1,4 +1,3 @@
-pub mod CertificateLemmas
 pub mod DecideLemmas
 pub mod GrownLemmas
 pub mod RoundLemmas

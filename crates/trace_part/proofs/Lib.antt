@@ -2,9 +2,7 @@ pub mod ChoiceLemmas
 pub mod ForwardLemmas
 pub mod LatestLemmas
 pub mod PairRowLemmas
-pub mod PartOfLemmas
 pub mod RowLemmas
 mod SearchLemmas
 pub mod ToldLemmas
-pub mod ToldStepLemmas
 pub mod WriterTableLemmas

@@ -1,7 +1,7 @@
 -- Rows of numbers say of writers what their names say.
-use Rattle.std.proofs.Common.{◌≡◌, ◌≢◌, ◌<◌, ◌≤◌, ◌+◌, ℕ, zero, suc, List, [], ◌∷◌, ◌++◌, length, map, take, get_or, Bool, true, false, cond, not, ◌==◌, ◌&&◌, ◌||◌, eqb, refl, ap, sym, ◌∙◌, arith, subst, append_assoc, append-nil}
+use Rattle.std.proofs.Common.{◌≡◌, ◌≢◌, ◌<◌, ◌+◌, ℕ, zero, suc, List, [], ◌∷◌, ◌++◌, length, map, take, get_or, Bool, true, false, cond, not, ◌==◌, ◌&&◌, ◌||◌, eqb, refl, ap, sym, ◌∙◌, arith, subst, append_assoc, append-nil}
 use Rattle.std.specs.Prelude.{Option, Some, None, IsSome, is_some}
-use Rattle.std.specs.List.{AllPairs, Contains, cons_option, filter, filter_map, flat_map, list_all, list_any, slice_get, sum_by}
+use Rattle.std.specs.List.{AllPairs, Contains, cons_option, filter, filter_map, flat_map, list_all, list_any, slice_get}
 use Rattle.std.specs.Option.{option_and_then, option_map}
 use Rattle.std.specs.Str.{bytes_eq}
 use Rattle.std.proofs.lemmas.Bool.{eqb-true, eq-eqb}
@@ -9,8 +9,7 @@ use Rattle.text_lines.proofs.BoolLemmas.{same_truth}
 use Rattle.std.proofs.lemmas.List.{length-map, map-append, map_more, take_more}
 use Rattle.std.proofs.lemmas.Grind.{flat_map-append}
 use Rattle.std.proofs.lemmas.List.Elements.{Contains-get_or, filter-append, filter_map-append}
-use Rattle.std.proofs.lemmas.Option.{same_Some, slice_get_within, slice_get-get_or, slice_get_read}
-use Rattle.std.proofs.lemmas.List.Sums.{get_or-le-sum_by}
+use Rattle.std.proofs.lemmas.Option.{same_Some, slice_get_within, slice_get-get_or}
 use Rattle.trace_semantics.specs.declared.operation.Op.{Op}
 use Rattle.trace_semantics.specs.declared.operation.OpName.{OpName}
 use Rattle.trace_semantics.specs.declared.trace.Process.{Process}
@@ -195,10 +194,3 @@ pub more_left : (stays : OpName → Option Op) (ps : List Process) (k : ℕ) (p 
     new ≡ old ++ left ∷ [] → left ≡ left_value stays (names_of p) → new ≡ map (λ (q : Process). left_value stays (names_of q)) (take (k + 1) ps)
 more_left stays ps k p old new left l at e f g =
     f ∙ (λ i. e i ++ (g ∙ ap (λ (q : Process). left_value stays (names_of q)) at) i ∷ []) ∙ sym (map_more (λ (q : Process). left_value stays (names_of q)) ps k p l)
-
-pub few_operations : (t : TraceValue) → IsTrace t → (ps : List Process) → ps ≡ t.processes → (k : ℕ) (p : Process) → k < length ps → p ≡ get_or ps k p → length p.operations ≤ 4096
-few_operations t ok ps same k p l at =
-    let one = get_or-le-sum_by (λ (q : Process). length q.operations) ps k p l in
-    let here : length p.operations ≡ length (get_or ps k p).operations = ap (λ (q : Process). length q.operations) at in
-    let all : sum_by (λ (q : Process). length q.operations) ps ≡ sum_by (λ (q : Process). length q.operations) t.processes = ap (sum_by (λ (q : Process). length q.operations)) same in
-    omega (arith, one, here, all, ok.few_operations)

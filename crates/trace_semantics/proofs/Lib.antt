@@ -1,9 +1,7 @@
 pub mod CauseLemmas
 pub mod DistinctLemmas
 pub mod ElementLemmas
-pub mod FaultlessLemmas
 pub mod JudgementLemmas
-pub mod LegalLemmas
 pub mod NameByteLemmas
 pub mod NameLemmas
 pub mod OrderLemmas

@@ -6,7 +6,7 @@ use Rattle.std.specs.Option.{option_and_then}
 use Rattle.std.proofs.lemmas.Bool.Decides.{nat_tests}
 use Rattle.std.proofs.lemmas.Option.{cond_some}
 use Rattle.text_lines.specs.Numbers.{plain_number, plain_number_up_to}
-use Rattle.text_lines.proofs.PlainLemmas.{plain_is_decimal}
+use Rattle.text_lines.proofs.Decimals.PlainLemmas.{plain_is_decimal}
 
 value_of_option : (o : Option ℕ) (most v : ℕ) → option_and_then (λ n. if nat_le n most then Some n else None) o ≡ Some v → (o ≡ Some v) × (v ≤ most)
 value_of_option None most v h = absurd (cc)

@@ -22,10 +22,10 @@ use Rattle.trace_semantics.specs.Trace.{TraceValue, IsTrace, IsWritten, is_writt
 use Rattle.trace_text.specs.TraceText.{SpellsTrace, begins, is_process_line, header_line, init_line, final_line, proc_line, origin_words, op_line, process_lines, before_line}
 use Rattle.trace_text.specs.TraceWritten.{canonical_body, canonical_lines, canonical_trace}
 use Rattle.trace_semantics.proofs.ElementLemmas.{all_pass, from_map, to_map}
-use Rattle.trace_text.proofs.LineTextLemmas.{written_kept}
-use Rattle.trace_text.proofs.RisingLemmas.{values_same, pairs_same}
-use Rattle.trace_text.proofs.TraceWrittenLemmas.{lines_kept_of, process_part, init_part, final_part, before_part}
-use Rattle.trace_text.proofs.WritableLemmas.{name_parts, value_parts, read_parts, update_parts}
+use Rattle.trace_text.proofs.Writing.LineTextLemmas.{written_kept}
+use Rattle.trace_text.proofs.InOrder.RisingLemmas.{values_same, pairs_same}
+use Rattle.trace_text.proofs.Writing.TraceWrittenLemmas.{lines_kept_of, process_part, init_part, final_part, before_part}
+use Rattle.trace_text.proofs.Writing.WritableLemmas.{name_parts, value_parts, read_parts, update_parts}
 
 -- words determine operations' names
 same_op_name : (m n : OpName) → is_written_name m ≡ true → is_written_name n ≡ true → m.process ≡ n.process → decimal m.place ≡ decimal n.place → m ≡ n

@@ -1,10 +1,8 @@
 pub mod BoundLemmas
-pub mod ConflictLemmas
 pub mod LayoutLemmas
 pub mod ListLemmas
 pub mod NumberLemmas
 pub mod NumberingLemmas
-pub mod OnePlaceLemmas
 pub mod OrderLemmas
 pub mod RangeLemmas
 pub mod SplitLemmas

@@ -4,7 +4,7 @@ ghost use Rattle.std.specs.Prelude.{◌≡◌, ◌+◌, ◌<◌, ◌≤◌, ◌^
 ghost use Rattle.std.specs.List.{enumerate_from};
 ghost use Rattle.trace_semantics.specs.Trace.{operation_count};
 ghost use Rattle.var_layout.specs.Candidates as candidates;
-ghost use Rattle.var_layout.specs.ChoiceVariables.{choice_count, first_choice, choices};
+ghost use Rattle.var_layout.specs.ChoiceVariables.{first_choice, choices};
 ghost use Rattle.var_layout.specs.declared.candidate.Candidate.{Candidate as Source};
 ghost use Rattle.var_layout.specs.Numbers as numbers;
 ghost use Rattle.var_layout.specs.OrderVariables as order;

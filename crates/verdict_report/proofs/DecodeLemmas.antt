@@ -14,7 +14,7 @@ use Rattle.text_lines.specs.declared.fault.PlacedFault.TheVariants.{OutOfMemory 
 use Rattle.text_lines.specs.Fault.{IsRefusal}
 use Rattle.reducer.specs.declared.reduce_fault.ReduceCause.{ReduceCause}
 use Rattle.reducer.specs.Reduced.{ReducedValue, IsReduced, HasReduceFault}
-use Rattle.reducer.proofs.ScheduleLemmas.{expansion_legal}
+use Rattle.reducer.proofs.DroppedReads.ScheduleLemmas.{expansion_legal}
 use Rattle.clause_blocks.specs.Clauses.{clauses_of}
 use Rattle.clause_blocks.specs.ModelOrder.{IsInOrderOf}
 use Rattle.reducer.specs.declared.reduce_fault.ReduceCause.TheVariants.{StillTooLarge}

@@ -8,13 +8,13 @@ use Rattle.trace_semantics.specs.Trace.{TraceValue, IsTrace}
 use Rattle.reducer.specs.Expansion.{expansion}
 use Rattle.reducer.specs.Reduced.{ReducedValue, IsReduced}
 use Rattle.reducer.specs.Reduction.{kept_trace}
-use Rattle.reducer.proofs.InterleavingLemmas.{reduced}
-use Rattle.reducer.proofs.ScheduleLemmas.{expansion_legal, reduction_legal}
-use Rattle.reducer.proofs.TraceLemmas.{kept_is_trace}
+use Rattle.reducer.proofs.DroppedReads.InterleavingLemmas.{reduced}
+use Rattle.reducer.proofs.DroppedReads.ScheduleLemmas.{expansion_legal, reduction_legal}
+use Rattle.reducer.proofs.KeptTrace.TraceLemmas.{kept_is_trace}
 use Rattle.clause_blocks.specs.Clauses.{clauses_of}
-use Rattle.clause_blocks.proofs.ModelOrderLemmas.{model_order}
-use Rattle.clause_blocks.proofs.ModelReadLemmas.{model_legal}
-use Rattle.clause_blocks.proofs.ScheduleLawLemmas.{schedule_values}
+use Rattle.clause_blocks.proofs.ModelToSchedule.ModelOrderLemmas.{model_order}
+use Rattle.clause_blocks.proofs.ModelToSchedule.ModelReadLemmas.{model_legal}
+use Rattle.clause_blocks.proofs.ScheduleToModel.ScheduleLawLemmas.{schedule_values}
 
 -- a model gives a schedule of the whole trace
 pub schedule_of_model : (t : TraceValue) → IsTrace t → (truth : ℕ → Bool) → IsModel truth (clauses_of (kept_trace t)) → (names : List OpName) × IsLegal t names

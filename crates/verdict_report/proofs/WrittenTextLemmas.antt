@@ -10,12 +10,12 @@ use Rattle.trace_semantics.specs.declared.operation.OpName.{OpName}
 use Rattle.trace_semantics.specs.Legal.{IsLegal}
 use Rattle.trace_semantics.specs.Trace.{TraceValue, IsTrace}
 use Rattle.reducer.specs.Reduction.{kept_trace}
-use Rattle.reducer.proofs.TraceLemmas.{kept_is_trace}
+use Rattle.reducer.proofs.KeptTrace.TraceLemmas.{kept_is_trace}
 use Rattle.var_layout.specs.FinalVariables.{variable_count}
 use Rattle.var_layout.proofs.BoundLemmas.{few_variables}
 use Rattle.clause_blocks.specs.Clauses.{formula_of}
-use Rattle.clause_blocks.proofs.FewLemmas.{few_in_list}
-use Rattle.clause_blocks.proofs.FormulaLemmas.{clauses_over}
+use Rattle.clause_blocks.proofs.ClauseList.FewLemmas.{few_in_list}
+use Rattle.clause_blocks.proofs.ClauseList.FormulaLemmas.{clauses_over}
 use Rattle.verdict_report.specs.Admitted.{Admits, cnf_of}
 use Rattle.verdict_report.specs.LratEngine.{AreAccepted}
 use Rattle.verdict_report.proofs.MeaningLemmas.{model_of_schedule}

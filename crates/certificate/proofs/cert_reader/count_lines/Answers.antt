@@ -1,5 +1,5 @@
 use Rattle.std.proofs.Common.{arith}
-use Rattle.certificate.proofs.HeaderLemmas.{line_count}
+use Rattle.certificate.proofs.CertificateText.HeaderLemmas.{line_count}
 use Rattle.certificate.proofs.cert_reader.count_lines.Goals as goal
 
 pub overflow_sub-result : goal.overflow_sub-result

@@ -1,5 +1,5 @@
 use Rattle.std.proofs.Common.{◌∙◌, sym}
-use Rattle.certificate.proofs.HeaderLemmas.{next_silent}
+use Rattle.certificate.proofs.CertificateText.HeaderLemmas.{next_silent}
 use Rattle.certificate.proofs.cert_reader.read_header.Goals as goal
 
 pub loop-line-preserved : goal.loop-line-preserved

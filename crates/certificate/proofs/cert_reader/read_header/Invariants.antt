@@ -1,5 +1,5 @@
 use Rattle.std.proofs.Common.{length}
-use Rattle.certificate.proofs.HeaderLemmas.{IsSilentSoFar}
+use Rattle.certificate.proofs.CertificateText.HeaderLemmas.{IsSilentSoFar}
 use Rattle.certificate.proofs.cert_reader.read_header.Given as goal
 
 abbrev pub invariant-loop-line : goal.invariant-loop-line

@@ -1,6 +1,6 @@
 use Rattle.std.proofs.Common.{arith}
 use Rattle.cube_tree.specs.TreeFault.{HasTreeFault}
-use Rattle.certificate.proofs.HeaderLemmas.{tree_place}
+use Rattle.certificate.proofs.CertificateText.HeaderLemmas.{tree_place}
 use Rattle.certificate.proofs.cert_reader.read_tree_behind.Goals as goal
 
 pub overflow_add-result : goal.overflow_add-result

@@ -5,7 +5,7 @@ use Rattle.dimacs.specs.Sink.{AppendsFront}
 use Rattle.dimacs.proofs.ChunkLemmas.{on_err}
 use Rattle.certificate.specs.CertWritten.{front_text, section_text, sections_from}
 use Rattle.certificate.proofs.RecheckLemmas.{around, taken_on, taken}
-use Rattle.certificate.proofs.WriteLemmas.{front_first, section_front, section_taken}
+use Rattle.certificate.proofs.CertificateText.WriteLemmas.{front_first, section_front, section_taken}
 use Rattle.certificate.proofs.cert_writer.write_cert.Goals as goal
 
 pub returns-in_err-write_whole-clause-front : goal.returns-in_err-write_whole-clause-front

@@ -4,7 +4,7 @@ use Rattle.std.specs.Fmt.{decimal}
 use Rattle.dimacs.specs.Sink.{AppendsFront}
 use Rattle.dimacs.proofs.ChunkLemmas.{on_err}
 use Rattle.lrat_check.specs.LratWritten.{canonical_derivation}
-use Rattle.certificate.proofs.WriteLemmas.{front_behind, front_first, parts_of_section}
+use Rattle.certificate.proofs.CertificateText.WriteLemmas.{front_behind, front_first, parts_of_section}
 use Rattle.certificate.proofs.cert_writer.write_section.Goals as goal
 
 pub returns-in_err-write_whole-clause-front : goal.returns-in_err-write_whole-clause-front

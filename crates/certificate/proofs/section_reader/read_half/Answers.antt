@@ -5,7 +5,7 @@ use Rattle.text_lines.specs.Words.{words_of}
 use Rattle.certificate.specs.CertLine.{begun_by}
 use Rattle.certificate.specs.CertRead.{AreReadUpTo, HasSectionFaultBehind}
 use Rattle.certificate.specs.declared.certificate.Section.{Section}
-use Rattle.certificate.proofs.SectionReadLemmas.{IsReadSoFar, turn_silent, turn_section, refused_between, refusal_inside, handed_on, refused_at_end, read_up_to}
+use Rattle.certificate.proofs.CertificateText.SectionReadLemmas.{IsReadSoFar, turn_silent, turn_section, refused_between, refusal_inside, handed_on, refused_at_end, read_up_to}
 use Rattle.certificate.proofs.section_reader.read_half.Goals as goal
 
 pub loop-line-preserved-then-is_dimacs_skipped_line : goal.loop-line-preserved-then-is_dimacs_skipped_line

@@ -1,5 +1,5 @@
 use Rattle.std.proofs.Common.{length}
-use Rattle.certificate.proofs.SectionReadLemmas.{IsReadSoFar}
+use Rattle.certificate.proofs.CertificateText.SectionReadLemmas.{IsReadSoFar}
 use Rattle.certificate.proofs.section_reader.read_half.Given as goal
 
 abbrev pub invariant-loop-line : goal.invariant-loop-line

@@ -6,7 +6,7 @@ use Rattle.text_lines.specs.Lines.{lines_of}
 use Rattle.certificate.specs.CertRead.{AreReadUpTo, HasSectionFaultBehind}
 use Rattle.certificate.specs.CertText.{AreSections}
 use Rattle.certificate.specs.declared.certificate.Section.{Section}
-use Rattle.certificate.proofs.SectionReadLemmas.{read_on, all_read, refusal_behind, handed_on}
+use Rattle.certificate.proofs.CertificateText.SectionReadLemmas.{read_on, all_read, refusal_behind, handed_on}
 use Rattle.certificate.proofs.section_reader.read_sections.Goals as goal
 
 pub returns-in_err-read-clause-faulty : goal.returns-in_err-read-clause-faulty

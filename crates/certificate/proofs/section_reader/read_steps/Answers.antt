@@ -1,6 +1,6 @@
 use Rattle.std.proofs.Common.{arith}
 use Rattle.lrat_check.specs.LratFaults.{HasLratFault}
-use Rattle.certificate.proofs.HeaderLemmas.{lrat_place}
+use Rattle.certificate.proofs.CertificateText.HeaderLemmas.{lrat_place}
 use Rattle.certificate.proofs.section_reader.read_steps.Goals as goal
 
 pub overflow_add-result : goal.overflow_add-result

@@ -1,5 +1,5 @@
 use Rattle.std.proofs.Common.{◌+◌, ◌≤◌, ◌∙◌, length, take, sym, ap, arith}
-use Rattle.certificate.proofs.SectionCutLemmas.{within_text, next_passed, cut_at_end}
+use Rattle.certificate.proofs.CertificateText.SectionCutLemmas.{within_text, next_passed, cut_at_end}
 use Rattle.certificate.proofs.section_text.cut_section.Goals as goal
 
 pub returns-then-is_end_line-clause-cut : goal.returns-then-is_end_line-clause-cut

@@ -1,5 +1,5 @@
 use Rattle.std.proofs.Common.{length}
-use Rattle.certificate.proofs.SectionCutLemmas.{IsPassed}
+use Rattle.certificate.proofs.CertificateText.SectionCutLemmas.{IsPassed}
 use Rattle.certificate.proofs.section_text.cut_section.Given as goal
 
 abbrev pub invariant-loop-line : goal.invariant-loop-line

@@ -1,4 +1,4 @@
-use Rattle.certificate.proofs.WrittenLemmas.{written_spells}
+use Rattle.certificate.proofs.CertificateText.WrittenLemmas.{written_spells}
 use Rattle.certificate.proofs.text_laws.canonical_spells.Goals as goal
 
 pub returns : goal.returns

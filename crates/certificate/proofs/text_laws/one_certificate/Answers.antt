@@ -1,4 +1,4 @@
-use Rattle.certificate.proofs.TextLawLemmas.{one_spelled}
+use Rattle.certificate.proofs.CertificateText.TextLawLemmas.{one_spelled}
 use Rattle.certificate.proofs.text_laws.one_certificate.Goals as goal
 
 pub returns : goal.returns

@@ -1,4 +1,4 @@
-use Rattle.certificate.proofs.EitherLemmas.{spelled_or_refused}
+use Rattle.certificate.proofs.CertificateText.EitherLemmas.{spelled_or_refused}
 use Rattle.certificate.proofs.text_laws.spelled_or_faulty.Goals as goal
 
 pub returns : goal.returns

@@ -1,4 +1,4 @@
-use Rattle.certificate.proofs.WrittenLemmas.{written_read}
+use Rattle.certificate.proofs.CertificateText.WrittenLemmas.{written_read}
 use Rattle.certificate.proofs.text_laws.written_is_read.Goals as goal
 
 pub returns : goal.returns

@@ -1,7 +1,7 @@
 use Rattle.std.proofs.Common.{◌∙◌, sym}
 use Rattle.var_layout.specs.declared.layout.ReadsFromOwner.TheVariants.{Final}
 use Rattle.var_layout.proofs.VariableLemmas.{void_over}
-use Rattle.clause_blocks.proofs.VariableLemmas.{fits_formula}
+use Rattle.clause_blocks.proofs.NumbersOfNames.VariableLemmas.{fits_formula}
 use Rattle.clause_blocks.proofs.final_clauses.push_clauses_of_final.Goals as goal
 
 pub push_void-requires : goal.push_void-requires

@@ -1,8 +1,8 @@
 use Rattle.std.proofs.Common.{◌≡◌, ap, ◌∙◌, ◌++◌, length, arith}
 use Rattle.std.specs.List.{flat_map, range_with_len}
 use Rattle.clause_blocks.specs.FinalClauses.{clauses_at}
-use Rattle.clause_blocks.proofs.FinalLemmas.{all_finals}
-use Rattle.clause_blocks.proofs.StepLemmas.{flat_more}
+use Rattle.clause_blocks.proofs.ClauseList.FinalLemmas.{all_finals}
+use Rattle.clause_blocks.proofs.InPieces.StepLemmas.{flat_more}
 use Rattle.clause_blocks.proofs.final_clauses.push_final_clauses.Goals as goal
 
 pub loop-k-preserved : goal.loop-k-preserved

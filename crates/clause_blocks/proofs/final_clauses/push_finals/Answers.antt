@@ -1,7 +1,7 @@
 use Rattle.std.proofs.Common.{◌≡◌, ap, sym, ◌∙◌, ◌++◌, ◌∷◌, [], take, append-nil, append_assoc}
 use Rattle.std.specs.List.{flat_map}
 use Rattle.std.proofs.lemmas.List.{take_all}
-use Rattle.clause_blocks.proofs.FinalLemmas.{of_choice, zero_from_test, nonzero_from_test, empty_finals, chosen_finals, finals_are_variables, finals_are_operations, writers_are_operations}
+use Rattle.clause_blocks.proofs.ClauseList.FinalLemmas.{of_choice, zero_from_test, nonzero_from_test, empty_finals, chosen_finals, finals_are_variables, finals_are_operations, writers_are_operations}
 use Rattle.clause_blocks.proofs.final_clauses.push_finals.Goals as goal
 
 pub returns-then-is_empty : goal.returns-then-is_empty

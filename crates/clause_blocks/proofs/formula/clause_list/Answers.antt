@@ -3,8 +3,8 @@ use Rattle.std.specs.List.{flat_map, range_with_len}
 use Rattle.trace_semantics.specs.Trace.{operation_count}
 use Rattle.clause_blocks.specs.Clauses.{pieces}
 use Rattle.clause_blocks.specs.Pieces.{clauses_in}
-use Rattle.clause_blocks.proofs.ListLemmas.{piece_at, all_pieces}
-use Rattle.clause_blocks.proofs.StepLemmas.{flat_more}
+use Rattle.clause_blocks.proofs.ClauseList.ListLemmas.{piece_at, all_pieces}
+use Rattle.clause_blocks.proofs.InPieces.StepLemmas.{flat_more}
 use Rattle.clause_blocks.proofs.formula.clause_list.Goals as goal
 
 pub loop-k-preserved : goal.loop-k-preserved

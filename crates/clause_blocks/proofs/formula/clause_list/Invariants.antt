@@ -1,6 +1,6 @@
 use Rattle.std.proofs.Common.{◌≡◌}
 use Rattle.std.specs.List.{flat_map, range_with_len}
-use Rattle.clause_blocks.proofs.ListLemmas.{piece_at}
+use Rattle.clause_blocks.proofs.ClauseList.ListLemmas.{piece_at}
 use Rattle.clause_blocks.proofs.formula.clause_list.Given as goal
 
 abbrev pub invariant-loop-k : goal.invariant-loop-k

@@ -1,4 +1,4 @@
-use Rattle.clause_blocks.proofs.FewLemmas.{few_in_list}
+use Rattle.clause_blocks.proofs.ClauseList.FewLemmas.{few_in_list}
 use Rattle.clause_blocks.proofs.laws.few_clauses.Goals as goal
 
 pub returns : goal.returns

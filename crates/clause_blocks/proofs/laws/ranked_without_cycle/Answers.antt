@@ -1,4 +1,4 @@
-use Rattle.clause_blocks.proofs.RankLemmas.{ranked_true}
+use Rattle.clause_blocks.proofs.TransitivityClauses.RankLemmas.{ranked_true}
 use Rattle.clause_blocks.proofs.laws.ranked_without_cycle.Goals as goal
 
 pub returns : goal.returns

@@ -1,4 +1,4 @@
-use Rattle.clause_blocks.proofs.ScheduleLawLemmas.{schedule_values}
+use Rattle.clause_blocks.proofs.ScheduleToModel.ScheduleLawLemmas.{schedule_values}
 use Rattle.clause_blocks.proofs.meaning.each_legal_schedule_has_a_model.Goals as goal
 
 pub returns : goal.returns

@@ -1,4 +1,4 @@
-use Rattle.clause_blocks.proofs.ModelOrderLemmas.{model_order}
+use Rattle.clause_blocks.proofs.ModelToSchedule.ModelOrderLemmas.{model_order}
 use Rattle.clause_blocks.proofs.meaning.each_model_has_an_order.Goals as goal
 
 pub returns : goal.returns

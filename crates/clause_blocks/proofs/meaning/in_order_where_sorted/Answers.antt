@@ -1,4 +1,4 @@
-use Rattle.clause_blocks.proofs.ModelOrderLemmas.{sorted_order}
+use Rattle.clause_blocks.proofs.ModelToSchedule.ModelOrderLemmas.{sorted_order}
 use Rattle.clause_blocks.proofs.meaning.in_order_where_sorted.Goals as goal
 
 pub returns : goal.returns

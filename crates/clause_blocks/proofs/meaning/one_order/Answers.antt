@@ -1,4 +1,4 @@
-use Rattle.clause_blocks.proofs.ModelOrderLemmas.{one_order}
+use Rattle.clause_blocks.proofs.ModelToSchedule.ModelOrderLemmas.{one_order}
 use Rattle.clause_blocks.proofs.meaning.one_order.Goals as goal
 
 pub returns : goal.returns

@@ -1,4 +1,4 @@
-use Rattle.clause_blocks.proofs.ModelReadLemmas.{model_legal}
+use Rattle.clause_blocks.proofs.ModelToSchedule.ModelReadLemmas.{model_legal}
 use Rattle.clause_blocks.proofs.meaning.order_of_a_model_is_legal.Goals as goal
 
 pub returns : goal.returns

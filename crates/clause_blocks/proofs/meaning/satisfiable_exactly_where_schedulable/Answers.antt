@@ -1,6 +1,6 @@
-use Rattle.clause_blocks.proofs.ModelOrderLemmas.{model_order}
-use Rattle.clause_blocks.proofs.ModelReadLemmas.{model_legal}
-use Rattle.clause_blocks.proofs.ScheduleLawLemmas.{schedule_values}
+use Rattle.clause_blocks.proofs.ModelToSchedule.ModelOrderLemmas.{model_order}
+use Rattle.clause_blocks.proofs.ModelToSchedule.ModelReadLemmas.{model_legal}
+use Rattle.clause_blocks.proofs.ScheduleToModel.ScheduleLawLemmas.{schedule_values}
 use Rattle.clause_blocks.proofs.meaning.satisfiable_exactly_where_schedulable.Goals as goal
 
 pub returns : goal.returns

@@ -1,8 +1,8 @@
 use Rattle.std.proofs.Common.{ap, sym, ◌∙◌, ◌++◌, ◌+◌, ◌∷◌, [], true, false, append-nil}
 use Rattle.var_layout.specs.Numbers.{in_one_process}
 use Rattle.clause_blocks.specs.Blocks.{stands_before}
-use Rattle.clause_blocks.proofs.OperationLemmas.{shared_within}
-use Rattle.clause_blocks.proofs.StepLemmas.{map_passed}
+use Rattle.clause_blocks.proofs.NumbersOfNames.OperationLemmas.{shared_within}
+use Rattle.clause_blocks.proofs.InPieces.StepLemmas.{map_passed}
 use Rattle.clause_blocks.proofs.program_order.push_program_order.Goals as goal
 use Rattle.clause_blocks.proofs.program_order.push_program_order.Goals.{then-in_one_process+in_ok-push, else-in_one_process}
 

@@ -1,5 +1,5 @@
 use Rattle.std.proofs.Common.{sym}
-use Rattle.clause_blocks.proofs.ReadLemmas.{others_within}
+use Rattle.clause_blocks.proofs.ClauseList.ReadLemmas.{others_within}
 use Rattle.clause_blocks.proofs.read_clauses.others_after.Goals as goal
 
 pub order_lit-requires : goal.order_lit-requires

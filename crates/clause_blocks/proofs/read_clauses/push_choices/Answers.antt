@@ -1,4 +1,4 @@
-use Rattle.clause_blocks.proofs.ReadLemmas.{reader_within, choices_are_variables, choices_are_sources}
+use Rattle.clause_blocks.proofs.ClauseList.ReadLemmas.{reader_within, choices_are_variables, choices_are_sources}
 use Rattle.clause_blocks.proofs.read_clauses.push_choices.Goals as goal
 
 pub literals_of-requires : goal.literals_of-requires

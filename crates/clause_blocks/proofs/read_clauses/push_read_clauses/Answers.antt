@@ -2,7 +2,7 @@ use Rattle.std.proofs.Common.{ap, sym, ◌∙◌, ◌++◌, true, false, append-
 use Rattle.std.specs.Prelude.{is_some}
 use Rattle.var_layout.specs.Numbers.{read_at}
 use Rattle.clause_blocks.specs.Blocks.{clauses_of_read}
-use Rattle.clause_blocks.proofs.StepLemmas.{flat_passed}
+use Rattle.clause_blocks.proofs.InPieces.StepLemmas.{flat_passed}
 use Rattle.clause_blocks.proofs.read_clauses.push_read_clauses.Goals as goal
 use Rattle.clause_blocks.proofs.read_clauses.push_read_clauses.Goals.{then-is_reader+in_ok-push_clauses_of_read, else-is_reader}
 

@@ -3,8 +3,8 @@ use Rattle.std.specs.Prelude.{◌==◌}
 use Rattle.std.proofs.lemmas.List.{take_all}
 use Rattle.var_layout.specs.Numbers.{others}
 use Rattle.clause_blocks.specs.Blocks.{implies, stands_before}
-use Rattle.clause_blocks.proofs.ReadLemmas.{literal_there, others_within}
-use Rattle.clause_blocks.proofs.StepLemmas.{map_taken, is_other, is_same}
+use Rattle.clause_blocks.proofs.ClauseList.ReadLemmas.{literal_there, others_within}
+use Rattle.clause_blocks.proofs.InPieces.StepLemmas.{map_taken, is_other, is_same}
 use Rattle.clause_blocks.proofs.read_clauses.push_reads_writer.Goals as goal
 use Rattle.clause_blocks.proofs.read_clauses.push_reads_writer.Goals.{then-v-w+in_ok-push-2, else-v-w}
 

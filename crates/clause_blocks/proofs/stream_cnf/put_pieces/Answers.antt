@@ -6,8 +6,8 @@ use Rattle.dimacs.proofs.ChunkLemmas.{on_err}
 use Rattle.trace_semantics.specs.Trace.{operation_count}
 use Rattle.clause_blocks.specs.Clauses.{pieces}
 use Rattle.clause_blocks.specs.Pieces.{clauses_in}
-use Rattle.clause_blocks.proofs.ListLemmas.{piece_at, pieces_upto}
-use Rattle.clause_blocks.proofs.RangeSentLemmas.{range_begun, range_front, range_sent}
+use Rattle.clause_blocks.proofs.ClauseList.ListLemmas.{piece_at, pieces_upto}
+use Rattle.clause_blocks.proofs.InPieces.RangeSentLemmas.{range_begun, range_front, range_sent}
 use Rattle.clause_blocks.proofs.stream_cnf.put_pieces.Goals as goal
 
 pub loop-k-init : goal.loop-k-init

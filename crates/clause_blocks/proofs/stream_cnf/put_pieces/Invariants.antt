@@ -1,7 +1,7 @@
 use Rattle.std.proofs.Common.{◌≡◌}
 use Rattle.dimacs.specs.Sink.{IsSent}
-use Rattle.clause_blocks.proofs.ListLemmas.{piece_at}
-use Rattle.clause_blocks.proofs.RangeSentLemmas.{lines_to}
+use Rattle.clause_blocks.proofs.ClauseList.ListLemmas.{piece_at}
+use Rattle.clause_blocks.proofs.InPieces.RangeSentLemmas.{lines_to}
 use Rattle.clause_blocks.proofs.stream_cnf.put_pieces.Given as goal
 
 abbrev pub invariant-loop-k : goal.invariant-loop-k

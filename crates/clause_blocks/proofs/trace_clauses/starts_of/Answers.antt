@@ -4,9 +4,9 @@ use Rattle.std.proofs.lemmas.List.FromFn.{map-range_with_len_more}
 use Rattle.trace_semantics.specs.Trace.{operation_count}
 use Rattle.clause_blocks.specs.Clauses.{pieces}
 use Rattle.clause_blocks.specs.Pieces.{clauses_before}
-use Rattle.clause_blocks.proofs.ListLemmas.{piece_at, piece_count}
-use Rattle.clause_blocks.proofs.PartLemmas.{before_within}
-use Rattle.clause_blocks.proofs.PieceLemmas.{counted_upto}
+use Rattle.clause_blocks.proofs.ClauseList.ListLemmas.{piece_at, piece_count}
+use Rattle.clause_blocks.proofs.ClauseList.PartLemmas.{before_within}
+use Rattle.clause_blocks.proofs.InPieces.PieceLemmas.{counted_upto}
 use Rattle.clause_blocks.proofs.trace_clauses.starts_of.Goals as goal
 
 pub overflow_add-count : goal.overflow_add-count

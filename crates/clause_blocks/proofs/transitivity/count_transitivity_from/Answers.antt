@@ -1,5 +1,5 @@
 use Rattle.std.proofs.Common.{◌≡◌, ◌-◌, ◌*◌, ◌∙◌, ap, sym}
-use Rattle.clause_blocks.proofs.CountLemmas.{from_count}
+use Rattle.clause_blocks.proofs.TransitivityClauses.CountLemmas.{from_count}
 use Rattle.clause_blocks.proofs.transitivity.count_transitivity_from.Goals as goal
 
 pub returns : goal.returns

@@ -1,7 +1,7 @@
 use Rattle.std.proofs.Common.{◌∙◌, ◌++◌, ◌+◌, ◌∷◌, [], neg_ℤ}
 use Rattle.trace_semantics.specs.Trace.{operation_count}
 use Rattle.clause_blocks.specs.Blocks.{no_cycle}
-use Rattle.clause_blocks.proofs.StepLemmas.{flat_upto}
+use Rattle.clause_blocks.proofs.InPieces.StepLemmas.{flat_upto}
 use Rattle.clause_blocks.proofs.transitivity.push_of_pair.Goals as goal
 
 pub loop-k-preserved : goal.loop-k-preserved

@@ -3,7 +3,7 @@ use Rattle.std.specs.List.{flat_map}
 use Rattle.trace_semantics.specs.Trace.{operation_count}
 use Rattle.var_layout.specs.OrderVariables.{numbers_above}
 use Rattle.clause_blocks.specs.Blocks.{no_cycle}
-use Rattle.clause_blocks.proofs.StepLemmas.{flat_upto}
+use Rattle.clause_blocks.proofs.InPieces.StepLemmas.{flat_upto}
 use Rattle.clause_blocks.proofs.transitivity.push_transitivity_from.Goals as goal
 
 pub loop-j-preserved : goal.loop-j-preserved

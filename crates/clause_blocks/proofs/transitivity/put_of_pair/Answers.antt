@@ -5,7 +5,7 @@ use Rattle.dimacs.specs.Sink.{AppendsFront, IsSent}
 use Rattle.dimacs.proofs.ChunkLemmas.{on_err}
 use Rattle.trace_semantics.specs.Trace.{operation_count}
 use Rattle.clause_blocks.specs.Blocks.{no_cycle}
-use Rattle.clause_blocks.proofs.RangeSentLemmas.{cycle, range_begun, range_front, range_sent}
+use Rattle.clause_blocks.proofs.InPieces.RangeSentLemmas.{cycle, range_begun, range_front, range_sent}
 use Rattle.clause_blocks.proofs.transitivity.put_of_pair.Goals as goal
 
 pub loop-k-init : goal.loop-k-init

@@ -2,7 +2,7 @@ use Rattle.std.proofs.Common.{◌≡◌, ◌+◌}
 use Rattle.dimacs.specs.Sink.{IsSent}
 use Rattle.trace_semantics.specs.Trace.{operation_count}
 use Rattle.clause_blocks.specs.Blocks.{no_cycle}
-use Rattle.clause_blocks.proofs.RangeSentLemmas.{lines_to}
+use Rattle.clause_blocks.proofs.InPieces.RangeSentLemmas.{lines_to}
 use Rattle.clause_blocks.proofs.transitivity.put_of_pair.Given as goal
 
 abbrev pub invariant-loop-k : goal.invariant-loop-k

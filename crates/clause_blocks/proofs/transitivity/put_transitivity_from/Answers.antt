@@ -1,7 +1,7 @@
 use Rattle.std.proofs.Common.{rules, ◌≤◌, ◌+◌, ◌∙◌, refl}
 use Rattle.dimacs.proofs.ChunkLemmas.{on_err}
 use Rattle.trace_semantics.specs.Trace.{operation_count}
-use Rattle.clause_blocks.proofs.RangeSentLemmas.{of_pair, range_begun, range_front, range_sent}
+use Rattle.clause_blocks.proofs.InPieces.RangeSentLemmas.{of_pair, range_begun, range_front, range_sent}
 use Rattle.clause_blocks.proofs.transitivity.put_transitivity_from.Goals as goal
 
 pub loop-j-init : goal.loop-j-init

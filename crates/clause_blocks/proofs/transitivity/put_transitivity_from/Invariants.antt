@@ -1,7 +1,7 @@
 use Rattle.std.proofs.Common.{◌≡◌, ◌+◌}
 use Rattle.dimacs.specs.Sink.{IsSent}
 use Rattle.trace_semantics.specs.Trace.{operation_count}
-use Rattle.clause_blocks.proofs.RangeSentLemmas.{lines_to, of_pair}
+use Rattle.clause_blocks.proofs.InPieces.RangeSentLemmas.{lines_to, of_pair}
 use Rattle.clause_blocks.proofs.transitivity.put_transitivity_from.Given as goal
 
 abbrev pub invariant-loop-j : goal.invariant-loop-j

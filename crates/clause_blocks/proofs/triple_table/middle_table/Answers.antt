@@ -2,9 +2,9 @@ use Rattle.std.proofs.Common.{rules, ◌≡◌, ◌≤◌, ◌+◌, ◌∷◌, [
 use Rattle.std.specs.List.{range_with_len}
 use Rattle.std.proofs.lemmas.List.FromFn.{map-range_with_len_more}
 use Rattle.clause_blocks.specs.Triples.{below_middle}
-use Rattle.clause_blocks.proofs.PieceLemmas.{counted_upto}
-use Rattle.clause_blocks.proofs.RangeSentLemmas.{of_pair}
-use Rattle.clause_blocks.proofs.TripleLemmas.{few_middle, pair_count}
+use Rattle.clause_blocks.proofs.InPieces.PieceLemmas.{counted_upto}
+use Rattle.clause_blocks.proofs.InPieces.RangeSentLemmas.{of_pair}
+use Rattle.clause_blocks.proofs.TransitivityClauses.TripleLemmas.{few_middle, pair_count}
 use Rattle.clause_blocks.proofs.triple_table.middle_table.Goals as goal
 
 pub overflow_add-below : goal.overflow_add-below

@@ -1,5 +1,84 @@
-use Rattle.core_recheck.proofs.CoreRecheckLemmas.{rechecked}
+use Rattle.std.proofs.Common.{◌≡◌, ℕ, ◌≤◌, List, inl, inr, subst, sym, ◌∙◌, arith}
+use Rattle.std.specs.Prelude.{Result, Ok, Err}
+use Rattle.text_lines.specs.FirstFault.{IsFirstFault}
+use Rattle.text_lines.proofs.FaultLemmas.{none_is_some}
+use Rattle.trace_semantics.specs.declared.operation.OpName.{OpName}
+use Rattle.trace_semantics.specs.Trace.{TraceValue, IsTrace, operation_count}
+use Rattle.trace_text.specs.TraceText.{SpellsTrace}
+use Rattle.trace_text.proofs.OneTraceLemmas.{one_spelled as one_trace}
+use Rattle.trace_text.proofs.NeverFaulty.TraceClearLemmas.{never_both as trace_never_faulty}
+use Rattle.schedule_text.specs.ScheduleText.{SpellsSchedule}
+use Rattle.schedule_text.proofs.ScheduleTextLemmas.{one_spelled as one_schedule, never_both as schedule_never_faulty}
+use Rattle.reducer.specs.Reduction.{kept_trace}
+use Rattle.reducer.specs.declared.reduce_fault.ReduceCause.TheVariants.{StillTooLarge}
+use Rattle.trace_part.specs.Choice.{fault_of_choice}
+use Rattle.trace_part.specs.TraceParts.{PartValue}
+use Rattle.trace_part.specs.declared.part_fault.PartCause.{PartCause}
+use Rattle.clause_blocks.specs.Clauses.{clauses_of}
+use Rattle.certificate.specs.CertText.{SpellsCertificate}
+use Rattle.certificate.specs.Rechecked.{HasRecheckFault}
+use Rattle.certificate.specs.declared.cert_fault.CertCause.{CertCause}
+use Rattle.certificate.specs.declared.certificate.Certificate.{Certificate}
+use Rattle.certificate.proofs.RefusalLemmas.{never_both as never_refused}
+use Rattle.certificate.proofs.CertificateText.TextLawLemmas.{one_spelled as one_certificate, never_both as cert_never_faulty}
+use Rattle.cube_jobs.specs.Options.{OptionsValue}
+use Rattle.survey_verdict.specs.declared.surveyed.RefutedCore.{RefutedCore}
+use Rattle.survey_verdict.specs.declared.surveyed.Surveyed.TheVariants.{Refuted}
+use Rattle.survey_verdict.specs.Surveyed.{IsCertificateFor, IsRefutedCore, core_names, survey_certificate}
+use Rattle.verdict_report.specs.declared.fault.Fault.{Fault}
+use Rattle.verdict_report.specs.declared.fault.Fault.TheVariants.{OutOfMemory, Device, InputTooLong, Trace, Schedule, Part, Model, Cnf, Lrat, Reduce, Decode, Check, Cert, Search}
+use Rattle.part_report.specs.PartEngine.{HasFaultyChoice}
+use Rattle.part_report.specs.PartRecheckEngine.{IsSaidByPart}
+use Rattle.core_recheck.specs.CoreRecheck.{IsAcceptedUnlessAnother}
 use Rattle.core_recheck.proofs.laws.core_is_rechecked.Goals as goal
+
+-- What is written of a core is accepted.
+
+module _ (options : OptionsValue) (t : TraceValue) (core : RefutedCore) (trace_text : List ℕ) (ok : IsTrace t) (spelled : SpellsTrace trace_text t) (given : IsRefutedCore options t core)
+    (certified : IsCertificateFor core.part.trace (survey_certificate (Refuted core))) (listed : SpellsSchedule (core_names (Refuted core)) core.names) where
+  -- the certificate is not refused for the same part
+  same_part : (certificate : Certificate) → SpellsCertificate (survey_certificate (Refuted core)) certificate → (made : PartValue) → made.trace ≡ core.part.trace →
+      (cause : CertCause) (leaf : ℕ) → HasRecheckFault (clauses_of (kept_trace made.trace)) certificate cause leaf → ⊥
+  same_part certificate read made same cause leaf refused =
+      let one : certificate ≡ certified.certificate = one_certificate (survey_certificate (Refuted core)) certificate certified.certificate read certified.spelled in
+      let here : HasRecheckFault (clauses_of (kept_trace core.part.trace)) certificate cause leaf = subst (λ (w : TraceValue). HasRecheckFault (clauses_of (kept_trace w)) certificate cause leaf) same refused in
+      let there : HasRecheckFault (clauses_of (kept_trace core.part.trace)) certified.certificate cause leaf = subst (λ (d : Certificate). HasRecheckFault (clauses_of (kept_trace core.part.trace)) d cause leaf) one here in
+      never_refused (clauses_of (kept_trace core.part.trace)) certified.certificate certified.count cause leaf certified.accepted there
+
+  -- the names are a choice
+  well_chosen : (cause : PartCause) (line : ℕ) → HasFaultyChoice trace_text (core_names (Refuted core)) cause line → ⊥
+  well_chosen cause line f =
+      let value_is : f.value ≡ t = one_trace trace_text f.value t f.is_trace ok f.spelled spelled in
+      let names_are : f.names ≡ core.names = one_schedule (core_names (Refuted core)) f.names core.names f.listed listed in
+      let here : IsFirstFault (fault_of_choice t) f.names f.faulty.place cause = subst (λ (v : TraceValue). IsFirstFault (fault_of_choice v) f.names f.faulty.place cause) value_is f.faulty.faulty in
+      let first : IsFirstFault (fault_of_choice t) core.names f.faulty.place cause = subst (λ (n : List OpName). IsFirstFault (fault_of_choice t) n f.faulty.place cause) names_are here in
+      none_is_some cause (sym (given.is_part.choice first.before first.item first.after first.parts) ∙ first.faulty)
+
+  rechecked : (result : Result ℕ Fault) → IsSaidByPart trace_text (survey_certificate (Refuted core)) (core_names (Refuted core)) result → IsAcceptedUnlessAnother trace_text (core_names (Refuted core)) core.part.trace result
+  rechecked (Ok count) said = tt
+  rechecked (Err OutOfMemory) said = tt
+  rechecked (Err (Trace cause line)) said = absurd (trace_never_faulty trace_text t cause line ok spelled said)
+  rechecked (Err (Schedule cause line)) said = absurd (schedule_never_faulty (core_names (Refuted core)) core.names cause line listed said.1.faulty)
+  rechecked (Err (Part cause line)) said = absurd (well_chosen cause line said.1)
+  rechecked (Err (Cert cause place)) (inl f) = absurd (cert_never_faulty (survey_certificate (Refuted core)) certified.certificate cause place certified.spelled f.faulty)
+  rechecked (Err (Cert cause place)) (inr f) = record {
+    made = f.made;
+    made_up = f.made_up;
+    another = λ same. same_part f.certificate f.spelled f.made same cause place f.refused;
+  }
+  rechecked (Err (Reduce StillTooLarge left)) f = record {
+    made = f.made;
+    made_up = f.made_up;
+    another = λ same. (let few : operation_count (kept_trace f.made.trace) ≤ 160 = subst (λ (w : TraceValue). operation_count (kept_trace w) ≤ 160) (sym same) given.few_left in omega (arith, few, f.refused.0, f.refused.1));
+  }
+  rechecked (Err Device) said = absurd said
+  rechecked (Err InputTooLong) said = absurd said
+  rechecked (Err (Model cause line)) said = absurd said
+  rechecked (Err (Cnf cause line)) said = absurd said
+  rechecked (Err (Lrat cause line)) said = absurd said
+  rechecked (Err (Decode cause clause)) said = absurd said
+  rechecked (Err (Check cause step)) said = absurd said
+  rechecked (Err (Search fault)) said = absurd said
 
 pub returns : goal.returns
 returns c options t core trace_text result ok spelled given said =

@@ -1,8 +1,8 @@
 use Rattle.std.proofs.Common.{◌≡◌, ◌∙◌, List, ℤ, Some, get_or, take, sym, subst, arith}
 use Rattle.std.specs.List.{slice_get}
 use Rattle.cube_tree.specs.CubeTree.{cubes_of}
-use Rattle.cube_queue.proofs.LeafLemmas.{leaf_low}
-use Rattle.cube_queue.proofs.ResultLemmas.{looked_at, one_more, all_settled}
+use Rattle.cube_queue.proofs.JobsPut.LeafLemmas.{leaf_low}
+use Rattle.cube_queue.proofs.AllResults.ResultLemmas.{looked_at, one_more, all_settled}
 use Rattle.cube_queue.proofs.in_turn.search_in_turn.Goals as goal
 
 pub job_of-job-requires : goal.job_of-job-requires

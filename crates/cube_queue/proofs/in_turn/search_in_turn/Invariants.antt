@@ -1,6 +1,6 @@
 use Rattle.std.proofs.Common.{take}
 use Rattle.cube_tree.specs.CubeTree.{cubes_of}
-use Rattle.cube_queue.proofs.ResultLemmas.{AreUpTo}
+use Rattle.cube_queue.proofs.AllResults.ResultLemmas.{AreUpTo}
 use Rattle.cube_queue.proofs.in_turn.search_in_turn.Given as goal
 
 abbrev pub invariant-loop-leaf : goal.invariant-loop-leaf

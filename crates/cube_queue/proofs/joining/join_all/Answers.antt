@@ -1,5 +1,5 @@
 use Rattle.std.proofs.Common.{sym, ◌∙◌}
-use Rattle.cube_queue.proofs.HandleLemmas.{kept_all}
+use Rattle.cube_queue.proofs.Workers.HandleLemmas.{kept_all}
 use Rattle.cube_queue.proofs.joining.join_all.Goals as goal
 
 pub returns : goal.returns

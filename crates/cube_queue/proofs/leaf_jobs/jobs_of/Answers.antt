@@ -1,5 +1,5 @@
 use Rattle.std.proofs.Common.{arith}
-use Rattle.cube_queue.proofs.LeafLemmas.{leaf_low, one_job}
+use Rattle.cube_queue.proofs.JobsPut.LeafLemmas.{leaf_low, one_job}
 use Rattle.cube_queue.proofs.leaf_jobs.jobs_of.Goals as goal
 
 pub job_of-requires : goal.job_of-requires

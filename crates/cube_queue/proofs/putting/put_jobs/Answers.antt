@@ -1,6 +1,6 @@
 use Rattle.std.proofs.Common.{◌++◌, ◌∙◌, ap}
 use Rattle.cube_queue.proofs.CountLemmas.{put_fewer}
-use Rattle.cube_queue.proofs.PutLemmas.{next_above, put_low}
+use Rattle.cube_queue.proofs.JobsPut.PutLemmas.{next_above, put_low}
 use Rattle.cube_queue.proofs.putting.put_jobs.Goals as goal
 
 pub put-requires-clause-above : goal.put-requires-clause-above

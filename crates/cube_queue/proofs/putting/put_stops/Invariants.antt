@@ -1,6 +1,6 @@
 use Rattle.std.proofs.Common.{◌+◌, ◌≤◌}
 use Rattle.job_board.specs.Seats.{put_by, IsDealerAt}
-use Rattle.cube_queue.proofs.PutLemmas.{ArePutBelow}
+use Rattle.cube_queue.proofs.JobsPut.PutLemmas.{ArePutBelow}
 use Rattle.cube_queue.proofs.putting.put_stops.Given as goal
 
 abbrev pub invariant-loop-worker : goal.invariant-loop-worker

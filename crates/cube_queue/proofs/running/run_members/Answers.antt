@@ -1,7 +1,7 @@
 use Rattle.std.proofs.Common.{◌∙◌, rules}
 use Rattle.std.proofs.lemmas.Result.{err_from_is_err_and}
-use Rattle.cube_queue.proofs.FaultLemmas.{not_started, not_put, not_gathered, only_stops}
-use Rattle.cube_queue.proofs.JoinLemmas.{worked_zip}
+use Rattle.cube_queue.proofs.Workers.FaultLemmas.{not_started, not_put, not_gathered, only_stops}
+use Rattle.cube_queue.proofs.Workers.JoinLemmas.{worked_zip}
 use Rattle.cube_queue.proofs.running.run_members.Goals as goal
 
 pub returns-clause-returned : goal.returns-clause-returned

@@ -1,7 +1,7 @@
 use Rattle.std.proofs.Common.{◌≤◌, arith}
 use Rattle.std.proofs.lemmas.Result.{IfErr-weaker}
 use Rattle.cube_tree.specs.CubeTree.{cubes_of}
-use Rattle.cube_queue.proofs.FaultLemmas.{fault_of_fewer}
+use Rattle.cube_queue.proofs.Workers.FaultLemmas.{fault_of_fewer}
 use Rattle.cube_queue.proofs.searching.search.Goals as goal
 
 pub returns-clause-fault : goal.returns-clause-fault

@@ -3,10 +3,10 @@ use Rattle.cube_jobs.specs.declared.job.Job.{Job}
 use Rattle.std.proofs.lemmas.Result.{err_from_is_err_and}
 use Rattle.cube_tree.specs.CubeTree.{cubes_of}
 use Rattle.cube_queue.specs.Participants.{AreJobsOf}
-use Rattle.cube_queue.proofs.FaultLemmas.{fault_of}
-use Rattle.cube_queue.proofs.JobLemmas.{jobs_rise, jobs_low}
-use Rattle.cube_queue.proofs.JoinLemmas.{all_returned, honest_run}
-use Rattle.cube_queue.proofs.LeafLemmas.{leaf_low}
+use Rattle.cube_queue.proofs.Workers.FaultLemmas.{fault_of}
+use Rattle.cube_queue.proofs.JobsPut.JobLemmas.{jobs_rise, jobs_low}
+use Rattle.cube_queue.proofs.Workers.JoinLemmas.{all_returned, honest_run}
+use Rattle.cube_queue.proofs.JobsPut.LeafLemmas.{leaf_low}
 use Rattle.cube_queue.proofs.searching.search_in_threads.Goals as goal
 
 pub open-requires-clause-cubes : goal.open-requires-clause-cubes

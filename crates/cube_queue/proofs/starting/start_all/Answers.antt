@@ -1,7 +1,7 @@
 use Rattle.std.proofs.Common.{◌≡◌, ◌∷◌, [], ◌++◌, length, sym, ◌∙◌, ap, append_assoc, rules, arith}
 use Rattle.std.specs.Vec.Iter.{into_iter_items}
 use Rattle.cube_queue.specs.Workers.{IsReady}
-use Rattle.cube_queue.proofs.HandleLemmas.{next_member, all_members, none_started, one_started}
+use Rattle.cube_queue.proofs.Workers.HandleLemmas.{next_member, all_members, none_started, one_started}
 use Rattle.cube_queue.proofs.starting.start_all.Goals as goal
 
 pub start-requires-clause-ready : goal.start-requires-clause-ready

@@ -1,6 +1,6 @@
 use Rattle.std.proofs.Common.{◌≡◌, ◌++◌, length}
 use Rattle.std.specs.Vec.Iter.{into_iter_items, into_iter_len}
-use Rattle.cube_queue.proofs.HandleLemmas.{AreStarted}
+use Rattle.cube_queue.proofs.Workers.HandleLemmas.{AreStarted}
 use Rattle.cube_queue.proofs.starting.start_all.Given as goal
 
 abbrev pub invariant-loop-member : goal.invariant-loop-member

@@ -1,4 +1,4 @@
-use Rattle.job_board.proofs.LawLemmas.{put_is_merge}
+use Rattle.job_board.proofs.TwoRules.LawLemmas.{put_is_merge}
 use Rattle.job_board.proofs.laws.put_is_a_merge.Goals as goal
 
 pub returns : goal.returns

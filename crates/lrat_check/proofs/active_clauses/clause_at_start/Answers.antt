@@ -1,5 +1,5 @@
 use Rattle.std.proofs.Common.{◌≡◌, ◌≤◌, ◌-◌, ◌<◌, ◌∙◌, sym, ap, length, get_or, Some, arith}
-use Rattle.lrat_check.proofs.ActiveLemmas.{cube_at, nothing_at}
+use Rattle.lrat_check.proofs.Counting.ActiveLemmas.{cube_at, nothing_at}
 use Rattle.lrat_check.proofs.active_clauses.clause_at_start.Goals as goal
 
 pub returns-then-place-count-2 : goal.returns-then-place-count-2

@@ -3,7 +3,7 @@ use Rattle.std.proofs.Math.Seq.{take-length}
 use Rattle.std.specs.Prelude.{ℤ}
 use Rattle.lrat_check.specs.Active.{numbered, at_start, with_clause}
 use Rattle.lrat_check.specs.Counted.{AreChanges}
-use Rattle.lrat_check.proofs.ChangeLemmas.{next_id, cube_more, cube_free, no_cube, changes_same}
+use Rattle.lrat_check.proofs.Counting.ChangeLemmas.{next_id, cube_more, cube_free, no_cube, changes_same}
 use Rattle.lrat_check.proofs.active_clauses.count_cube.Goals as goal
 
 pub loop-literal-init : goal.loop-literal-init

@@ -1,8 +1,8 @@
 use Rattle.std.proofs.Common.{◌∷◌, [], ◌∙◌, ap, sym, Some}
 use Rattle.std.proofs.lemmas.Result.{on_ok_weaker}
 use Rattle.lrat_check.specs.Active.{without}
-use Rattle.lrat_check.proofs.ChangeLemmas.{changes_same}
-use Rattle.lrat_check.proofs.KeptLemmas.{without_none}
+use Rattle.lrat_check.proofs.Counting.ChangeLemmas.{changes_same}
+use Rattle.lrat_check.proofs.Counting.KeptLemmas.{without_none}
 use Rattle.lrat_check.proofs.active_clauses.take_start_clause_off.Goals as goal
 
 pub returns-in-Some : goal.returns-in-Some

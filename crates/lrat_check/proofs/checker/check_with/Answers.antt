@@ -1,7 +1,7 @@
 use Rattle.std.proofs.Common.{◌≡◌, ◌∷◌, ◌+◌, drop, ◌∙◌, sym, ap, subst, List, arith}
 use Rattle.lrat_check.specs.Active.{at_start}
 use Rattle.lrat_check.specs.ClauseAt.{clause_at}
-use Rattle.lrat_check.proofs.CheckLemmas.{IsWalked, walk_start, next_step, handed_on, walk_fails, walk_on, walk_ends}
+use Rattle.lrat_check.proofs.Justifying.CheckLemmas.{IsWalked, walk_start, next_step, handed_on, walk_fails, walk_on, walk_ends}
 use Rattle.lrat_check.proofs.SoundLemmas.{no_model, formula_no_zero, cube_no_zero}
 use Rattle.lrat_check.specs.Derivation.{are_steps}
 use Rattle.lrat_check.specs.declared.derivation.Step.{Step}

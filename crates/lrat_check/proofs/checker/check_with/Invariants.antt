@@ -2,7 +2,7 @@ use Rattle.std.proofs.Common.{◌+◌, drop}
 use Rattle.lrat_check.specs.Active.{at_start}
 use Rattle.lrat_check.specs.ClauseAt.{clause_at}
 use Rattle.lrat_check.specs.Counted.{AreFormulaCounts, HasRightChanges}
-use Rattle.lrat_check.proofs.CheckLemmas.{IsWalked}
+use Rattle.lrat_check.proofs.Justifying.CheckLemmas.{IsWalked}
 use Rattle.lrat_check.proofs.checker.check_with.Given as goal
 
 abbrev pub invariant-loop-i : goal.invariant-loop-i

@@ -3,7 +3,7 @@ use Rattle.lrat_check.specs.Active.{with_clause}
 use Rattle.lrat_check.specs.ClauseAt.{clause_at}
 use Rattle.lrat_check.specs.Justified.{IsJustified}
 use Rattle.lrat_check.specs.declared.active_clauses.ActiveClauses.{ActiveClauses}
-use Rattle.lrat_check.proofs.CheckLemmas.{step_added}
+use Rattle.lrat_check.proofs.Justifying.CheckLemmas.{step_added}
 use Rattle.lrat_check.proofs.checker.take_step.Goals as goal
 
 pub returns-in_ok-insert-in-Addition-clause-step : goal.returns-in_ok-insert-in-Addition-clause-step

@@ -3,8 +3,8 @@ use Rattle.lrat_check.specs.Active.{without}
 use Rattle.lrat_check.specs.ClauseAt.{clause_at}
 use Rattle.lrat_check.specs.Counted.{AreRightChanges}
 use Rattle.lrat_check.specs.declared.count_changes.CountChanges.{CountChanges}
-use Rattle.lrat_check.proofs.ChangeLemmas.{changes_same}
-use Rattle.lrat_check.proofs.KeptLemmas.{without_none}
+use Rattle.lrat_check.proofs.Counting.ChangeLemmas.{changes_same}
+use Rattle.lrat_check.proofs.Counting.KeptLemmas.{without_none}
 use Rattle.lrat_check.proofs.counted_clauses.count_out.Goals as goal
 
 pub returns-in_ok-remove : goal.returns-in_ok-remove

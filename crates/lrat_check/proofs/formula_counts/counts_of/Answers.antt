@@ -1,5 +1,5 @@
 use Rattle.std.proofs.Common.{◌≡◌, ◌<◌, length, rules}
-use Rattle.lrat_check.proofs.ChangeLemmas.{formula_none, formula_more, formula_all}
+use Rattle.lrat_check.proofs.Counting.ChangeLemmas.{formula_none, formula_more, formula_all}
 use Rattle.lrat_check.proofs.formula_counts.counts_of.Goals as goal
 
 pub loop-place-init : goal.loop-place-init

@@ -6,7 +6,7 @@ use Rattle.lrat_check.specs.Propagation.{has}
 use Rattle.lrat_check.specs.Rat.{Reaches, others}
 use Rattle.lrat_check.specs.Refuted.{negated}
 use Rattle.lrat_check.proofs.RefusalLemmas.{reach_fails}
-use Rattle.lrat_check.proofs.TrailLemmas.{extends_all, extends_more}
+use Rattle.lrat_check.proofs.Justifying.TrailLemmas.{extends_all, extends_more}
 use Rattle.lrat_check.proofs.groups.check_candidate.Goals as goal
 
 pub returns-else-branch-clause-settled : goal.returns-else-branch-clause-settled

@@ -3,8 +3,8 @@ use Rattle.lrat_check.specs.ClauseAt.{clause_at}
 use Rattle.lrat_check.specs.Hints.{Group, first_hints, groups_of}
 use Rattle.lrat_check.specs.Propagation.{Extends}
 use Rattle.lrat_check.specs.Rat.{IsSettled}
-use Rattle.lrat_check.proofs.GroupLemmas.{group_settled}
-use Rattle.lrat_check.proofs.TrailLemmas.{first_kept}
+use Rattle.lrat_check.proofs.Justifying.GroupLemmas.{group_settled}
+use Rattle.lrat_check.proofs.Justifying.TrailLemmas.{first_kept}
 use Rattle.lrat_check.proofs.groups.check_candidates.Goals as goal
 
 pub loop-id-preserved : goal.loop-id-preserved

@@ -1,7 +1,7 @@
 use Rattle.std.proofs.Common.{◌≡◌, length, take}
 use Rattle.lrat_check.specs.ClauseAt.{clause_at}
 use Rattle.lrat_check.specs.Hints.{groups_of}
-use Rattle.lrat_check.proofs.GroupLemmas.{AreOnTheWay}
+use Rattle.lrat_check.proofs.Justifying.GroupLemmas.{AreOnTheWay}
 use Rattle.lrat_check.proofs.groups.check_candidates.Given as goal
 
 abbrev pub invariant-loop-id : goal.invariant-loop-id

@@ -8,7 +8,7 @@ use Rattle.std.proofs.lemmas.Bool.{eqb-true, eq-eqb, not-true, true≢false}
 use Rattle.lrat_check.specs.ClauseAt.{clause_at}
 use Rattle.lrat_check.specs.Counts.{times_at}
 use Rattle.lrat_check.specs.Hints.{Group, first_hints, groups_of}
-use Rattle.lrat_check.proofs.GroupLemmas.{pass_start, pass_new, pass_again, pass_end, none_opposes, decided}
+use Rattle.lrat_check.proofs.Justifying.GroupLemmas.{pass_start, pass_new, pass_again, pass_end, none_opposes, decided}
 use Rattle.lrat_check.proofs.groups.has_all.Goals as goal
 
 pub returns-then-count-eq0 : goal.returns-then-count-eq0

@@ -4,7 +4,7 @@ use Rattle.std.specs.Ordering.{nat_cmp}
 use Rattle.lrat_check.specs.ClauseAt.{clause_at}
 use Rattle.lrat_check.specs.Counts.{IsCount}
 use Rattle.lrat_check.specs.Hints.{groups_of}
-use Rattle.lrat_check.proofs.GroupLemmas.{ArePassed}
+use Rattle.lrat_check.proofs.Justifying.GroupLemmas.{ArePassed}
 use Rattle.lrat_check.proofs.groups.has_all.Given as goal
 
 abbrev pub invariant-loop-id : goal.invariant-loop-id

@@ -1,11 +1,29 @@
-use Rattle.std.proofs.Common.{◌≡◌, ◌<◌, ℤ, Bool, length, refl, subst, neg_ℤ, MatchBool, rules}
+use Rattle.std.proofs.Common.{◌≡◌, ◌<◌, ℤ, Bool, length, refl, subst, neg_ℤ, MatchBool, rules, ℕ, List, [], ◌∷◌, get_or, inr, arith}
+use Rattle.std.specs.Prelude.{Option}
 use Rattle.lrat_check.specs.ClauseAt.{clause_at}
 use Rattle.lrat_check.specs.Counts.{IsCount}
-use Rattle.lrat_check.specs.Hints.{groups_of}
-use Rattle.lrat_check.specs.Rat.{AreSettled, HasAllGroups, LacksGroup}
+use Rattle.lrat_check.specs.Hints.{groups_of, Group}
+use Rattle.lrat_check.specs.Rat.{AreSettled, HasAllGroups, LacksGroup, IsRat, IsNoRat, missing}
 use Rattle.lrat_check.specs.declared.active_clauses.ActiveClauses.{ActiveClauses}
-use Rattle.lrat_check.proofs.OpposeLemmas.{rat_shows, rat_lacks, rat_empty}
+use Rattle.lrat_check.specs.declared.refusal.StepFault.{StepFault}
 use Rattle.lrat_check.proofs.justification.check_rat.Goals as goal
+
+-- A clause and its pivot.
+
+module _ (active : ℕ → Option (List ℤ)) (groups : List Group) (reached : List ℤ) where
+  rat_shows : (clause : List ℤ) (pivot : ℤ) → 0 < length clause → pivot ≡ get_or clause 0 pivot → AreSettled active pivot reached groups → HasAllGroups active pivot groups → IsRat active clause groups reached
+  rat_shows [] pivot long is settled all = absurd (omega (arith, long))
+  rat_shows (first ∷ rest) pivot long is settled all = (subst (λ (z : ℤ). AreSettled active z reached groups) is settled, subst (λ (z : ℤ). HasAllGroups active z groups) is all)
+
+  rat_lacks : (clause : List ℤ) (pivot : ℤ) (fault : StepFault) → 0 < length clause → pivot ≡ get_or clause 0 pivot → AreSettled active pivot reached groups → LacksGroup active pivot groups → fault ≡ missing groups →
+      IsNoRat active clause groups reached fault
+  rat_lacks [] pivot fault long is settled lacks e = absurd (omega (arith, long))
+  rat_lacks (first ∷ rest) pivot fault long is settled lacks e =
+      inr (subst (λ (z : ℤ). AreSettled active z reached groups) is settled, subst (λ (z : ℤ). LacksGroup active z groups) is lacks, e)
+
+  rat_empty : (clause : List ℤ) (fault : StepFault) → length clause ≡ 0 → IsNoRat active [] groups reached fault → IsNoRat active clause groups reached fault
+  rat_empty [] fault none h = h
+  rat_empty (first ∷ rest) fault none h = absurd (omega (arith, none))
 
 pub returns-then-is_empty-clause-rat : goal.returns-then-is_empty-clause-rat
 returns-then-is_empty-clause-rat g c = λ base h.

@@ -1,4 +1,4 @@
-use Rattle.lrat_check.proofs.LratWrittenLemmas.{written_spells}
+use Rattle.lrat_check.proofs.DerivationText.LratWrittenLemmas.{written_spells}
 use Rattle.lrat_check.proofs.lrat_laws.canonical_spells.Goals as goal
 
 pub returns : goal.returns

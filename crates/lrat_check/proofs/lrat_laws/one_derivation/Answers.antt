@@ -1,4 +1,4 @@
-use Rattle.lrat_check.proofs.LratLawLemmas.{one_spelled}
+use Rattle.lrat_check.proofs.DerivationText.LratLawLemmas.{one_spelled}
 use Rattle.lrat_check.proofs.lrat_laws.one_derivation.Goals as goal
 
 pub returns : goal.returns

@@ -1,4 +1,4 @@
-use Rattle.lrat_check.proofs.LratLawLemmas.{spelled_or_refused}
+use Rattle.lrat_check.proofs.DerivationText.LratLawLemmas.{spelled_or_refused}
 use Rattle.lrat_check.proofs.lrat_laws.spelled_or_faulty.Goals as goal
 
 pub returns : goal.returns

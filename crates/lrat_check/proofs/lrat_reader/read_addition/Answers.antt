@@ -10,7 +10,7 @@ use Rattle.lrat_check.specs.declared.derivation.Step.{Step}
 use Rattle.lrat_check.specs.declared.lrat_fault.LratCause.{LratCause}
 use Rattle.text_lines.specs.declared.fault.PlacedFault.{PlacedFault}
 use Rattle.text_lines.specs.Fault.{IsRefusalAt}
-use Rattle.lrat_check.proofs.LratLineLemmas.{handed, refusal_weaker, first_passes, addition_read}
+use Rattle.lrat_check.proofs.DerivationText.LratLineLemmas.{handed, refusal_weaker, first_passes, addition_read}
 use Rattle.lrat_check.proofs.lrat_reader.read_addition.Goals as goal
 
 pub returns-in_err-hints : goal.returns-in_err-hints

@@ -7,8 +7,8 @@ use Rattle.text_lines.specs.Numbers.{solver_number}
 use Rattle.lrat_check.specs.LratFaults.{hint_fault}
 use Rattle.lrat_check.specs.LratRead.{BeginsWith, BeginsWithList}
 use Rattle.lrat_check.specs.LratText.{is_id_number}
-use Rattle.lrat_check.proofs.ListLemmas.{one_number, hint_right, hint_not_zero, hint_fits}
-use Rattle.lrat_check.proofs.ShortNumberLemmas.{reads_from_start, zero_ends}
+use Rattle.lrat_check.proofs.DerivationText.ListLemmas.{one_number, hint_right, hint_not_zero, hint_fits}
+use Rattle.lrat_check.proofs.DerivationText.ShortNumberLemmas.{reads_from_start, zero_ends}
 use Rattle.lrat_check.proofs.lrat_reader.read_hints.Goals as goal
 
 pub returns-in-Some : goal.returns-in-Some

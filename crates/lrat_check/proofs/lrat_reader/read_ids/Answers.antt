@@ -6,8 +6,8 @@ use Rattle.text_lines.specs.Numbers.{solver_number}
 use Rattle.lrat_check.specs.LratFaults.{id_fault}
 use Rattle.lrat_check.specs.LratRead.{BeginsWith, BeginsWithList}
 use Rattle.lrat_check.specs.LratText.{is_id_number}
-use Rattle.lrat_check.proofs.ListLemmas.{one_number, list_ended, number_fault, list_unended, id_right, id_not_zero, is_an_id}
-use Rattle.lrat_check.proofs.ShortNumberLemmas.{reads_from_start, zero_ends}
+use Rattle.lrat_check.proofs.DerivationText.ListLemmas.{one_number, list_ended, number_fault, list_unended, id_right, id_not_zero, is_an_id}
+use Rattle.lrat_check.proofs.DerivationText.ShortNumberLemmas.{reads_from_start, zero_ends}
 use Rattle.lrat_check.proofs.lrat_reader.read_ids.Goals as goal
 
 pub returns-in-Some : goal.returns-in-Some

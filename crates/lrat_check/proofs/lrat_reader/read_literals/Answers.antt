@@ -6,8 +6,8 @@ use Rattle.text_lines.specs.Words.{words_of}
 use Rattle.text_lines.specs.Numbers.{solver_number}
 use Rattle.lrat_check.specs.LratFaults.{literal_fault}
 use Rattle.lrat_check.specs.LratRead.{BeginsWith, BeginsWithList}
-use Rattle.lrat_check.proofs.ListLemmas.{one_number, literal_right, literal_not_zero}
-use Rattle.lrat_check.proofs.ShortNumberLemmas.{reads_from_start, zero_ends}
+use Rattle.lrat_check.proofs.DerivationText.ListLemmas.{one_number, literal_right, literal_not_zero}
+use Rattle.lrat_check.proofs.DerivationText.ShortNumberLemmas.{reads_from_start, zero_ends}
 use Rattle.lrat_check.proofs.lrat_reader.read_literals.Goals as goal
 
 pub returns-in-Some : goal.returns-in-Some

@@ -1,7 +1,7 @@
 use Rattle.std.proofs.Common.{◌+◌, List, sym, subst}
 use Rattle.std.proofs.lemmas.Option.{MatchOption-at_some, MatchOption-at_none}
 use Rattle.lrat_check.specs.declared.derivation.Step.{Step}
-use Rattle.lrat_check.proofs.DerivationTextLemmas.{IsReadSoFar, at_start, turn_skipped, turn_step}
+use Rattle.lrat_check.proofs.DerivationText.DerivationTextLemmas.{IsReadSoFar, at_start, turn_skipped, turn_step}
 use Rattle.lrat_check.proofs.lrat_reader.read_lrat.Goals as goal
 
 pub loop-line-init : goal.loop-line-init

@@ -1,5 +1,5 @@
 use Rattle.std.proofs.Common.{length}
-use Rattle.lrat_check.proofs.DerivationTextLemmas.{IsReadSoFar}
+use Rattle.lrat_check.proofs.DerivationText.DerivationTextLemmas.{IsReadSoFar}
 use Rattle.lrat_check.proofs.lrat_reader.read_lrat.Given as goal
 
 abbrev pub invariant-loop-line : goal.invariant-loop-line

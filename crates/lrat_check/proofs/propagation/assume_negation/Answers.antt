@@ -1,6 +1,6 @@
 use Rattle.std.proofs.Common.{◌++◌, ◌∷◌, [], ap, sym, ◌∙◌, arith}
 use Rattle.lrat_check.specs.Propagation.{is_falsified}
-use Rattle.lrat_check.proofs.PropagationLemmas.{assume_more, assume_found}
+use Rattle.lrat_check.proofs.Justifying.PropagationLemmas.{assume_more, assume_found}
 use Rattle.lrat_check.proofs.propagation.assume_negation.Goals as goal
 
 pub returns-then-is_false : goal.returns-then-is_false

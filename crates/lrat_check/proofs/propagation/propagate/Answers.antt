@@ -6,8 +6,8 @@ use Rattle.lrat_check.specs.ClauseAt.{clause_at}
 use Rattle.lrat_check.specs.Hints.{first_hints}
 use Rattle.lrat_check.specs.Standing.{IsStanding}
 use Rattle.lrat_check.specs.declared.propagation.ClauseStatus.{ClauseStatus}
-use Rattle.lrat_check.proofs.RefuteLemmas.{IsOnTheWay, on_unit, on_two, id_next}
-use Rattle.lrat_check.proofs.TrailLemmas.{extends_more}
+use Rattle.lrat_check.proofs.Justifying.RefuteLemmas.{IsOnTheWay, on_unit, on_two, id_next}
+use Rattle.lrat_check.proofs.Justifying.TrailLemmas.{extends_more}
 use Rattle.lrat_check.proofs.propagation.propagate.Goals as goal
 
 pub returns-in-Unfalsified-clause-refuted : goal.returns-in-Unfalsified-clause-refuted

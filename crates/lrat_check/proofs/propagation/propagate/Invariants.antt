@@ -1,5 +1,5 @@
 use Rattle.std.proofs.Common.{drop}
-use Rattle.lrat_check.proofs.RefuteLemmas.{IsOnTheWay}
+use Rattle.lrat_check.proofs.Justifying.RefuteLemmas.{IsOnTheWay}
 use Rattle.lrat_check.specs.ClauseAt.{clause_at}
 use Rattle.lrat_check.specs.Hints.{first_hints}
 use Rattle.lrat_check.specs.Propagation.{Extends}

@@ -1,7 +1,7 @@
 use Rattle.std.proofs.Common.{sym, subst, take, List, arith}
 use Rattle.std.specs.Prelude.{ℤ}
 use Rattle.lrat_check.specs.Standing.{IsStanding}
-use Rattle.lrat_check.proofs.PropagationLemmas.{take_item}
+use Rattle.lrat_check.proofs.Justifying.PropagationLemmas.{take_item}
 use Rattle.lrat_check.proofs.propagation.standing_of.Goals as goal
 
 pub loop-literal-preserved : goal.loop-literal-preserved

@@ -1,5 +1,5 @@
 use Rattle.std.proofs.Common.{arith}
-use Rattle.lrat_check.proofs.RatLemmas.{assumed_more}
+use Rattle.lrat_check.proofs.Justifying.RatLemmas.{assumed_more}
 use Rattle.lrat_check.proofs.rat.assume_others.Goals as goal
 
 pub loop-literal-preserved : goal.loop-literal-preserved

@@ -4,7 +4,7 @@ use Rattle.std.proofs.lemmas.Bool.{or_right}
 use Rattle.std.proofs.Math.Bool.{or-false}
 use Rattle.lrat_check.specs.Propagation.{has}
 use Rattle.lrat_check.specs.Rat.{others}
-use Rattle.lrat_check.proofs.RatLemmas.{any_more}
+use Rattle.lrat_check.proofs.Justifying.RatLemmas.{any_more}
 use Rattle.lrat_check.proofs.rat.other_holds.Goals as goal
 use Rattle.lrat_check.proofs.rat.other_holds.Goals.{then-is_true_other, else-is_true_other}
 

@@ -1,7 +1,7 @@
 use Rattle.std.proofs.Common.{◌≡◌, ◌+◌, List, ℕ, arith, drop, sym, subst}
 use Rattle.std.specs.Prelude.{pos}
 use Rattle.lrat_check.specs.ShortNumbers.{IsFirstNumber}
-use Rattle.lrat_check.proofs.ShortNumberLemmas.{first_number}
+use Rattle.lrat_check.proofs.DerivationText.ShortNumberLemmas.{first_number}
 use Rattle.lrat_check.proofs.short_numbers.behind_zero.Goals as goal
 
 pub returns : goal.returns

@@ -1,6 +1,6 @@
 use Rattle.std.proofs.Common.{◌-◌, ◌∙◌, arith, get_or, ap, sym}
 use Rattle.std.specs.Char.{is_ascii_digit}
-use Rattle.lrat_check.proofs.ShortNumberLemmas.{one_digit}
+use Rattle.lrat_check.proofs.DerivationText.ShortNumberLemmas.{one_digit}
 use Rattle.lrat_check.proofs.short_numbers.leading_digits.Goals as goal
 
 pub loop-byte-preserved : goal.loop-byte-preserved

@@ -4,8 +4,8 @@ use Rattle.std.proofs.lemmas.Int.{to_z_pos}
 use Rattle.lrat_check.specs.LratFaults.{hint_fault}
 use Rattle.lrat_check.specs.LratText.{is_id_number, most_id}
 use Rattle.lrat_check.specs.ShortNumbers.{IsFirstNumber, ReadsOn}
-use Rattle.lrat_check.proofs.ListLemmas.{hint_right, hint_not_zero, is_an_id}
-use Rattle.lrat_check.proofs.ShortNumberLemmas.{first_number, reads_number}
+use Rattle.lrat_check.proofs.DerivationText.ListLemmas.{hint_right, hint_not_zero, is_an_id}
+use Rattle.lrat_check.proofs.DerivationText.ShortNumberLemmas.{first_number, reads_number}
 use Rattle.lrat_check.proofs.short_numbers.push_short_hints.Goals as goal
 
 pub loop-rest-preserved : goal.loop-rest-preserved

@@ -4,8 +4,8 @@ use Rattle.dimacs.specs.Literal.{is_literal, most_variable}
 use Rattle.text_lines.specs.Numbers.{digits_after_sign}
 use Rattle.lrat_check.specs.LratFaults.{literal_fault}
 use Rattle.lrat_check.specs.ShortNumbers.{IsFirstNumber, IsShortNumber, ReadsOn}
-use Rattle.lrat_check.proofs.ListLemmas.{literal_right, literal_not_zero}
-use Rattle.lrat_check.proofs.ShortNumberLemmas.{signed_number, signed_literal, reads_number}
+use Rattle.lrat_check.proofs.DerivationText.ListLemmas.{literal_right, literal_not_zero}
+use Rattle.lrat_check.proofs.DerivationText.ShortNumberLemmas.{signed_number, signed_literal, reads_number}
 use Rattle.lrat_check.proofs.short_numbers.push_short_literals.Goals as goal
 
 pub loop-digits-preserved : goal.loop-digits-preserved

@@ -1,5 +1,5 @@
 use Rattle.std.proofs.Common.{arith}
-use Rattle.lrat_check.proofs.ShortNumberLemmas.{few_digits_small}
+use Rattle.lrat_check.proofs.DerivationText.ShortNumberLemmas.{few_digits_small}
 use Rattle.lrat_check.proofs.short_numbers.short_number.Goals as goal
 
 pub returns-clause-small : goal.returns-clause-small

@@ -1,5 +1,5 @@
 use Rattle.std.proofs.Common.{length, arith, ap}
-use Rattle.reducer.proofs.CopyLemmas.{sum_all, some_bound, few_so_far}
+use Rattle.reducer.proofs.KeptTrace.CopyLemmas.{sum_all, some_bound, few_so_far}
 use Rattle.reducer.proofs.kept.count_kept.Goals as goal
 
 pub overflow_sub-count : goal.overflow_sub-count

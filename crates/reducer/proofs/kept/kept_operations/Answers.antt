@@ -1,6 +1,6 @@
 use Rattle.std.proofs.Common.{◌++◌, ◌∷◌, [], length, arith, ap, sym, ◌∙◌}
 use Rattle.reducer.specs.Reduction.{kept_op}
-use Rattle.reducer.proofs.CopyLemmas.{op_here, op_is, one_more_op, all_ops}
+use Rattle.reducer.proofs.KeptTrace.CopyLemmas.{op_here, op_is, one_more_op, all_ops}
 use Rattle.reducer.proofs.kept.kept_operations.Goals as goal
 
 pub overflow_sub-op : goal.overflow_sub-op

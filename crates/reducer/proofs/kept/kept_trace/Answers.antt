@@ -1,7 +1,7 @@
 use Rattle.std.proofs.Common.{sym, ◌∙◌, subst}
 use Rattle.trace_semantics.specs.Trace.{IsTrace}
-use Rattle.reducer.proofs.BoundsLemmas.{places_kept}
-use Rattle.reducer.proofs.TraceLemmas.{kept_is_trace}
+use Rattle.reducer.proofs.KeptTrace.BoundsLemmas.{places_kept}
+use Rattle.reducer.proofs.KeptTrace.TraceLemmas.{kept_is_trace}
 use Rattle.reducer.proofs.kept.kept_trace.Goals as goal
 
 pub kept_processes-requires : goal.kept_processes-requires

@@ -1,5 +1,5 @@
 use Rattle.std.proofs.Common.{◌∙◌}
-use Rattle.reducer.proofs.BoundsLemmas.{bounds_more, few_operations}
+use Rattle.reducer.proofs.KeptTrace.BoundsLemmas.{bounds_more, few_operations}
 use Rattle.reducer.proofs.kept_places.all_bounds.Goals as goal
 
 pub loop-process-preserved : goal.loop-process-preserved

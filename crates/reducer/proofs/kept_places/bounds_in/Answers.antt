@@ -1,6 +1,6 @@
 use Rattle.std.proofs.Common.{◌+◌, ◌++◌, ◌∷◌, [], ap, sym, ◌∙◌, append-nil, true, false}
 use Rattle.reducer.specs.Runs.{keeps}
-use Rattle.reducer.proofs.BoundsLemmas.{one_more_bound}
+use Rattle.reducer.proofs.KeptTrace.BoundsLemmas.{one_more_bound}
 use Rattle.reducer.proofs.kept_places.bounds_in.Goals as goal
 use Rattle.reducer.proofs.kept_places.bounds_in.Goals.{then-is_kept+in_ok-push, else-is_kept}
 

@@ -2,7 +2,7 @@ use Rattle.std.proofs.Common.{subst}
 use Rattle.std.specs.List.{Contains}
 use Rattle.trace_semantics.specs.declared.operation.OpName.{OpName}
 use Rattle.reducer.specs.Expansion.{expanded}
-use Rattle.reducer.proofs.KeptLemmas.{kept_first}
+use Rattle.reducer.proofs.KeptTrace.KeptLemmas.{kept_first}
 use Rattle.reducer.proofs.RunLemmas.{expanded_member, belongs}
 use Rattle.reducer.proofs.laws.expands_to_those_of_its_new_name.Goals as goal
 

@@ -1,7 +1,7 @@
 use Rattle.restriction.specs.Left.{new_name}
 use Rattle.restriction.proofs.LeftLemmas.{known_old}
 use Rattle.reducer.specs.Reduction.{kept_op}
-use Rattle.reducer.proofs.KeptLemmas.{first_operation}
+use Rattle.reducer.proofs.KeptTrace.KeptLemmas.{first_operation}
 use Rattle.reducer.proofs.laws.kept_has_its_new_name.Goals as goal
 
 pub returns : goal.returns

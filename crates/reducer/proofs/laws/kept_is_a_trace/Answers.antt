@@ -1,4 +1,4 @@
-use Rattle.reducer.proofs.TraceLemmas.{kept_is_trace}
+use Rattle.reducer.proofs.KeptTrace.TraceLemmas.{kept_is_trace}
 use Rattle.reducer.proofs.laws.kept_is_a_trace.Goals as goal
 
 pub returns : goal.returns

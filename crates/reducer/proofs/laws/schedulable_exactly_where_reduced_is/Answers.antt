@@ -1,6 +1,6 @@
 use Rattle.reducer.specs.Expansion.{expansion}
-use Rattle.reducer.proofs.InterleavingLemmas.{reduced}
-use Rattle.reducer.proofs.ScheduleLemmas.{expansion_legal, reduction_legal}
+use Rattle.reducer.proofs.DroppedReads.InterleavingLemmas.{reduced}
+use Rattle.reducer.proofs.DroppedReads.ScheduleLemmas.{expansion_legal, reduction_legal}
 use Rattle.reducer.proofs.laws.schedulable_exactly_where_reduced_is.Goals as goal
 
 pub returns : goal.returns

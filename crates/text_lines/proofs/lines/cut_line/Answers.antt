@@ -1,7 +1,7 @@
 use Rattle.std.proofs.Common.{◌<◌, ◌∙◌, ◌∷◌, length, sym, arith}
 use Rattle.std.proofs.lemmas.Bool.Decides.{nat_tests}
 use Rattle.text_lines.specs.Lines.{lines_of}
-use Rattle.text_lines.proofs.CutLemmas.{lines_cut}
+use Rattle.text_lines.proofs.Cutting.CutLemmas.{lines_cut}
 use Rattle.text_lines.proofs.lines.cut_line.Goals as goal
 
 pub returns-clause-lines : goal.returns-clause-lines

@@ -1,4 +1,4 @@
-use Rattle.text_lines.proofs.LineLemmas.{line_ended}
+use Rattle.text_lines.proofs.Cutting.LineLemmas.{line_ended}
 use Rattle.text_lines.proofs.lines.ended_line_is_first.Goals as goal
 
 pub returns : goal.returns

@@ -1,4 +1,4 @@
-use Rattle.text_lines.proofs.PlainLemmas.{plain_exactly}
+use Rattle.text_lines.proofs.Decimals.PlainLemmas.{plain_exactly}
 use Rattle.text_lines.proofs.numbers.plain_exactly_decimal.Goals as goal
 
 pub returns : goal.returns

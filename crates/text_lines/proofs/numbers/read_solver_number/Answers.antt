@@ -1,7 +1,7 @@
 use Rattle.std.proofs.Common.{◌≡◌, ◌∙◌, ap, sym, true, false}
 use Rattle.std.specs.Str.Parse.{digits_value}
 use Rattle.text_lines.specs.Numbers.{is_digits, digits_after_sign}
-use Rattle.text_lines.proofs.SolverLemmas.{read_number, is_number, not_zero, kept_value}
+use Rattle.text_lines.proofs.Decimals.SolverLemmas.{read_number, is_number, not_zero, kept_value}
 use Rattle.text_lines.proofs.numbers.read_solver_number.Goals as goal
 use Rattle.text_lines.proofs.numbers.read_solver_number.Goals.{else-is_negative-via-then-is_negative+else-eq, else-is_negative-via-else-is_negative}
 

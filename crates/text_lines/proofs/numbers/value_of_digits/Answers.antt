@@ -1,5 +1,5 @@
 use Rattle.std.proofs.Common.{◌∙◌, arith}
-use Rattle.text_lines.proofs.NumberLemmas.{too_large, one_more, within}
+use Rattle.text_lines.proofs.Decimals.NumberLemmas.{too_large, one_more, within}
 use Rattle.text_lines.proofs.numbers.value_of_digits.Goals as goal
 
 pub returns-in_err-value : goal.returns-in_err-value

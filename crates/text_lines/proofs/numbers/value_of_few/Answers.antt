@@ -1,5 +1,5 @@
 use Rattle.std.proofs.Common.{◌+◌, ◌*◌, sym, subst, arith}
-use Rattle.text_lines.proofs.NumberLemmas.{AreFewDigits, one_more_digit}
+use Rattle.text_lines.proofs.Decimals.NumberLemmas.{AreFewDigits, one_more_digit}
 use Rattle.text_lines.proofs.numbers.value_of_few.Goals as goal
 
 pub loop-byte-preserved : goal.loop-byte-preserved

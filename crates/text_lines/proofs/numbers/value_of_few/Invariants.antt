@@ -1,4 +1,4 @@
-use Rattle.text_lines.proofs.NumberLemmas.{AreFewDigits}
+use Rattle.text_lines.proofs.Decimals.NumberLemmas.{AreFewDigits}
 use Rattle.text_lines.proofs.numbers.value_of_few.Given as goal
 
 abbrev pub invariant-loop-byte : goal.invariant-loop-byte

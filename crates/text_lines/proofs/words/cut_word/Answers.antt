@@ -2,7 +2,7 @@ use Rattle.std.proofs.Common.{◌≡◌, ◌∙◌, ◌∷◌, ◌-◌, sym, ap,
 use Rattle.std.specs.List.{before_first, after_first}
 use Rattle.std.proofs.lemmas.List.{take_rest}
 use Rattle.text_lines.specs.Words.{words_of, is_blank}
-use Rattle.text_lines.proofs.CutLemmas.{words_from, words_none, word_at, no_word}
+use Rattle.text_lines.proofs.Cutting.CutLemmas.{words_from, words_none, word_at, no_word}
 use Rattle.text_lines.proofs.words.cut_word.Goals as goal
 
 pub returns-in-Some-clause-words : goal.returns-in-Some-clause-words

@@ -2,7 +2,7 @@ use Rattle.std.proofs.Common.{◌≡◌, List, ℕ, ◌∷◌, ◌++◌, [], ◌
 use Rattle.std.proofs.lemmas.Bool.Decides.{nat_tests}
 use Rattle.std.proofs.lemmas.List.{map-append, length-map}
 use Rattle.std.specs.Borrow.{Bor}
-use Rattle.text_lines.proofs.TakeLemmas.{AreFirstWords, one_more_word}
+use Rattle.text_lines.proofs.Cutting.TakeLemmas.{AreFirstWords, one_more_word}
 use Rattle.text_lines.proofs.words.first_words.Goals as goal
 
 pub loop-rest-preserved : goal.loop-rest-preserved

@@ -1,5 +1,5 @@
 use Rattle.std.proofs.Common.{length, map}
-use Rattle.text_lines.proofs.TakeLemmas.{AreFirstWords}
+use Rattle.text_lines.proofs.Cutting.TakeLemmas.{AreFirstWords}
 use Rattle.text_lines.proofs.words.first_words.Given as goal
 
 abbrev pub invariant-loop-rest : goal.invariant-loop-rest

@@ -1,6 +1,18 @@
+use Rattle.std.proofs.Common.{◌≡◌, Bool, true, false, ◌&&◌}
 use Rattle.std.proofs.lemmas.Result.{err_from_is_err_and}
-use Rattle.trace_text.proofs.RefusalLemmas.{second_number}
+use Rattle.text_lines.specs.declared.plain_fault.PlainFault.{PlainFault}
+use Rattle.text_lines.specs.PlainFault.{IsRefusedFor}
+use Rattle.trace_text.specs.declared.trace_fault.TraceCause.{TraceCause}
+use Rattle.trace_text.specs.Entry.{number_fault}
 use Rattle.trace_text.proofs.entry.read_pair.Goals as goal
+
+-- Refusals for a fault.
+
+-- the second of two tests fails
+second_number : (a b : Bool) (r : PlainFault TraceCause) → a ≡ true → IsRefusedFor (number_fault b) r → IsRefusedFor (number_fault (a && (b && true))) r
+second_number true true r h k = k
+second_number true false r h k = k
+second_number false b r h k = absurd (cc)
 
 pub returns-in_err-second-clause-refused : goal.returns-in_err-second-clause-refused
 returns-in_err-second-clause-refused c =

@@ -3,7 +3,7 @@ use Rattle.std.specs.Prelude.{Option, MatchOption}
 use Rattle.text_lines.specs.Words.{words_of}
 use Rattle.trace_text.specs.Header.{IsHeaderLine}
 use Rattle.text_lines.specs.Kept.{is_skipped}
-use Rattle.trace_text.proofs.LineLemmas.{nothing_read, skipped_line, header_line_read}
+use Rattle.trace_text.proofs.LineWords.LineLemmas.{nothing_read, skipped_line, header_line_read}
 use Rattle.trace_text.specs.declared.version.Version.{Version}
 use Rattle.trace_text.specs.Version.{is_two}
 use Rattle.trace_text.proofs.header.read_header.Goals as goal

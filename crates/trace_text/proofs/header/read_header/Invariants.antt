@@ -1,5 +1,5 @@
 use Rattle.std.proofs.Common.{length}
-use Rattle.trace_text.proofs.LineLemmas.{IsBeforeHeader}
+use Rattle.trace_text.proofs.LineWords.LineLemmas.{IsBeforeHeader}
 use Rattle.trace_text.proofs.header.read_header.Given as goal
 
 abbrev pub invariant-loop-line : goal.invariant-loop-line

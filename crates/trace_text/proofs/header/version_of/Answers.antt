@@ -1,5 +1,5 @@
 use Rattle.std.proofs.Common.{◌∙◌, sym}
-use Rattle.trace_text.proofs.LineLemmas.{pointwise_pair}
+use Rattle.trace_text.proofs.LineWords.LineLemmas.{pointwise_pair}
 use Rattle.trace_text.proofs.header.version_of.Goals as goal
 
 pub returns-then-is_header_of : goal.returns-then-is_header_of

@@ -1,5 +1,5 @@
 use Rattle.std.proofs.Common.{◌∙◌, ap, ltb, arith}
-use Rattle.trace_text.proofs.HighLemmas.{high_more}
+use Rattle.trace_text.proofs.LineWords.HighLemmas.{high_more}
 use Rattle.trace_text.proofs.line.has_high_byte.Goals as goal
 
 pub loop-byte-preserved : goal.loop-byte-preserved

@@ -6,8 +6,8 @@ use Rattle.text_lines.specs.Kept.{is_skipped}
 use Rattle.text_lines.specs.PlainFault.{IsRefusedFor}
 use Rattle.trace_text.specs.Said.{said}
 use Rattle.trace_text.specs.Statement.{statement_of}
-use Rattle.trace_text.proofs.LineLemmas.{skipped_first}
-use Rattle.trace_text.proofs.ReferenceLemmas.{fault_named}
+use Rattle.trace_text.proofs.LineWords.LineLemmas.{skipped_first}
+use Rattle.trace_text.proofs.LineWords.ReferenceLemmas.{fault_named}
 use Rattle.trace_text.specs.Version.{is_two}
 use Rattle.trace_text.proofs.references.check_line.Goals as goal
 

@@ -1,4 +1,4 @@
-use Rattle.trace_text.proofs.ReferenceLemmas.{nothing_looked_at, one_more_looked_at}
+use Rattle.trace_text.proofs.LineWords.ReferenceLemmas.{nothing_looked_at, one_more_looked_at}
 use Rattle.trace_text.specs.Version.{is_two}
 use Rattle.trace_text.proofs.references.check_lines.Goals as goal
 

@@ -1,5 +1,5 @@
 use Rattle.std.proofs.Common.{length}
-use Rattle.trace_text.proofs.ReferenceLemmas.{IsLookedAt}
+use Rattle.trace_text.proofs.LineWords.ReferenceLemmas.{IsLookedAt}
 use Rattle.trace_text.specs.Version.{is_two}
 use Rattle.trace_text.proofs.references.check_lines.Given as goal
 

@@ -1,4 +1,4 @@
-use Rattle.trace_text.proofs.TraceReadLemmas.{spelled_or_refused}
+use Rattle.trace_text.proofs.Reading.TraceReadLemmas.{spelled_or_refused}
 use Rattle.trace_text.proofs.trace_laws.spelled_or_faulty.Goals as goal
 
 pub returns : goal.returns

@@ -1,7 +1,7 @@
 use Rattle.std.proofs.Common.{sym, subst}
 use Rattle.text_lines.specs.Fault.{IsRefusal}
 use Rattle.trace_text.specs.TraceFault.{HasTraceFault}
-use Rattle.trace_text.proofs.LineLemmas.{header_read, one_more_line, refused_at}
+use Rattle.trace_text.proofs.LineWords.LineLemmas.{header_read, one_more_line, refused_at}
 use Rattle.trace_text.specs.Version.{is_two}
 use Rattle.trace_text.proofs.trace_reader.read_body.Goals as goal
 

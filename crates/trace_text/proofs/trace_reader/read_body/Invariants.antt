@@ -1,5 +1,5 @@
 use Rattle.std.proofs.Common.{length}
-use Rattle.trace_text.proofs.LineLemmas.{IsReadSoFar}
+use Rattle.trace_text.proofs.LineWords.LineLemmas.{IsReadSoFar}
 use Rattle.trace_text.specs.Version.{is_two}
 use Rattle.trace_text.proofs.trace_reader.read_body.Given as goal
 

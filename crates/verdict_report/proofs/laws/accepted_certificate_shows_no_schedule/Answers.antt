@@ -1,9 +1,28 @@
+use Rattle.std.proofs.Common.{List, [], refl, true, ◌∷◌, ◌≡◌}
+use Rattle.std.proofs.lemmas.Bool.{and_from, and_parts}
+use Rattle.std.specs.List.{list_all}
+use Rattle.std.specs.Prelude.{ℕ, ◌&&◌}
+use Rattle.certificate.specs.CertText.{AreSections}
+use Rattle.certificate.specs.Rechecked.{are_sections_of_clauses}
+use Rattle.certificate.specs.declared.certificate.Section.{Section}
 use Rattle.clause_blocks.specs.Clauses.{formula_of}
-use Rattle.reducer.proofs.TraceLemmas.{kept_is_trace}
+use Rattle.dimacs.specs.Literal.{is_clause}
+use Rattle.lrat_check.proofs.DerivationText.LratWrittenLemmas.{steps_add_clauses}
+use Rattle.lrat_check.specs.Derivation.{are_steps, is_step}
+use Rattle.lrat_check.specs.LratText.{is_id, is_id_number, is_lrat_step}
+use Rattle.lrat_check.specs.declared.derivation.Step.TheVariants.{Addition, Deletion}
+use Rattle.lrat_check.specs.declared.derivation.Step.{Step}
+use Rattle.reducer.proofs.KeptTrace.TraceLemmas.{kept_is_trace}
 use Rattle.reducer.specs.Reduction.{kept_trace}
-use Rattle.verdict_report.proofs.CertificateLemmas.{sections_add_clauses}
 use Rattle.verdict_report.proofs.MeaningLemmas.{model_of_schedule}
 use Rattle.verdict_report.proofs.laws.accepted_certificate_shows_no_schedule.Goals as goal
+
+-- The derivations of a certificate that a text spells add clauses.
+
+sections_add_clauses : (lines : List (List ℕ)) (sections : List Section) → AreSections lines sections → are_sections_of_clauses sections ≡ true
+sections_add_clauses lines [] h = refl
+sections_add_clauses lines (section ∷ sections) h =
+    and_from (are_steps section.derivation) (are_sections_of_clauses sections) (steps_add_clauses section.derivation h.1.derivation.written) (sections_add_clauses h.0 sections h.2)
 
 pub returns : goal.returns
 returns c text cert value certificate count names admitted spelled rechecked legal =

@@ -1,5 +1,5 @@
 use Rattle.std.proofs.Common.{inl, inr}
-use Rattle.trace_text.proofs.TraceReadLemmas.{spelled_or_refused}
+use Rattle.trace_text.proofs.Reading.TraceReadLemmas.{spelled_or_refused}
 use Rattle.verdict_report.proofs.AdmittedLemmas.{little_or_much}
 use Rattle.verdict_report.proofs.laws.admitted_or_refused.Goals as goal
 

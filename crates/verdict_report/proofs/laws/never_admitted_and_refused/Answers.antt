@@ -1,4 +1,4 @@
-use Rattle.trace_text.proofs.TraceClearLemmas.{never_both}
+use Rattle.trace_text.proofs.NeverFaulty.TraceClearLemmas.{never_both}
 use Rattle.verdict_report.proofs.AdmittedLemmas.{not_both}
 use Rattle.verdict_report.proofs.laws.never_admitted_and_refused.Goals as goal
 

@@ -1,12 +1,95 @@
-use Rattle.std.proofs.Common.{refl, rules, [], ◌∷◌}
+use Rattle.std.proofs.Common.{refl, rules, [], ◌∷◌, ◌≡◌, ℕ, ◌+◌, List, ◌++◌, inl, inr, sym, ◌∙◌, ap, subst, arith, append-nil}
+use Rattle.std.specs.Prelude.{Result, Ok, Err}
 use Rattle.std.proofs.lemmas.Result.{err_from_is_err_and}
-use Rattle.verdict_report.specs.Engine.{InPieces, of_one}
+use Rattle.dimacs.specs.declared.sink_fault.SinkFault.{SinkFault}
+use Rattle.dimacs.specs.declared.sink_fault.SinkFault.TheVariants.{OutOfMemory as NoRoom, Device as SinkFails}
+use Rattle.dimacs.specs.Sink.{AppendsFront}
+use Rattle.dimacs.specs.SinkFault.{failures_told}
+use Rattle.trace_semantics.specs.Trace.{TraceValue}
+use Rattle.reducer.specs.Reduction.{kept_trace}
+use Rattle.clause_blocks.specs.Clauses.{clauses_of}
+use Rattle.cube_tree.specs.CubeTree.{leaves}
+use Rattle.certificate.specs.CertText.{SpellsCertificate}
+use Rattle.certificate.specs.Rechecked.{IsRechecked}
+use Rattle.cube_jobs.specs.Options.{OptionsValue}
+use Rattle.trace_decision.specs.declared.decision.Decision.{Decision}
+use Rattle.trace_decision.specs.declared.decision.Decision.TheVariants.{Consistent, Inconsistent, Unknown as NotDecided}
+use Rattle.trace_decision.specs.declared.refutation.Refutation.{Refutation}
+use Rattle.trace_decision.specs.Decision.{IsDecided, certificate_in, certificate_text, report}
+use Rattle.verdict_report.specs.Engine.{InPieces, of_one, HandOut, IsRunOfEngine, IsRunOfWriting, Reads, TakesNothing, TakesWhole}
 use Rattle.verdict_report.specs.Runs.{SourceRun, SinkRun, source_run, sink_run}
-use Rattle.verdict_report.specs.VerifyEngine.{IsSaidOfTrace, status_of_decision, texts_with_certificate}
-use Rattle.verdict_report.proofs.CertifiedLemmas.{cert_cut_off, report_written, certified}
+use Rattle.verdict_report.specs.VerifyEngine.{IsSaidOfTrace, status_of_decision, texts_with_certificate, WritesAcceptedCertificate, IsDecidedFrom, IsRunOfCertifiedVerify}
+use Rattle.verdict_report.specs.declared.fault.Fault.{Fault}
+use Rattle.verdict_report.specs.declared.fault.Fault.TheVariants.{OutOfMemory, Device, InputTooLong, Trace, Schedule, Part, Model, Cnf, Lrat, Reduce, Decode, Check, Cert, Search}
+use Rattle.verdict_report.specs.declared.status.Status.{Status}
+use Rattle.verdict_report.specs.declared.status.Status.TheVariants.{Yes, No, Unknown}
+use Rattle.verdict_report.specs.Fault.{fault_of_sink}
 use Rattle.verdict_report.proofs.EngineLemmas.{unread, refused}
 use Rattle.verdict_report.proofs.VerifyLemmas.{consistent, unknown}
 use Rattle.verdict_report.proofs.verify_engine.run_certified_verify.Goals as goal
+
+-- How the engine that decides traces ends where a certificate is asked for.
+
+-- a sink that takes nothing takes a prefix of any text
+nothing_is_front : (out : SinkRun) (text : List ℕ) → TakesNothing out → AppendsFront out.before out.now text
+nothing_is_front out text none = record { front = []; back = text; parts = refl; appended = none.0 ∙ sym (append-nil out.before) }
+
+module _ (trace : SourceRun) (cert out : SinkRun) (text : List ℕ) (handed : HandOut (trace ∷ []) (text ∷ [])) (options : OptionsValue) (decision : Decision) (decided : IsDecidedFrom options text decision) where
+  reads : Reads (of_one IsSaidOfTrace) (trace ∷ []) (Ok decision)
+  reads = record { texts = text ∷ []; handed = handed; is_said = (options, decided) }
+
+  -- the certificate is cut off
+  cert_cut_off : (fault : SinkFault) → AppendsFront cert.before cert.now (certificate_text decision) → cert.failures_now ≡ cert.failures_before + failures_told fault → TakesNothing out →
+      IsRunOfCertifiedVerify trace cert out (Err (fault_of_sink fault))
+  cert_cut_off NoRoom front counts none = inr (record { answer = decision; reads = reads; stopped = inl ((front, omega (arith, counts)), (none, tt)) })
+  cert_cut_off SinkFails front counts none = inr (record { answer = decision; reads = reads; stopped = inl ((front, omega (arith, counts)), (none, tt)) })
+
+  -- the certificate is written, and then the report
+  report_written : TakesWhole cert (certificate_text decision) → (result : Result Status Fault) → IsRunOfWriting (report decision) (status_of_decision decision) out result → IsRunOfCertifiedVerify trace cert out result
+  report_written whole (Ok status) w = record { answer = decision; reads = reads; whole = (whole, (w.1, tt)); status_is = w.0 }
+  report_written whole (Err OutOfMemory) w = inr (record { answer = decision; reads = reads; stopped = inr (whole, inl ((nothing_is_front out (report decision) w, w.1), tt)) })
+  report_written whole (Err Device) w = inr (record { answer = decision; reads = reads; stopped = inr (whole, inl (w, tt)) })
+  report_written whole (Err InputTooLong) w = absurd w
+  report_written whole (Err (Trace cause line)) w = absurd w
+  report_written whole (Err (Schedule cause line)) w = absurd w
+  report_written whole (Err (Part cause line)) w = absurd w
+  report_written whole (Err (Model cause line)) w = absurd w
+  report_written whole (Err (Cnf cause line)) w = absurd w
+  report_written whole (Err (Lrat cause line)) w = absurd w
+  report_written whole (Err (Reduce cause left)) w = absurd w
+  report_written whole (Err (Decode cause clause)) w = absurd w
+  report_written whole (Err (Check cause step)) w = absurd w
+  report_written whole (Err (Cert cause place)) w = absurd w
+  report_written whole (Err (Search fault)) w = absurd w
+
+-- what the laws say of a certificate that is written
+module _ (trace : SourceRun) (cert : SinkRun) (text : List ℕ) (handed : HandOut (trace ∷ []) (text ∷ []))
+    (options : OptionsValue)
+    (spells : (options : OptionsValue) (value : TraceValue) (refutation : Refutation) → IsDecided options value (Inconsistent refutation) → SpellsCertificate (certificate_text (Inconsistent refutation)) (certificate_in refutation))
+    (accepted : (options : OptionsValue) (value : TraceValue) (refutation : Refutation) → IsDecided options value (Inconsistent refutation) → IsRechecked (clauses_of (kept_trace value)) (certificate_in refutation) (leaves refutation.tree)) where
+  certifies : (decision : Decision) → IsDecidedFrom options text decision → cert.now ≡ cert.before ++ certificate_text decision → (status : Status) → status ≡ status_of_decision decision → status ≡ No → WritesAcceptedCertificate trace cert
+  certifies (Consistent names) decided whole status is so = absurd (let wrong : Yes ≡ No = sym is ∙ so in cc)
+  certifies (Inconsistent refutation) decided whole status is so = record {
+    text = text;
+    handed = handed.0.0;
+    value = decided.value;
+    admitted = decided.admitted;
+    written = certificate_text (Inconsistent refutation);
+    whole = whole;
+    certificate = certificate_in refutation;
+    spelled = spells options decided.value refutation decided.decided;
+    count = leaves refutation.tree;
+    accepted = accepted options decided.value refutation decided.decided;
+    none_legal = decided.decided.1;
+  }
+  certifies (NotDecided cubes) decided whole status is so = absurd (let wrong : Unknown ≡ No = sym is ∙ so in cc)
+
+  -- the answer is the one for what is decided
+  certified : (decision : Decision) → IsDecidedFrom options text decision → cert.now ≡ cert.before ++ certificate_text decision → (out : SinkRun) (result : Result Status Fault) →
+      IsRunOfWriting (report decision) (status_of_decision decision) out result → result ≡ Ok No → WritesAcceptedCertificate trace cert
+  certified decision decided whole out result w so =
+      let at : IsRunOfWriting (report decision) (status_of_decision decision) out (Ok No) = subst (λ (r : Result Status Fault). IsRunOfWriting (report decision) (status_of_decision decision) out r) so w in
+      certifies decision decided whole No at.0 refl
 
 pub returns-clause-run : goal.returns-clause-run
 returns-clause-run g c =

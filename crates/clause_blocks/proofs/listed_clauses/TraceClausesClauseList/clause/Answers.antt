@@ -1,8 +1,8 @@
 use Rattle.std.proofs.Common.{◌≡◌, ◌<◌, ◌-◌, ◌∙◌, [], length, get_or, sym, subst}
 use Rattle.trace_semantics.specs.Trace.{operation_count}
 use Rattle.clause_blocks.specs.Pieces.{clauses_in}
-use Rattle.clause_blocks.proofs.ListLemmas.{piece_at}
-use Rattle.clause_blocks.proofs.PartLemmas.{clause_at, place_within}
+use Rattle.clause_blocks.proofs.ClauseList.ListLemmas.{piece_at}
+use Rattle.clause_blocks.proofs.ClauseList.PartLemmas.{clause_at, place_within}
 use Rattle.clause_blocks.proofs.listed_clauses.TraceClausesClauseList.clause.Goals as goal
 
 pub clause_in-requires : goal.clause_in-requires

@@ -5,8 +5,8 @@ use Rattle.dimacs.proofs.ModelLemmas.{no_model}
 use Rattle.trace_semantics.specs.Trace.{operation_count}
 use Rattle.clause_blocks.specs.Clauses.{pieces, clauses_of}
 use Rattle.clause_blocks.specs.Pieces.{clauses_in}
-use Rattle.clause_blocks.proofs.ListLemmas.{piece_at, all_pieces}
-use Rattle.clause_blocks.proofs.PartLemmas.{clauses_to, first_in_piece, first_within, piece_too}
+use Rattle.clause_blocks.proofs.ClauseList.ListLemmas.{piece_at, all_pieces}
+use Rattle.clause_blocks.proofs.ClauseList.PartLemmas.{clauses_to, first_in_piece, first_within, piece_too}
 use Rattle.clause_blocks.proofs.listed_clauses.TraceClausesClauseList.eval.Goals as goal
 
 pub overflow_add-result : goal.overflow_add-result

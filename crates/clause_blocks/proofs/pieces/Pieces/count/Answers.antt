@@ -1,6 +1,6 @@
 use Rattle.std.proofs.Common.{◌+◌, ◌∙◌, ap, sym}
 use Rattle.trace_semantics.specs.Trace.{operation_count}
-use Rattle.clause_blocks.proofs.ListLemmas.{piece_count}
+use Rattle.clause_blocks.proofs.ClauseList.ListLemmas.{piece_count}
 use Rattle.clause_blocks.proofs.pieces.Pieces.count.Goals as goal
 
 pub returns : goal.returns

@@ -1,7 +1,7 @@
 use Rattle.std.proofs.Common.{rules, ◌≡◌, ◌≤◌, ◌+◌, ◌-◌, ◌∙◌, ap, sym, arith}
 use Rattle.trace_semantics.specs.Trace.{operation_count}
 use Rattle.clause_blocks.specs.Blocks.{read_clauses, final_clauses, before_clauses}
-use Rattle.clause_blocks.proofs.ListLemmas.{piece_count, triples_piece, last_piece}
+use Rattle.clause_blocks.proofs.ClauseList.ListLemmas.{piece_count, triples_piece, last_piece}
 use Rattle.clause_blocks.proofs.pieces.Pieces.piece.Goals as goal
 
 pub returns-then-k-operations : goal.returns-then-k-operations

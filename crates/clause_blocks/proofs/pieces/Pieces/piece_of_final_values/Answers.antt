@@ -1,6 +1,6 @@
 use Rattle.std.proofs.Common.{◌∙◌, ap, arith}
 use Rattle.trace_semantics.specs.Trace.{operation_count}
-use Rattle.clause_blocks.proofs.ListLemmas.{piece_count}
+use Rattle.clause_blocks.proofs.ClauseList.ListLemmas.{piece_count}
 use Rattle.clause_blocks.proofs.pieces.Pieces.piece_of_final_values.Goals as goal
 
 pub returns-clause-number : goal.returns-clause-number

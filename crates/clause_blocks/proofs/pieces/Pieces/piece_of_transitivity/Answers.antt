@@ -1,5 +1,5 @@
 use Rattle.std.proofs.Common.{arith}
-use Rattle.clause_blocks.proofs.ListLemmas.{piece_count}
+use Rattle.clause_blocks.proofs.ClauseList.ListLemmas.{piece_count}
 use Rattle.clause_blocks.proofs.pieces.Pieces.piece_of_transitivity.Goals as goal
 
 pub returns-clause-within : goal.returns-clause-within

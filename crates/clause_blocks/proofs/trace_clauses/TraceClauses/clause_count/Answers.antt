@@ -1,7 +1,7 @@
 use Rattle.std.proofs.Common.{◌≡◌, ◌∙◌, length, ap, arith}
 use Rattle.clause_blocks.specs.Clauses.{clauses_of}
 use Rattle.clause_blocks.specs.Pieces.{clauses_before}
-use Rattle.clause_blocks.proofs.ListLemmas.{all_pieces}
+use Rattle.clause_blocks.proofs.ClauseList.ListLemmas.{all_pieces}
 use Rattle.clause_blocks.proofs.trace_clauses.TraceClauses.clause_count.Goals as goal
 
 pub returns-clause-count : goal.returns-clause-count

@@ -3,7 +3,7 @@ use Rattle.dimacs.specs.Assignment.{value_of}
 use Rattle.dimacs.specs.Models.{IsModel}
 use Rattle.trace_semantics.specs.Trace.{operation_count}
 use Rattle.clause_blocks.specs.Pieces.{clauses_in}
-use Rattle.clause_blocks.proofs.PartLemmas.{from_whole}
+use Rattle.clause_blocks.proofs.ClauseList.PartLemmas.{from_whole}
 use Rattle.clause_blocks.proofs.trace_clauses.TraceClauses.eval_piece.Goals as goal
 
 pub returns-in-TransitivityFrom-clause-model : goal.returns-in-TransitivityFrom-clause-model

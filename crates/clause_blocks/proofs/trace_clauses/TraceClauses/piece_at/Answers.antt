@@ -2,8 +2,8 @@ use Rattle.std.proofs.Common.{◌≡◌, ◌+◌, ◌∙◌, length, map, get_or
 use Rattle.std.specs.List.{range_with_len}
 use Rattle.clause_blocks.specs.Clauses.{pieces, clauses_of}
 use Rattle.clause_blocks.specs.Pieces.{clauses_before}
-use Rattle.clause_blocks.proofs.ListLemmas.{all_pieces}
-use Rattle.clause_blocks.proofs.PieceLemmas.{entry, long}
+use Rattle.clause_blocks.proofs.ClauseList.ListLemmas.{all_pieces}
+use Rattle.clause_blocks.proofs.InPieces.PieceLemmas.{entry, long}
 use Rattle.clause_blocks.proofs.trace_clauses.TraceClauses.piece_at.Goals as goal
 
 pub reached-requires-clause-within : goal.reached-requires-clause-within

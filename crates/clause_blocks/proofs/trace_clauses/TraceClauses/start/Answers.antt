@@ -2,7 +2,7 @@ use Rattle.std.proofs.Common.{◌≡◌, ◌+◌, ◌∙◌, length, map, ap, ar
 use Rattle.std.specs.List.{range_with_len}
 use Rattle.clause_blocks.specs.Clauses.{pieces}
 use Rattle.clause_blocks.specs.Pieces.{clauses_before}
-use Rattle.clause_blocks.proofs.PieceLemmas.{entry, long}
+use Rattle.clause_blocks.proofs.InPieces.PieceLemmas.{entry, long}
 use Rattle.clause_blocks.proofs.trace_clauses.TraceClauses.start.Goals as goal
 
 pub offset_bounds-starts-k : goal.offset_bounds-starts-k

@@ -2,8 +2,8 @@ use Rattle.std.proofs.Common.{◌≡◌, ◌<◌, ◌+◌, ◌-◌, ◌/◌, ◌
 use Rattle.std.specs.List.{range_with_len}
 use Rattle.clause_blocks.specs.Blocks.{transitivity_from}
 use Rattle.clause_blocks.specs.Triples.{below_middle, clause_of_triple}
-use Rattle.clause_blocks.proofs.PieceLemmas.{long}
-use Rattle.clause_blocks.proofs.TripleLemmas.{row_small, rises, row_within, highest_within, clause_is, triple_of}
+use Rattle.clause_blocks.proofs.InPieces.PieceLemmas.{long}
+use Rattle.clause_blocks.proofs.TransitivityClauses.TripleLemmas.{row_small, rises, row_within, highest_within, clause_is, triple_of}
 use Rattle.clause_blocks.proofs.triple_table.TripleTable.triple.Goals as goal
 
 pub overflow_cast-row : goal.overflow_cast-row

@@ -1,4 +1,4 @@
-use Rattle.job_board.proofs.StepLemmas.{cuts_jobs, cuts_results}
+use Rattle.job_board.proofs.TwoRules.StepLemmas.{cuts_jobs, cuts_results}
 use Rattle.job_board.proofs.board.Board.cut.Goals as goal
 
 pub another-requires-clause-rule : goal.another-requires-clause-rule

@@ -1,4 +1,4 @@
-use Rattle.job_board.proofs.StepLemmas.{ends_jobs, jobs_shown}
+use Rattle.job_board.proofs.TwoRules.StepLemmas.{ends_jobs, jobs_shown}
 use Rattle.job_board.proofs.board.Board.end_jobs.Goals as goal
 
 pub try_recv_as-last-requires-clause-rule : goal.try_recv_as-last-requires-clause-rule

@@ -1,4 +1,4 @@
-use Rattle.job_board.proofs.StepLemmas.{gathers}
+use Rattle.job_board.proofs.TwoRules.StepLemmas.{gathers}
 use Rattle.job_board.proofs.board.Board.gather.Goals as goal
 
 pub recv_as-requires-clause-rule : goal.recv_as-requires-clause-rule

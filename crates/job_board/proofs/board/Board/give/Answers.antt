@@ -1,4 +1,4 @@
-use Rattle.job_board.proofs.StepLemmas.{gives}
+use Rattle.job_board.proofs.TwoRules.StepLemmas.{gives}
 use Rattle.job_board.proofs.board.Board.give.Goals as goal
 
 pub send_as-requires-clause-rule : goal.send_as-requires-clause-rule

@@ -1,4 +1,4 @@
-use Rattle.job_board.proofs.StepLemmas.{joins_jobs, joins_results}
+use Rattle.job_board.proofs.TwoRules.StepLemmas.{joins_jobs, joins_results}
 use Rattle.job_board.proofs.board.Board.join.Goals as goal
 
 pub absorb-requires-clause-rule : goal.absorb-requires-clause-rule

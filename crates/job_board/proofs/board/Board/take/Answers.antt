@@ -1,4 +1,4 @@
-use Rattle.job_board.proofs.StepLemmas.{takes}
+use Rattle.job_board.proofs.TwoRules.StepLemmas.{takes}
 use Rattle.job_board.proofs.board.Board.take.Goals as goal
 
 pub recv_as-requires-clause-rule : goal.recv_as-requires-clause-rule

@@ -1,5 +1,5 @@
-use Rattle.job_board.proofs.JobRuleLemmas as dealt
-use Rattle.job_board.proofs.ResultRuleLemmas as gathered
+use Rattle.job_board.proofs.TwoRules.JobRuleLemmas as dealt
+use Rattle.job_board.proofs.TwoRules.ResultRuleLemmas as gathered
 use Rattle.job_board.proofs.board.Board.with_channels.Goals as goal
 
 pub bounded_with-requires-clause-rule : goal.bounded_with-requires-clause-rule

@@ -11,8 +11,8 @@ use Rattle.std.proofs.lemmas.Map.Keys.{IsDistinct-from_sorted}
 use Rattle.lrat_check.specs.AddedAt.{in_tree_at, row_at}
 use Rattle.lrat_check.specs.ClauseAt.{in_front, kept_at}
 use Rattle.lrat_check.specs.Counted.{AreChanges}
-use Rattle.lrat_check.proofs.AddedLemmas.{by_id}
-use Rattle.lrat_check.proofs.KeptLemmas.{passed, is_left, passed_none, passed_more, passed_same, all_passed, distinct_rest, not_left, shows_one}
+use Rattle.lrat_check.proofs.Counting.AddedLemmas.{by_id}
+use Rattle.lrat_check.proofs.Counting.KeptLemmas.{passed, is_left, passed_none, passed_more, passed_same, all_passed, distinct_rest, not_left, shows_one}
 use Rattle.lrat_check.proofs.active_clauses.ActiveClauses.count_in_tree.Goals as goal
 
 pub loop-id-init : goal.loop-id-init

@@ -4,7 +4,7 @@ use Rattle.std.specs.List.{IsDistinct}
 use Rattle.lrat_check.specs.AddedAt.{in_tree_at}
 use Rattle.lrat_check.specs.ClauseAt.{in_front}
 use Rattle.lrat_check.specs.Counted.{AreChanges}
-use Rattle.lrat_check.proofs.KeptLemmas.{passed, is_left}
+use Rattle.lrat_check.proofs.Counting.KeptLemmas.{passed, is_left}
 use Rattle.lrat_check.proofs.active_clauses.ActiveClauses.count_in_tree.Given as goal
 
 abbrev pub invariant-loop-id : goal.invariant-loop-id

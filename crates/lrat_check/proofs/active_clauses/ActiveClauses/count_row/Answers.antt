@@ -3,7 +3,7 @@ use Rattle.std.specs.Option.{is_some}
 use Rattle.std.proofs.lemmas.Result.{on_ok_weaker}
 use Rattle.lrat_check.specs.AddedAt.{row_at}
 use Rattle.lrat_check.specs.ClauseAt.{kept_at}
-use Rattle.lrat_check.proofs.KeptLemmas.{passed_more, passed_same, passed_over, from_next, next_is_first, shows_one, shows_none}
+use Rattle.lrat_check.proofs.Counting.KeptLemmas.{passed_more, passed_same, passed_over, from_next, next_is_first, shows_one, shows_none}
 use Rattle.lrat_check.proofs.active_clauses.ActiveClauses.count_row.Goals as goal
 
 pub returns-then-is_kept : goal.returns-then-is_kept

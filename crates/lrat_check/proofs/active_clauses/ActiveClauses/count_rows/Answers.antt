@@ -1,7 +1,7 @@
 use Rattle.std.proofs.Common.{◌≡◌, ◌+◌, subst, ℕ, length, arith, rules}
 use Rattle.lrat_check.specs.ClauseAt.{kept_at, early_at}
 use Rattle.lrat_check.specs.Counted.{AreChanges}
-use Rattle.lrat_check.proofs.KeptLemmas.{rows_start, rows_end}
+use Rattle.lrat_check.proofs.Counting.KeptLemmas.{rows_start, rows_end}
 use Rattle.lrat_check.proofs.active_clauses.ActiveClauses.count_rows.Goals as goal
 
 pub loop-place-init : goal.loop-place-init

@@ -4,7 +4,7 @@ use Rattle.std.specs.Option.{option_or}
 use Rattle.std.proofs.lemmas.Result.{on_ok_weaker}
 use Rattle.lrat_check.specs.AddedAt.{held_at}
 use Rattle.lrat_check.specs.ClauseAt.{kept_at, added_at}
-use Rattle.lrat_check.proofs.ActiveLemmas.{inserted}
+use Rattle.lrat_check.proofs.Counting.ActiveLemmas.{inserted}
 use Rattle.lrat_check.proofs.active_clauses.ActiveClauses.insert.Goals as goal
 
 pub returns : goal.returns

@@ -3,7 +3,7 @@ use Rattle.std.specs.Prelude.{None}
 use Rattle.std.specs.Option.{option_or}
 use Rattle.lrat_check.specs.AddedAt.{held_at}
 use Rattle.lrat_check.specs.ClauseAt.{kept_at, added_at}
-use Rattle.lrat_check.proofs.ActiveLemmas.{removed}
+use Rattle.lrat_check.proofs.Counting.ActiveLemmas.{removed}
 use Rattle.lrat_check.proofs.active_clauses.ActiveClauses.remove.Goals as goal
 
 pub returns : goal.returns

@@ -4,9 +4,9 @@ use Rattle.std.proofs.lemmas.Result.{on_ok_weaker}
 use Rattle.lrat_check.specs.Active.{at_start, without}
 use Rattle.lrat_check.specs.Hidden.{kept_by_table_from}
 use Rattle.lrat_check.specs.Marks.{marked_at}
-use Rattle.lrat_check.proofs.ChangeLemmas.{changes_same}
-use Rattle.lrat_check.proofs.HiddenLemmas.{still_there, passed_hidden, passed_shown}
-use Rattle.lrat_check.proofs.KeptLemmas.{from_next, next_is_first}
+use Rattle.lrat_check.proofs.Counting.ChangeLemmas.{changes_same}
+use Rattle.lrat_check.proofs.Counting.HiddenLemmas.{still_there, passed_hidden, passed_shown}
+use Rattle.lrat_check.proofs.Counting.KeptLemmas.{from_next, next_is_first}
 use Rattle.lrat_check.proofs.active_clauses.ActiveClauses.take_table_id_off.Goals as goal
 
 pub returns-then-table_hides : goal.returns-then-table_hides

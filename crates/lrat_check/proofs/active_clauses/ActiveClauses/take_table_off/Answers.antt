@@ -3,8 +3,8 @@ use Rattle.std.proofs.lemmas.Bool.{true≢false}
 use Rattle.lrat_check.specs.Active.{at_start}
 use Rattle.lrat_check.specs.Hidden.{kept_by_table_from, kept_by_table}
 use Rattle.lrat_check.specs.Marks.{marked_at}
-use Rattle.lrat_check.proofs.ChangeLemmas.{changes_same}
-use Rattle.lrat_check.proofs.HiddenLemmas.{none_passed, hidden_passed, zero_first, past_marks}
+use Rattle.lrat_check.proofs.Counting.ChangeLemmas.{changes_same}
+use Rattle.lrat_check.proofs.Counting.HiddenLemmas.{none_passed, hidden_passed, zero_first, past_marks}
 use Rattle.lrat_check.proofs.active_clauses.ActiveClauses.take_table_off.Goals as goal
 
 pub loop-id-init : goal.loop-id-init

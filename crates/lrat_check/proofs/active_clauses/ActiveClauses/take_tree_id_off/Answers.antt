@@ -4,8 +4,8 @@ use Rattle.std.proofs.lemmas.Bool.{ltb-true, ltb-false}
 use Rattle.std.proofs.lemmas.Result.{on_ok_weaker}
 use Rattle.lrat_check.specs.Active.{at_start, without}
 use Rattle.lrat_check.specs.Hidden.{is_hidden, kept_by_tree, kept_by_table}
-use Rattle.lrat_check.proofs.ChangeLemmas.{changes_same}
-use Rattle.lrat_check.proofs.HiddenLemmas.{still_there, passed_hidden, passed_shown, past_table_hidden, past_table_kept, below_table_kept}
+use Rattle.lrat_check.proofs.Counting.ChangeLemmas.{changes_same}
+use Rattle.lrat_check.proofs.Counting.HiddenLemmas.{still_there, passed_hidden, passed_shown, past_table_hidden, past_table_kept, below_table_kept}
 use Rattle.lrat_check.proofs.active_clauses.ActiveClauses.take_tree_id_off.Goals as goal
 
 pub returns-then-reaches : goal.returns-then-reaches

@@ -11,8 +11,8 @@ use Rattle.lrat_check.specs.Active.{at_start}
 use Rattle.lrat_check.specs.ClauseAt.{kept_at}
 use Rattle.lrat_check.specs.Counted.{AreChanges}
 use Rattle.lrat_check.specs.Hidden.{kept_by_tree, kept_by_table}
-use Rattle.lrat_check.proofs.ChangeLemmas.{changes_same}
-use Rattle.lrat_check.proofs.HiddenLemmas.{is_among, tree_start, tree_end, not_among, distinct_after}
+use Rattle.lrat_check.proofs.Counting.ChangeLemmas.{changes_same}
+use Rattle.lrat_check.proofs.Counting.HiddenLemmas.{is_among, tree_start, tree_end, not_among, distinct_after}
 use Rattle.lrat_check.proofs.active_clauses.ActiveClauses.take_tree_off.Goals as goal
 
 pub loop-id-init : goal.loop-id-init

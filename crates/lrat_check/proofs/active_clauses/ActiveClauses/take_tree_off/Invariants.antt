@@ -3,7 +3,7 @@ use Rattle.std.specs.List.{IsDistinct}
 use Rattle.lrat_check.specs.Active.{at_start}
 use Rattle.lrat_check.specs.Counted.{AreChanges}
 use Rattle.lrat_check.specs.Hidden.{kept_by_tree, kept_by_table}
-use Rattle.lrat_check.proofs.HiddenLemmas.{is_among}
+use Rattle.lrat_check.proofs.Counting.HiddenLemmas.{is_among}
 use Rattle.lrat_check.proofs.active_clauses.ActiveClauses.take_tree_off.Given as goal
 
 abbrev pub invariant-loop-id : goal.invariant-loop-id

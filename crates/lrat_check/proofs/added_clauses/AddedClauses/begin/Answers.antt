@@ -1,7 +1,7 @@
 use Rattle.std.proofs.Common.{◌≡◌, ◌∙◌, ap, sym, length, rules}
 use Rattle.std.specs.Option.{option_or}
 use Rattle.lrat_check.specs.AddedAt.{in_tree_at}
-use Rattle.lrat_check.proofs.AddedLemmas.{no_rows}
+use Rattle.lrat_check.proofs.Counting.AddedLemmas.{no_rows}
 use Rattle.lrat_check.proofs.added_clauses.AddedClauses.begin.Goals as goal
 
 pub returns-then-is_empty : goal.returns-then-is_empty

@@ -1,7 +1,7 @@
 use Rattle.std.proofs.Common.{◌-◌, arith}
 use Rattle.std.specs.Prelude.{None}
 use Rattle.lrat_check.specs.AddedAt.{in_row}
-use Rattle.lrat_check.proofs.AddedLemmas.{row_changed, before_first}
+use Rattle.lrat_check.proofs.Counting.AddedLemmas.{row_changed, before_first}
 use Rattle.lrat_check.proofs.added_clauses.AddedClauses.clear.Goals as goal
 
 pub returns-then-self-id-clause-rows : goal.returns-then-self-id-clause-rows

@@ -4,7 +4,7 @@ use Rattle.std.specs.Option.{option_or}
 use Rattle.std.proofs.lemmas.Bool.{eqb-true}
 use Rattle.std.proofs.lemmas.Result.{on_ok_weaker}
 use Rattle.lrat_check.specs.AddedAt.{row_at, in_tree_at}
-use Rattle.lrat_check.proofs.AddedLemmas.{row_changed, in_tree_changed, put_before, put_after}
+use Rattle.lrat_check.proofs.Counting.AddedLemmas.{row_changed, in_tree_changed, put_before, put_after}
 use Rattle.lrat_check.proofs.added_clauses.AddedClauses.insert.Goals as goal
 
 pub returns-in-Some : goal.returns-in-Some

@@ -5,7 +5,7 @@ use Rattle.std.specs.Map.{lookup}
 use Rattle.std.specs.Option.{option_or}
 use Rattle.std.specs.Ordering.{nat_cmp}
 use Rattle.lrat_check.specs.AddedAt.{row_at, in_tree_at}
-use Rattle.lrat_check.proofs.AddedLemmas.{in_tree_changed, taken}
+use Rattle.lrat_check.proofs.Counting.AddedLemmas.{in_tree_changed, taken}
 use Rattle.lrat_check.proofs.added_clauses.AddedClauses.remove.Goals as goal
 
 pub returns : goal.returns

@@ -1,5 +1,5 @@
 use Rattle.std.proofs.lemmas.Result.{on_ok_weaker}
-use Rattle.lrat_check.proofs.ChangeLemmas.{changes_more}
+use Rattle.lrat_check.proofs.Counting.ChangeLemmas.{changes_more}
 use Rattle.lrat_check.proofs.count_changes.CountChanges.add.Goals as goal
 
 pub returns : goal.returns

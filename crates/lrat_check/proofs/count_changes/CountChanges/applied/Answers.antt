@@ -1,6 +1,6 @@
 use Rattle.std.proofs.Common.{◌≡◌, ◌+◌, ◌-◌, rules}
 use Rattle.lrat_check.specs.Counts.{literal_count}
-use Rattle.lrat_check.proofs.ChangeLemmas.{count_applied}
+use Rattle.lrat_check.proofs.Counting.ChangeLemmas.{count_applied}
 use Rattle.lrat_check.proofs.count_changes.CountChanges.applied.Goals as goal
 
 pub returns-in-Some : goal.returns-in-Some

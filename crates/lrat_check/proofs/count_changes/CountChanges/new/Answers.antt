@@ -1,4 +1,4 @@
-use Rattle.lrat_check.proofs.ChangeLemmas.{no_changes}
+use Rattle.lrat_check.proofs.Counting.ChangeLemmas.{no_changes}
 use Rattle.lrat_check.proofs.count_changes.CountChanges.new.Goals as goal
 
 pub returns : goal.returns

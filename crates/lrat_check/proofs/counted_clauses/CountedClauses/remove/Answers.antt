@@ -2,7 +2,7 @@ use Rattle.std.proofs.Common.{◌∷◌, []}
 use Rattle.std.proofs.lemmas.Result.{on_ok_weaker}
 use Rattle.lrat_check.specs.Active.{without}
 use Rattle.lrat_check.specs.ClauseAt.{clause_at}
-use Rattle.lrat_check.proofs.KeptLemmas.{right_same}
+use Rattle.lrat_check.proofs.Counting.KeptLemmas.{right_same}
 use Rattle.lrat_check.proofs.counted_clauses.CountedClauses.remove.Goals as goal
 
 pub returns-clause-counted : goal.returns-clause-counted

@@ -1,7 +1,7 @@
 use Rattle.std.proofs.Common.{◌≡◌, ◌≤◌, length, vec_len, arith, rules}
 use Rattle.std.specs.BTreeSet.{contains}
 use Rattle.std.specs.Ordering.{nat_cmp}
-use Rattle.lrat_check.proofs.HiddenLemmas.{put_past}
+use Rattle.lrat_check.proofs.Counting.HiddenLemmas.{put_past}
 use Rattle.lrat_check.proofs.hidden_ids.HiddenIds.add_far.Goals as goal
 
 pub returns : goal.returns

@@ -1,6 +1,6 @@
 use Rattle.std.proofs.Common.{arith}
 use Rattle.lrat_check.specs.Marks.{place_of}
-use Rattle.lrat_check.proofs.CountLemmas.{raised}
+use Rattle.lrat_check.proofs.Counting.CountLemmas.{raised}
 use Rattle.lrat_check.proofs.literal_counts.LiteralCounts.add.Goals as goal
 
 pub loop-literal-preserved : goal.loop-literal-preserved

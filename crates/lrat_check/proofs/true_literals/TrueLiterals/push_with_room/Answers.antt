@@ -2,7 +2,7 @@ use Rattle.std.proofs.Common.{◌≡◌, ◌∙◌, eqb, cond, sym, subst, not, 
 use Rattle.lrat_check.specs.Marks.{place_of, is_marked}
 use Rattle.lrat_check.specs.Trail.{IsTrail}
 use Rattle.lrat_check.specs.declared.true_literals.TrueLiteral.{TrueLiteral}
-use Rattle.lrat_check.proofs.TrailLemmas.{trail_more, trail_same, taken_back}
+use Rattle.lrat_check.proofs.Justifying.TrailLemmas.{trail_more, trail_same, taken_back}
 use Rattle.lrat_check.proofs.true_literals.TrueLiterals.push_with_room.Goals as goal
 
 pub invariant_of-self-in-Ok : goal.invariant_of-self-in-Ok

@@ -2,7 +2,7 @@ use Rattle.std.proofs.Common.{eqb, cond, sym, subst, ◌∙◌, ◌&&◌, not, L
 use Rattle.lrat_check.specs.Marks.{place_of, is_marked}
 use Rattle.lrat_check.specs.Trail.{IsTrail}
 use Rattle.lrat_check.specs.declared.true_literals.TrueLiteral.{TrueLiteral}
-use Rattle.lrat_check.proofs.TrailLemmas.{trail_less}
+use Rattle.lrat_check.proofs.Justifying.TrailLemmas.{trail_less}
 use Rattle.lrat_check.proofs.true_literals.TrueLiterals.undo.Goals as goal
 
 pub invariant_of-self : goal.invariant_of-self

@@ -8,7 +8,7 @@ use Rattle.trace_text.specs.Read.{TakesWords}
 use Rattle.text_lines.specs.PlainFault.{IsRefusedFor}
 use Rattle.trace_text.specs.Statement.{statement_of}
 use Rattle.trace_text.specs.TraceFault.{said_fault, is_high}
-use Rattle.trace_text.proofs.LineLemmas.{line_refused, line_taken, skipped_first}
+use Rattle.trace_text.proofs.LineWords.LineLemmas.{line_refused, line_taken, skipped_first}
 use Rattle.trace_text.specs.Version.{is_two}
 use Rattle.trace_text.proofs.trace_reader.TraceReader.take_line.Goals as goal
 

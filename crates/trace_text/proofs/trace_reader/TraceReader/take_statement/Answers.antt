@@ -1,10 +1,75 @@
-use Rattle.std.proofs.Common.{◌∙◌, ap, sym}
+use Rattle.std.proofs.Common.{◌∙◌, ap, sym, ◌≡◌, List, [], ◌∷◌, ◌++◌, Bool, true, false, not, ◌&&◌, refl, subst}
+use Rattle.std.specs.Prelude.{Option, Some, None, is_some, IsSome, if◌then◌else◌}
+use Rattle.std.specs.List.{list_any, list_all}
 use Rattle.std.proofs.lemmas.Result.{on_ok_weaker, IfErr-weaker, err_from_is_err_and}
+use Rattle.text_lines.specs.declared.plain_fault.PlainFault.{PlainFault}
+use Rattle.text_lines.specs.PlainFault.{IsRefusedFor}
+use Rattle.text_lines.proofs.BoolLemmas.{never_without}
+use Rattle.trace_semantics.specs.Names.{is_name}
 use Rattle.trace_text.specs.Said.{said}
-use Rattle.trace_text.specs.Seen.{early_fault}
-use Rattle.trace_text.specs.TraceFault.{is_operation}
-use Rattle.trace_text.proofs.TakeLemmas.{refused_early, refused_number, refused_late, is_open, taken}
+use Rattle.trace_text.specs.Seen.{early_fault, fault_behind, Notes}
+use Rattle.trace_text.specs.TraceFault.{is_operation, is_proc, is_value_line, names_of, repeats, twice_cause, statement_fault}
+use Rattle.trace_text.specs.declared.entry.Entry.{Entry}
+use Rattle.trace_text.specs.declared.trace_fault.TraceCause.{TraceCause}
+use Rattle.trace_text.specs.declared.trace_reader.TraceReader.{TraceReader}
+use Rattle.trace_text.specs.Entry.{statement_for, has_numbers, number_fault, entry_fits}
+use Rattle.trace_text.specs.Gathered.{Adds, IsGathered}
+use Rattle.trace_text.specs.Progress.{IsProgress}
+use Rattle.trace_text.specs.Statement.{Statement}
+use Rattle.trace_text.proofs.Reading.EntryLemmas.{written_more}
+use Rattle.trace_text.proofs.Reading.GatheredLemmas.{gathered_more, begun_more, distinct_more}
+use Rattle.trace_text.proofs.Reading.SeenLemmas.{fault_early, fault_number, fault_late, fault_seen, seen_more, early_of, late_fault}
 use Rattle.trace_text.proofs.trace_reader.TraceReader.take_statement.Goals as goal
+
+-- One more statement.
+
+-- a fault of the place or of a name
+refused_early : (ss : List Statement) (r : TraceReader) (s : Statement) (cause : TraceCause) → IsProgress ss r → Some cause ≡ early_fault (is_some r.gathered.last) s → statement_fault ss s ≡ Some cause
+refused_early ss r s cause p h = fault_early ss s (is_some r.gathered.last) cause p.begun (sym h)
+
+-- a number is wrong
+refused_number : (ss : List Statement) (r : TraceReader) (s : Statement) (refusal : PlainFault TraceCause) → IsProgress ss r → None ≡ early_fault (is_some r.gathered.last) s → IsRefusedFor (number_fault (has_numbers s)) refusal → IsRefusedFor (statement_fault ss s) refusal
+refused_number ss r s refusal p h n = fault_number ss s (is_some r.gathered.last) refusal p.begun (sym h) n
+
+-- a fault after the others
+refused_late : (ss : List Statement) (r : TraceReader) (s : Statement) (refusal : PlainFault TraceCause) → IsProgress ss r → None ≡ early_fault (is_some r.gathered.last) s → has_numbers s ≡ true → IsRefusedFor (fault_behind r.seen s) refusal → IsRefusedFor (statement_fault ss s) refusal
+refused_late ss r s refusal p h n f = subst (λ o. IsRefusedFor o refusal) (fault_seen ss r.seen s p.seen ∙ sym (fault_late ss s (is_some r.gathered.last) p.begun (sym h) n)) f
+
+not_outside : (a b c : Bool) → early_of a b c ≡ None → b ≡ false
+not_outside a false c h = refl
+not_outside true true c h = absurd (cc)
+not_outside false true c h = absurd (cc)
+
+named : (a b c : Bool) → early_of a b c ≡ None → c ≡ true
+named true b c h = absurd (cc)
+named false true c h = absurd (cc)
+named false false true h = refl
+named false false false h = absurd (cc)
+
+-- an operation has an open process
+is_open : (r : TraceReader) (s : Statement) → None ≡ early_fault (is_some r.gathered.last) s → is_operation s ≡ true → IsSome r.gathered.last
+is_open r s h o = never_without (is_operation s) (is_some r.gathered.last) (not_outside (is_value_line s && is_some r.gathered.last) (is_operation s && not (is_some r.gathered.last)) (list_all is_name (names_of s)) (sym h)) o
+
+unrepeated_late : (b : Bool) (cause : TraceCause) (rest : Option TraceCause) → (if b then Some cause else rest) ≡ None → b ≡ false
+unrepeated_late true cause rest h = absurd (cc)
+unrepeated_late false cause rest h = refl
+
+-- a statement without a fault is taken
+taken : (ss : List Statement) (old new : TraceReader) (s : Statement) (e : Entry) → IsProgress ss old → None ≡ early_fault (is_some old.gathered.last) s → has_numbers s ≡ true → statement_for e ≡ s → entry_fits e ≡ true → Notes old.seen new.seen s → Adds old.gathered new.gathered e →
+    (statement_fault ss s ≡ None) × IsProgress (ss ++ s ∷ []) new
+taken ss old new s e p h n said fits notes adds =
+    let late : late_fault ss s ≡ None = sym (fault_seen ss old.seen s p.seen) ∙ notes.faultless in
+    let once : list_any (repeats (statement_for e)) ss ≡ false = ap (λ t. list_any (repeats t) ss) said ∙ unrepeated_late (list_any (repeats s) ss) (twice_cause s) _ late in
+    let inside_one : is_operation (statement_for e) ≡ true → IsSome old.gathered.last = λ (o : is_operation (statement_for e) ≡ true). is_open old s h (ap is_operation (sym said) ∙ o) in (
+      fault_late ss s (is_some old.gathered.last) p.begun (sym h) n ∙ late,
+      record {
+        seen = seen_more ss s old.seen new.seen p.seen notes;
+        gathered = subst (λ (t : Statement). IsGathered (ss ++ t ∷ []) new.gathered) said (gathered_more ss e old.gathered new.gathered inside_one p.gathered adds);
+        begun = ap (λ t. list_any is_proc (ss ++ t ∷ [])) (sym said) ∙ begun_more ss e old.gathered new.gathered p.begun adds;
+        distinct = distinct_more ss e old.gathered new.gathered once p.gathered p.distinct adds;
+        written = written_more e old.gathered new.gathered (ap (λ t. list_all is_name (names_of t)) said ∙ named (is_value_line s && is_some old.gathered.last) (is_operation s && not (is_some old.gathered.last)) (list_all is_name (names_of s)) (sym h)) fits p.written adds;
+      },
+    )
 
 pub returns-in-Some-clause-refused : goal.returns-in-Some-clause-refused
 returns-in-Some-clause-refused c ss p = refused_early ss c.args.self.now (said c.args.statement) c.in-Some.cause p (c.in-Some.ensures ∙ ap (λ b. early_fault b (said c.args.statement)) c.has_open_process.ensures)

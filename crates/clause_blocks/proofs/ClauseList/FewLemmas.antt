@@ -1,0 +1,191 @@
+-- A trace of at most 160 operations has fewer clauses than a header may announce.
+use Rattle.std.proofs.Common.{◌≡◌, ℕ, suc, ◌+◌, ◌*◌, ◌<◌, ◌≤◌, pos, List, [], ◌∷◌, ◌++◌, length, length-append, map, get_or, Bool, true, false, cond, not, eqb, refl, sym, ap, ◌∙◌, arith}
+use Rattle.std.specs.Prelude.{◌≢◌, Option, Some, None, is_some, if◌then◌else◌}
+use Rattle.std.specs.List.{AllPairs, enumerate_from, filter, flat_map}
+use Rattle.std.specs.Option.{option_and_then}
+use Rattle.std.specs.Str.{bytes_eq}
+use Rattle.std.proofs.lemmas.List.{length-map}
+use Rattle.std.proofs.lemmas.List.Concat.{length-flat_map}
+use Rattle.std.proofs.lemmas.List.FromFn.{length-enumerate_from, length-range_with_len}
+use Rattle.std.proofs.lemmas.List.Sums.{sum_by-le}
+use Rattle.std.proofs.lemmas.Nat.{mul-le}
+use Rattle.text_lines.proofs.ListLemmas.{few_pass}
+use Rattle.trace_semantics.proofs.NameLemmas.{same_bytes}
+use Rattle.trace_semantics.specs.declared.operation.Op.{Op}
+use Rattle.trace_semantics.specs.declared.operation.OpName.{OpName}
+use Rattle.trace_semantics.specs.Operation.{location_of, written_value}
+use Rattle.trace_semantics.specs.Trace.{TraceValue, IsTrace, operation_at, operation_count}
+use Rattle.trace_semantics.specs.ValueAfter.{value_left_at}
+use Rattle.var_layout.specs.declared.candidate.Candidate.{Candidate}
+use Rattle.var_layout.specs.declared.candidate.Candidate.TheVariants.{InitialValue, Writer}
+use Rattle.var_layout.specs.declared.candidate.ReadsFromChoice.{ReadsFromChoice}
+use Rattle.var_layout.specs.declared.candidate.FinalChoice.{FinalChoice}
+use Rattle.var_layout.specs.Candidates.{candidates}
+use Rattle.var_layout.specs.ChoiceVariables.{choices, first_choice}
+use Rattle.var_layout.specs.FinalVariables.{final_candidates, final_choices, first_final, is_untouched}
+use Rattle.var_layout.specs.Numbers.{in_one_process, left_at, name_at, number_of, numbers, others, other_writers, read_at, readers, writers}
+use Rattle.var_layout.proofs.BoundLemmas.{few_candidates, few_finals, few_leavers, few_others}
+use Rattle.clause_blocks.specs.Blocks.{before_clauses, clauses_of_final, clauses_of_read, final_clauses, implies, program_order, read_clauses, reads_from, stands_before, transitivity, void_clauses, writes_last}
+use Rattle.clause_blocks.specs.Clauses.{clauses_of}
+use Rattle.clause_blocks.proofs.TransitivityClauses.CountLemmas.{few_transitivity}
+use Rattle.clause_blocks.proofs.ClauseList.ListLemmas.{clause_list}
+use Rattle.clause_blocks.proofs.InPieces.SentLemmas.{few_passed}
+
+-- what some elements give, if each gives at most `most`
+pub few_flat : {X A : Type 0} (f : X → List A) (most : ℕ) (xs : List X) → ((x : X) → length (f x) ≤ most) → length (flat_map f xs) ≤ length xs * most
+few_flat f most xs h =
+    let all = sum_by-le (λ x. length (f x)) most xs (λ k d l. h (get_or xs k d)) in
+    let same = length-flat_map f xs in
+    omega (arith, all, same)
+
+few_if : {A : Type 0} (b : Bool) (xs ys : List A) (most : ℕ) → length xs ≤ most → length ys ≤ most → length (cond b xs ys) ≤ most
+few_if true xs ys most h g = h
+few_if false xs ys most h g = g
+
+-- what is read
+few_reads_from : (t : TraceValue) (r v : ℕ) (c : Candidate) → operation_count t ≤ 160 → length (reads_from t r v c) ≤ 161
+few_reads_from t r v InitialValue few =
+    let long = length-map (other_writers t r) (λ (u : ℕ). implies v (stands_before t r u ∷ [])) in
+    omega (arith, long, few_others t r, few)
+few_reads_from t r v (Writer w) few =
+    let long = length-map (others w (other_writers t r)) (λ (u : ℕ). implies v (stands_before t u w ∷ stands_before t r u ∷ [])) in
+    omega (arith, long, few_pass (λ (x : ℕ). not (eqb x w)) (other_writers t r), few_others t r, few)
+
+few_choices : (t : TraceValue) (r : ℕ) → operation_count t ≤ 160 → length (choices t r) ≤ 161
+few_choices t r few =
+    let long = length-map (enumerate_from (first_choice t r) (candidates t r)) (λ (numbered : ℕ × Candidate). let choice : ReadsFromChoice = record { candidate = numbered.1; variable = numbered.0 } in choice) in
+    omega (arith, long, length-enumerate_from (first_choice t r) (candidates t r), few_candidates t r, few)
+
+few_of_read : (t : TraceValue) (r : ℕ) → operation_count t ≤ 160 → length (clauses_of_read t r) ≤ 25922
+few_of_read t r few =
+    let meanings = flat_map (λ (c : ReadsFromChoice). reads_from t r c.variable c.candidate) (choices t r) in
+    let all = few_flat (λ (c : ReadsFromChoice). reads_from t r c.variable c.candidate) 161 (choices t r) (λ c. few_reads_from t r c.variable c.candidate few) in
+    few_if (eqb (length (candidates t r)) 0) (void_clauses (first_choice t r)) (map (λ (c : ReadsFromChoice). pos c.variable) (choices t r) ∷ meanings) 25922
+    (omega arith) (omega (arith, all, few_choices t r few))
+
+few_reads : (t : TraceValue) → operation_count t ≤ 160 → length (read_clauses t) ≤ 4147520
+few_reads t few =
+    let all = few_flat (clauses_of_read t) 25922 (readers t) (λ r. few_of_read t r few) in
+    omega (arith, all, few_pass (λ (i : ℕ). is_some (read_at t i)) (numbers t), length-range_with_len 0 (operation_count t), few)
+
+-- final values
+few_last : (t : TraceValue) (location : List ℕ) (c : FinalChoice) → length (writes_last t location c) ≤ length (writers t location)
+few_last t location c =
+    let long = length-map (others c.writer (writers t location)) (λ (v : ℕ). implies c.variable (stands_before t v c.writer ∷ [])) in
+    omega (arith, long, few_pass (λ (x : ℕ). not (eqb x c.writer)) (writers t location))
+
+few_final_choices : (t : TraceValue) (k : ℕ) (entry : List ℕ × ℕ) → operation_count t ≤ 160 → length (final_choices t k entry) ≤ 160
+few_final_choices t k entry few =
+    let long = length-map (enumerate_from (first_final t k) (final_candidates t entry)) (λ (numbered : ℕ × ℕ). let choice : FinalChoice = record { writer = numbered.1; variable = numbered.0 } in choice) in
+    omega (arith, long, length-enumerate_from (first_final t k) (final_candidates t entry), few_leavers t entry, few)
+
+few_of_final : (t : TraceValue) (k : ℕ) (entry : List ℕ × ℕ) → operation_count t ≤ 160 → length (clauses_of_final t k entry) ≤ 2 + 160 * length (writers t entry.0)
+few_of_final t k entry few =
+    let w = length (writers t entry.0) in
+    let meanings = flat_map (writes_last t entry.0) (final_choices t k entry) in
+    let all = few_flat (writes_last t entry.0) w (final_choices t k entry) (λ c. few_last t entry.0 c) in
+    let most = mul-le (length (final_choices t k entry)) w 160 w (few_final_choices t k entry few) (omega arith) in
+    few_if (is_untouched t entry) [] (cond (eqb (length (final_candidates t entry)) 0) (void_clauses (first_final t k)) (map (λ (c : FinalChoice). pos c.variable) (final_choices t k entry) ∷ meanings)) (2 + 160 * w)
+    (omega arith)
+    (few_if (eqb (length (final_candidates t entry)) 0) (void_clauses (first_final t k)) (map (λ (c : FinalChoice). pos c.variable) (final_choices t k entry) ∷ meanings) (2 + 160 * w)
+    (omega arith) (omega (arith, all, most)))
+
+-- how many numbers pass one of some tests
+module _ {E : Type 0} (p : E → ℕ → Bool) where
+  passed : List E → List ℕ → ℕ
+  passed [] xs = 0
+  passed (e ∷ es) xs = length (filter (p e) xs) + passed es xs
+
+  hits : List E → ℕ → ℕ
+  hits [] x = 0
+  hits (e ∷ es) x = cond (p e x) 1 0 + hits es x
+
+  none_passed : (es : List E) → passed es [] ≡ 0
+  unfolding passed
+  none_passed [] = refl
+  none_passed (e ∷ es) = ap (λ m. 0 + m) (none_passed es)
+
+  one_counted : (b : Bool) (x : ℕ) (kept : List ℕ) (a h q : ℕ) → a ≡ h + q → length (cond b (x ∷ kept) kept) + a ≡ cond b 1 0 + h + (length kept + q)
+  one_counted true x kept a h q e = omega (arith, e)
+  one_counted false x kept a h q e = omega (arith, e)
+
+  one_more : (es : List E) (x : ℕ) (xs : List ℕ) → passed es (x ∷ xs) ≡ hits es x + passed es xs
+  unfolding passed hits
+  one_more [] x xs = refl
+  one_more (e ∷ es) x xs = one_counted (p e x) x (filter (p e) xs) (passed es (x ∷ xs)) (hits es x) (passed es xs) (one_more es x xs)
+
+  none_hit : (es : List E) (x : ℕ) → ((k : ℕ) (d : E) → k < length es → p (get_or es k d) x ≡ false) → hits es x ≡ 0
+  unfolding hits
+  none_hit [] x h = refl
+  none_hit (e ∷ es) x h =
+      let here : p e x ≡ false = h 0 e (omega arith) in
+      let rest : hits es x ≡ 0 = none_hit es x (λ k d l. h (suc k) d (omega (arith, l))) in
+      λ i. cond (here i) 1 0 + rest i
+
+  hit_or_not : (b : Bool) (rest : ℕ) → (b ≡ true → rest ≡ 0) → rest ≤ 1 → cond b 1 0 + rest ≤ 1
+  hit_or_not true rest h g = omega (arith, h refl)
+  hit_or_not false rest h g = omega (arith, g)
+
+  one_hit : (es : List E) (x : ℕ) → AllPairs (λ (d e : E). p d x ≡ true → p e x ≡ false) es → hits es x ≤ 1
+  unfolding hits
+  one_hit [] x h = omega arith
+  one_hit (e ∷ es) x h =
+      hit_or_not (p e x) (hits es x) (λ here. none_hit es x (λ k d l. h 0 (suc k) d (omega arith) (omega (arith, l)) here))
+      (one_hit es x (λ i j d l m. h (suc i) (suc j) d (omega (arith, l)) (omega (arith, m))))
+
+  few_hits : (es : List E) (xs : List ℕ) → ((x : ℕ) → AllPairs (λ (d e : E). p d x ≡ true → p e x ≡ false) es) → passed es xs ≤ length xs
+  few_hits es [] h = omega (arith, none_passed es)
+  few_hits es (x ∷ xs) h = omega (arith, one_more es x xs, one_hit es x (h x), few_hits es xs h)
+
+-- no operation writes two locations
+apart_at : (a b : List ℕ) → a ≢ b → (op : Op) (x y : Bool) → bytes_eq (location_of op) a ≡ x → bytes_eq (location_of op) b ≡ y → (o : Option ℕ) → is_some (cond x o None) ≡ true → is_some (cond y o None) ≡ false
+apart_at a b apart op true true e f o h = absurd (apart (sym (same_bytes (location_of op) a e) ∙ same_bytes (location_of op) b f))
+apart_at a b apart op false true e f o h = absurd (cc)
+apart_at a b apart op x false e f o h = refl
+
+one_location : (t : TraceValue) (a b : List ℕ) (i : ℕ) → a ≢ b → is_some (left_at t a i) ≡ true → is_some (left_at t b i) ≡ false
+one_location t a b i apart = at (name_at t i)
+  where
+    under : (o : Option Op) → is_some (option_and_then (λ (op : Op). if bytes_eq (location_of op) a then written_value op else None) o) ≡ true → is_some (option_and_then (λ (op : Op). if bytes_eq (location_of op) b then written_value op else None) o) ≡ false
+    under None h = refl
+    under (Some op) h = apart_at a b apart op (bytes_eq (location_of op) a) (bytes_eq (location_of op) b) refl refl (written_value op) h
+
+    at : (n : Option OpName) → is_some (option_and_then (value_left_at t a) n) ≡ true → is_some (option_and_then (value_left_at t b) n) ≡ false
+    at None h = refl
+    at (Some n) h = under (operation_at t n) h
+
+abbrev writes_at : TraceValue → List ℕ × ℕ → ℕ → Bool
+writes_at t entry i = is_some (left_at t entry.0 i)
+
+few_written : (t : TraceValue) → IsTrace t → passed (writes_at t) t.final_values (numbers t) ≤ operation_count t
+few_written t ok =
+    let all = few_hits (writes_at t) t.final_values (numbers t) (λ x i j d l m. one_location t (get_or t.final_values i d).0 (get_or t.final_values j d).0 x (ok.final_values i j d l m)) in
+    omega (arith, all, length-range_with_len 0 (operation_count t))
+
+more_final : (a b c v w : ℕ) → a ≤ 2 + 160 * w → b ≤ 2 * v + 160 * c → a + b ≤ 2 * suc v + 160 * (w + c)
+more_final a b c v w h g = omega (arith, h, g)
+
+final_sum : (t : TraceValue) (m : ℕ) (values : List (List ℕ × ℕ)) → operation_count t ≤ 160 →
+    length (flat_map (λ (numbered : ℕ × (List ℕ × ℕ)). clauses_of_final t numbered.0 numbered.1) (enumerate_from m values)) ≤ 2 * length values + 160 * passed (writes_at t) values (numbers t)
+unfolding passed
+final_sum t m [] few = omega arith
+final_sum t m (entry ∷ values) few =
+    let rest = flat_map (λ (numbered : ℕ × (List ℕ × ℕ)). clauses_of_final t numbered.0 numbered.1) (enumerate_from (m + 1) values) in
+    let both : length (clauses_of_final t m entry ++ rest) ≡ length (clauses_of_final t m entry) + length rest = length-append (clauses_of_final t m entry) rest in
+    let most = more_final (length (clauses_of_final t m entry)) (length rest) (passed (writes_at t) values (numbers t)) (length values) (length (writers t entry.0)) (few_of_final t m entry few) (final_sum t (m + 1) values few) in
+    omega (arith, both, most)
+
+few_finals_in_all : (t : TraceValue) → IsTrace t → operation_count t ≤ 160 → length (final_clauses t) ≤ 33792
+few_finals_in_all t ok few = omega (arith, final_sum t 0 t.final_values few, few_finals t ok, few_written t ok, few)
+
+pub few_in_list : (t : TraceValue) → IsTrace t → operation_count t ≤ 160 → length (clauses_of t) ≤ 16777216
+few_in_list t ok few =
+    let order = few_passed (λ i. stands_before t i (i + 1) ∷ []) (λ i. in_one_process t i (i + 1)) (operation_count t) 160 few in
+    let triples = few_transitivity (operation_count t) few in
+    let pairs = length-map t.before (λ (pair : OpName × OpName). stands_before t (number_of t pair.0) (number_of t pair.1) ∷ []) in
+    let all = ap length (clause_list t) in
+    let a = length-append (program_order t) (transitivity (operation_count t) ++ (read_clauses t ++ (final_clauses t ++ before_clauses t))) in
+    let b = length-append (transitivity (operation_count t)) (read_clauses t ++ (final_clauses t ++ before_clauses t)) in
+    let c = length-append (read_clauses t) (final_clauses t ++ before_clauses t) in
+    let d = length-append (final_clauses t) (before_clauses t) in
+    omega (arith, order, triples, pairs, all, a, b, c, d, few_reads t few, few_finals_in_all t ok few, ok.few_pairs)

@@ -1,0 +1,44 @@
+-- The lines of what the numbers from a on give, one after the other: what the sink has taken of them, and what is still kept.
+use Rattle.std.proofs.Common.{◌≡◌, ℕ, ◌+◌, ◌-◌, ◌≤◌, ℤ, List, [], ◌∷◌, ◌++◌, neg_ℤ, sym, ap, ◌∙◌, subst, arith, append-nil}
+use Rattle.std.specs.List.{flat_map, range_with_len}
+use Rattle.dimacs.specs.CnfText.{clause_line}
+use Rattle.dimacs.specs.Sink.{AppendsFront, IsSent}
+use Rattle.var_layout.specs.OrderVariables.{numbers_above}
+use Rattle.clause_blocks.specs.Blocks.{no_cycle}
+use Rattle.clause_blocks.proofs.InPieces.SentLemmas.{sent_then, sent_then_front, front_of_both, flat_split}
+use Rattle.clause_blocks.proofs.InPieces.StepLemmas.{flat_upto}
+
+-- the two clauses of three operations, by the literals of their pairs
+abbrev pub cycle : ℤ → ℤ → ℤ → List (List ℤ)
+cycle ij jk ik = (neg_ℤ ij ∷ neg_ℤ jk ∷ ik ∷ []) ∷ (ij ∷ jk ∷ neg_ℤ ik ∷ []) ∷ []
+
+-- those of a pair i below j and each operation above j
+abbrev pub of_pair : ℕ → ℕ → ℕ → List (List ℤ)
+of_pair n i j = flat_map (no_cycle n i j) (numbers_above n j)
+
+module _ (head : List ℕ) (piece : ℕ → List (List ℤ)) (a : ℕ) where
+  -- the lines of what the numbers below k give
+  abbrev pub lines_to : ℕ → List ℕ
+  lines_to k = head ++ flat_map clause_line (flat_map piece (range_with_len a (k - a)))
+
+  pub range_begun : (old : List ℕ) (k : ℕ) → k ≡ a → IsSent old old head (lines_to k)
+  range_begun old k e =
+      let none : k - a ≡ 0 = omega (arith, e) in
+      record {
+        front = [];
+        parts = sym (ap (λ m. head ++ flat_map clause_line (flat_map piece (range_with_len a m))) none ∙ append-nil head);
+        appended = sym (append-nil old);
+      }
+
+  pub range_sent : (k : ℕ) (old between new kept kept' : List ℕ) → a ≤ k → IsSent old between kept (lines_to k) → IsSent between new kept' (kept ++ flat_map clause_line (piece k)) → IsSent old new kept' (lines_to (k + 1))
+  range_sent k old between new kept kept' low s t =
+      subst (λ clauses. IsSent old new kept' (head ++ flat_map clause_line clauses)) (flat_upto piece [] a k low)
+      (sent_then old between new head kept kept' (flat_map piece (range_with_len a (k - a))) (piece k) s t)
+
+  pub range_front : (k end : ℕ) (old between new kept : List ℕ) → a ≤ k → k + 1 ≤ end → IsSent old between kept (lines_to k) → AppendsFront between new (kept ++ flat_map clause_line (piece k)) → AppendsFront old new (lines_to end)
+  range_front k end old between new kept low high s f =
+      let upto = flat_map piece (range_with_len a (k - a)) in
+      let after = flat_map piece (range_with_len (k + 1) (end - (k + 1))) in
+      let all : (upto ++ piece k) ++ after ≡ flat_map piece (range_with_len a (end - a)) = ap (λ l. l ++ after) (flat_upto piece [] a k low) ∙ flat_split piece a (k + 1) end (omega (arith, low)) high in
+      subst (λ clauses. AppendsFront old new (head ++ flat_map clause_line clauses)) all
+      (front_of_both old new head (upto ++ piece k) after (sent_then_front old between new head kept upto (piece k) s f))

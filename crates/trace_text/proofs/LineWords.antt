@@ -1,0 +1,7 @@
+-- What the words of a line say.
+pub mod HighLemmas
+pub mod KnownLemmas
+pub mod LineLemmas
+pub mod ReferenceLemmas
+pub mod SaidLemmas
+pub mod SpellLemmas

@@ -1,0 +1,4 @@
+-- The canonical text of a trace spells it.
+pub mod LineTextLemmas
+pub mod TraceWrittenLemmas
+pub mod WritableLemmas
