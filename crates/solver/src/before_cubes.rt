@@ -17,11 +17,11 @@ const FIRST_CUBE_CONFLICTS: u64 = 2000;
 /// The activities of a search of fewer conflicts are not handed on: they say little.
 const TELLING_CONFLICTS: u64 = 10;
 
-/// Conflicts of a first search of the formula itself, if the first cube is refuted. Small formulas take no more, and a formula with a model in a
-/// later cube loses little by it.
-const SHORT_CONFLICTS: u64 = 50;
+/// Conflicts of a first search of the formula itself, if the first cube is refuted, or two fifths of those that this took, if they are more. Many
+/// formulas take no more, and one with a model in a later cube loses little by it.
+const SHORT_CONFLICTS: u64 = 25;
 
-/// Conflicts of the searches of the first cubes together, if the first one is refuted. A model is often found in fewer.
+/// Conflicts after which the formula itself is searched, if the first cube is refuted. A model in a later cube is often found in fewer.
 const CUBES_CONFLICTS: u64 = 600;
 
 /// The cubes that are searched before the formula itself at most.
@@ -175,10 +175,11 @@ impl<'a> PreparedFormula<'a> {
         codes: &mut Vec<u32>,
         taken: u64,
     ) -> Result<bool, AllocError> {
-        if self.search_itself(alloc, splits, SHORT_CONFLICTS)? {
+        let short = SHORT_CONFLICTS.max((taken / 5).wrapping_mul(2));
+        if self.search_itself(alloc, splits, short)? {
             return Ok(true);
         }
-        let left = CUBES_CONFLICTS.saturating_sub(taken);
+        let left = CUBES_CONFLICTS.saturating_sub(taken).saturating_sub(short);
         self.search_next_cubes(alloc, codes, left)
     }
 
