@@ -24,7 +24,7 @@ const SHORT_CONFLICTS: u64 = 25;
 /// Conflicts after which the formula itself is searched, if the first cube is refuted. A model in a later cube is often found in fewer.
 const CUBES_CONFLICTS: u64 = 600;
 
-/// The cubes that are searched before the formula itself at most.
+/// At most this many cubes are searched before the formula itself.
 const FIRST_CUBES: u32 = 16;
 
 /// The least budget with which anything is searched before the cubes.
