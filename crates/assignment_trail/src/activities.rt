@@ -45,6 +45,28 @@ impl Activities {
         Ok(activities)
     }
 
+    /// Starts with the activities that another search of the same variables has ended with. The decision variables come in this order where they
+    /// are equal.
+    pub fn after(
+        alloc: Global,
+        ended: &Activities,
+        wanted: &[u32],
+    ) -> Result<Activities, AllocError> {
+        let places = ended.places.len();
+        let mut activities = Activities {
+            activities: ended.activities.clone()?,
+            bump: ended.bump,
+            heap: vec![in alloc; 0; places]?,
+            count: 0,
+            places: vec![in alloc; 0; places]?,
+            wanted: ended.wanted.clone()?,
+        };
+        for variable in wanted {
+            activities.insert(*variable);
+        }
+        Ok(activities)
+    }
+
     /// Returns the activity of the variable.
     #[inline(always)]
     fn activity(&self, variable: u32) -> f64 {

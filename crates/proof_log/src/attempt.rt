@@ -34,6 +34,11 @@ impl<S: Learner + Drop> Attempt<S> {
         }
     }
 
+    /// Returns the search.
+    pub fn search(&self) -> &S {
+        &self.search
+    }
+
     /// Goes on with the search for at most `budget` conflicts. Returns an answer if one was found before the next conflict.
     pub fn run(&mut self, budget: u64) -> Result<Option<Answer>, AllocError>
         ensures within { OnOk result (self.new.log ≤ self.old.log + budget) }

@@ -13,6 +13,7 @@
 #![tactic(auto)]
 
 mod analyze;
+mod before_cubes;
 mod hints;
 mod learning;
 mod minimise;

@@ -1,7 +1,8 @@
 //! A formula prepared for the searches of all its cubes.
 
 use crate::wanted::wanted_variables;
-use crate::whole::WholeRefutation;
+use crate::whole::{CubeRefutation, WholeRefutation};
+use assignment_trail::Activities;
 use clause_database::{EncodingHints, FormulaLoader, SmallClauses, number_of};
 use dimacs::{Assignment, ClauseList, Lit};
 use std::alloc::{AllocError, Global};
@@ -28,8 +29,12 @@ pub struct PreparedFormula<'a> {
     pub(crate) wanted: Vec<u32>,
     /// The variables that are decided first.
     pub(crate) leading: Vec<u32>,
+    /// The activities with which the search of the first cube has ended, if it refuted the cube. A search of the formula itself begins with them.
+    pub(crate) activities: Option<Activities>,
     /// What refutes the formula itself, if that was found before its cubes are searched.
     pub(crate) refutation: Option<WholeRefutation>,
+    /// Cubes that were refuted before all of them are searched.
+    pub(crate) refuted_cubes: Vec<CubeRefutation>,
     /// A model of the formula, if one was found before its cubes are searched.
     pub(crate) model: Option<Assignment>,
     /// The conflicts of the searches that have ended, without those that were taken. No answer depends on it.
@@ -67,7 +72,9 @@ impl<'a> PreparedFormula<'a> {
             small,
             wanted,
             leading: Vec::new(alloc),
+            activities: None,
             refutation: None,
+            refuted_cubes: Vec::new(alloc),
             model: None,
             conflicts: AtomicU64::new(0),
         })
@@ -76,6 +83,11 @@ impl<'a> PreparedFormula<'a> {
     /// Counts the conflicts of a search that has ended.
     pub(crate) fn add_conflicts(&self, conflicts: u64) {
         self.conflicts.fetch_add(conflicts, Ordering::SeqCst);
+    }
+
+    /// Returns how many conflicts are counted.
+    pub(crate) fn conflicts(&self) -> u64 {
+        self.conflicts.load(Ordering::SeqCst)
     }
 
     /// Takes the number of conflicts of the searches that have ended since it was last taken: those of cubes, and that of the formula itself.

@@ -72,6 +72,11 @@ impl<'a> Search<'a> {
         cube: &[Lit],
     ) -> Result<Search<'a>, AllocError> {
         let mut search = Search::of_long(alloc, variables, prepared)?;
+        if cube.is_empty()
+            && let Some(ended) = &prepared.activities
+        {
+            search.activities = Activities::after(alloc, ended, prepared.wanted.as_slice())?;
+        }
         search.attach_long()?;
         search.assume_all(prepared, cube);
         if search.conflict.is_none() {

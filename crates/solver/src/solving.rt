@@ -81,6 +81,31 @@ fn search_from<'a>(
     search_by_two(alloc, prepared, cube, first_id, first, left)
 }
 
+/// Searches the cube by this attempt, which has begun, counted and taken no turn. The conflicts are counted.
+pub(crate) fn search_begun<'a>(
+    alloc: Global,
+    prepared: &PreparedFormula<'a>,
+    cube: &[Lit],
+    first_id: u32,
+    first: &mut Attempt<Search<'a>>,
+    budget: u64,
+) -> Result<Answer, AllocError>
+    ensures { IfOk result (λ answer. IsWithin (first.old.log + budget) answer) }
+{
+    let has_another_course = suits_a_schedule(&first.search().trail);
+    let found = search_from(
+        alloc,
+        prepared,
+        cube,
+        first_id,
+        first,
+        has_another_course,
+        budget,
+    );
+    prepared.add_conflicts(first.log.additions());
+    found
+}
+
 /// Searches the prepared formula in the cube of these literals: counts, and then takes turns. The first step of a derivation has this number.
 /// The conflicts are counted.
 pub(crate) fn search_cube(
@@ -96,19 +121,8 @@ pub(crate) fn search_cube(
     if let Some(counted) = search.count_sources(first_id, budget)? {
         return Ok(counted);
     }
-    let has_another_course = suits_a_schedule(&search.trail);
     let mut first = Attempt::new(alloc, search, first_id);
-    let found = search_from(
-        alloc,
-        prepared,
-        cube,
-        first_id,
-        &mut first,
-        has_another_course,
-        budget,
-    );
-    prepared.add_conflicts(first.log.additions());
-    found
+    search_begun(alloc, prepared, cube, first_id, &mut first, budget)
 }
 
 /// Does what `solve` does, for one of many cubes of a formula that was prepared. If `count_whole` or `search_whole` has refuted the formula

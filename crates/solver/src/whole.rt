@@ -1,10 +1,10 @@
-//! What is found of the formula itself, before its cubes are searched.
+//! What is known of a formula before its cubes are searched.
 
 ghost use Rattle.std.specs.Prelude.{◌≤◌, length, IfOk, IfSome};
 ghost use Rattle.proof_log.specs.Answers.{IsWithin};
 
 use crate::prepared_formula::PreparedFormula;
-use crate::solving::{begin, search_cube};
+use crate::solving::begin;
 use crate::source_count::has_updates;
 use dimacs::{Assignment, Lit};
 use lrat_check::derivation::Derivation;
@@ -12,19 +12,12 @@ use lrat_check::derivation_copies::copied;
 use proof_log::{Answer, ProofLog, refuted_within};
 use std::alloc::{AllocError, Global};
 
-/// Conflicts of the search of the first cube. Without it some traces with a schedule in that cube took three times as long: the search of the
-/// formula itself comes upon the same cube first, but by another course, which took far more conflicts.
-const FIRST_CUBE_CONFLICTS: u64 = 2000;
-
-/// Conflicts of the search of the formula itself. Most traces take fewer, and one that takes more is searched cube by cube afterwards.
-const WHOLE_CONFLICTS: u64 = 4000;
-
 /// A derivation that the formula itself has no model.
 #[derive(Drop)]
 pub(crate) struct WholeRefutation {
     /// The number of literals of the cubes that it serves. It leaves room for them: its ids begin after theirs.
-    literals: usize,
-    derivation: Derivation,
+    pub(crate) literals: usize,
+    pub(crate) derivation: Derivation,
 }
 
 impl WholeRefutation {
@@ -35,6 +28,23 @@ impl WholeRefutation {
         if self.literals != cube.len() {
             return Ok(None);
         }
+        let copy = copied(alloc, &self.derivation)?;
+        Ok(refuted_within(copy, budget))
+    }
+}
+
+/// A derivation that a cube has no model.
+#[derive(Drop)]
+pub(crate) struct CubeRefutation {
+    pub(crate) cube: Vec<Lit>,
+    pub(crate) derivation: Derivation,
+}
+
+impl CubeRefutation {
+    /// Returns the answer for the cube, if it fits the budget.
+    fn answer(&self, alloc: Global, budget: u64) -> Result<Option<Answer>, AllocError>
+        ensures { IfOk result (λ found. IfSome found (λ answer. IsWithin budget answer)) }
+    {
         let copy = copied(alloc, &self.derivation)?;
         Ok(refuted_within(copy, budget))
     }
@@ -51,21 +61,6 @@ fn model_in(
     }
     let copy = model.copied(alloc)?;
     Ok(Some(copy))
-}
-
-/// Returns the first cube over these variables: all of them are true in it.
-fn first_cube(alloc: Global, splits: &[u32]) -> Result<Vec<Lit>, AllocError> {
-    let mut cube = Vec::with_capacity(alloc, splits.len())?;
-    for variable in splits {
-        let literal = match i32::try_from(*variable) {
-            Ok(number) => Lit::new(number),
-            Err(_) => None,
-        };
-        if let Some(literal) = literal {
-            cube.push(literal)?;
-        }
-    }
-    Ok(cube)
 }
 
 impl<'a> PreparedFormula<'a> {
@@ -104,53 +99,14 @@ impl<'a> PreparedFormula<'a> {
         Ok(())
     }
 
-    /// Searches the first cube over these variables for a model. A derivation would serve no other cube, so none is kept.
-    fn search_first_cube(&mut self, alloc: Global, splits: &[u32]) -> Result<(), AllocError> {
-        let cube = first_cube(alloc, splits)?;
-        let first = self.id_in_cube(splits.len());
-        match search_cube(alloc, self, cube.as_slice(), first, FIRST_CUBE_CONFLICTS)? {
-            Answer::Model(model) => self.model = Some(model),
-            Answer::Refuted(_derivation) => {}
-            Answer::Open => {}
-        }
-        Ok(())
-    }
-
-    /// Searches the formula itself. The first step of a derivation has this number.
-    fn answer_for_whole(&self, alloc: Global, first: u32) -> Result<Answer, AllocError> {
-        search_cube(alloc, self, &[], first, WHOLE_CONFLICTS)
-    }
-
-    /// Searches the first cube over these variables and then, if it has no model, the formula itself, unless that was refuted by counting. The
-    /// variables are decided before all others, so this search goes from leaf to leaf, and what it learns in one leaf serves the next. A
-    /// derivation that it finds is the answer for each cube. A model is the answer for the cube that it is in, and the other cubes then stay
-    /// open. Nothing is searched if the budget is below the conflicts of these searches: they are left to the cubes.
-    pub fn search_whole(
-        &mut self,
-        alloc: Global,
-        splits: &[u32],
-        budget: u64,
-    ) -> Result<(), AllocError> {
-        if splits.is_empty() || budget < WHOLE_CONFLICTS || self.refutation.is_some() {
-            return Ok(());
-        }
-        self.search_first_cube(alloc, splits)?;
-        if self.model.is_some() {
-            return Ok(());
-        }
-        self.leading = Vec::from_slice(alloc, splits)?;
-        let first = self.id_in_cube(splits.len());
-        match self.answer_for_whole(alloc, first)? {
-            Answer::Refuted(derivation) => {
-                self.refutation = Some(WholeRefutation {
-                    literals: splits.len(),
-                    derivation,
-                });
+    /// Returns the place of the cube among those that are refuted, or one past them.
+    fn place_of(&self, cube: &[Lit]) -> usize {
+        for place in 0..self.refuted_cubes.len() {
+            if self.refuted_cubes[place].cube.as_slice() == cube {
+                return place;
             }
-            Answer::Model(model) => self.model = Some(model),
-            Answer::Open => {}
         }
-        Ok(())
+        self.refuted_cubes.len()
     }
 
     /// Returns the answer for this cube that follows from what is known of the formula itself, if there is one. If a model is known, a cube that
@@ -169,8 +125,11 @@ impl<'a> PreparedFormula<'a> {
                 None => Ok(Some(Answer::Open)),
             };
         }
-        match &self.refutation {
-            Some(refutation) => refutation.answer(alloc, cube, budget),
+        if let Some(refutation) = &self.refutation {
+            return refutation.answer(alloc, cube, budget);
+        }
+        match self.refuted_cubes.get(self.place_of(cube)) {
+            Some(refutation) => refutation.answer(alloc, budget),
             None => Ok(None),
         }
     }
