@@ -65,12 +65,7 @@ impl Landmarks {
         if place + 1 < self.entries.len() {
             let low = first.max(usize::from(self.entries[place]));
             let high = last.min(usize::from(self.entries[place + 1]) + 1);
-            if first <= low
-                && low < high
-                && high <= last
-                && table[low] <= number
-                && number < table[high]
-            {
+            if low < high && table[low] <= number && number < table[high] {
                 return reached(table, low, high, number);
             }
         }
