@@ -13,7 +13,7 @@ use Rattle.text_lines.proofs.FaultLemmas.{faultless_nil, faultless_push}
 use Rattle.text_lines.specs.Words.{words_of}
 use Rattle.cnf_text.specs.declared.cnf_fault.CnfCause.{CnfCause}
 use Rattle.cnf_text.specs.CnfLines.{words_of_line}
-use Rattle.cnf_text.specs.CnfProgress.{AreClauses, TakesWord, TakesLine, IsWordRefusal, IsLineRefusal}
+use Rattle.cnf_text.specs.CnfProgress.{AreClauses, TakesWord, IsWordRefusal, IsLineRefusal}
 use Rattle.text_lines.specs.declared.fault.PlacedFault.{PlacedFault}
 use Rattle.text_lines.specs.declared.fault.PlacedFault.TheVariants.{OutOfMemory, At}
 use Rattle.cnf_text.specs.CnfReading.{Header, ended, is_zero, ends_of, fault_after, number_fault, word_fault}

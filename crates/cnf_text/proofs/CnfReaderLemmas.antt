@@ -1,5 +1,5 @@
 -- The clauses of a formula's text, line by line.
-use Rattle.std.proofs.Common.{◌≡◌, ℕ, ◌+◌, ◌≤◌, List, [], ◌∷◌, ◌++◌, length, map, Bool, true, false, not, cond, refl, ap, sym, ◌∙◌, subst, arith, inl, inr, append_assoc, append-nil}
+use Rattle.std.proofs.Common.{◌≡◌, ℕ, ◌+◌, ◌≤◌, List, [], ◌∷◌, ◌++◌, length, map, Bool, true, false, not, cond, refl, ap, sym, ◌∙◌, subst, arith, inl, append_assoc, append-nil}
 use Rattle.std.specs.Prelude.{Option, Some, None, ℤ, nat_lt, if◌then◌else◌}
 use Rattle.std.specs.List.{flat_map}
 use Rattle.std.proofs.lemmas.Bool.Decides.{nat_tests}
@@ -8,7 +8,7 @@ use Rattle.std.proofs.lemmas.List.Concat.{flat_map-cons}
 use Rattle.text_lines.specs.Words.{words_of, is_empty}
 use Rattle.cnf_text.specs.CnfLines.{words_of_line, placed_words, said_from, end_from}
 use Rattle.cnf_text.specs.CnfProgress.{AreClauses, TakesLine, IsLineRefusal, fault_at_end, AreBody, IsBodyRefusal}
-use Rattle.cnf_text.specs.CnfReading.{Header, ended, whole_fault, HasWordFault, HasBodyFault}
+use Rattle.cnf_text.specs.CnfReading.{Header, ended, whole_fault, HasWordFault}
 use Rattle.cnf_text.specs.declared.cnf_fault.CnfCause.{CnfCause}
 use Rattle.cnf_text.specs.declared.cnf_fault.CnfCause.TheVariants.{Unended, CountMismatch}
 use Rattle.text_lines.specs.declared.fault.PlacedFault.{PlacedFault}

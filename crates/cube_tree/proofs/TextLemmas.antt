@@ -1,6 +1,6 @@
 -- The bytes of a tree's text that a reader has read.
-use Rattle.std.proofs.Common.{◌≡◌, ℕ, zero, suc, ◌+◌, ◌-◌, ◌<◌, ◌≤◌, List, [], ◌∷◌, ◌++◌, length, map, take, reverse, refl, ap, sym, ◌∙◌, subst, arith, inl, inr, append_assoc, append-nil, length-drop}
-use Rattle.std.specs.Prelude.{min, Some, None, is_some, slice_get, codes, decimal}
+use Rattle.std.proofs.Common.{◌≡◌, ℕ, zero, suc, ◌+◌, ◌-◌, ◌<◌, ◌≤◌, List, [], ◌∷◌, ◌++◌, length, map, take, reverse, refl, ap, sym, ◌∙◌, subst, arith, inl, inr, append_assoc, length-drop}
+use Rattle.std.specs.Prelude.{min, Some, None, codes, decimal}
 use Rattle.std.specs.List.{before_first, after_first, position_or_len, flat_map}
 use Rattle.std.proofs.lemmas.Grind.{flat_map-append}
 use Rattle.std.proofs.lemmas.Bool.{cases_lt}
@@ -10,15 +10,13 @@ use Rattle.text_lines.specs.Words.{words_of}
 use Rattle.text_lines.proofs.Cutting.CutLemmas.{lines_cut}
 use Rattle.cube_tree.specs.declared.node.Node.{Node}
 use Rattle.cube_tree.specs.declared.node.Node.TheVariants.{Leaf, Split}
-use Rattle.cube_tree.specs.declared.tree_fault.TreeCause.{TreeCause}
-use Rattle.cube_tree.specs.declared.tree_fault.TreeCause.TheVariants.{BadLine}
 use Rattle.cube_tree.specs.CubeTree.{CubeTree, leaf, split, IsCubeTree}
 use Rattle.cube_tree.specs.Nodes.{nodes_of, tree_of, AreNodes}
 use Rattle.cube_tree.specs.NodeText.{node_text}
-use Rattle.cube_tree.specs.TreeFault.{node_of, leaf_count, due_below, due_behind, node_fault, due_after, HasTreeFault}
+use Rattle.cube_tree.specs.TreeFault.{node_of, leaf_count, due_below, due_behind, node_fault, due_after}
 use Rattle.cube_tree.specs.TreeText.{tree_lines, line_bytes, SpellsTree, tree_text}
 use Rattle.cube_tree.proofs.TreeLemmas.{made, made_is}
-use Rattle.cube_tree.proofs.ReaderLemmas.{node_words, lines_of_nodes, IsProgress, no_lines, fault_here, next_node, whole_tree}
+use Rattle.cube_tree.proofs.ReaderLemmas.{node_words, lines_of_nodes, IsProgress, no_lines, next_node, whole_tree}
 
 pub line_bytes-append : (xs ys : List (List ℕ)) → line_bytes (xs ++ ys) ≡ line_bytes xs + line_bytes ys
 line_bytes-append [] ys = omega arith

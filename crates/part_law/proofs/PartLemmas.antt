@@ -17,12 +17,12 @@ use Rattle.trace_semantics.specs.Judgement.{is_held}
 use Rattle.trace_semantics.specs.Legal.{ComesFrom, ReadsRight, IsLegal}
 use Rattle.trace_semantics.specs.Operation.{location_of, value_read, written_value, origin_of, same_op}
 use Rattle.trace_semantics.specs.Trace.{TraceValue, IsTrace, operation_at, operation_names, value_of}
-use Rattle.trace_semantics.specs.ValueAfter.{value_left_at, value_after, last_writer}
+use Rattle.trace_semantics.specs.ValueAfter.{value_left_at, value_after}
 use Rattle.trace_semantics.proofs.CauseLemmas.{same_held}
 use Rattle.trace_semantics.proofs.ElementLemmas.{cases_in, in_middle, all_pass, some_passes, from_map, from_filter, to_filter, from_flat_map}
 use Rattle.trace_semantics.proofs.NameLemmas.{known_listed, listed_known, same_name}
 use Rattle.trace_semantics.proofs.OrderLemmas.{stands_behind, stands_ahead, given_entry, entry_given}
-use Rattle.restriction.specs.Left.{is_left, new_name, new_origin, new_op, new_pair, restricted}
+use Rattle.restriction.specs.Left.{is_left, new_name, new_op, new_pair, restricted}
 use Rattle.forced_order.specs.Order.{Obeys}
 use Rattle.part_law.specs.Part.{writes_at, writers_of, is_overwritten, may_be_source, sources, may_be_last, last_writers, keeps_read, stays_of, stays, stays_final, left_names, left_pairs, is_told, part}
 use Rattle.restriction.proofs.LeftLemmas.{known_old, old_operation}

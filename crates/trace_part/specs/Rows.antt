@@ -1,13 +1,11 @@
 -- Rows of numbers: of each operation and each process, the last place there that is known to stand before it.
-use Rattle.std.specs.Prelude.{◌≡◌, ◌&&◌, ◌||◌, not, nat_le, nat_lt, ◌==◌, IsSome, Some, None, ℕ, Bool, List, length, map, Option, if◌then◌else◌}
+use Rattle.std.specs.Prelude.{◌≡◌, ◌&&◌, ◌||◌, not, nat_le, nat_lt, ◌==◌, IsSome, Some, ℕ, Bool, List, length, map, Option, if◌then◌else◌}
 use Rattle.std.specs.List.{list_any, filter, filter_map, flat_map}
 use Rattle.std.specs.Option.{option_and_then, option_map}
-use Rattle.std.specs.Str.{bytes_eq}
 use Rattle.trace_semantics.specs.declared.operation.Op.{Op}
 use Rattle.trace_semantics.specs.declared.operation.OpName.{OpName}
 use Rattle.trace_semantics.specs.declared.trace.Process.{Process}
 use Rattle.trace_semantics.specs.Judgement.{is_held}
-use Rattle.trace_semantics.specs.Operation.{location_of, written_value}
 use Rattle.trace_semantics.specs.Trace.{TraceValue, at_place, operation_at}
 use Rattle.trace_semantics.specs.ValueAfter.{value_left_at}
 use Rattle.forced_order.specs.declared.numbered.OperationNumber.{OperationNumber}

@@ -1,5 +1,5 @@
 -- A line of a trace text, by its first words.
-use Rattle.std.proofs.Common.{◌≡◌, ℕ, ◌+◌, ◌<◌, ◌≤◌, List, [], ◌∷◌, ◌++◌, length, take, map, Bool, true, false, cond, not, ◌&&◌, refl, inl, inr, ap, sym, ◌∙◌, arith, subst, append_assoc, append-nil, length-append}
+use Rattle.std.proofs.Common.{◌≡◌, ℕ, ◌+◌, ◌<◌, ◌≤◌, List, [], ◌∷◌, ◌++◌, length, take, map, Bool, true, false, cond, not, ◌&&◌, refl, inl, ap, sym, ◌∙◌, arith, subst, append_assoc, append-nil, length-append}
 use Rattle.std.specs.Prelude.{Some, None, if◌then◌else◌}
 use Rattle.std.specs.Cmp.Lexicographic.{pointwise}
 use Rattle.std.specs.List.{filter, list_any}
@@ -17,10 +17,10 @@ use Rattle.trace_text.specs.declared.trace_fault.TraceCause.TheVariants.{NotAsci
 use Rattle.text_lines.specs.declared.plain_fault.PlainFault.{PlainFault}
 use Rattle.text_lines.specs.declared.plain_fault.PlainFault.TheVariants.{OutOfMemory, For}
 use Rattle.trace_text.specs.declared.trace_reader.TraceReader.{TraceReader}
-use Rattle.trace_text.specs.Header.{header_fault, IsHeaderLine}
+use Rattle.trace_text.specs.Header.{IsHeaderLine}
 use Rattle.text_lines.specs.Kept.{is_skipped, kept}
 use Rattle.trace_text.specs.Progress.{IsProgress}
-use Rattle.trace_text.specs.Read.{saying, AreSaid, TakesLine, TakesWords, HasHeader, IsAllRead}
+use Rattle.trace_text.specs.Read.{saying, AreSaid, TakesLine, TakesWords, HasHeader}
 use Rattle.text_lines.specs.PlainFault.{IsRefusedFor, fault_at}
 use Rattle.trace_text.specs.Statement.{Statement, statement_of, words_for}
 use Rattle.trace_text.specs.TraceFault.{trace_line_fault, words_fault, said_fault, statement_fault, statements_of, is_header, is_version_2, is_high, HasTraceFault}

@@ -1,5 +1,5 @@
 -- The operations that lines name.
-use Rattle.std.proofs.Common.{◌≡◌, ℕ, ◌+◌, ◌<◌, ◌≤◌, List, [], ◌∷◌, ◌++◌, length, map, take, Bool, false, ◌&&◌, ◌||◌, refl, ap, sym, ◌∙◌, arith, append-nil, append_assoc, length-append, subst}
+use Rattle.std.proofs.Common.{◌≡◌, ℕ, ◌+◌, ◌<◌, ◌≤◌, List, [], ◌∷◌, ◌++◌, length, map, take, Bool, false, ◌&&◌, ◌||◌, refl, ap, sym, ◌∙◌, arith, append_assoc, length-append}
 use Rattle.std.specs.Prelude.{Some, None, nat_le, if◌then◌else◌}
 use Rattle.std.specs.List.{filter, flat_map, list_any}
 use Rattle.std.specs.Str.{bytes_eq}
@@ -9,15 +9,11 @@ use Rattle.text_lines.specs.Words.{words_of}
 use Rattle.text_lines.proofs.FaultLemmas.{faultless_push, faultless_nil}
 use Rattle.trace_semantics.specs.declared.operation.Op.{Op}
 use Rattle.trace_semantics.specs.declared.operation.Op.TheVariants.{Read as ReadOp, Write as WriteOp, Update as UpdateOp}
-use Rattle.text_lines.specs.declared.plain_fault.PlainFault.{PlainFault}
-use Rattle.text_lines.specs.declared.plain_fault.PlainFault.TheVariants.{OutOfMemory, For}
 use Rattle.trace_semantics.specs.declared.trace.Process.{Process}
-use Rattle.trace_text.specs.declared.trace_fault.TraceCause.{TraceCause}
 use Rattle.trace_text.specs.Entry.{op_statement}
 use Rattle.trace_text.specs.Gathered.{is_of_process, process_statements}
 use Rattle.text_lines.specs.Kept.{is_skipped}
-use Rattle.trace_text.specs.References.{is_of, fault_of_references, fault_of_line, IsRefusedByReferences}
-use Rattle.text_lines.specs.PlainFault.{IsRefusedFor, fault_at}
+use Rattle.trace_text.specs.References.{is_of, fault_of_references, fault_of_line}
 use Rattle.trace_text.specs.Statement.{Statement, Init, Final, Proc, Read, Write, Update, Before, statement_of}
 use Rattle.trace_text.specs.TraceFault.{has_operation, operations_up_to_proc}
 use Rattle.trace_text.proofs.LineWords.SaidLemmas.{said_first}

@@ -5,8 +5,6 @@ use Rattle.std.proofs.lemmas.Bool.{or_from, eqb-true, true≢false, false≢true
 use Rattle.text_lines.proofs.FaultLemmas.{either}
 use Rattle.cube_tree.specs.CubeTree.{leaves, cubes_of}
 use Rattle.cube_tree.proofs.TreeLemmas.{cubes_counted}
-use Rattle.lrat_check.specs.Checked.{IsAccepted, IsRefused}
-use Rattle.lrat_check.specs.declared.refusal.StepFault.{StepFault}
 use Rattle.lrat_check.proofs.RefusalLemmas as lrat
 use Rattle.certificate.specs.Rechecked.{is_of, IsFirstOf, IsRechecked, section_fault, AreRight, HaveSections, IsFirstMissing, AreProvedBelow, IsFirstRefused, HasRecheckFault}
 use Rattle.certificate.specs.declared.cert_fault.CertCause.{CertCause}

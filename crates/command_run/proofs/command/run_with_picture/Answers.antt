@@ -1,4 +1,4 @@
-use Rattle.std.proofs.Common.{inl, inr, refl}
+use Rattle.std.proofs.Common.{inr}
 use Rattle.command_run.proofs.command.run_with_picture.Goals as goal
 
 pub returns-clause-ends : goal.returns-clause-ends

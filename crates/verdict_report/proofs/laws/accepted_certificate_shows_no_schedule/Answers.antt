@@ -1,17 +1,12 @@
 use Rattle.std.proofs.Common.{List, [], refl, true, ◌∷◌, ◌≡◌}
-use Rattle.std.proofs.lemmas.Bool.{and_from, and_parts}
-use Rattle.std.specs.List.{list_all}
+use Rattle.std.proofs.lemmas.Bool.{and_from}
 use Rattle.std.specs.Prelude.{ℕ, ◌&&◌}
 use Rattle.certificate.specs.CertText.{AreSections}
 use Rattle.certificate.specs.Rechecked.{are_sections_of_clauses}
 use Rattle.certificate.specs.declared.certificate.Section.{Section}
 use Rattle.clause_blocks.specs.Clauses.{formula_of}
-use Rattle.dimacs.specs.Literal.{is_clause}
 use Rattle.lrat_check.proofs.DerivationText.LratWrittenLemmas.{steps_add_clauses}
-use Rattle.lrat_check.specs.Derivation.{are_steps, is_step}
-use Rattle.lrat_check.specs.LratText.{is_id, is_id_number, is_lrat_step}
-use Rattle.lrat_check.specs.declared.derivation.Step.TheVariants.{Addition, Deletion}
-use Rattle.lrat_check.specs.declared.derivation.Step.{Step}
+use Rattle.lrat_check.specs.Derivation.{are_steps}
 use Rattle.reducer.proofs.KeptTrace.TraceLemmas.{kept_is_trace}
 use Rattle.reducer.specs.Reduction.{kept_trace}
 use Rattle.verdict_report.proofs.MeaningLemmas.{model_of_schedule}

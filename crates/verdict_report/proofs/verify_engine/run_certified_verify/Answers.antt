@@ -1,4 +1,4 @@
-use Rattle.std.proofs.Common.{refl, rules, [], ◌∷◌, ◌≡◌, ℕ, ◌+◌, List, ◌++◌, inl, inr, sym, ◌∙◌, ap, subst, arith, append-nil}
+use Rattle.std.proofs.Common.{refl, rules, [], ◌∷◌, ◌≡◌, ℕ, ◌+◌, List, ◌++◌, inl, inr, sym, ◌∙◌, subst, arith, append-nil}
 use Rattle.std.specs.Prelude.{Result, Ok, Err}
 use Rattle.std.proofs.lemmas.Result.{err_from_is_err_and}
 use Rattle.dimacs.specs.declared.sink_fault.SinkFault.{SinkFault}
@@ -16,7 +16,7 @@ use Rattle.trace_decision.specs.declared.decision.Decision.{Decision}
 use Rattle.trace_decision.specs.declared.decision.Decision.TheVariants.{Consistent, Inconsistent, Unknown as NotDecided}
 use Rattle.trace_decision.specs.declared.refutation.Refutation.{Refutation}
 use Rattle.trace_decision.specs.Decision.{IsDecided, certificate_in, certificate_text, report}
-use Rattle.verdict_report.specs.Engine.{InPieces, of_one, HandOut, IsRunOfEngine, IsRunOfWriting, Reads, TakesNothing, TakesWhole}
+use Rattle.verdict_report.specs.Engine.{InPieces, of_one, HandOut, IsRunOfWriting, Reads, TakesNothing, TakesWhole}
 use Rattle.verdict_report.specs.Runs.{SourceRun, SinkRun, source_run, sink_run}
 use Rattle.verdict_report.specs.VerifyEngine.{IsSaidOfTrace, status_of_decision, texts_with_certificate, WritesAcceptedCertificate, IsDecidedFrom, IsRunOfCertifiedVerify}
 use Rattle.verdict_report.specs.declared.fault.Fault.{Fault}
