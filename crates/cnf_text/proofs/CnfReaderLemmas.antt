@@ -1,5 +1,5 @@
 -- The clauses of a formula's text, line by line.
-use Rattle.std.proofs.Common.{◌≡◌, ℕ, ◌+◌, ◌≤◌, List, [], ◌∷◌, ◌++◌, length, map, Bool, true, false, not, cond, refl, ap, sym, ◌∙◌, subst, arith, inl, append_assoc, append-nil}
+use Rattle.std.proofs.Common.{◌≡◌, ℕ, ◌+◌, ◌≤◌, List, [], ◌∷◌, ◌++◌, length, map, Bool, true, false, not, cond, refl, ap, sym, ◌∙◌, arith, append_assoc, append-nil}
 use Rattle.std.specs.Prelude.{Option, Some, None, ℤ, nat_lt, if◌then◌else◌}
 use Rattle.std.specs.List.{flat_map}
 use Rattle.std.proofs.lemmas.Bool.Decides.{nat_tests}
@@ -7,12 +7,10 @@ use Rattle.std.proofs.lemmas.Option.{none-some}
 use Rattle.std.proofs.lemmas.List.Concat.{flat_map-cons}
 use Rattle.text_lines.specs.Words.{words_of, is_empty}
 use Rattle.cnf_text.specs.CnfLines.{words_of_line, placed_words, said_from, end_from}
-use Rattle.cnf_text.specs.CnfProgress.{AreClauses, TakesLine, IsLineRefusal, fault_at_end, AreBody, IsBodyRefusal}
-use Rattle.cnf_text.specs.CnfReading.{Header, ended, whole_fault, HasWordFault}
+use Rattle.cnf_text.specs.CnfProgress.{AreClauses, TakesLine, fault_at_end, AreBody}
+use Rattle.cnf_text.specs.CnfReading.{Header, ended, whole_fault}
 use Rattle.cnf_text.specs.declared.cnf_fault.CnfCause.{CnfCause}
 use Rattle.cnf_text.specs.declared.cnf_fault.CnfCause.TheVariants.{Unended, CountMismatch}
-use Rattle.text_lines.specs.declared.fault.PlacedFault.{PlacedFault}
-use Rattle.text_lines.specs.declared.fault.PlacedFault.TheVariants.{OutOfMemory, At}
 use Rattle.cnf_text.proofs.CnfBodyLemmas.{Words, no_clauses}
 
 -- what has been read, where `all` are the lines from `first` on and `lines` those from `number` on
@@ -38,19 +36,6 @@ module _ (h : Header) (first : ℕ) (all : List (List ℕ)) (number : ℕ) (line
       ends = read.ends ∙ later;
       so_far = takes read.words read.so_far;
     }
-
-    pub body_refused : (end : ℕ) (fault : PlacedFault CnfCause) → IsLineRefusal h at line clauses begun fault → IsBodyRefusal h (placed_words (said_from first all)) end fault
-    body_refused end OutOfMemory refusal = tt
-    body_refused end (At cause place) refusal =
-        inl (subst (λ (w : Words). HasWordFault h w cause place) (sym here) (refusal read.words (placed_words (said_from (at + 1) rest)) read.so_far))
-
-  -- at the end
-  module _ (none : said_from number lines ≡ []) where
-    whole : read.words ≡ placed_words (said_from first all)
-    whole = sym (append-nil read.words) ∙ ap (λ l. read.words ++ placed_words l) (sym none) ∙ sym read.parts
-
-    pub all_read : AreClauses h (placed_words (said_from first all)) clauses begun
-    all_read = subst (λ (w : Words). AreClauses h w clauses begun) whole read.so_far
 
 -- what is wrong with the whole
 pub whole_here : (h : Header) (words : Words) (clauses : List (List ℤ)) (begun : List ℤ) → AreClauses h words clauses begun → whole_fault h words ≡ fault_at_end h clauses begun

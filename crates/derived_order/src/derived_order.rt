@@ -52,7 +52,6 @@ struct Level {
 }
 
 /// The order that program order, the pairs of a trace, its reads and decisions force, with a reason for all that was derived.
-#[derive(Drop)]
 pub struct DerivedOrder<'a> {
     pub(crate) log: &'a NumberedLog,
     pub(crate) rows: Rows,
@@ -72,6 +71,30 @@ pub struct DerivedOrder<'a> {
     /// For each process a place: before what a reader stands, and after what.
     pub(crate) lows: Vec<u32>,
     pub(crate) highs: Vec<u32>,
+}
+
+/// Drops each table. With a derived `Drop` every exit of a function that owns an order would drop its 25 tables one by one, which is most of
+/// what the proof of such a function would cost.
+impl Drop for DerivedOrder<'_> {
+    fn drop(self) {
+        let DerivedOrder {
+            log: _,
+            rows: _rows,
+            writers: _writers,
+            clashing: _clashing,
+            heeds_reads: _,
+            sources: _sources,
+            concerned: _concerned,
+            reasons: _reasons,
+            waiting: _waiting,
+            budget: _,
+            contradiction: _,
+            now: _,
+            levels: _levels,
+            lows: _lows,
+            highs: _highs,
+        } = self;
+    }
 }
 
 impl<'a> DerivedOrder<'a> {

@@ -22,16 +22,7 @@ sent_on old between kept bytes new kept' s t = record {
   appended = rw (t.appended, s.appended, append_assoc);
 }
 
--- what the sink has taken is a prefix of the whole
-pub sent_front : (old new kept bytes rest : List ℕ) → IsSent old new kept bytes → AppendsFront old new (bytes ++ rest)
-sent_front old new kept bytes rest s = record {
-  front = s.front;
-  back = kept ++ rest;
-  parts = rw (← append_assoc, s.parts);
-  appended = s.appended;
-}
-
--- so it is where the sink takes a prefix of what was kept
+-- the sink has taken a prefix of the whole, if it takes a prefix of what was kept
 pub sent_part : (old between kept bytes new rest : List ℕ) → IsSent old between kept bytes → AppendsFront between new kept → AppendsFront old new (bytes ++ rest)
 sent_part old between kept bytes new rest s f =
     let h : AppendsFront old new (s.front ++ kept) = front-after old between new s.front kept s.appended f in
@@ -48,15 +39,11 @@ module _ {X : Type 0} (head : List ℕ) (line : X → List ℕ) (items : List X)
       let more : kept' ≡ kept ++ line (get_or items k x) = e ∙ ap (λ y. kept ++ line y) read in
       rw (take_more items k x within, ← flat_map_more) (sent_more old new kept (head ++ flat_map line (take k items)) kept' (line (get_or items k x)) s more)
 
-  -- what the sink has taken after some lines
-  pub lines_front : (old new kept : List ℕ) (k : ℕ) → IsSent old new kept (head ++ flat_map line (take k items)) → AppendsFront old new (head ++ flat_map line items)
-  lines_front old new kept k s = rw (← lines_parted k) (sent_front old new kept _ (flat_map line (drop k items)) s)
-
-  -- so it is where the sink takes a prefix of what was kept
+  -- the sink has taken a prefix of all lines, if it takes a prefix of what was kept
   pub lines_part : (old between kept new : List ℕ) (k : ℕ) → IsSent old between kept (head ++ flat_map line (take k items)) → AppendsFront between new kept → AppendsFront old new (head ++ flat_map line items)
   lines_part old between kept new k s f = rw (← lines_parted k) (sent_part old between kept _ new (flat_map line (drop k items)) s f)
 
-  -- so it is where more follows the lines
+  -- and if more follows the lines
   pub lines_part_on : (old between kept new more : List ℕ) (k : ℕ) → IsSent old between kept (head ++ flat_map line (take k items)) → AppendsFront between new kept → AppendsFront old new (head ++ (flat_map line items ++ more))
   lines_part_on old between kept new more k s f = rw (← append_assoc) (front-append old new _ more (lines_part old between kept new k s f))
 

@@ -31,14 +31,14 @@ impl HiddenIds {
         }
     }
 
-    /// Checks whether the table reaches to the id.
+    /// Returns whether the table reaches to the id.
     pub fn reaches(&self, id: usize) -> bool
         ensures { result ≡ nat_lt id (vec_len self.now.near) }
     {
         id < self.near.len()
     }
 
-    /// Checks whether the table hides the id.
+    /// Returns whether the table hides the id.
     pub fn table_hides(&self, id: usize) -> bool
         ensures { result ≡ marked_at self.now.near.items id }
     {
@@ -53,7 +53,7 @@ impl HiddenIds {
         self.far.contains(&id)
     }
 
-    /// Checks whether the id stands in the tree.
+    /// Returns whether the id stands in the tree.
     fn tree_hides(&self, id: usize) -> bool
         ensures { result ≡ contains nat_cmp self.now.far id }
     {
@@ -63,7 +63,7 @@ impl HiddenIds {
         self.search_tree(id)
     }
 
-    /// Checks whether the id is hidden.
+    /// Returns whether the id is hidden.
     pub fn has(&self, id: usize) -> bool
         ensures { result ≡ is_hidden self.now id }
     {

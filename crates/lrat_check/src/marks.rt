@@ -108,7 +108,7 @@ impl LiteralMarks {
         marked_at(self.near.as_slice(), place) || self.is_far(place)
     }
 
-    /// Checks whether the table reaches to this place and the tree is empty, so that the table alone is looked at.
+    /// Returns whether the table reaches to this place and the tree is empty, so that the table alone is looked at.
     pub fn is_at_hand(&self, place: usize) -> bool
         ensures { result ≡ true → place < vec_len self.now.near }
     {

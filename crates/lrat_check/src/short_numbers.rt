@@ -107,7 +107,7 @@ pub(crate) fn push_short_hints<'x>(
     }
 }
 
-/// Checks whether a minus stands first.
+/// Returns whether a minus stands first.
 #[inline(always)]
 fn begins_with_minus(text: &[u8]) -> bool
     ensures { result ≡ has_minus text.now }

@@ -114,13 +114,6 @@ pub record AreTaken (number : ℕ) (words rest : List ℕ) (first now : ModelRea
 at_line_push : (number : ℕ) (words : List (List ℕ)) (word : List ℕ) → at_line number (map Word (words ++ word ∷ [])) ≡ at_line number (map Word words) ++ (number, Word word) ∷ []
 at_line_push number words word = ap (at_line number) (map_push Word words word) ∙ map_push (λ thing. (number, thing)) (map Word words) (Word word)
 
-pub none_taken : (number : ℕ) (words : List ℕ) (reader : ModelReader) → AreTaken number words words reader reader
-none_taken number words reader = record {
-  done = [];
-  parts = refl;
-  taken = λ before h. subst (λ (items : List (ℕ × Said)). IsModelProgress items reader) (sym (append-nil before)) h;
-}
-
 pub one_more_taken : (number : ℕ) (words rest : List ℕ) (first now next : ModelReader) (word after : List ℕ) → AreTaken number words rest first now → words_of rest ≡ word ∷ words_of after →
     TakesThings ((number, Word word) ∷ []) now next → AreTaken number words after first next
 one_more_taken number words rest first now next word after h cut more = record {
@@ -157,11 +150,6 @@ word_refused number words rest first now word after (At cause line) h cut refuse
       first = subst (λ (items : List (ℕ × Said)). IsFaultless model_fault items) (append_assoc before done r.front) r.first;
     }
 
--- a line that says nothing
-pub nothing_taken : (number : ℕ) (things : List Said) (before : List (ℕ × Said)) (reader : ModelReader) → things ≡ [] → IsModelProgress before reader → IsModelProgress (before ++ at_line number things) reader
-nothing_taken number things before reader none h =
-    subst (λ (items : List (ℕ × Said)). IsModelProgress items reader) (sym (append-nil before) ∙ (λ i. before ++ at_line number (sym none i))) h
-
 -- a line that says one thing, which is refused anywhere
 pub line_refused : (line : ℕ) (things : List Said) (thing : Said) (cause : ModelCause) (reader : ModelReader) → things ≡ thing ∷ [] → ((items : List (ℕ × Said)) → said_fault items thing ≡ Some cause) →
     RefusesThings (at_line line things) reader (At cause line)
@@ -174,9 +162,6 @@ pub record IsModelSoFar (text : List ℕ) (number : ℕ) (rest : List ℕ) (read
   pub parts : said_from 1 (lines_of text) ≡ before ++ said_from number (lines_of rest)
   pub progress : IsModelProgress before reader
   pub behind : number + length rest ≤ length text + 1
-
-pub text_begins : (text : List ℕ) (reader : ModelReader) → IsModelProgress [] reader → IsModelSoFar text 1 text reader
-text_begins text reader h = record { before = []; parts = refl; progress = h; behind = omega arith }
 
 line_parts : (text : List ℕ) (number : ℕ) (rest : List ℕ) (reader : ModelReader) (line after : List ℕ) → (h : IsModelSoFar text number rest reader) → lines_of rest ≡ line ∷ lines_of after →
     said_from 1 (lines_of text) ≡ h.before ++ (at_line number (said (words_of line)) ++ said_from (number + 1) (lines_of after))

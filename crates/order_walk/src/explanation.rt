@@ -55,7 +55,6 @@ const UNSEEN: Visit = Visit {
 const MAX_QUESTIONS: usize = 1 << 20;
 
 /// The operations and decisions that a contradiction needs.
-#[derive(Drop)]
 pub struct Explanation {
     /// For each operation whether it is needed.
     is_needed: Vec<bool>,
@@ -79,6 +78,26 @@ pub struct Explanation {
     steps: u64,
     /// The steps that the order's budget had left when the explanation began.
     most_steps: u64,
+}
+
+/// Drops each table, in one call for each exit of a function that owns an explanation.
+impl Drop for Explanation {
+    fn drop(self) {
+        let Explanation {
+            is_needed: _is_needed,
+            used_in: _used_in,
+            number: _,
+            is_decided: _is_decided,
+            explained_to: _explained_to,
+            questions: _questions,
+            visits: _visits,
+            search: _,
+            near: _near,
+            far: _far,
+            steps: _,
+            most_steps: _,
+        } = self;
+    }
 }
 
 impl Explanation {

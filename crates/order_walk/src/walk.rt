@@ -28,7 +28,6 @@ enum Turn {
 }
 
 /// A walk over the operations of a log: which are placed, in which order, and what memory holds.
-#[derive(Drop)]
 pub struct Walk<'a> {
     alloc: Global,
     order: DerivedOrder<'a>,
@@ -40,6 +39,21 @@ pub struct Walk<'a> {
     placed: Vec<u32>,
     /// The largest number of operations that were placed.
     most_placed: u32,
+}
+
+/// Drops the order, the explanation and each table, in one call for each exit of a function that owns a walk.
+impl Drop for Walk<'_> {
+    fn drop(self) {
+        let Walk {
+            alloc: _,
+            order: _order,
+            explanation: _explanation,
+            fronts: _fronts,
+            memory: _memory,
+            placed: _placed,
+            most_placed: _,
+        } = self;
+    }
 }
 
 /// Operations of another process that are looked at for one on the same location. With more, a step of the walk slows down; with fewer,

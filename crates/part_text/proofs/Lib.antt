@@ -1,3 +1,2 @@
 pub mod NameLineLemmas
 pub mod PartTextLemmas
-pub mod PartWriterLemmas

@@ -1,18 +1,11 @@
 -- Lines that say something, counted.
-use Rattle.std.proofs.Common.{◌≡◌, ◌≢◌, ◌<◌, ◌≤◌, ◌+◌, ℕ, List, [], ◌∷◌, ◌++◌, length, true, false, refl, ap, sym, ◌∙◌, arith, append-nil, length-append}
-use Rattle.std.proofs.lemmas.List.{length-map, length_push}
-use Rattle.text_lines.specs.FirstFault.{IsFirstFault}
+use Rattle.std.proofs.Common.{◌≡◌, ◌≢◌, ◌<◌, ◌≤◌, ◌+◌, ℕ, List, [], ◌∷◌, ◌++◌, length, true, false, ap, sym, ◌∙◌, arith, append-nil}
+use Rattle.std.proofs.lemmas.List.{length_push}
 use Rattle.text_lines.specs.Kept.{kept, is_skipped}
 use Rattle.text_lines.specs.Lines.{lines_of}
 use Rattle.text_lines.specs.Words.{words_of}
 use Rattle.text_lines.proofs.Cutting.KeptLemmas.{kept_append, kept_skipped, kept_more}
 use Rattle.text_lines.proofs.ListLemmas.{next_parts}
-use Rattle.trace_semantics.specs.declared.operation.OpName.{OpName}
-use Rattle.trace_semantics.specs.Trace.{TraceValue}
-use Rattle.schedule_text.specs.ScheduleText.{SpellsSchedule, name_word}
-use Rattle.trace_part.specs.Choice.{fault_of_choice}
-use Rattle.trace_part.specs.declared.part_fault.PartCause.{PartCause}
-use Rattle.part_text.specs.NameLine.{StandsAt, HasChoiceFault}
 
 -- `number` lines were passed, of which `said` say something, and none of these had the place
 pub record IsCounted (text : List ℕ) (place number said : ℕ) (rest : List ℕ) : Type 0 where
@@ -23,9 +16,6 @@ pub record IsCounted (text : List ℕ) (place number said : ℕ) (rest : List �
   pub few : said ≤ number
   pub under : 1 ≤ place → said < place
   pub behind : number + length rest ≤ length text
-
-pub at_start : (text : List ℕ) (place : ℕ) → IsCounted text place 0 0 text
-at_start text place = record { done = []; parts = refl; counted = refl; said_is = refl; few = omega arith; under = λ some. omega (arith, some); behind = omega arith }
 
 -- one more line that says something
 one_more : (done : List (List ℕ)) (line : List ℕ) → is_skipped (words_of line) ≡ false → length (kept (done ++ line ∷ [])) ≡ length (kept done) + 1
@@ -54,28 +44,3 @@ module _ (text : List ℕ) (place number said : ℕ) (rest line after : List ℕ
     under = λ some. omega (arith, h.under some, other);
     behind = omega (arith, h.behind, shorter);
   }
-
-  pub stands : is_skipped (words_of line) ≡ false → said + 1 ≡ place → StandsAt text place (number + 1)
-  stands says here = record {
-    before = h.done;
-    here = line;
-    after = lines_of after;
-    parts = h.parts ∙ ap (λ l. h.done ++ l) cut;
-    counted = omega (arith, h.counted);
-    said = says;
-    place_is = omega (arith, here, h.said_is);
-  }
-
--- no line is left, so there is none at the place
-pub none_left : (text : List ℕ) (place number said : ℕ) (rest : List ℕ) → IsCounted text place number said rest → lines_of rest ≡ [] → 1 ≤ place → place ≤ length (kept (lines_of text)) → ⊥
-none_left text place number said rest h none some within =
-    let all : lines_of text ≡ h.done = h.parts ∙ ap (λ l. h.done ++ l) none ∙ append-nil h.done in
-    omega (arith, h.under some, h.said_is, within, ap (λ l. length (kept l)) all)
-
--- the first fault of names that were read from a text, by its line
-pub choice_fault : (t : TraceValue) (names : List OpName) (text : List ℕ) (cause : PartCause) (place line : ℕ) → SpellsSchedule text names → IsFirstFault (fault_of_choice t) names place cause →
-    (1 ≤ place → place ≤ length (kept (lines_of text)) → StandsAt text place line) → HasChoiceFault t names text cause line
-choice_fault t names text cause place line spelled faulty stands =
-    let lines : length (kept (lines_of text)) ≡ length names = ap length spelled.lines ∙ length-map names (λ n. name_word n ∷ []) in
-    let count : length names ≡ length faulty.before + length (faulty.item ∷ faulty.after) = ap length faulty.parts ∙ length-append faulty.before (faulty.item ∷ faulty.after) in
-    record { place = place; faulty = faulty; stands = stands (omega (arith, faulty.counted)) (omega (arith, faulty.counted, lines, count)) }

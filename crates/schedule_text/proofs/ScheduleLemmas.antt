@@ -1,12 +1,11 @@
 -- The lines of a schedule's text and the names that they spell.
-use Rattle.std.proofs.Common.{◌≡◌, ℕ, ◌+◌, ◌<◌, ◌≤◌, List, [], ◌∷◌, ◌++◌, length, map, true, false, refl, ap, sym, ◌∙◌, subst, arith, append-nil}
+use Rattle.std.proofs.Common.{◌≡◌, ℕ, ◌+◌, ◌<◌, ◌≤◌, List, [], ◌∷◌, ◌++◌, length, map, true, false, refl, ap, sym, ◌∙◌, arith, append-nil}
 use Rattle.std.specs.Prelude.{None}
 use Rattle.std.specs.List.{list_all}
 use Rattle.std.specs.Fmt.{decimal}
 use Rattle.std.proofs.lemmas.Bool.{and_from, cond-true, cond-false}
 use Rattle.std.proofs.lemmas.List.{map_push, length-map, length_push}
 use Rattle.std.proofs.lemmas.List.Folds.{list_all-append}
-use Rattle.text_lines.specs.Fault.{IsRefusal}
 use Rattle.text_lines.specs.FirstFault.{IsFaultless}
 use Rattle.text_lines.specs.Lines.{lines_of}
 use Rattle.text_lines.specs.Words.{words_of}
@@ -14,12 +13,9 @@ use Rattle.text_lines.proofs.FaultLemmas.{faultless_nil, faultless_push}
 use Rattle.text_lines.proofs.Cutting.KeptLemmas.{kept_append, kept_skipped, kept_more}
 use Rattle.text_lines.proofs.ListLemmas.{next_parts}
 use Rattle.trace_semantics.specs.declared.operation.OpName.{OpName}
-use Rattle.text_lines.specs.declared.fault.PlacedFault.{PlacedFault}
-use Rattle.text_lines.specs.declared.fault.PlacedFault.TheVariants.{OutOfMemory, At}
 use Rattle.text_lines.specs.Kept.{kept, is_skipped}
-use Rattle.schedule_text.specs.declared.schedule_fault.ScheduleCause.{ScheduleCause}
-use Rattle.schedule_text.specs.ScheduleLine.{IsSkippedLine, IsNameLine, line_fault, IsLineRefusal}
-use Rattle.schedule_text.specs.ScheduleText.{SpellsSchedule, name_word, is_op_name, schedule_words_fault, schedule_line_fault, HasScheduleFault}
+use Rattle.schedule_text.specs.ScheduleLine.{IsSkippedLine, IsNameLine, line_fault}
+use Rattle.schedule_text.specs.ScheduleText.{SpellsSchedule, name_word, is_op_name, schedule_words_fault, schedule_line_fault}
 use Rattle.schedule_text.proofs.OpNameLemmas.{writable, name_clear}
 use Rattle.trace_semantics.proofs.NameByteLemmas.{begins_no_comment}
 
@@ -82,9 +78,6 @@ pub record IsReadSoFar (text : List ℕ) (number : ℕ) (rest : List ℕ) (names
   pub spelled : AreNames done names
   pub behind : number + length rest ≤ length text
 
-pub at_start : (text : List ℕ) → IsReadSoFar text 0 text []
-at_start text = record { done = []; parts = refl; counted = refl; spelled = no_lines; behind = omega arith }
-
 pub turn_skipped : (text : List ℕ) (number : ℕ) (rest : List ℕ) (names : List OpName) (line after : List ℕ) → IsReadSoFar text number rest names →
     lines_of rest ≡ line ∷ lines_of after → length after < length rest → IsSkippedLine line → IsReadSoFar text (number + 1) after names
 turn_skipped text number rest names line after h cut shorter skipped =
@@ -107,25 +100,6 @@ turn_name text number rest names line after n h cut shorter new =
       behind = omega (arith, h.behind, shorter);
     }
 
--- a refusal of the next line is one of the text
-pub refused : (text : List ℕ) (number : ℕ) (rest : List ℕ) (names : List OpName) (line after : List ℕ) (fault : PlacedFault ScheduleCause) → IsReadSoFar text number rest names →
-    lines_of rest ≡ line ∷ lines_of after → IsLineRefusal (length names) line (number + 1) fault → IsRefusal (HasScheduleFault text) fault
-refused text number rest names line after OutOfMemory h cut refusal = tt
-refused text number rest names line after (At cause place) h cut refusal =
-    record {
-      before = h.done;
-      item = line;
-      after = lines_of after;
-      parts = h.parts ∙ ap (λ l. h.done ++ l) cut;
-      counted = refusal.1 ∙ ap (λ k. k + 1) h.counted;
-      faulty = fault_here h.done names line h.spelled ∙ refusal.0;
-      first = h.spelled.faultless;
-    }
-
 -- names of all lines are the schedule
 pub spelled_by : (text : List ℕ) (names : List OpName) → AreNames (lines_of text) names → SpellsSchedule text names
 spelled_by text names h = record { lines = h.spelled; written = h.written; few = h.few }
-
-pub at_end : (text : List ℕ) (number : ℕ) (rest : List ℕ) (names : List OpName) → IsReadSoFar text number rest names → lines_of rest ≡ [] → SpellsSchedule text names
-at_end text number rest names h none =
-    spelled_by text names (subst (λ (lines : List (List ℕ)). AreNames lines names) (sym (h.parts ∙ ap (λ l. h.done ++ l) none ∙ append-nil h.done)) h.spelled)

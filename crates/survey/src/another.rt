@@ -41,75 +41,73 @@ fn core_within<'a>(
     Ok(Some(core))
 }
 
-/// The core made smaller, or another one. Others are looked for as long as it has more than ten operations, with no more steps than the
-/// `spent` ones that found it, or some. They come first since the price of making a core smaller grows with the square of its operations.
-pub fn smaller_core<'a>(
+/// Makes the core smaller, or puts another one in its place. Others are looked for as long as it has more than ten operations, with no more
+/// steps than the `spent` ones that found it, or some. They come first since the price of making a core smaller grows with the square of
+/// its operations.
+pub fn make_smaller<'a>(
     alloc: Global,
     forced: &'a DerivedOrder<'a>,
-    core: Core<'a>,
+    core: &mut Core<'a>,
     spent: u64,
     budget: &mut Budget,
-) -> Result<Core<'a>, AllocError> {
+) -> Result<(), AllocError> {
     let mut share = budget.share(spent.max(LEAST_FOR_ANOTHER));
-    let mut core = apart_from_each(alloc, forced, core, &mut share)?;
+    apart_from_each(alloc, forced, core, &mut share)?;
     // With a small budget the share is all of it, and the core could not be made smaller with nothing left.
     let rest = share.left();
     budget.give_back(share);
     core.shrink(budget)?;
     let mut share = budget.share(rest);
-    let smaller = without_each(alloc, forced, core, &mut share)?;
+    without_each(alloc, forced, core, &mut share)?;
     budget.give_back(share);
-    Ok(smaller)
+    Ok(())
 }
 
-/// Returns a choice of all operations of the log.
-fn all_of(alloc: Global, forced: &DerivedOrder<'_>) -> Result<Chosen, AllocError> {
-    let mut within = Chosen::none(alloc, forced.log().count())?;
-    for operation in 0..forced.log().count() {
-        within.set(operation, true);
-    }
-    Ok(within)
-}
-
-/// The smallest of the core and others, each of which is looked for without all operations of those before it: a log that is wrong is mostly
-/// wrong in many places.
+/// Looks for other cores, each without all operations of those before it, and keeps the smallest: a log that is wrong is mostly wrong in
+/// many places.
 fn apart_from_each<'a>(
     alloc: Global,
     forced: &'a DerivedOrder<'a>,
-    core: Core<'a>,
+    best: &mut Core<'a>,
     budget: &mut Budget,
-) -> Result<Core<'a>, AllocError> {
-    let mut within = all_of(alloc, forced)?;
-    for operation in core.operations() {
-        within.set(*operation, false);
-    }
-    let mut best = core;
+) -> Result<(), AllocError> {
+    let mut within = Chosen::new(alloc, forced.log().count(), true)?;
+    within.set_all(best.operations(), false);
     for _ in 0..MAX_APART {
         if best.count() <= SMALL || budget.is_spent() {
             break;
         }
-        let Some(core) = core_within(alloc, forced, &within, budget)? else {
+        if !finds_core(alloc, forced, &mut within, best, budget)? {
             break;
-        };
-        for operation in core.operations() {
-            within.set(*operation, false);
-        }
-        if core.count() < best.count() {
-            best = core;
         }
     }
-    Ok(best)
+    Ok(())
+}
+
+/// Looks for a core in this part, takes its operations out of the part, and goes on from it if it is smaller. Returns whether there is one.
+fn finds_core<'a>(
+    alloc: Global,
+    forced: &'a DerivedOrder<'a>,
+    within: &mut Chosen,
+    best: &mut Core<'a>,
+    budget: &mut Budget,
+) -> Result<bool, AllocError> {
+    let Some(core) = core_within(alloc, forced, within, budget)? else {
+        return Ok(false);
+    };
+    within.set_all(core.operations(), false);
+    best.take_if_smaller(core);
+    Ok(true)
 }
 
 /// Leaves out one of the core's operations from the whole trace, looks for a core there, and goes on from a smaller one.
 fn without_each<'a>(
     alloc: Global,
     forced: &'a DerivedOrder<'a>,
-    core: Core<'a>,
+    best: &mut Core<'a>,
     budget: &mut Budget,
-) -> Result<Core<'a>, AllocError> {
-    let mut best = core;
-    let mut within = all_of(alloc, forced)?;
+) -> Result<(), AllocError> {
+    let mut within = Chosen::new(alloc, forced.log().count(), true)?;
     let mut place: u32 = 0;
     for _ in 0..MAX_TRIES {
         if place >= best.count() || best.count() <= SMALL || budget.is_spent() {
@@ -117,20 +115,27 @@ fn without_each<'a>(
         }
         let operation = at(best.operations(), place, 0);
         within.set(operation, false);
-        let mut is_smaller = false;
-        if let Some(mut core) = core_within(alloc, forced, &within, budget)? {
-            core.shrink(budget)?;
-            if core.count() < best.count() {
-                best = core;
-                is_smaller = true;
-            }
-        }
-        if is_smaller {
+        if finds_smaller_core(alloc, forced, &within, best, budget)? {
             place = 0;
         } else {
             within.set(operation, true);
             place = place.wrapping_add(1);
         }
     }
-    Ok(best)
+    Ok(())
+}
+
+/// Looks for a core in this part, makes it smaller, and goes on from it if it is smaller than the best one. Returns whether it is.
+fn finds_smaller_core<'a>(
+    alloc: Global,
+    forced: &'a DerivedOrder<'a>,
+    within: &Chosen,
+    best: &mut Core<'a>,
+    budget: &mut Budget,
+) -> Result<bool, AllocError> {
+    let Some(mut core) = core_within(alloc, forced, within, budget)? else {
+        return Ok(false);
+    };
+    core.shrink(budget)?;
+    Ok(best.take_if_smaller(core))
 }

@@ -1,6 +1,6 @@
 //! What a survey finds.
 
-use crate::another::smaller_core;
+use crate::another::make_smaller;
 use crate::purse::Purse;
 use crate::reading::{log_of, names_of};
 use crate::shrinking::Core;
@@ -88,19 +88,38 @@ fn walk_over(alloc: Global, log: &NumberedLog, budget: &mut Budget) -> Result<Wa
     let kept = budget.share(budget.left() / 4);
     let order = DerivedOrder::new(alloc, log, *budget)?;
     let mut walk = Walk::new(alloc, order)?;
+    end_of(alloc, &mut walk, kept, budget)
+}
+
+/// Runs the walk, and gives its end as a finding. What is left of its budget, and what was kept, is the budget from then on.
+fn end_of(
+    alloc: Global,
+    walk: &mut Walk<'_>,
+    kept: Budget,
+    budget: &mut Budget,
+) -> Result<Walked, AllocError> {
     let ending = walk.run()?;
     *budget = walk.order().budget();
     budget.give_back(kept);
-    let numbers = match ending {
-        WalkEnd::Scheduled => NumberedFinding::Schedule(Vec::from_slice(alloc, walk.placed())?),
-        WalkEnd::Contradicted => NumberedFinding::Core(walk.explanation.operations(alloc)?),
-        WalkEnd::GivenUp => NumberedFinding::Nothing,
-    };
+    let numbers = numbers_at(alloc, walk, ending)?;
     walk.take_back_all();
     Ok(Walked {
         numbers,
         placed: walk.most_placed(),
         undecided: walk.order().undecided(),
+    })
+}
+
+/// A schedule, or the operations from which a contradiction follows, where the walk has ended like this.
+fn numbers_at(
+    alloc: Global,
+    walk: &Walk<'_>,
+    ending: WalkEnd,
+) -> Result<NumberedFinding, AllocError> {
+    Ok(match ending {
+        WalkEnd::Scheduled => NumberedFinding::Schedule(Vec::from_slice(alloc, walk.placed())?),
+        WalkEnd::Contradicted => NumberedFinding::Core(walk.explanation.operations(alloc)?),
+        WalkEnd::GivenUp => NumberedFinding::Nothing,
     })
 }
 
@@ -115,19 +134,40 @@ fn smallest_core(
 ) -> Result<Vec<u32>, AllocError> {
     let forced = DerivedOrder::new(alloc, log, *budget)?;
     *budget = forced.budget();
-    let mut core = Core::new(alloc, &forced, operations)?;
+    smallest_core_of(alloc, &forced, operations, spent, budget)
+}
+
+/// The same, once the order is made that program order and pairs force.
+fn smallest_core_of<'a>(
+    alloc: Global,
+    forced: &'a DerivedOrder<'a>,
+    operations: Vec<u32>,
+    spent: u64,
+    budget: &mut Budget,
+) -> Result<Vec<u32>, AllocError> {
+    let mut core = Core::new(alloc, forced, operations)?;
+    make_smallest(alloc, forced, &mut core, spent, budget)?;
+    Vec::from_slice(alloc, core.operations())
+}
+
+/// Makes the core smaller, after it was completed so that saturation or a walk refutes it.
+fn make_smallest<'a>(
+    alloc: Global,
+    forced: &'a DerivedOrder<'a>,
+    core: &mut Core<'a>,
+    spent: u64,
+    budget: &mut Budget,
+) -> Result<(), AllocError> {
     if forced.is_contradicted() {
-        core.add_writers(budget)?;
-        return Vec::from_slice(alloc, core.operations());
+        return core.add_writers(budget);
     }
     core.close(budget)?;
     if core.is_refuted(budget)? {
-        let core = smaller_core(alloc, &forced, core, spent, budget)?;
-        return Vec::from_slice(alloc, core.operations());
+        return make_smaller(alloc, forced, core, spent, budget);
     }
     core.refute_by_walks();
     if core.is_refuted(budget)? {
-        core.shrink(budget)?;
+        return core.shrink(budget);
     }
-    Vec::from_slice(alloc, core.operations())
+    Ok(())
 }

@@ -14,10 +14,10 @@ pub struct Chosen {
 }
 
 impl Chosen {
-    /// A choice of none of this number of operations.
-    pub fn none(alloc: Global, operations: u32) -> Result<Chosen, AllocError> {
+    /// A choice of all of this number of operations, or of none.
+    pub fn new(alloc: Global, operations: u32, is_chosen: bool) -> Result<Chosen, AllocError> {
         Ok(Chosen {
-            is_chosen: vec![in alloc; false; operations as usize]?,
+            is_chosen: vec![in alloc; is_chosen; operations as usize]?,
         })
     }
 
@@ -31,6 +31,13 @@ impl Chosen {
     #[inline(always)]
     pub fn set(&mut self, operation: u32, is_chosen: bool) {
         put(self.is_chosen.as_mut_slice(), operation, is_chosen);
+    }
+
+    /// Chooses each of the operations, or takes each out of the choice.
+    pub fn set_all(&mut self, operations: &[u32], is_chosen: bool) {
+        for operation in operations {
+            self.set(*operation, is_chosen);
+        }
     }
 
     /// The chosen ones of these operations.
@@ -57,15 +64,23 @@ impl Chosen {
 }
 
 /// A part of a log.
-#[derive(Drop)]
 pub struct LogPart {
     pub log: NumberedLog,
     /// For each operation of the part its number in the whole.
     pub numbers: Vec<u32>,
 }
 
+/// Drops each table, in one call for each exit of a function that owns a part.
+impl Drop for LogPart {
+    fn drop(self) {
+        let LogPart {
+            log: _log,
+            numbers: _numbers,
+        } = self;
+    }
+}
+
 /// The numbers in the part, by those in the whole.
-#[derive(Drop)]
 struct Renaming {
     operations: Vec<u32>,
     locations: Vec<u32>,
@@ -73,6 +88,18 @@ struct Renaming {
     old_locations: Vec<u32>,
     /// Whether some operation of the part writes the location, by its number in the part.
     is_written: Vec<bool>,
+}
+
+/// Drops each table, in one call for each exit of a function that owns a renaming.
+impl Drop for Renaming {
+    fn drop(self) {
+        let Renaming {
+            operations: _operations,
+            locations: _locations,
+            old_locations: _old_locations,
+            is_written: _is_written,
+        } = self;
+    }
 }
 
 /// The part of these operations, which stand by rising numbers and are those that are chosen. The order is the one that program order and

@@ -126,7 +126,28 @@ fn value_or_nothing(value: Option<u64>) -> u64 {
 pub fn log_of(alloc: Global, trace: &Trace) -> Result<NumberedLog, AllocError> {
     let locations = locations_of(alloc, trace)?;
     let starts = Starts::of(alloc, trace)?;
+    numbered(alloc, trace, &locations, &starts)
+}
+
+/// The trace as these numbers.
+fn numbered(
+    alloc: Global,
+    trace: &Trace,
+    locations: &Locations<'_>,
+    starts: &Starts<'_>,
+) -> Result<NumberedLog, AllocError> {
     let mut log = NumberedLog::new(alloc, locations.count)?;
+    fill(&mut log, trace, locations, starts)?;
+    Ok(log)
+}
+
+/// Adds what the trace says to a log without operations.
+fn fill(
+    log: &mut NumberedLog,
+    trace: &Trace,
+    locations: &Locations<'_>,
+    starts: &Starts<'_>,
+) -> Result<(), AllocError> {
     for value in trace.initial() {
         log.set_initial(number_in(&locations.table, &value.0), Some(value.1));
     }
@@ -145,7 +166,7 @@ pub fn log_of(alloc: Global, trace: &Trace) -> Result<NumberedLog, AllocError> {
         let second = starts.number(&pair.1);
         log.add_pair(NumberedPair { first, second })?;
     }
-    Ok(log)
+    Ok(())
 }
 
 /// The name of an operation of this process.

@@ -30,10 +30,8 @@ impl<'a> Core<'a> {
         forced: &'a DerivedOrder<'a>,
         operations: Vec<u32>,
     ) -> Result<Core<'a>, AllocError> {
-        let mut chosen = Chosen::none(alloc, forced.log().count())?;
-        for operation in &operations {
-            chosen.set(*operation, true);
-        }
+        let mut chosen = Chosen::new(alloc, forced.log().count(), false)?;
+        chosen.set_all(operations.as_slice(), true);
         Ok(Core {
             alloc,
             forced,
@@ -264,17 +262,39 @@ impl<'a> Core<'a> {
             return Ok(());
         };
         let mut core = Core::new(self.alloc, self.forced, found)?;
-        core.close(budget)?;
-        if core.count() < self.count() && core.is_refuted(budget)? {
-            let Core {
-                operations,
-                chosen,
-                ..
-            } = core;
-            self.operations = operations;
-            self.chosen = chosen;
+        if self.gives_way_to(&mut core, budget)? {
+            self.take(core);
         }
         Ok(())
+    }
+
+    /// Closes the other core, and returns whether it then has fewer operations and its part is refuted too.
+    fn gives_way_to(&self, other: &mut Core<'a>, budget: &mut Budget) -> Result<bool, AllocError> {
+        other.close(budget)?;
+        if other.count() >= self.count() {
+            return Ok(false);
+        }
+        other.is_refuted(budget)
+    }
+
+    /// Goes on from the operations of another core of the same whole.
+    fn take(&mut self, other: Core<'a>) {
+        let Core {
+            operations,
+            chosen,
+            ..
+        } = other;
+        self.operations = operations;
+        self.chosen = chosen;
+    }
+
+    /// Goes on from the other core if it has fewer operations, and returns whether it has.
+    pub fn take_if_smaller(&mut self, other: Core<'a>) -> bool {
+        if other.count() >= self.count() {
+            return false;
+        }
+        self.take(other);
+        true
     }
 
     /// Leaves out those of these operations that are in the core, if what is left is still refuted.
@@ -283,17 +303,13 @@ impl<'a> Core<'a> {
         if group.is_empty() || budget.is_spent() {
             return Ok(());
         }
-        for operation in &group {
-            self.chosen.set(*operation, false);
-        }
+        self.chosen.set_all(group.as_slice(), false);
         let left = self.chosen.among(self.alloc, self.operations.as_slice())?;
         let all = std::mem::replace(&mut self.operations, left);
         if self.is_refuted(budget)? {
             return self.refine(budget);
         }
-        for operation in &group {
-            self.chosen.set(*operation, true);
-        }
+        self.chosen.set_all(group.as_slice(), true);
         self.operations = all;
         Ok(())
     }

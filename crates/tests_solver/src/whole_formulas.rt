@@ -31,7 +31,7 @@ pub fn refuted(
     }
 }
 
-/// Checks whether both are derivations, and the same.
+/// Returns whether both are derivations, and the same.
 pub fn are_one(one: &Option<Derivation>, other: &Option<Derivation>) -> bool {
     match (one, other) {
         (Some(one), Some(other)) => are_same(one, other),

@@ -22,7 +22,7 @@ use reducer::expand::expand;
 use reducer::reduced::Reduced;
 use result_ledger::{Ledger, Verdict, inconsistent_has_no_model, unknown_holds_all_models};
 use schedule_decode::decode::schedule_of;
-use solver::PreparedFormula;
+use solver::{PreparedFormula, ReadsFromTable};
 use std::alloc::{AllocError, Global};
 use std::sync::Wait;
 use std::thread::Threads;
@@ -96,6 +96,49 @@ fn decision_of(
     }
 }
 
+/// Searches the whole formula before its cubes: what is found there answers for all of them.
+fn search_before_cubes(
+    alloc: Global,
+    clauses: &TraceClauses,
+    prepared: &mut PreparedFormula,
+    options: &Options,
+) -> Result<(), AllocError> {
+    let splits = clauses
+        .layout()
+        .first_splits(alloc, options.split() as usize)?;
+    prepared.count_whole(alloc, splits.len(), options.budget())?;
+    prepared.search_whole(alloc, splits.as_slice(), options.budget())
+}
+
+/// Prepares the formula of these clauses, with hints about their structure, and searches it whole.
+fn prepared_formula<'a>(
+    alloc: Global,
+    clauses: &TraceClauses,
+    reads_from: &'a ReadsFromTable,
+    options: &Options,
+) -> Result<PreparedFormula<'a>, AllocError> {
+    let encoding = guide_to_order(clauses).with_reads_from(reads_from);
+    let mut prepared = PreparedFormula::of(alloc, clauses, encoding)?;
+    search_before_cubes(alloc, clauses, &mut prepared, options)?;
+    Ok(prepared)
+}
+
+/// Prepares the formula of these clauses, and searches its cubes in rounds.
+fn search_clauses<R: Threads + Wait + Sync, G: Gate + Sync>(
+    alloc: Global,
+    rt: &R,
+    clauses: &TraceClauses,
+    options: &Options,
+    gate: &G,
+) -> Result<Decided, SearchFault>
+    ensures cubes { IfOk result (λ decided. cubes_in decided.ledger ≡ cubes_of decided.tree) }
+    ensures ended { IfOk result (λ decided. HaveEnded clauses.now options.now decided.ledger decided.verdict) }
+{
+    let reads_from = reads_from_table(alloc, clauses)?;
+    let prepared = prepared_formula(alloc, clauses, &reads_from, options)?;
+    search_in_rounds(alloc, rt, clauses, &prepared, options, gate)
+}
+
 /// Decides whether the whole trace has a legal schedule, within the limits of the options.
 pub fn decide<R: Threads + Wait + Sync, G: Gate + Sync>(
     alloc: Global,
@@ -107,14 +150,6 @@ pub fn decide<R: Threads + Wait + Sync, G: Gate + Sync>(
     ensures { IfOk result (λ decision. IsDecided options.now reduced.now.whole decision) }
 {
     let clauses = TraceClauses::of(alloc, reduced)?;
-    let reads_from = reads_from_table(alloc, &clauses)?;
-    let encoding = guide_to_order(&clauses).with_reads_from(&reads_from);
-    let mut prepared = PreparedFormula::of(alloc, &clauses, encoding)?;
-    let splits = clauses
-        .layout()
-        .first_splits(alloc, options.split() as usize)?;
-    prepared.count_whole(alloc, splits.len(), options.budget())?;
-    prepared.search_whole(alloc, splits.as_slice(), options.budget())?;
-    let decided = search_in_rounds(alloc, rt, &clauses, &prepared, options, gate)?;
+    let decided = search_clauses(alloc, rt, &clauses, options, gate)?;
     Ok(decision_of(alloc, reduced, &clauses, options, decided)?)
 }

@@ -1,10 +1,10 @@
 //! The rounds of a search: the leaves of a tree are searched, and those that stay open are split.
-ghost use Rattle.std.specs.Prelude.{◌≡◌, IfOk, length, map};
+ghost use Rattle.std.specs.Prelude.{◌≡◌, IfOk, OnOk, length, map};
 ghost use Rattle.clause_blocks.specs.Clauses.{clauses_of};
 ghost use Rattle.cube_jobs.specs.Results.{AreLeaves};
 ghost use Rattle.cube_tree.specs.CubeTree.{cubes_of};
 ghost use Rattle.result_ledger.specs.Ledger.{cubes_in, empty_slot, HasAnswerAt};
-ghost use Rattle.result_ledger.specs.Verdict.{AreWithout};
+ghost use Rattle.result_ledger.specs.Verdict.{AreWithout, IsVerdict};
 ghost use Rattle.trace_decision.specs.Rounds.{AreOfUnanswered, HaveEnded, IsConfirmed, IsNext, IsSearched, first_tree, variables_of};
 
 use crate::decided::{Decided, Next};
@@ -56,6 +56,28 @@ fn search_unanswered<R: Threads + Wait + Sync, G: Gate + Sync>(
     )
 }
 
+/// Searches the leaves that have no answer, enters what is found, and gives the verdict that follows from what was answered for all leaves.
+fn search_and_confirm<R: Threads + Wait + Sync, G: Gate + Sync>(
+    alloc: Global,
+    rt: &R,
+    clauses: &TraceClauses,
+    prepared: &PreparedFormula,
+    tree: &Tree,
+    ledger: &mut Ledger,
+    options: &Options,
+    gate: &G,
+) -> Result<Verdict, SearchFault>
+    requires { cubes_in ledger.old ≡ cubes_of tree.now }
+    ensures cubes { cubes_in ledger.new ≡ cubes_of tree.now }
+    ensures verdict { IfOk result (λ verdict. IsVerdict (clauses_of clauses.now) ledger.new verdict) }
+    ensures searched { OnOk result (IsSearched (clauses_of clauses.now) ledger.old ledger.new) }
+{
+    let results = search_unanswered(alloc, rt, clauses, prepared, tree, ledger, options, gate)?;
+    enter_all(ledger, results);
+    let verdict = ledger.confirm(alloc, rt, clauses, options.workers())?;
+    Ok(verdict)
+}
+
 /// Searches the leaves that have no answer, enters what is found, and confirms what was answered for all leaves.
 fn search_open<R: Threads + Wait + Sync, G: Gate + Sync>(
     alloc: Global,
@@ -71,15 +93,36 @@ fn search_open<R: Threads + Wait + Sync, G: Gate + Sync>(
     ensures confirmed { IfOk result (λ decided. IsConfirmed (clauses_of clauses.now) decided) }
     ensures searched { IfOk result (λ decided. IsSearched (clauses_of clauses.now) ledger decided.ledger) }
 {
-    let results = search_unanswered(alloc, rt, clauses, prepared, &tree, &ledger, options, gate)?;
     let mut ledger = ledger;
-    enter_all(&mut ledger, results);
-    let verdict = ledger.confirm(alloc, rt, clauses, options.workers())?;
+    let verdict = search_and_confirm(
+        alloc,
+        rt,
+        clauses,
+        prepared,
+        &tree,
+        &mut ledger,
+        options,
+        gate,
+    )?;
     Ok(Decided {
         tree,
         ledger,
         verdict,
     })
+}
+
+/// The first tree, and a ledger of it without an answer.
+fn first_leaves(
+    alloc: Global,
+    clauses: &TraceClauses,
+    options: &Options,
+) -> Result<(Tree, Ledger), AllocError>
+    ensures cubes { IfOk result (λ first. cubes_in first.1 ≡ cubes_of first.0) }
+    ensures empty { IfOk result (λ first. first.1 ≡ map empty_slot (cubes_of (first_tree clauses.now options.now.split))) }
+{
+    let tree = grow(alloc, clauses.layout(), options.split())?;
+    let ledger = Ledger::new(alloc, &tree)?;
+    Ok((tree, ledger))
 }
 
 /// The first round: the leaves of the first tree are searched.
@@ -94,8 +137,7 @@ fn search_first<R: Threads + Wait + Sync, G: Gate + Sync>(
     ensures confirmed { IfOk result (λ decided. IsConfirmed (clauses_of clauses.now) decided) }
     ensures searched { IfOk result (λ decided. IsSearched (clauses_of clauses.now) (map empty_slot (cubes_of (first_tree clauses.now options.now.split))) decided.ledger) }
 {
-    let tree = grow(alloc, clauses.layout(), options.split())?;
-    let ledger = Ledger::new(alloc, &tree)?;
+    let (tree, ledger) = first_leaves(alloc, clauses, options)?;
     search_open(alloc, rt, clauses, prepared, tree, ledger, options, gate)
 }
 

@@ -8,7 +8,7 @@ use Rattle.lrat_check.specs.Rat.{Reaches}
 use Rattle.lrat_check.specs.Refuted.{Refutes, FailsToRefute}
 use Rattle.lrat_check.specs.Propagation.{IsUnit, HasTwoUnfalsified}
 use Rattle.lrat_check.specs.declared.refusal.StepFault.{StepFault}
-use Rattle.lrat_check.specs.declared.refusal.StepFault.TheVariants.{UnknownHint, NotUnit, NoConflict}
+use Rattle.lrat_check.specs.declared.refusal.StepFault.TheVariants.{NotUnit, NoConflict}
 
 -- what the hints that are left do, all do
 pub record IsOnTheWay (active : ℕ → Option (List ℤ)) (first : List ℤ) (hints : List ℕ) (trues : List ℤ) (left : List ℕ) : Type 0 where
@@ -27,9 +27,6 @@ on_unit active first hints trues left hint rest clause unit h e known is = recor
 
 not_unit : NotUnit ≢ NoConflict
 not_unit e = absurd (cc)
-
-unknown_hint : UnknownHint ≢ NoConflict
-unknown_hint e = absurd (cc)
 
 pub on_two : (active : ℕ → Option (List ℤ)) (first : List ℤ) (hints : List ℕ) (trues : List ℤ) (left : List ℕ) (hint : ℕ) (rest : List ℕ) (clause : List ℤ) →
     IsOnTheWay active first hints trues left → left ≡ hint ∷ rest → active hint ≡ Some clause → HasTwoUnfalsified trues clause → FailsToRefute active first hints NotUnit × (NotUnit ≢ NoConflict)
