@@ -13,7 +13,6 @@ use std::sync::atomic::{AtomicU64, Ordering};
 ///
 /// Untrusted: using the preparation of a different formula yields answers that the check refuses, and never a wrong verdict (see
 /// `EncodingHints`).
-#[derive(Drop)]
 pub struct PreparedFormula<'a> {
     /// The caller's hints, if they fit the formula.
     pub(crate) encoding: EncodingHints<'a>,
@@ -39,6 +38,26 @@ pub struct PreparedFormula<'a> {
     pub(crate) model: Option<Assignment>,
     /// The conflicts of the searches that have ended, without those that were taken. No answer depends on it.
     conflicts: AtomicU64,
+}
+
+/// Drops each table, in one call at each exit of a function that owns a prepared formula, where a derived `Drop` would drop them one by one.
+impl Drop for PreparedFormula<'_> {
+    fn drop(self) {
+        let PreparedFormula {
+            encoding: _,
+            variables: _,
+            count: _,
+            loader: _loader,
+            small: _small,
+            wanted: _wanted,
+            leading: _leading,
+            activities: _activities,
+            refutation: _refutation,
+            refuted_cubes: _refuted_cubes,
+            model: _model,
+            conflicts: _conflicts,
+        } = self;
+    }
 }
 
 impl<'a> PreparedFormula<'a> {

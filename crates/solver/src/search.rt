@@ -14,7 +14,6 @@ use proof_log::codes::{NEVER, code_of};
 use std::alloc::{AllocError, Global};
 
 /// State of one search of one cube.
-#[derive(Drop)]
 pub struct Search<'a> {
     pub alloc: Global,
     pub variables: u32,
@@ -61,6 +60,42 @@ pub struct Search<'a> {
     pub restarts: Restarts,
     pub next_reduction: u32,
     pub reduction_gap: u32,
+}
+
+/// Drops each table. With a derived `Drop` every exit of a function that owns a search would drop its 41 tables one by one, which is most of
+/// what the proof of such a function would cost.
+impl Drop for Search<'_> {
+    fn drop(self) {
+        let Search {
+            alloc: _,
+            variables: _,
+            encoding: _,
+            small: _small,
+            store: _store,
+            watches: _watches,
+            clauses: _clauses,
+            conflict: _,
+            trail: _trail,
+            activities: _activities,
+            leading: _leading,
+            schedule: _schedule,
+            learned: _learned,
+            hints: _hints,
+            resolved: _resolved,
+            removed: _removed,
+            pending: _pending,
+            needed: _needed,
+            stack: _stack,
+            marks: _marks,
+            marked: _marked,
+            level_stamps: _level_stamps,
+            stamp: _,
+            conflicts: _,
+            restarts: _,
+            next_reduction: _,
+            reduction_gap: _,
+        } = self;
+    }
 }
 
 impl<'a> Search<'a> {
