@@ -130,19 +130,31 @@ def functions(crate, path, text):
             yield call
 
 
+def modules_of(folder):
+    """The modules of a crate, by their files below src, without the ending."""
+    for at, _, files in os.walk(folder):
+        for file in files:
+            if file.endswith(".rt"):
+                yield os.path.relpath(os.path.join(at, file), folder)[:-len(".rt")]
+
+
 def public_calls(root):
-    """The public calls of all crates, by their crates' names, their files and their places."""
+    """The public calls of all crates, by their crates' names, their files and their places: what a module exports, and in whichever module they
+    stand the public methods of the types that are exported."""
     found = []
     for crate in sorted(os.listdir(f"{root}/crates")):
-        folder, opened = f"{root}/crates/{crate}/src", {}
+        folder, opened, types = f"{root}/crates/{crate}/src", {}, set()
         for module, names in exports(folder):
             is_all = names is None or opened.get(module, names) is None
             opened[module] = None if is_all else opened.get(module, set()) | names
-        for module, names in sorted(opened.items()):
             if os.path.exists(f"{folder}/{module}.rt"):
-                for call in functions(crate, f"{crate}/src/{module}.rt", read(f"{folder}/{module}.rt")):
-                    if names is None or (call.owner or call.name) in names:
-                        found.append(call)
+                declared = set(re.findall(r"(?m)^pub (?:struct|enum) (\w+)", read(f"{folder}/{module}.rt")))
+                types |= declared if names is None else declared & names
+        for module in sorted(modules_of(folder)):
+            names = opened.get(module, set())
+            for call in functions(crate, f"{crate}/src/{module}.rt", read(f"{folder}/{module}.rt")):
+                if names is None or (call.owner or call.name) in names or (call.owner in types and not call.trait):
+                    found.append(call)
     return found
 
 
