@@ -1,8 +1,11 @@
 """Which crates of a build are proved next, and with how many processes each.
 
-`rt ci` takes a crate for the longer the more lines it has, gives each one process, and keeps memory free for three times what a check takes. Here
-the seconds and the memory are those that docs/PROVING.md has of each crate. The crates with the longest chain of others behind them come first and get
-a process for each processor; the others are nicer, and take what those leave.
+`rt ci` takes a crate for the longer the more lines it has, and keeps memory free for three times what a check takes. Here the seconds and the memory
+are those that docs/PROVING.md has of each crate. The crates with the longest chain of others behind them come first.
+
+A check by two processes takes two thirds of the time, and by four two fifths, but three tenths more of the processors. So a crate has one process,
+unless processors are idle; only the one with the longest chain has half of the processors. With a process for each processor that chain took no less
+time, since others ran beside, and all together a fifth more of the processors.
 """
 
 import os
@@ -11,9 +14,8 @@ import threading
 from concurrent.futures import FIRST_COMPLETED, Future, wait
 
 ROOT = os.path.dirname(os.path.dirname(os.path.realpath(__file__)))
-NICER = 10
-# A chain is among the longest if it has at least this share of the longest one's seconds.
-LONGEST = 0.95
+# The most processes of a check, as of `rt ci`.
+MOST_JOBS = 4
 MEMORY_SHARE = 0.85
 GIGABYTE = 1_000_000_000
 
@@ -42,13 +44,11 @@ class Task:
         self.memory = min(needs, 1.3 * memory)
         self.behind = self.seconds
 
-    def start(self, given, jobs, nicer):
-        """Starts it in a thread of its own, whose niceness the processes that it starts inherit."""
+    def start(self, given, jobs):
+        """Starts it in a thread of its own."""
         done = Future()
 
         def run():
-            if nicer:
-                os.setpriority(os.PRIO_PROCESS, threading.get_native_id(), NICER)
             try:
                 done.set_result(self.call(given, jobs))
             except BaseException as fault:  # noqa: BLE001  (handed on to who waits)
@@ -68,18 +68,26 @@ def in_order(tasks, costs):
     return sorted(made.values(), key=lambda it: -it.behind)
 
 
+def jobs_of(task, longest, idle, ready, processors):
+    """How many processes a task gets: those that are idle and that no other task that is ready needs, and at least its share if none has more behind it."""
+    share = processors // 2 if task.behind == longest else 1
+    return max(1, min(MOST_JOBS, max(share, idle // ready)))
+
+
 def run_all(tasks, processors, free):
     """Runs the tasks side by side, each after those it waits for, and answers what each gave: the kit's `in_lanes` for a build without wrong bodies."""
     left, running, given = in_order(tasks, measured()), {}, {}
     while left or running:
-        memory = MEMORY_SHARE * free - sum(it.memory for it in running.values())
-        longest = max(it.behind for it in [*left, *running.values()])
-        for task in [it for it in left if all(below in given for below in it.waits)]:
-            if len(running) < processors and (not running or task.memory <= memory):
-                is_longest = task.behind >= LONGEST * longest
+        memory = MEMORY_SHARE * free - sum(task.memory for task, _ in running.values())
+        longest = max(it.behind for it in [*left, *(task for task, _ in running.values())])
+        ready = [it for it in left if all(below in given for below in it.waits)]
+        for at, task in enumerate(ready):
+            idle = processors - sum(jobs for _, jobs in running.values())
+            if idle > 0 and (not running or task.memory <= memory):
+                jobs = jobs_of(task, longest, idle, len(ready) - at, processors)
                 left.remove(task)
-                running[task.start(given, processors if is_longest else 1, not is_longest)] = task
+                running[task.start(given, jobs)] = task, jobs
                 memory -= task.memory
         for done in wait(running, return_when=FIRST_COMPLETED).done:
-            given[running.pop(done).key] = done.result()
+            given[running.pop(done)[0].key] = done.result()
     return given
