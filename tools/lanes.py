@@ -68,10 +68,10 @@ def in_order(tasks, costs):
     return sorted(made.values(), key=lambda it: -it.behind)
 
 
-def jobs_of(task, longest, idle, ready, processors):
-    """How many processes a task gets: those that are idle and that no other task that is ready needs, and at least its share if none has more behind it."""
+def jobs_of(task, longest, idle, others, processors):
+    """How many processes a task gets: its part of the idle processors, which others wait for too, and half of all if none has more seconds behind it."""
     share = processors // 2 if task.behind == longest else 1
-    return max(1, min(MOST_JOBS, max(share, idle // ready)))
+    return min(MOST_JOBS, max(1, share, idle // (1 + others)))
 
 
 def run_all(tasks, processors, free):
@@ -84,7 +84,8 @@ def run_all(tasks, processors, free):
         for at, task in enumerate(ready):
             idle = processors - sum(jobs for _, jobs in running.values())
             if idle > 0 and (not running or task.memory <= memory):
-                jobs = jobs_of(task, longest, idle, len(ready) - at, processors)
+                others = sum(1 for it in ready[at + 1:] if it.seconds)
+                jobs = jobs_of(task, longest, idle, others, processors)
                 left.remove(task)
                 running[task.start(given, jobs)] = task, jobs
                 memory -= task.memory
