@@ -4,14 +4,13 @@
 are those that docs/PROVING.md has of each crate. The crates with the longest chain of others behind them come first.
 
 A check by two processes takes two thirds of the time, and by four two fifths, but three tenths more of the processors. So a crate has one process,
-unless processors are idle; only the one with the longest chain has half of the processors. With a process for each processor that chain took no less
-time, since others ran beside, and all together a fifth more of the processors.
+unless processors are idle; only the one with the longest chain has half of the processors. With a process for each processor, and others beside it, that
+chain took no less time.
 """
 
 import os
 import re
-import threading
-from concurrent.futures import FIRST_COMPLETED, Future, wait
+from concurrent.futures import FIRST_COMPLETED, ThreadPoolExecutor, wait
 
 ROOT = os.path.dirname(os.path.dirname(os.path.realpath(__file__)))
 # The most processes of a check, as of `rt ci`.
@@ -44,19 +43,6 @@ class Task:
         self.memory = min(needs, 1.3 * memory)
         self.behind = self.seconds
 
-    def start(self, given, jobs):
-        """Starts it in a thread of its own."""
-        done = Future()
-
-        def run():
-            try:
-                done.set_result(self.call(given, jobs))
-            except BaseException as fault:  # noqa: BLE001  (handed on to who waits)
-                done.set_exception(fault)
-
-        threading.Thread(target=run, daemon=True).start()
-        return done
-
 
 def in_order(tasks, costs):
     """The tasks, those with the most seconds behind them first."""
@@ -77,18 +63,19 @@ def jobs_of(task, longest, idle, others, processors):
 def run_all(tasks, processors, free):
     """Runs the tasks side by side, each after those it waits for, and answers what each gave: the kit's `in_lanes` for a build without wrong bodies."""
     left, running, given = in_order(tasks, measured()), {}, {}
-    while left or running:
-        memory = MEMORY_SHARE * free - sum(task.memory for task, _ in running.values())
-        longest = max(it.behind for it in [*left, *(task for task, _ in running.values())])
-        ready = [it for it in left if all(below in given for below in it.waits)]
-        for at, task in enumerate(ready):
-            idle = processors - sum(jobs for _, jobs in running.values())
-            if idle > 0 and (not running or task.memory <= memory):
-                others = sum(1 for it in ready[at + 1:] if it.seconds)
-                jobs = jobs_of(task, longest, idle, others, processors)
-                left.remove(task)
-                running[task.start(given, jobs)] = task, jobs
-                memory -= task.memory
-        for done in wait(running, return_when=FIRST_COMPLETED).done:
-            given[running.pop(done)[0].key] = done.result()
+    with ThreadPoolExecutor(processors) as pool:
+        while left or running:
+            memory = MEMORY_SHARE * free - sum(task.memory for task, _ in running.values())
+            longest = max(it.behind for it in [*left, *(task for task, _ in running.values())])
+            ready = [it for it in left if all(below in given for below in it.waits)]
+            for at, task in enumerate(ready):
+                idle = processors - sum(jobs for _, jobs in running.values())
+                if idle > 0 and (not running or task.memory <= memory):
+                    others = sum(1 for it in ready[at + 1:] if it.seconds)
+                    jobs = jobs_of(task, longest, idle, others, processors)
+                    left.remove(task)
+                    running[pool.submit(task.call, given, jobs)] = task, jobs
+                    memory -= task.memory
+            for done in wait(running, return_when=FIRST_COMPLETED).done:
+                given[running.pop(done)[0].key] = done.result()
     return given
