@@ -4,7 +4,6 @@ use crate::found_order::{ArrowKind, FoundOrder, OrderArrow};
 use crate::item::PictureItem;
 use crate::placement::{BoxEdges, Placement};
 use crate::svg_text::SvgText;
-use std::alloc::AllocError;
 
 /// The look of an arrow.
 #[derive(Clone, Copy)]
@@ -49,7 +48,7 @@ pub(crate) fn skips_between(first: &PictureItem<'_>, second: &PictureItem<'_>) -
 }
 
 /// Begins a path of this style.
-pub(crate) fn begin_path(svg: &mut SvgText, style: ArrowStyle) -> Result<(), AllocError> {
+pub(crate) fn begin_path(svg: &mut SvgText, style: ArrowStyle) {
     svg.add(&[
         b"<path class=\"",
         style.class,
@@ -58,47 +57,43 @@ pub(crate) fn begin_path(svg: &mut SvgText, style: ArrowStyle) -> Result<(), All
         b"\" marker-end=\"url(#",
         style.head,
         b")\" d=\"M",
-    ])
+    ]);
 }
 
 /// Adds a straight line down, from the one box to the other.
-fn add_line_down(svg: &mut SvgText, from: BoxEdges, to: BoxEdges) -> Result<(), AllocError> {
-    svg.add_numbers(&[from.center(), from.bottom])?;
-    svg.add(&[b" L"])?;
-    svg.add_numbers(&[to.center(), to.top])
+fn add_line_down(svg: &mut SvgText, from: BoxEdges, to: BoxEdges) {
+    svg.add_numbers(&[from.center(), from.bottom]);
+    svg.add(&[b" L"]);
+    svg.add_numbers(&[to.center(), to.top]);
 }
 
 /// Adds a curve that leaves at one place and arrives at another by way of two places at this distance beside them.
-fn add_curve(
-    svg: &mut SvgText,
-    start: (u64, u64),
-    first: u64,
-    second: u64,
-    end: (u64, u64),
-) -> Result<(), AllocError> {
-    svg.add_numbers(&[start.0, start.1])?;
-    svg.add(&[b" C"])?;
-    svg.add_numbers(&[first, start.1, second, end.1, end.0, end.1])
+fn add_curve(svg: &mut SvgText, start: (u64, u64), first: u64, second: u64, end: (u64, u64)) {
+    svg.add_numbers(&[start.0, start.1]);
+    svg.add(&[b" C"]);
+    svg.add_numbers(&[first, start.1, second, end.1, end.0, end.1]);
 }
 
 /// Adds a curve from the side of the one box to the side of the other.
-fn add_curve_across(svg: &mut SvgText, from: BoxEdges, to: BoxEdges) -> Result<(), AllocError> {
+fn add_curve_across(svg: &mut SvgText, from: BoxEdges, to: BoxEdges) {
     let leave = from.middle().saturating_add(5);
     let arrive = to.middle().saturating_sub(5);
     if from.left == to.left {
         let beside = from.right.saturating_add(44);
-        return add_curve(svg, (from.right, leave), beside, beside, (to.right, arrive));
+        add_curve(svg, (from.right, leave), beside, beside, (to.right, arrive));
+        return;
     }
     if from.right <= to.left {
         let half = (to.left.saturating_sub(from.right) / 2).min(120);
         let first = from.right.saturating_add(half);
         let second = to.left.saturating_sub(half);
-        return add_curve(svg, (from.right, leave), first, second, (to.left, arrive));
+        add_curve(svg, (from.right, leave), first, second, (to.left, arrive));
+        return;
     }
     let half = (from.left.saturating_sub(to.right) / 2).min(120);
     let first = from.left.saturating_sub(half);
     let second = to.right.saturating_add(half);
-    add_curve(svg, (from.left, leave), first, second, (to.right, arrive))
+    add_curve(svg, (from.left, leave), first, second, (to.right, arrive));
 }
 
 /// Draws the arrow, if it is drawn.
@@ -108,18 +103,18 @@ fn draw_arrow(
     arrow: &OrderArrow,
     first: &PictureItem<'_>,
     second: &PictureItem<'_>,
-) -> Result<(), AllocError> {
+) {
     let Some(style) = style_of(arrow, skips_between(first, second)) else {
-        return Ok(());
+        return;
     };
     let from = placement.edges_of(first);
     let to = placement.edges_of(second);
-    begin_path(svg, style)?;
+    begin_path(svg, style);
     match arrow.kind {
-        ArrowKind::Program => add_line_down(svg, from, to)?,
-        _ => add_curve_across(svg, from, to)?,
+        ArrowKind::Program => add_line_down(svg, from, to),
+        _ => add_curve_across(svg, from, to),
     }
-    svg.add(&[b"\"/>\n"])
+    svg.add(&[b"\"/>\n"]);
 }
 
 /// Draws the arrows that are of a cycle, or those that are not.
@@ -129,15 +124,14 @@ pub(crate) fn draw_arrows(
     items: &[PictureItem<'_>],
     found: &FoundOrder,
     marked: bool,
-) -> Result<(), AllocError> {
+) {
     for arrow in &found.arrows {
         if arrow.is_marked == marked {
             if let Some(first) = items.get(arrow.from) {
                 if let Some(second) = items.get(arrow.to) {
-                    draw_arrow(svg, placement, arrow, first, second)?;
+                    draw_arrow(svg, placement, arrow, first, second);
                 }
             }
         }
     }
-    Ok(())
 }

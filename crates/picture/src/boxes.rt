@@ -21,22 +21,17 @@ fn class_of(found: &FoundOrder, item: &PictureItem<'_>, number: usize) -> &'stat
 }
 
 /// Draws what is written into a box, in its middle.
-fn draw_text(
-    svg: &mut SvgText,
-    text: &BoxText,
-    center: u64,
-    baseline: u64,
-) -> Result<(), AllocError> {
+fn draw_text(svg: &mut SvgText, text: &BoxText, center: u64, baseline: u64) {
     let left = center.saturating_sub(text_width(text.length()) / 2);
-    svg.add(&[b"<text class=\"code\" xml:space=\"preserve\""])?;
-    svg.at(left, baseline)?;
-    svg.add(&[b"><tspan class=\"position\">"])?;
-    svg.escaped(&[text.position.as_slice()])?;
-    svg.add(&[b"</tspan><tspan class=\"name\">"])?;
-    svg.escaped(&[text.name.as_slice()])?;
-    svg.add(&[b"</tspan>"])?;
-    svg.escaped(&[text.words.as_slice()])?;
-    svg.add(&[b"</text>\n"])
+    svg.add(&[b"<text class=\"code\" xml:space=\"preserve\""]);
+    svg.at(left, baseline);
+    svg.add(&[b"><tspan class=\"position\">"]);
+    svg.escaped(&[text.position.as_slice()]);
+    svg.add(&[b"</tspan><tspan class=\"name\">"]);
+    svg.escaped(&[text.name.as_slice()]);
+    svg.add(&[b"</tspan>"]);
+    svg.escaped(&[text.words.as_slice()]);
+    svg.add(&[b"</text>\n"]);
 }
 
 /// Draws the box of this number.
@@ -49,14 +44,15 @@ fn draw_box(
     has_position: bool,
 ) -> Result<(), AllocError> {
     let edges = placement.edges_of(item);
-    svg.add(&[b"<rect class=\"", class, b"\" rx=\"5\""])?;
-    svg.at(edges.left, edges.top)?;
-    svg.attribute(b"width", edges.width())?;
-    svg.attribute(b"height", edges.height())?;
-    svg.add(&[b"/>\n"])?;
+    svg.add(&[b"<rect class=\"", class, b"\" rx=\"5\""]);
+    svg.at(edges.left, edges.top);
+    svg.attribute(b"width", edges.width());
+    svg.attribute(b"height", edges.height());
+    svg.add(&[b"/>\n"]);
     let text = BoxText::of(alloc, item, has_position)?;
     let baseline = edges.middle().saturating_add(4);
-    draw_text(svg, &text, edges.center(), baseline)
+    draw_text(svg, &text, edges.center(), baseline);
+    Ok(())
 }
 
 /// Draws all boxes.
@@ -77,12 +73,11 @@ pub(crate) fn draw_boxes(
 }
 
 /// Draws the titles of the columns.
-pub(crate) fn draw_titles(svg: &mut SvgText, placement: &Placement<'_>) -> Result<(), AllocError> {
+pub(crate) fn draw_titles(svg: &mut SvgText, placement: &Placement<'_>) {
     for column in &placement.columns {
         if column.width > 0 {
             let center = column.left.saturating_add(column.width / 2);
-            svg.line_of_text(b"column", center, placement.title_line(), &[column.title])?;
+            svg.line_of_text(b"column", center, placement.title_line(), &[column.title]);
         }
     }
-    Ok(())
 }

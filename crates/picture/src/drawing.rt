@@ -54,8 +54,8 @@ const HEADS: [(&[u8], &[u8]); 4] = [
 ];
 
 /// Draws the heads of arrows, for later use.
-fn define_heads(svg: &mut SvgText) -> Result<(), AllocError> {
-    svg.add(&[b"<defs>\n"])?;
+fn define_heads(svg: &mut SvgText) {
+    svg.add(&[b"<defs>\n"]);
     for (name, colour) in HEADS {
         svg.add(&[
             b"<marker id=\"",
@@ -64,28 +64,28 @@ fn define_heads(svg: &mut SvgText) -> Result<(), AllocError> {
             b"markerUnits=\"userSpaceOnUse\" orient=\"auto\"><path d=\"M 0 1 L 10 5 L 0 9 z\" style=\"fill: ",
             colour,
             b"\"/></marker>\n",
-        ])?;
+        ]);
     }
-    svg.add(&[b"</defs>\n"])
+    svg.add(&[b"</defs>\n"]);
 }
 
 /// Begins a document of this size.
-fn begin_document(svg: &mut SvgText, width: u64, height: u64) -> Result<(), AllocError> {
+fn begin_document(svg: &mut SvgText, width: u64, height: u64) {
     svg.add(&[
         b"<?xml version=\"1.0\" encoding=\"UTF-8\"?>\n",
         b"<svg xmlns=\"http://www.w3.org/2000/svg\" version=\"1.1\"",
-    ])?;
-    svg.attribute(b"width", width)?;
-    svg.attribute(b"height", height)?;
-    svg.add(&[b" viewBox=\"0 0"])?;
-    svg.add_numbers(&[width, height])?;
-    svg.add(&[b"\">\n"])?;
-    svg.add(&[STYLE])?;
-    define_heads(svg)?;
-    svg.add(&[b"<rect class=\"page\" x=\"0\" y=\"0\""])?;
-    svg.attribute(b"width", width)?;
-    svg.attribute(b"height", height)?;
-    svg.add(&[b"/>\n"])
+    ]);
+    svg.attribute(b"width", width);
+    svg.attribute(b"height", height);
+    svg.add(&[b" viewBox=\"0 0"]);
+    svg.add_numbers(&[width, height]);
+    svg.add(&[b"\">\n"]);
+    svg.add(&[STYLE]);
+    define_heads(svg);
+    svg.add(&[b"<rect class=\"page\" x=\"0\" y=\"0\""]);
+    svg.attribute(b"width", width);
+    svg.attribute(b"height", height);
+    svg.add(&[b"/>\n"]);
 }
 
 /// The number of boxes that are operations; the others are initial and final values.
@@ -109,33 +109,28 @@ pub(crate) fn count_all(trace: &Trace) -> u64 {
 }
 
 /// Draws the title.
-fn draw_title(svg: &mut SvgText, words: &[&[u8]]) -> Result<(), AllocError> {
-    svg.line_of_text(b"title", MARGIN, 34, words)
+fn draw_title(svg: &mut SvgText, words: &[&[u8]]) {
+    svg.line_of_text(b"title", MARGIN, 34, words);
 }
 
 /// Draws what stands below the title.
-fn draw_note(svg: &mut SvgText, words: &[&[u8]]) -> Result<(), AllocError> {
-    svg.line_of_text(b"note", MARGIN, 54, words)
+fn draw_note(svg: &mut SvgText, words: &[&[u8]]) {
+    svg.line_of_text(b"note", MARGIN, 54, words);
 }
 
 /// Draws the title and what stands below it.
-fn draw_heading(
-    svg: &mut SvgText,
-    subject: &PictureSubject<'_>,
-    drawn: u64,
-    all: u64,
-) -> Result<(), AllocError> {
+fn draw_heading(svg: &mut SvgText, subject: &PictureSubject<'_>, drawn: u64, all: u64) {
     let drawn_digits = decimal(drawn);
     let all_digits = decimal(all);
     let drawn = drawn_digits.as_slice();
     let all = all_digits.as_slice();
     match subject {
         PictureSubject::InOrder(_) => {
-            draw_title(svg, &[b"A legal schedule of ", drawn, b" operations"])?;
+            draw_title(svg, &[b"A legal schedule of ", drawn, b" operations"]);
             draw_note(
                 svg,
                 &[b"from top to bottom; each box has the position, the name, and the operation"],
-            )
+            );
         }
         PictureSubject::Core(_) => {
             draw_title(
@@ -145,7 +140,7 @@ fn draw_heading(
                     drawn,
                     b" operations that no order explains",
                 ],
-            )?;
+            );
             draw_note(
                 svg,
                 &[
@@ -153,32 +148,31 @@ fn draw_heading(
                     all,
                     b" operations of the trace; each box has the name and the operation",
                 ],
-            )
+            );
         }
         PictureSubject::Whole => {
             draw_title(
                 svg,
                 &[b"No legal schedule of these ", drawn, b" operations"],
-            )?;
+            );
             draw_note(
                 svg,
                 &[b"the whole trace; each box has the name and the operation"],
-            )
+            );
         }
     }
 }
 
 /// Draws a band behind every other row.
-fn draw_bands(svg: &mut SvgText, placement: &Placement<'_>, width: u64) -> Result<(), AllocError> {
+fn draw_bands(svg: &mut SvgText, placement: &Placement<'_>, width: u64) {
     for half in 0..placement.rows.saturating_add(1) / 2 {
         let row = half.saturating_mul(2);
-        svg.add(&[b"<rect class=\"band\" x=\"0\""])?;
-        svg.attribute(b"y", placement.top_of_row(row).saturating_sub(6))?;
-        svg.attribute(b"width", width)?;
-        svg.attribute(b"height", placement.row_step)?;
-        svg.add(&[b"/>\n"])?;
+        svg.add(&[b"<rect class=\"band\" x=\"0\""]);
+        svg.attribute(b"y", placement.top_of_row(row).saturating_sub(6));
+        svg.attribute(b"width", width);
+        svg.attribute(b"height", placement.row_step);
+        svg.add(&[b"/>\n"]);
     }
-    Ok(())
 }
 
 /// The order of the boxes: that of the schedule, or the part of it that is forced.
@@ -204,10 +198,10 @@ fn draw_body(
     found: &FoundOrder,
     is_schedule: bool,
 ) -> Result<(), AllocError> {
-    draw_titles(svg, placement)?;
-    draw_arrows(svg, placement, items, found, false)?;
+    draw_titles(svg, placement);
+    draw_arrows(svg, placement, items, found, false);
     // Those of a cycle lie on top.
-    draw_arrows(svg, placement, items, found, true)?;
+    draw_arrows(svg, placement, items, found, true);
     draw_boxes(alloc, svg, placement, items, found, is_schedule)
 }
 
@@ -234,10 +228,10 @@ pub fn draw(
     let height = legend.saturating_add(entries.count().saturating_mul(LEGEND_STEP));
     let width = placement.right.saturating_add(MARGIN * 2).max(LEAST_WIDTH);
     let mut svg = SvgText::new(alloc);
-    begin_document(&mut svg, width, height.saturating_add(8))?;
-    draw_heading(&mut svg, subject, drawn, count_all(trace))?;
+    begin_document(&mut svg, width, height.saturating_add(8));
+    draw_heading(&mut svg, subject, drawn, count_all(trace));
     if is_schedule {
-        draw_bands(&mut svg, &placement, width)?;
+        draw_bands(&mut svg, &placement, width);
     }
     draw_body(
         alloc,
@@ -247,7 +241,7 @@ pub fn draw(
         &found,
         is_schedule,
     )?;
-    draw_legend(&mut svg, &entries, legend)?;
-    svg.add(&[b"</svg>\n"])?;
-    Ok(svg.into_bytes())
+    draw_legend(&mut svg, &entries, legend);
+    svg.add(&[b"</svg>\n"]);
+    svg.into_bytes()
 }

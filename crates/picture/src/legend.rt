@@ -5,7 +5,6 @@ use crate::found_order::{ArrowKind, FoundOrder};
 use crate::item::PictureItem;
 use crate::placement::MARGIN;
 use crate::svg_text::SvgText;
-use std::alloc::AllocError;
 
 /// The height of a line of the legend.
 pub(crate) const LEGEND_STEP: u64 = 22;
@@ -96,10 +95,9 @@ struct LegendLine {
 
 impl LegendLine {
     /// Draws the words beside what they say the meaning of, and goes to the next line.
-    fn end(&mut self, svg: &mut SvgText, words: &[u8]) -> Result<(), AllocError> {
-        svg.line_of_text(b"note", MARGIN + 52, self.y.saturating_add(4), &[words])?;
+    fn end(&mut self, svg: &mut SvgText, words: &[u8]) {
+        svg.line_of_text(b"note", MARGIN + 52, self.y.saturating_add(4), &[words]);
         self.y = self.y.saturating_add(LEGEND_STEP);
-        Ok(())
     }
 
     /// Draws a line with an arrow, and what it means.
@@ -109,38 +107,34 @@ impl LegendLine {
         class: &'static [u8],
         head: &'static [u8],
         words: &[u8],
-    ) -> Result<(), AllocError> {
-        begin_path(svg, ArrowStyle { class, head })?;
-        svg.add_numbers(&[MARGIN, self.y])?;
-        svg.add(&[b" L"])?;
-        svg.add_numbers(&[MARGIN + 40, self.y])?;
-        svg.add(&[b"\"/>\n"])?;
-        self.end(svg, words)
+    ) {
+        begin_path(svg, ArrowStyle { class, head });
+        svg.add_numbers(&[MARGIN, self.y]);
+        svg.add(&[b" L"]);
+        svg.add_numbers(&[MARGIN + 40, self.y]);
+        svg.add(&[b"\"/>\n"]);
+        self.end(svg, words);
     }
 
     /// Draws a box of this class, and what it means.
-    fn sample(&mut self, svg: &mut SvgText, class: &[u8], words: &[u8]) -> Result<(), AllocError> {
-        svg.add(&[b"<rect class=\"", class, b"\" rx=\"4\""])?;
-        svg.at(MARGIN, self.y.saturating_sub(8))?;
-        svg.attribute(b"width", 40)?;
-        svg.attribute(b"height", 16)?;
-        svg.add(&[b"/>\n"])?;
-        self.end(svg, words)
+    fn sample(&mut self, svg: &mut SvgText, class: &[u8], words: &[u8]) {
+        svg.add(&[b"<rect class=\"", class, b"\" rx=\"4\""]);
+        svg.at(MARGIN, self.y.saturating_sub(8));
+        svg.attribute(b"width", 40);
+        svg.attribute(b"height", 16);
+        svg.add(&[b"/>\n"]);
+        self.end(svg, words);
     }
 }
 
 /// Draws what of the legend is of arrows that are in each picture.
-fn draw_plain(
-    svg: &mut SvgText,
-    line: &mut LegendLine,
-    entries: &LegendEntries,
-) -> Result<(), AllocError> {
+fn draw_plain(svg: &mut SvgText, line: &mut LegendLine, entries: &LegendEntries) {
     if entries.program {
-        line.arrow(svg, b"program", b"grey", b"program order")?;
+        line.arrow(svg, b"program", b"grey", b"program order");
     }
     if entries.skips {
         let words = b"program order, with operations in between that are left out";
-        line.arrow(svg, b"program skips", b"grey", words)?;
+        line.arrow(svg, b"program skips", b"grey", words);
     }
     if entries.source {
         let words: &[u8] = if entries.is_schedule {
@@ -148,39 +142,33 @@ fn draw_plain(
         } else {
             b"to a read from the only write, or initial value, that can give it its value"
         };
-        line.arrow(svg, b"source", b"blue", words)?;
+        line.arrow(svg, b"source", b"blue", words);
     }
     if entries.before {
-        line.arrow(svg, b"before", b"violet", b"known order, by a before line")?;
+        line.arrow(svg, b"before", b"violet", b"known order, by a before line");
     }
-    Ok(())
 }
 
 /// Draws the legend from this height on.
-pub(crate) fn draw_legend(
-    svg: &mut SvgText,
-    entries: &LegendEntries,
-    y: u64,
-) -> Result<(), AllocError> {
+pub(crate) fn draw_legend(svg: &mut SvgText, entries: &LegendEntries, y: u64) {
     let mut line = LegendLine { y };
-    draw_plain(svg, &mut line, entries)?;
+    draw_plain(svg, &mut line, entries);
     if entries.derived {
         let words = b"has to come first: else a read would find the value of another write";
-        line.arrow(svg, b"derived", b"red", words)?;
+        line.arrow(svg, b"derived", b"red", words);
     }
     if entries.cycle {
         line.sample(
             svg,
             b"marked",
             b"red: a cycle, each of which would have to come before the next",
-        )?;
+        );
     }
     if entries.lack {
         line.sample(
             svg,
             b"lacking",
             b"a value that no order of these operations gives",
-        )?;
+        );
     }
-    Ok(())
 }

@@ -3,10 +3,11 @@
 use note_text::{decimal, push_words};
 use std::alloc::{AllocError, Global};
 
-/// An SVG document as it is written.
+/// An SVG document as it is written. Once memory runs out it takes nothing more, and only its end says so.
 #[derive(Drop)]
 pub(crate) struct SvgText {
     text: Vec<u8>,
+    outcome: Result<(), AllocError>,
 }
 
 impl SvgText {
@@ -14,46 +15,50 @@ impl SvgText {
     pub fn new(alloc: Global) -> SvgText {
         SvgText {
             text: Vec::new(alloc),
+            outcome: Ok(()),
         }
     }
 
-    /// Returns the text; this takes no memory.
-    pub fn into_bytes(self) -> Vec<u8> {
-        self.text
+    /// Returns the text, if there was memory for all of it; this takes none.
+    pub fn into_bytes(self) -> Result<Vec<u8>, AllocError> {
+        let SvgText { text, outcome } = self;
+        outcome?;
+        Ok(text)
     }
 
     /// Adds the words one after the other, as they are.
-    pub fn add(&mut self, words: &[&[u8]]) -> Result<(), AllocError> {
-        push_words(&mut self.text, words)
+    pub fn add(&mut self, words: &[&[u8]]) {
+        if self.outcome.is_ok() {
+            self.outcome = push_words(&mut self.text, words);
+        }
     }
 
     /// Adds the number.
-    pub fn add_number(&mut self, number: u64) -> Result<(), AllocError> {
-        self.text.extend_from_slice(decimal(number).as_slice())
+    pub fn add_number(&mut self, number: u64) {
+        self.add(&[decimal(number).as_slice()]);
     }
 
     /// Adds numbers with a blank in front of each.
-    pub fn add_numbers(&mut self, numbers: &[u64]) -> Result<(), AllocError> {
+    pub fn add_numbers(&mut self, numbers: &[u64]) {
         for number in numbers {
-            self.add(&[b" "])?;
-            self.add_number(*number)?;
+            self.add(&[b" "]);
+            self.add_number(*number);
         }
-        Ok(())
     }
 
     /// Adds an attribute with a number.
-    pub fn attribute(&mut self, name: &[u8], number: u64) -> Result<(), AllocError> {
-        self.add(&[b" ", name, b"=\"", decimal(number).as_slice(), b"\""])
+    pub fn attribute(&mut self, name: &[u8], number: u64) {
+        self.add(&[b" ", name, b"=\"", decimal(number).as_slice(), b"\""]);
     }
 
     /// Adds attributes with the numbers of a place.
-    pub fn at(&mut self, x: u64, y: u64) -> Result<(), AllocError> {
-        self.attribute(b"x", x)?;
-        self.attribute(b"y", y)
+    pub fn at(&mut self, x: u64, y: u64) {
+        self.attribute(b"x", x);
+        self.attribute(b"y", y);
     }
 
     /// Adds what stands for the byte in XML.
-    fn add_escaped_byte(&mut self, byte: u8) -> Result<(), AllocError> {
+    fn add_escaped_byte(&mut self, byte: u8) {
         match byte {
             b'&' => self.add(&[b"&amp;"]),
             b'<' => self.add(&[b"&lt;"]),
@@ -64,27 +69,20 @@ impl SvgText {
     }
 
     /// Adds the words, one after the other, as text between tags.
-    pub fn escaped(&mut self, words: &[&[u8]]) -> Result<(), AllocError> {
+    pub fn escaped(&mut self, words: &[&[u8]]) {
         for word in words {
             for byte in *word {
-                self.add_escaped_byte(*byte)?;
+                self.add_escaped_byte(*byte);
             }
         }
-        Ok(())
     }
 
     /// Adds a line of text of this class at this place.
-    pub fn line_of_text(
-        &mut self,
-        class: &[u8],
-        x: u64,
-        y: u64,
-        words: &[&[u8]],
-    ) -> Result<(), AllocError> {
-        self.add(&[b"<text class=\"", class, b"\""])?;
-        self.at(x, y)?;
-        self.add(&[b">"])?;
-        self.escaped(words)?;
-        self.add(&[b"</text>\n"])
+    pub fn line_of_text(&mut self, class: &[u8], x: u64, y: u64, words: &[&[u8]]) {
+        self.add(&[b"<text class=\"", class, b"\""]);
+        self.at(x, y);
+        self.add(&[b">"]);
+        self.escaped(words);
+        self.add(&[b"</text>\n"]);
     }
 }

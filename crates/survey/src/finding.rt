@@ -110,7 +110,7 @@ fn end_of(
     })
 }
 
-/// A schedule, or the operations from which a contradiction follows, where the walk has ended like this.
+/// What the walk has found, given how it ended: a schedule, or the operations from which a contradiction follows.
 fn numbers_at(
     alloc: Global,
     walk: &Walk<'_>,
@@ -137,7 +137,7 @@ fn smallest_core(
     smallest_core_of(alloc, &forced, operations, spent, budget)
 }
 
-/// The same, once the order is made that program order and pairs force.
+/// Makes the core smaller, given the order that program order and known pairs force.
 fn smallest_core_of<'a>(
     alloc: Global,
     forced: &'a DerivedOrder<'a>,
