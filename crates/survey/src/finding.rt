@@ -110,7 +110,7 @@ fn end_of(
     })
 }
 
-/// What the walk has found, given how it ended: a schedule, or the operations from which a contradiction follows.
+/// A schedule, or the operations from which a contradiction follows, given how the walk has ended.
 fn numbers_at(
     alloc: Global,
     walk: &Walk<'_>,
