@@ -287,7 +287,7 @@ fn notes_of_unmade(alloc: Global, failed: Option<FailedFile<'_>>) -> Vec<u8> {
     let mut notes = Notes::new(alloc);
     if let Some(words) = failed_writing(alloc, failed, None) {
         // If memory runs out, there is no explanation.
-        let _ = notes.note(&[words.as_bytes()]);
+        notes.note(&[words.as_bytes()]);
     }
     notes.into_bytes()
 }

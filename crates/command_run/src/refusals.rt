@@ -11,10 +11,10 @@ use std::alloc::{AllocError, Global};
 use verdict_report::{Fault, Status};
 
 /// The list.
-fn list_of_refusals(alloc: Global) -> Result<Notes, AllocError> {
+fn list_of_refusals(alloc: Global) -> Result<Vec<u8>, AllocError> {
     let mut list = Notes::new(alloc);
-    refusal_list(&mut list)?;
-    Ok(list)
+    refusal_list(&mut list);
+    list.into_whole()
 }
 
 /// Writes the text.

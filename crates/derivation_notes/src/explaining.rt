@@ -66,7 +66,7 @@ fn explain_derived(
     let rests = Rests::of(alloc, clauses, &needed)?;
     let story = Story::new(alloc, ops);
     if needed.count() > MAX_STEPS || needed.hints() > MAX_HINTS {
-        rests.explain(notes, &story, needed.count())?;
+        rests.explain(notes, &story, needed.count());
         return Ok(false);
     }
     let mut teller = Teller::new(alloc, clauses, story);
@@ -74,8 +74,8 @@ fn explain_derived(
         return Ok(false);
     }
     let used = rests.count_clauses();
-    explain_extent(notes, used, clauses.count() as u64)?;
-    teller.story.note_all(notes)?;
+    explain_extent(notes, used, clauses.count() as u64);
+    teller.story.note_all(notes);
     Ok(true)
 }
 
@@ -92,7 +92,7 @@ fn tell_steps(teller: &mut Teller<'_>, needed: &NeededSteps<'_>) -> Result<bool,
 }
 
 /// Notes how many clauses contradict each other.
-fn explain_extent(notes: &mut Notes, used: u64, all: u64) -> Result<(), AllocError> {
+fn explain_extent(notes: &mut Notes, used: u64, all: u64) {
     let used = decimal(used);
     let all = decimal(all);
     notes.note(&[
@@ -101,5 +101,5 @@ fn explain_extent(notes: &mut Notes, used: u64, all: u64) -> Result<(), AllocErr
         b" clauses, of ",
         all.as_slice(),
         b" in all:",
-    ])
+    ]);
 }

@@ -27,36 +27,32 @@ fn last_of(choices: &[FinalChoice], variable: u32) -> Option<usize> {
 
 impl<'t> Teller<'t> {
     /// Says the clause that a writer leaves the final value of this number.
-    pub fn tell_last(
-        &mut self,
-        final_value: usize,
-        conclusion: Conclusion,
-    ) -> Result<(), AllocError> {
+    pub fn tell_last(&mut self, final_value: usize, conclusion: Conclusion) {
         let choices = finals_of(self.clauses.layout(), final_value);
         let is_only = choices.len() == 1;
         match conclusion {
             Conclusion::Of(variable) => match last_of(choices, variable) {
                 Some(writer) => self.say_last(writer, is_only),
-                None => Ok(()),
+                None => {}
             },
             Conclusion::Contradiction => {
                 self.story.say(&[Phrase::Words(
                     b"no operation is left that can write the final value last: contradiction",
                 )])
             }
-            Conclusion::Order(_, _) => Ok(()),
+            Conclusion::Order(_, _) => {}
         }
     }
 
     /// Says why the writer is the last one.
-    fn say_last(&mut self, writer: usize, is_only: bool) -> Result<(), AllocError> {
+    fn say_last(&mut self, writer: usize, is_only: bool) {
         let words: &[u8] = if is_only {
             b" is the last write there: it alone writes the final value"
         } else {
             b" is the last write there: nothing else is left that writes the final value"
         };
         self.story
-            .say(&[Phrase::Whole(writer), Phrase::Words(words)])
+            .say(&[Phrase::Whole(writer), Phrase::Words(words)]);
     }
 
     /// Says the clause that the other writer stands before the last one.
@@ -67,12 +63,13 @@ impl<'t> Teller<'t> {
         conclusion: Conclusion,
     ) -> Result<(), AllocError> {
         if let Conclusion::Order(_, _) = conclusion {
-            return self.story.say(&[
+            self.story.say(&[
                 Phrase::Whole(writer),
                 Phrase::Words(b" stands before "),
                 Phrase::Name(last),
                 Phrase::Words(b", the last write there"),
             ]);
+            return Ok(());
         }
         self.say_order(last, writer)?;
         let end: &[u8] = match conclusion {
@@ -84,6 +81,7 @@ impl<'t> Teller<'t> {
             Phrase::Words(b" stands after "),
             Phrase::Whole(last),
             Phrase::Words(end),
-        ])
+        ]);
+        Ok(())
     }
 }

@@ -3,7 +3,6 @@
 use crate::clause_meaning::order_of;
 use crate::story::{Phrase, Story};
 use dimacs::Lit;
-use std::alloc::AllocError;
 use var_layout::candidate::Candidate;
 use var_layout::layout::Layout;
 use verdict_notes::Sentence;
@@ -61,45 +60,35 @@ fn add_source(
     reader: usize,
     candidate: Candidate,
     is_positive: bool,
-) -> Result<(), AllocError> {
-    story.add_piece(sentence, Phrase::Whole(reader))?;
+) {
+    story.add_piece(sentence, Phrase::Whole(reader));
     let words: &[u8] = if is_positive {
         b" reads"
     } else {
         b" does not read"
     };
-    sentence.add(&[words])?;
+    sentence.add(&[words]);
     match candidate {
         Candidate::InitialValue => sentence.add(&[b" the initial value"]),
         Candidate::Writer(source) => {
-            sentence.add(&[b" from "])?;
+            sentence.add(&[b" from "]);
             story.add_piece(sentence, Phrase::Name(source))
         }
     }
 }
 
 /// Adds that the writer is the last one of its location, or is not.
-fn add_last(
-    story: &Story<'_>,
-    sentence: &mut Sentence,
-    writer: usize,
-    is_positive: bool,
-) -> Result<(), AllocError> {
-    story.add_piece(sentence, Phrase::Whole(writer))?;
+fn add_last(story: &Story<'_>, sentence: &mut Sentence, writer: usize, is_positive: bool) {
+    story.add_piece(sentence, Phrase::Whole(writer));
     let words: &[u8] = if is_positive { b" is" } else { b" is not" };
-    sentence.add(&[words, b" the last write there"])
+    sentence.add(&[words, b" the last write there"]);
 }
 
 /// Adds what the literal says.
-pub fn add_literal(
-    layout: &Layout,
-    story: &Story<'_>,
-    sentence: &mut Sentence,
-    literal: Lit,
-) -> Result<(), AllocError> {
+pub fn add_literal(layout: &Layout, story: &Story<'_>, sentence: &mut Sentence, literal: Lit) {
     if let Some((first, second)) = order_of(layout.operations(), literal) {
-        story.add_piece(sentence, Phrase::Name(first))?;
-        sentence.add(&[b" before "])?;
+        story.add_piece(sentence, Phrase::Name(first));
+        sentence.add(&[b" before "]);
         return story.add_piece(sentence, Phrase::Name(second));
     }
     match meaning_of(layout, literal.variable()) {

@@ -47,7 +47,10 @@ impl<'t> Teller<'t> {
         conclusion: Conclusion,
     ) -> Result<(), AllocError> {
         match meaning {
-            ClauseMeaning::HasSource(reader) => self.tell_source(*reader, conclusion),
+            ClauseMeaning::HasSource(reader) => {
+                self.tell_source(*reader, conclusion);
+                Ok(())
+            }
             ClauseMeaning::BeforeWriter { reader, writer } => {
                 self.tell_before_writer(*reader, *writer, conclusion)
             }
@@ -59,7 +62,10 @@ impl<'t> Teller<'t> {
                 source,
                 writer,
             } => self.tell_not_between(*reader, *source, *writer, conclusion),
-            ClauseMeaning::HasLast(final_value) => self.tell_last(*final_value, conclusion),
+            ClauseMeaning::HasLast(final_value) => {
+                self.tell_last(*final_value, conclusion);
+                Ok(())
+            }
             ClauseMeaning::BeforeLast { last, writer, .. } => {
                 self.tell_before_last(*last, *writer, conclusion)
             }
@@ -68,12 +74,7 @@ impl<'t> Teller<'t> {
     }
 
     /// Says why the reader reads from this candidate.
-    fn say_source(
-        &mut self,
-        reader: usize,
-        candidate: Candidate,
-        is_only: bool,
-    ) -> Result<(), AllocError> {
+    fn say_source(&mut self, reader: usize, candidate: Candidate, is_only: bool) {
         let by_line = has_origin(&self.story, reader);
         match candidate {
             Candidate::InitialValue => {
@@ -111,19 +112,19 @@ impl<'t> Teller<'t> {
     }
 
     /// Says the clause that the operation reads from somewhere.
-    fn tell_source(&mut self, reader: usize, conclusion: Conclusion) -> Result<(), AllocError> {
+    fn tell_source(&mut self, reader: usize, conclusion: Conclusion) {
         let layout = self.clauses.layout();
         let is_only = choices_of(layout, reader).len() == 1;
         match conclusion {
             Conclusion::Of(variable) => match chosen(layout, reader, variable) {
                 Some(candidate) => self.say_source(reader, candidate, is_only),
-                None => Ok(()),
+                None => {}
             },
             Conclusion::Contradiction => self.story.say(&[
                 Phrase::Whole(reader),
                 Phrase::Words(b" has nothing left to read from: contradiction"),
             ]),
-            Conclusion::Order(_, _) => Ok(()),
+            Conclusion::Order(_, _) => {}
         }
     }
 
@@ -135,12 +136,13 @@ impl<'t> Teller<'t> {
         conclusion: Conclusion,
     ) -> Result<(), AllocError> {
         if let Conclusion::Order(_, _) = conclusion {
-            return self.story.say(&[
+            self.story.say(&[
                 Phrase::Name(reader),
                 Phrase::Words(b" reads the initial value, so "),
                 Phrase::Whole(writer),
                 Phrase::Words(b" stands after it"),
             ]);
+            return Ok(());
         }
         self.say_order(writer, reader)?;
         let end: &[u8] = match conclusion {
@@ -152,7 +154,8 @@ impl<'t> Teller<'t> {
             Phrase::Words(b" stands before "),
             Phrase::Name(reader),
             Phrase::Words(end),
-        ])
+        ]);
+        Ok(())
     }
 
     /// Says the clause that a reader stands after its source. If the source is known, that goes without saying.
@@ -175,7 +178,8 @@ impl<'t> Teller<'t> {
             Phrase::Words(b" stands before "),
             Phrase::Whole(source),
             Phrase::Words(end),
-        ])
+        ]);
+        Ok(())
     }
 
     /// Says the clause that the writer does not stand between the source and the reader.
@@ -199,7 +203,8 @@ impl<'t> Teller<'t> {
                     Phrase::Words(b" and "),
                     Phrase::Name(reader),
                     Phrase::Words(b": contradiction"),
-                ])
+                ]);
+                Ok(())
             }
             Conclusion::Of(_) => {
                 self.say_between(reader, source, writer)?;
@@ -210,7 +215,8 @@ impl<'t> Teller<'t> {
                     Phrase::Words(b" and "),
                     Phrase::Whole(reader),
                     Phrase::Words(b", which so does not read from there"),
-                ])
+                ]);
+                Ok(())
             }
         }
     }
@@ -236,7 +242,7 @@ impl<'t> Teller<'t> {
     ) -> Result<(), AllocError> {
         if is_before_source {
             self.say_order(writer, reader)?;
-            return self.story.say(&[
+            self.story.say(&[
                 Phrase::Name(reader),
                 Phrase::Words(b" reads from "),
                 Phrase::Name(source),
@@ -247,6 +253,7 @@ impl<'t> Teller<'t> {
                 Phrase::Words(b", stands before "),
                 Phrase::Name(source),
             ]);
+            return Ok(());
         }
         self.say_order(source, writer)?;
         self.story.say(&[
@@ -259,6 +266,7 @@ impl<'t> Teller<'t> {
             Phrase::Name(source),
             Phrase::Words(b", stands after "),
             Phrase::Name(reader),
-        ])
+        ]);
+        Ok(())
     }
 }

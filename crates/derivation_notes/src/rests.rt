@@ -126,12 +126,7 @@ impl Rests {
     }
 
     /// Notes on what the derivation of this many steps rests.
-    pub fn explain(
-        &self,
-        notes: &mut Notes,
-        story: &Story<'_>,
-        steps: u64,
-    ) -> Result<(), AllocError> {
+    pub fn explain(&self, notes: &mut Notes, story: &Story<'_>, steps: u64) {
         let steps = decimal(steps);
         let used = decimal(self.count_clauses());
         let all = decimal(self.clauses.len() as u64);
@@ -143,12 +138,12 @@ impl Rests {
             b" of ",
             all.as_slice(),
             b" clauses",
-        ])?;
-        self.explain_operations(notes, story)
+        ]);
+        self.explain_operations(notes, story);
     }
 
     /// Notes of which operations these clauses speak.
-    fn explain_operations(&self, notes: &mut Notes, story: &Story<'_>) -> Result<(), AllocError> {
+    fn explain_operations(&self, notes: &mut Notes, story: &Story<'_>) {
         let named = count(self.operations.as_slice());
         let number = decimal(named);
         let all = decimal(self.operations.len() as u64);
@@ -162,19 +157,19 @@ impl Rests {
             ]);
         }
         let mut sentence = story.begin();
-        for k in 0..self.operations.len() {
-            if self.operations[k] {
-                sentence.add(&[b" "])?;
-                story.add_piece(&mut sentence, Phrase::Name(k))?;
-            }
-        }
-        notes.note(&[
+        sentence.add(&[
             b"they speak of ",
             number.as_slice(),
             b" of ",
             all.as_slice(),
             b" operations:",
-            sentence.as_slice(),
-        ])
+        ]);
+        for k in 0..self.operations.len() {
+            if self.operations[k] {
+                sentence.add(&[b" "]);
+                story.add_piece(&mut sentence, Phrase::Name(k));
+            }
+        }
+        sentence.note(notes);
     }
 }

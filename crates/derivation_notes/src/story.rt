@@ -1,7 +1,7 @@
 //! Sentences, which are noted once all are made.
 
 use note_text::Notes;
-use std::alloc::{AllocError, Global};
+use std::alloc::Global;
 use verdict_notes::{KeptOp, Sentence};
 
 /// Operations by their numbers, and sentences on them.
@@ -9,7 +9,7 @@ use verdict_notes::{KeptOp, Sentence};
 pub struct Story<'t> {
     alloc: Global,
     ops: Vec<KeptOp<'t>>,
-    sentences: Vec<Sentence>,
+    notes: Notes,
 }
 
 /// A piece of a sentence.
@@ -31,7 +31,7 @@ impl<'t> Story<'t> {
         Story {
             alloc,
             ops,
-            sentences: Vec::new(alloc),
+            notes: Notes::new(alloc),
         }
     }
 
@@ -41,36 +41,29 @@ impl<'t> Story<'t> {
     }
 
     /// Appends what a piece says of the operation.
-    fn add_op(
-        &self,
-        sentence: &mut Sentence,
-        number: usize,
-        is_whole: bool,
-    ) -> Result<(), AllocError> {
+    fn add_op(&self, sentence: &mut Sentence, number: usize, is_whole: bool) {
         let Some(op) = self.ops.get(number) else {
-            return Ok(());
+            return;
         };
-        sentence.add_name(op.process, op.place)?;
+        sentence.add_name(op.process, op.place);
         if is_whole {
-            sentence.add(&[b" "])?;
-            sentence.add_operation(op.op)?;
+            sentence.add(&[b" "]);
+            sentence.add_operation(op.op);
         }
-        Ok(())
     }
 
     /// Appends what the operation of this number reads.
-    fn add_value_read(&self, sentence: &mut Sentence, number: usize) -> Result<(), AllocError> {
+    fn add_value_read(&self, sentence: &mut Sentence, number: usize) {
         let Some(op) = self.ops.get(number) else {
-            return Ok(());
+            return;
         };
-        match op.op.value_read() {
-            Some(value) => sentence.add_value(value),
-            None => Ok(()),
+        if let Some(value) = op.op.value_read() {
+            sentence.add_value(value);
         }
     }
 
     /// Appends the piece to the sentence.
-    pub fn add_piece(&self, sentence: &mut Sentence, piece: Phrase<'_>) -> Result<(), AllocError> {
+    pub fn add_piece(&self, sentence: &mut Sentence, piece: Phrase<'_>) {
         match piece {
             Phrase::Words(words) => sentence.add(&[words]),
             Phrase::Name(number) => self.add_op(sentence, number, false),
@@ -85,25 +78,21 @@ impl<'t> Story<'t> {
     }
 
     /// Adds the sentence.
-    pub fn end(&mut self, sentence: Sentence) -> Result<(), AllocError> {
-        self.sentences.push(sentence)?;
-        Ok(())
+    pub fn end(&mut self, sentence: &Sentence) {
+        sentence.note(&mut self.notes);
     }
 
     /// Adds the sentence of these pieces.
-    pub fn say(&mut self, pieces: &[Phrase<'_>]) -> Result<(), AllocError> {
+    pub fn say(&mut self, pieces: &[Phrase<'_>]) {
         let mut sentence = self.begin();
         for piece in pieces {
-            self.add_piece(&mut sentence, *piece)?;
+            self.add_piece(&mut sentence, *piece);
         }
-        self.end(sentence)
+        self.end(&sentence);
     }
 
-    /// Notes all sentences.
-    pub fn note_all(&self, notes: &mut Notes) -> Result<(), AllocError> {
-        for sentence in &self.sentences {
-            notes.note(&[sentence.as_slice()])?;
-        }
-        Ok(())
+    /// Notes all sentences, or none if memory ran out for one.
+    pub fn note_all(&self, notes: &mut Notes) {
+        notes.add_all(&self.notes);
     }
 }

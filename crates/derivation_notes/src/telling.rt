@@ -77,16 +77,16 @@ impl<'t> Teller<'t> {
     }
 
     /// Says the chain of these operations, and these words after it.
-    fn say_chain(&mut self, chain: &[usize], end: &[u8]) -> Result<(), AllocError> {
+    fn say_chain(&mut self, chain: &[usize], end: &[u8]) {
         let mut sentence = self.story.begin();
         for k in 0..chain.len() {
             if k > 0 {
-                sentence.add(&[b" < "])?;
+                sentence.add(&[b" < "]);
             }
-            self.story.add_piece(&mut sentence, Phrase::Name(chain[k]))?;
+            self.story.add_piece(&mut sentence, Phrase::Name(chain[k]));
         }
-        sentence.add(&[end])?;
-        self.story.end(sentence)
+        sentence.add(&[end]);
+        self.story.end(&sentence);
     }
 
     /// Says that the first operation stands before the second, and why, unless a sentence has.
@@ -96,12 +96,13 @@ impl<'t> Teller<'t> {
         }
         self.said.push((first, second))?;
         if is_program_order(self.story.ops(), first, second) {
-            return self.story.say(&[
+            self.story.say(&[
                 Phrase::Name(first),
                 Phrase::Words(b" before "),
                 Phrase::Name(second),
                 Phrase::Words(b", program order"),
             ]);
+            return Ok(());
         }
         match self.facts.reason_of(first, second) {
             Some(OrderReason::BeforePair) => self.story.say(&[
@@ -113,10 +114,11 @@ impl<'t> Teller<'t> {
             Some(OrderReason::Through(_)) => {
                 let chain = chain_between(self.alloc, &self.facts, first, second)?;
                 let short = shortened(self.alloc, self.story.ops(), chain.as_slice())?;
-                self.say_chain(short.as_slice(), b"")
+                self.say_chain(short.as_slice(), b"");
             }
-            _ => Ok(()),
+            _ => {}
         }
+        Ok(())
     }
 
     /// The operation through which the other literals of a clause of transitivity lead from the first to the second.
@@ -152,7 +154,8 @@ impl<'t> Teller<'t> {
             last = next;
         }
         let short = shortened(self.alloc, self.story.ops(), cycle.as_slice())?;
-        self.say_chain(short.as_slice(), b": contradiction")
+        self.say_chain(short.as_slice(), b": contradiction");
+        Ok(())
     }
 
     /// The operation before which a literal of the clause denies that this one stands.
@@ -211,7 +214,8 @@ impl<'t> Teller<'t> {
                     Phrase::Name(second),
                     Phrase::Words(name),
                     Phrase::Words(b": contradiction"),
-                ])
+                ]);
+                Ok(())
             }
         }
     }
@@ -260,14 +264,14 @@ impl<'t> Teller<'t> {
     ) -> Result<(), AllocError> {
         let digits = decimal(number);
         let mut sentence = self.story.begin();
-        sentence.add(&[b"by step ", digits.as_slice(), b", "])?;
+        sentence.add(&[b"by step ", digits.as_slice(), b", "]);
         match unit {
             Some(literal) => {
-                add_literal(self.clauses.layout(), &self.story, &mut sentence, literal)?;
+                add_literal(self.clauses.layout(), &self.story, &mut sentence, literal);
             }
-            None => sentence.add(&[b"this is impossible: contradiction"])?,
+            None => sentence.add(&[b"this is impossible: contradiction"]),
         }
-        self.story.end(sentence)?;
+        self.story.end(&sentence);
         self.keep_order(conclusion)
     }
 
@@ -350,23 +354,23 @@ impl<'t> Teller<'t> {
     }
 
     /// Says the number of a step, and what it supposes.
-    fn say_supposition(&mut self, number: u64, literals: &[Lit]) -> Result<(), AllocError> {
+    fn say_supposition(&mut self, number: u64, literals: &[Lit]) {
         let digits = decimal(number);
         let mut sentence = self.story.begin();
-        sentence.add(&[b"step ", digits.as_slice()])?;
+        sentence.add(&[b"step ", digits.as_slice()]);
         if literals.is_empty() {
-            sentence.add(&[b", without a supposition"])?;
+            sentence.add(&[b", without a supposition"]);
         } else {
-            sentence.add(&[b": suppose "])?;
+            sentence.add(&[b": suppose "]);
         }
         for k in 0..literals.len() {
             if k > 0 {
-                sentence.add(&[b", and "])?;
+                sentence.add(&[b", and "]);
             }
             let supposed = literals[k].negated();
-            add_literal(self.clauses.layout(), &self.story, &mut sentence, supposed)?;
+            add_literal(self.clauses.layout(), &self.story, &mut sentence, supposed);
         }
-        self.story.end(sentence)
+        self.story.end(&sentence);
     }
 
     /// Says the step of this number. The answer is whether its hints lead to a contradiction.
@@ -377,7 +381,7 @@ impl<'t> Teller<'t> {
         number: u64,
     ) -> Result<bool, AllocError> {
         if needed.count() > 1 {
-            self.say_supposition(number, step.literals)?;
+            self.say_supposition(number, step.literals);
         }
         self.suppose(step.literals)?;
         for hint in &step.hints {

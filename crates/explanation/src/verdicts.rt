@@ -29,7 +29,7 @@ pub(crate) fn explain_verdict(
 ) -> Result<(), AllocError> {
     match asked {
         AskedCommand::Judge { trace, schedule } => {
-            explain_judged(alloc, notes, trace, schedule, status)
+            explain_judged(alloc, notes, trace, schedule, status)?;
         }
         AskedCommand::Verify {
             trace,
@@ -38,17 +38,18 @@ pub(crate) fn explain_verdict(
             certificate_length,
         } => {
             explain_decided(alloc, notes, trace, *effort, *report, status)?;
-            explain_length(notes, *certificate_length)
+            explain_length(notes, *certificate_length);
         }
         AskedCommand::Recheck { trace, names, .. } => {
-            explain_rechecked(alloc, notes, trace, names.is_some(), status)
+            explain_rechecked(alloc, notes, trace, names.is_some(), status)?;
         }
-        AskedCommand::Survey { trace } => explain_surveyed(alloc, notes, trace, status),
-        AskedCommand::Cnf { .. } => Ok(()),
-        AskedCommand::Decode { .. } => Ok(()),
-        AskedCommand::Lrat { .. } => Ok(()),
-        AskedCommand::Part { .. } => Ok(()),
+        AskedCommand::Survey { trace } => explain_surveyed(alloc, notes, trace, status)?,
+        AskedCommand::Cnf { .. } => {}
+        AskedCommand::Decode { .. } => {}
+        AskedCommand::Lrat { .. } => {}
+        AskedCommand::Part { .. } => {}
     }
+    Ok(())
 }
 
 /// Notes why the schedule is illegal, if it is.
@@ -102,10 +103,10 @@ fn explain_inconsistent(alloc: Global, notes: &mut Notes, trace: &Trace) -> Resu
 }
 
 /// Notes what is asked of a schedule if there is one.
-fn explain_consistent(notes: &mut Notes) -> Result<(), AllocError> {
+fn explain_consistent(notes: &mut Notes) {
     notes.note(&[
         b"the schedule keeps program order; what came first in time is known only by before lines",
-    ])
+    ]);
 }
 
 /// Notes what was decided of a trace.
@@ -119,19 +120,20 @@ fn explain_decided(
 ) -> Result<(), AllocError> {
     match status {
         Status::Yes => explain_consistent(notes),
-        Status::No => explain_contradiction(alloc, notes, trace),
-        Status::Unknown => match trace_of(alloc, trace) {
-            Some(trace) => explain_undecided(alloc, notes, &trace, effort, report),
-            None => Ok(()),
-        },
+        Status::No => explain_contradiction(alloc, notes, trace)?,
+        Status::Unknown => {
+            if let Some(trace) = trace_of(alloc, trace) {
+                explain_undecided(alloc, notes, &trace, effort, report)?;
+            }
+        }
     }
+    Ok(())
 }
 
 /// Notes how a certificate gets shorter that is too long to be read.
-fn explain_length(notes: &mut Notes, length: Option<u64>) -> Result<(), AllocError> {
-    match length {
-        Some(length) => explain_certificate_length(notes, length, MAX_INPUT_BYTES as u64),
-        None => Ok(()),
+fn explain_length(notes: &mut Notes, length: Option<u64>) {
+    if let Some(length) = length {
+        explain_certificate_length(notes, length, MAX_INPUT_BYTES as u64);
     }
 }
 
@@ -149,9 +151,10 @@ fn explain_rechecked(
     notes.note(&[
         trace.name.as_bytes(),
         b" has no legal schedule: each proof was checked",
-    ])?;
+    ]);
     if is_of_part {
-        return notes.note(&[b"the operations that are named suffice for that"]);
+        notes.note(&[b"the operations that are named suffice for that"]);
+        return Ok(());
     }
     explain_contradiction(alloc, notes, trace)
 }
@@ -165,11 +168,12 @@ fn explain_surveyed(
 ) -> Result<(), AllocError> {
     match status {
         Status::Yes => explain_consistent(notes),
-        Status::No => explain_contradiction(alloc, notes, trace),
+        Status::No => explain_contradiction(alloc, notes, trace)?,
         Status::Unknown => {
             notes.note(&[
                 b"vsc part makes a smaller trace of operations that are named, for vsc verify",
             ])
         }
     }
+    Ok(())
 }

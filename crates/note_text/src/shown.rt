@@ -1,6 +1,6 @@
 //! Bytes of a text as they are shown.
 
-use std::alloc::{AllocError, Global};
+use crate::growing_text::GrowingText;
 
 /// The most bytes of a line that are shown.
 const OF_LINE: usize = 120;
@@ -17,32 +17,29 @@ fn shown_byte(byte: u8) -> u8 {
     }
 }
 
-/// Appends one character for each of the first `most` bytes, and ` ..` if there are more. A mark below the line stands by this count.
-fn push_shown(text: &mut Vec<u8>, bytes: &[u8], most: usize) -> Result<(), AllocError> {
+/// Adds one character for each of the first `most` bytes, and ` ..` if there are more. A mark below the line stands by this count.
+fn add_shown(text: &mut GrowingText, bytes: &[u8], most: usize) {
     for byte in bytes.get(..most).unwrap_or(bytes) {
-        text.push(shown_byte(*byte))?;
+        text.add(&[&[shown_byte(*byte)]]);
     }
     if bytes.len() > most {
-        text.extend_from_slice(b" ..")?;
+        text.add(&[b" .."]);
     }
-    Ok(())
 }
 
-/// Appends what is shown of a line. A carriage return at its end is not.
-pub(crate) fn push_shown_line(text: &mut Vec<u8>, line: &[u8]) -> Result<(), AllocError> {
+/// Adds what is shown of a line. A carriage return at its end is not.
+pub(crate) fn add_shown_line(text: &mut GrowingText, line: &[u8]) {
     match line {
-        [front @ .., b'\r'] => push_shown(text, front, OF_LINE),
-        _ => push_shown(text, line, OF_LINE),
+        [front @ .., b'\r'] => add_shown(text, front, OF_LINE),
+        _ => add_shown(text, line, OF_LINE),
     }
 }
 
-/// Gives what is shown of a word, in quotation marks.
-pub fn quoted(alloc: Global, word: &[u8]) -> Result<Vec<u8>, AllocError> {
-    let mut text = Vec::new(alloc);
-    text.push(b'"')?;
-    push_shown(&mut text, word, OF_WORD)?;
-    text.push(b'"')?;
-    Ok(text)
+/// Adds what is shown of a word, in quotation marks.
+pub fn add_quoted(text: &mut GrowingText, word: &[u8]) {
+    text.add(&[b"\""]);
+    add_shown(text, word, OF_WORD);
+    text.add(&[b"\""]);
 }
 
 /// Gives what of a line stands in front of this place, if the place is shown.
@@ -54,13 +51,12 @@ pub(crate) fn shown_front(line: &[u8], place: usize) -> Option<&[u8]> {
     }
 }
 
-/// Appends a space for each character of the bytes.
-pub(crate) fn push_blanks(text: &mut Vec<u8>, bytes: &[u8]) -> Result<(), AllocError> {
+/// Adds a space for each character of the bytes.
+pub(crate) fn add_blanks(text: &mut GrowingText, bytes: &[u8]) {
     for byte in bytes {
         // The other bytes of a character of several are 128 to 191.
         if *byte < 128 || *byte > 191 {
-            text.push(b' ')?;
+            text.add(&[b" "]);
         }
     }
-    Ok(())
 }

@@ -1,36 +1,30 @@
 //! The text of a picture.
 
-use note_text::{decimal, push_words};
+use note_text::{GrowingText, decimal};
 use std::alloc::{AllocError, Global};
 
 /// An SVG document as it is written. Once memory runs out it takes nothing more, and only its end says so.
 #[derive(Drop)]
 pub(crate) struct SvgText {
-    text: Vec<u8>,
-    outcome: Result<(), AllocError>,
+    text: GrowingText,
 }
 
 impl SvgText {
     /// No text.
     pub fn new(alloc: Global) -> SvgText {
         SvgText {
-            text: Vec::new(alloc),
-            outcome: Ok(()),
+            text: GrowingText::new(alloc),
         }
     }
 
     /// Returns the text, if there was memory for all of it; this takes none.
     pub fn into_bytes(self) -> Result<Vec<u8>, AllocError> {
-        let SvgText { text, outcome } = self;
-        outcome?;
-        Ok(text)
+        self.text.into_bytes()
     }
 
     /// Adds the words one after the other, as they are.
     pub fn add(&mut self, words: &[&[u8]]) {
-        if self.outcome.is_ok() {
-            self.outcome = push_words(&mut self.text, words);
-        }
+        self.text.add(words);
     }
 
     /// Adds the number.

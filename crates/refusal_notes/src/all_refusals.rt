@@ -11,7 +11,6 @@ use note_text::{Notes, decimal};
 use reducer::reduce_fault::ReduceCause;
 use schedule_decode::decode_fault::DecodeCause;
 use schedule_text::schedule_fault::ScheduleCause;
-use std::alloc::AllocError;
 use trace_part::part_fault::PartCause;
 use trace_text::trace_fault::TraceCause;
 
@@ -93,13 +92,7 @@ const CERT: [CertCause; 10] = [
 const SEARCH: [SearchCause; 2] = [SearchCause::Cut, SearchCause::NoThread];
 
 /// Adds a line for a refusal: its area, its number, its name, and what it means.
-fn list_one(
-    notes: &mut Notes,
-    area: &str,
-    number: &[u8],
-    name: &str,
-    meaning: &str,
-) -> Result<(), AllocError> {
+fn list_one(notes: &mut Notes, area: &str, number: &[u8], name: &str, meaning: &str) {
     notes.line(&[
         area.as_bytes(),
         b" ",
@@ -108,11 +101,11 @@ fn list_one(
         name.as_bytes(),
         b": ",
         meaning.as_bytes(),
-    ])
+    ]);
 }
 
 /// Adds a line for the cause.
-fn list_cause<C: Explained>(notes: &mut Notes, area: &str, cause: &C) -> Result<(), AllocError> {
+fn list_cause<C: Explained>(notes: &mut Notes, area: &str, cause: &C) {
     let number = decimal(u64::from(cause.number()));
     list_one(
         notes,
@@ -120,45 +113,40 @@ fn list_cause<C: Explained>(notes: &mut Notes, area: &str, cause: &C) -> Result<
         number.as_slice(),
         cause.name(),
         cause.meaning(),
-    )
+    );
 }
 
 /// Adds a line for each of the causes.
-fn list_causes<C: Explained>(
-    notes: &mut Notes,
-    area: &str,
-    causes: &[C],
-) -> Result<(), AllocError> {
+fn list_causes<C: Explained>(notes: &mut Notes, area: &str, causes: &[C]) {
     for cause in causes {
-        list_cause(notes, area, cause)?;
+        list_cause(notes, area, cause);
     }
-    Ok(())
 }
 
 /// Adds a line for each refusal of a text.
-fn list_of_texts(notes: &mut Notes) -> Result<(), AllocError> {
-    list_causes(notes, "trace", &TRACE)?;
-    list_causes(notes, "schedule", &SCHEDULE)?;
-    list_causes(notes, "part", &PART)?;
-    list_causes(notes, "model", &MODEL)?;
-    list_causes(notes, "cnf", &CNF)?;
-    list_causes(notes, "lrat", &LRAT)
+fn list_of_texts(notes: &mut Notes) {
+    list_causes(notes, "trace", &TRACE);
+    list_causes(notes, "schedule", &SCHEDULE);
+    list_causes(notes, "part", &PART);
+    list_causes(notes, "model", &MODEL);
+    list_causes(notes, "cnf", &CNF);
+    list_causes(notes, "lrat", &LRAT);
 }
 
 /// Adds a line for each refusal of what the texts spell.
-fn list_of_checks(notes: &mut Notes) -> Result<(), AllocError> {
-    list_causes(notes, "reduce", &REDUCE)?;
-    list_causes(notes, "decode", &DECODE)?;
-    list_causes(notes, "check", &CHECK)?;
-    list_causes(notes, "cert", &CERT)?;
-    list_causes(notes, "search", &SEARCH)
+fn list_of_checks(notes: &mut Notes) {
+    list_causes(notes, "reduce", &REDUCE);
+    list_causes(notes, "decode", &DECODE);
+    list_causes(notes, "check", &CHECK);
+    list_causes(notes, "cert", &CERT);
+    list_causes(notes, "search", &SEARCH);
 }
 
 /// Adds a line for each refusal that `vsc` prints, with what it means.
-pub fn refusal_list(notes: &mut Notes) -> Result<(), AllocError> {
-    list_of_texts(notes)?;
-    list_of_checks(notes)?;
-    notes.line(&[b"input 2 InputTooLong: a file has more than 268435456 bytes"])?;
-    notes.line(&[b"memory: memory ran out"])?;
-    notes.line(&[b"device: a file cannot be opened, read or written, or standard output failed"])
+pub fn refusal_list(notes: &mut Notes) {
+    list_of_texts(notes);
+    list_of_checks(notes);
+    notes.line(&[b"input 2 InputTooLong: a file has more than 268435456 bytes"]);
+    notes.line(&[b"memory: memory ran out"]);
+    notes.line(&[b"device: a file cannot be opened, read or written, or standard output failed"]);
 }

@@ -25,16 +25,16 @@ fn is_of_text(cause: CertCause) -> bool {
 }
 
 /// Adds the first line of the leaf's section, if it has one, and the number of the leaf.
-fn note_leaf(notes: &mut Notes, text: &NamedText<'_>, leaf: u64) -> Result<(), AllocError> {
+fn note_leaf(notes: &mut Notes, text: &NamedText<'_>, leaf: u64) {
     let number = decimal(leaf);
     if let Some(line) = first_line_with(bytes_of(text), b"proof", Some(number.as_slice())) {
-        notes.marked_line(text, line, None)?;
+        notes.marked_line(text, line, None);
     }
-    notes.note(&[b"this is of leaf ", number.as_slice(), b", counted from 0"])
+    notes.note(&[b"this is of leaf ", number.as_slice(), b", counted from 0"]);
 }
 
 /// Adds what may be done about the cause.
-fn note_way_out(notes: &mut Notes, cause: CertCause) -> Result<(), AllocError> {
+fn note_way_out(notes: &mut Notes, cause: CertCause) {
     match cause {
         CertCause::Derivation => notes.note(&[
             b"a certificate is of one trace: it has to be the one for which it was made, in each line that is no comment",
@@ -44,7 +44,7 @@ fn note_way_out(notes: &mut Notes, cause: CertCause) -> Result<(), AllocError> {
                 b"is the text cut off? a certificate that verify could not write whole may be",
             ])
         }
-        _ => Ok(()),
+        _ => {}
     }
 }
 
@@ -57,20 +57,21 @@ pub(crate) fn explain_certificate(
     texts: &AskedTexts<'_>,
 ) -> Result<(), AllocError> {
     let Some(text) = texts.certificate else {
-        return notes.note(&[cause.meaning().as_bytes()]);
+        notes.note(&[cause.meaning().as_bytes()]);
+        return Ok(());
     };
     if is_of_text(cause) {
-        notes.marked_line(&text, place, Some(0))?;
+        notes.marked_line(&text, place, Some(0));
     } else {
-        note_leaf(notes, &text, place)?;
+        note_leaf(notes, &text, place);
     }
-    notes.note(&[cause.meaning().as_bytes()])?;
+    notes.note(&[cause.meaning().as_bytes()]);
     if cause == CertCause::Derivation {
         explain_leaf(alloc, notes, place, texts)?;
     }
-    note_way_out(notes, cause)?;
-    match cause {
-        CertCause::Header => note_swapped(notes, &text, TextKind::Certificate, texts),
-        _ => Ok(()),
+    note_way_out(notes, cause);
+    if cause == CertCause::Header {
+        note_swapped(notes, &text, TextKind::Certificate, texts);
     }
+    Ok(())
 }

@@ -4,7 +4,7 @@ use cnf_text::read_cnf;
 use dimacs::{ClauseList, Lit};
 use lrat_check::derivation::Step;
 use lrat_check::lrat_reader::read_lrat;
-use note_text::{Notes, decimal};
+use note_text::{GrowingText, Notes, decimal};
 use std::alloc::{AllocError, Global};
 
 /// The most hints that are followed.
@@ -21,23 +21,17 @@ enum HintWorth {
     Open(Lit, Lit),
 }
 
-/// A literal as it stands in a text.
-fn add_number(words: &mut Vec<u8>, literal: Lit) -> Result<(), AllocError> {
-    words.push(b' ')?;
-    if !literal.is_positive() {
-        words.push(b'-')?;
-    }
-    words.extend_from_slice(decimal(literal.variable() as u64).as_slice())
+/// Adds the literal as it stands in a text.
+fn add_number(words: &mut GrowingText, literal: Lit) {
+    let sign: &[u8] = if literal.is_positive() { b" " } else { b" -" };
+    words.add(&[sign, decimal(literal.variable() as u64).as_slice()]);
 }
 
-/// The clause as it stands in a text.
-fn clause_words(alloc: Global, literals: &[Lit]) -> Result<Vec<u8>, AllocError> {
-    let mut words = Vec::new(alloc);
+/// Adds the literals as they stand in a text.
+fn add_numbers(words: &mut GrowingText, literals: &[Lit]) {
     for literal in literals {
-        add_number(&mut words, *literal)?;
+        add_number(words, *literal);
     }
-    words.extend_from_slice(b" 0")?;
-    Ok(words)
 }
 
 /// Returns whether the literal of this number is among these.
@@ -125,7 +119,7 @@ struct PlacedHint {
 }
 
 /// Notes that there is no such clause.
-fn note_unknown(notes: &mut Notes, hint: PlacedHint) -> Result<(), AllocError> {
+fn note_unknown(notes: &mut Notes, hint: PlacedHint) {
     let place = decimal(hint.place);
     let id = decimal(hint.id);
     notes.note(&[
@@ -134,33 +128,27 @@ fn note_unknown(notes: &mut Notes, hint: PlacedHint) -> Result<(), AllocError> {
         b" is ",
         id.as_slice(),
         b", and there is no such clause at this step",
-    ])
+    ]);
 }
 
 /// Notes that two literals of the clause are not false.
-fn note_open(
-    alloc: Global,
-    notes: &mut Notes,
-    hint: PlacedHint,
-    literals: &[Lit],
-    open: [Lit; 2],
-) -> Result<(), AllocError> {
+fn note_open(alloc: Global, notes: &mut Notes, hint: PlacedHint, literals: &[Lit], open: [Lit; 2]) {
     let place = decimal(hint.place);
     let id = decimal(hint.id);
-    let clause = clause_words(alloc, literals)?;
-    let mut two = Vec::new(alloc);
-    for literal in &open {
-        add_number(&mut two, *literal)?;
-    }
-    notes.note(&[
+    let mut clause = GrowingText::new(alloc);
+    clause.add(&[
         b"hint ",
         place.as_slice(),
         b" is clause ",
         id.as_slice(),
         b":",
-        clause.as_slice(),
-    ])?;
-    notes.note(&[b"two of its literals are not false:", two.as_slice()])
+    ]);
+    add_numbers(&mut clause, literals);
+    clause.add(&[b" 0"]);
+    notes.note_text(&[], &clause);
+    let mut two = GrowingText::new(alloc);
+    add_numbers(&mut two, &open);
+    notes.note_text(&[b"two of its literals are not false:"], &two);
 }
 
 /// Follows a hint. The answer is whether the next one follows.
@@ -178,7 +166,7 @@ fn follow(
             Ok(true)
         }
         HintWorth::Open(first, second) => {
-            note_open(alloc, notes, hint, literals, [first, second])?;
+            note_open(alloc, notes, hint, literals, [first, second]);
             Ok(false)
         }
     }
@@ -195,7 +183,7 @@ fn follow_literal(
     match literal {
         Some(literal) => follow(alloc, notes, trues, hint, &[*literal]),
         None => {
-            note_unknown(notes, hint)?;
+            note_unknown(notes, hint);
             Ok(false)
         }
     }
@@ -215,7 +203,7 @@ fn follow_named<L: ClauseList>(
     match last_word(earlier, hint.id) {
         LastWord::Added(literals) => return follow(alloc, notes, trues, hint, literals),
         LastWord::Dropped => {
-            note_unknown(notes, hint)?;
+            note_unknown(notes, hint);
             return Ok(false);
         }
         LastWord::Silence => {}

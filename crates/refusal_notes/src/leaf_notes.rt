@@ -37,20 +37,14 @@ fn clauses_of(alloc: Global, text: &NamedText<'_>) -> Result<Option<TraceClauses
 }
 
 /// Adds the line of this step of the leaf's section.
-fn note_step_of_leaf(
-    notes: &mut Notes,
-    text: &NamedText<'_>,
-    leaf: u64,
-    step: u64,
-) -> Result<(), AllocError> {
+fn note_step_of_leaf(notes: &mut Notes, text: &NamedText<'_>, leaf: u64, step: u64) {
     let number = decimal(leaf);
     let bytes = bytes_of(text);
     let Some(start) = first_line_with(bytes, b"proof", Some(number.as_slice())) else {
-        return Ok(());
+        return;
     };
-    match line_of_step(bytes, start, step) {
-        Some(line) => notes.marked_line(text, line, None),
-        None => Ok(()),
+    if let Some(line) = line_of_step(bytes, start, step) {
+        notes.marked_line(text, line, None);
     }
 }
 
@@ -78,8 +72,8 @@ fn explain_section(
         return Ok(());
     };
     let step = step as u64;
-    note_step_of_leaf(notes, text, leaf, step)?;
-    notes.note(&[cause.meaning().as_bytes()])?;
+    note_step_of_leaf(notes, text, leaf, step);
+    notes.note(&[cause.meaning().as_bytes()]);
     explain_hint_of(
         alloc,
         notes,

@@ -3,68 +3,41 @@
 use crate::earlier_lines::count_operations;
 use crate::names::{cut_at_dot, place_of};
 use crate::word_notes::source_place;
-use note_text::{Notes, decimal, quoted, word_at};
-use std::alloc::{AllocError, Global};
+use note_text::{GrowingText, Notes, add_quoted, decimal, word_at};
+use std::alloc::Global;
 use text_lines::words::is_word;
 
 /// Adds how many operations the trace has of the process, if that is fewer than the place. Answers whether it is.
-fn note_place(
-    alloc: Global,
-    notes: &mut Notes,
-    trace: &[u8],
-    process: &[u8],
-    place: u64,
-) -> Result<bool, AllocError> {
-    let quoted = quoted(alloc, process)?;
+fn note_place(alloc: Global, notes: &mut Notes, trace: &[u8], process: &[u8], place: u64) -> bool {
+    let mut quoted = GrowingText::new(alloc);
+    add_quoted(&mut quoted, process);
     let Some(count) = count_operations(trace, process) else {
-        notes.note(&[b"the trace has no process ", quoted.as_slice()])?;
-        return Ok(true);
+        notes.note_text(&[b"the trace has no process "], &quoted);
+        return true;
     };
     if place <= count {
-        return Ok(false);
+        return false;
     }
-    let count = decimal(count);
-    notes.note(&[
-        b"the number of operations of process ",
-        quoted.as_slice(),
-        b" is ",
-        count.as_slice(),
-    ])?;
-    Ok(true)
+    quoted.add(&[b" is ", decimal(count).as_slice()]);
+    notes.note_text(&[b"the number of operations of process "], &quoted);
+    true
 }
 
 /// The same of the operation that the words at this place and after it name.
-fn note_pair(
-    alloc: Global,
-    notes: &mut Notes,
-    trace: &[u8],
-    process: &[u8],
-    place: &[u8],
-) -> Result<bool, AllocError> {
+fn note_pair(alloc: Global, notes: &mut Notes, trace: &[u8], process: &[u8], place: &[u8]) -> bool {
     note_place(alloc, notes, trace, process, place_of(place))
 }
 
 /// Adds why an operation that a `before` line names is none of the trace's.
-fn note_before(
-    alloc: Global,
-    notes: &mut Notes,
-    trace: &[u8],
-    line: &[u8],
-) -> Result<(), AllocError> {
+fn note_before(alloc: Global, notes: &mut Notes, trace: &[u8], line: &[u8]) {
     if note_pair(alloc, notes, trace, word_at(line, 1), word_at(line, 2))? {
-        return Ok(());
+        return;
     }
-    let _ = note_pair(alloc, notes, trace, word_at(line, 3), word_at(line, 4))?;
-    Ok(())
+    let _ = note_pair(alloc, notes, trace, word_at(line, 3), word_at(line, 4));
 }
 
 /// Adds why an operation that a `from` names is none of the trace's.
-fn note_source(
-    alloc: Global,
-    notes: &mut Notes,
-    trace: &[u8],
-    line: &[u8],
-) -> Result<(), AllocError> {
+fn note_source(alloc: Global, notes: &mut Notes, trace: &[u8], line: &[u8]) {
     let place = match source_place(line) {
         Some(4) => word_at(line, 5),
         Some(_) => word_at(line, 6),
@@ -74,17 +47,11 @@ fn note_source(
         Some(at) => word_at(line, at),
         None => return Ok(()),
     };
-    let _ = note_pair(alloc, notes, trace, process, place)?;
-    Ok(())
+    let _ = note_pair(alloc, notes, trace, process, place);
 }
 
 /// Adds why an operation that the line names is none of the trace's.
-pub(crate) fn note_missing(
-    alloc: Global,
-    notes: &mut Notes,
-    trace: &[u8],
-    line: &[u8],
-) -> Result<(), AllocError> {
+pub(crate) fn note_missing(alloc: Global, notes: &mut Notes, trace: &[u8], line: &[u8]) {
     if is_word(word_at(line, 0), "before") {
         note_before(alloc, notes, trace, line)
     } else {
@@ -93,15 +60,9 @@ pub(crate) fn note_missing(
 }
 
 /// Adds why the trace has no operation of this name.
-pub(crate) fn note_unknown(
-    alloc: Global,
-    notes: &mut Notes,
-    trace: &[u8],
-    name: &[u8],
-) -> Result<(), AllocError> {
+pub(crate) fn note_unknown(alloc: Global, notes: &mut Notes, trace: &[u8], name: &[u8]) {
     let Some((process, place)) = cut_at_dot(name) else {
-        return Ok(());
+        return;
     };
-    let _ = note_pair(alloc, notes, trace, process, place)?;
-    Ok(())
+    let _ = note_pair(alloc, notes, trace, process, place);
 }

@@ -35,7 +35,7 @@ pub(crate) fn line_of_step(bytes: &[u8], start: u64, step: u64) -> Option<u64> {
 }
 
 /// Adds the line of the step.
-fn note_step(notes: &mut Notes, text: &NamedText<'_>, step: u64) -> Result<(), AllocError> {
+fn note_step(notes: &mut Notes, text: &NamedText<'_>, step: u64) {
     match line_of_step(bytes_of(text), 0, step) {
         Some(line) => notes.marked_line(text, line, None),
         None => notes.note(&[text.name.as_bytes(), b": the derivation ends here"]),
@@ -51,9 +51,9 @@ pub(crate) fn explain_step(
     texts: &AskedTexts<'_>,
 ) -> Result<(), AllocError> {
     if let Some(text) = texts.proof {
-        note_step(notes, &text, step)?;
+        note_step(notes, &text, step);
     }
-    notes.note(&[cause.meaning().as_bytes()])?;
+    notes.note(&[cause.meaning().as_bytes()]);
     match (texts.cnf, texts.proof) {
         (Some(cnf), Some(proof)) => {
             explain_hint(alloc, notes, bytes_of(&cnf), bytes_of(&proof), step)

@@ -27,13 +27,13 @@ fn explain_line<C: Explained>(
     text: &Option<NamedText<'_>>,
     kind: TextKind,
     texts: &AskedTexts<'_>,
-) -> Result<(), AllocError> {
+) {
     let Some(text) = text else {
         return notes.note(&[cause.meaning().as_bytes()]);
     };
-    notes.marked_line(text, number, Some(0))?;
-    notes.note(&[cause.meaning().as_bytes()])?;
-    note_swapped(notes, text, kind, texts)
+    notes.marked_line(text, number, Some(0));
+    notes.note(&[cause.meaning().as_bytes()]);
+    note_swapped(notes, text, kind, texts);
 }
 
 /// The schedule, or the names of the operations of a part.
@@ -53,14 +53,9 @@ fn line_of<'t>(text: &Option<NamedText<'t>>, number: u64) -> &'t [u8] {
 }
 
 /// Adds why a schedule was refused at this line.
-fn explain_schedule(
-    notes: &mut Notes,
-    cause: ScheduleCause,
-    number: u64,
-    texts: &AskedTexts<'_>,
-) -> Result<(), AllocError> {
+fn explain_schedule(notes: &mut Notes, cause: ScheduleCause, number: u64, texts: &AskedTexts<'_>) {
     let text = names_of(texts);
-    explain_line(notes, &cause, number, &text, TextKind::Schedule, texts)?;
+    explain_line(notes, &cause, number, &text, TextKind::Schedule, texts);
     let line = line_of(&text, number);
     if is_word(word_at(line, 0), "CONSISTENT") {
         return notes.note(&[b"the first line of what verify prints is no part of the schedule"]);
@@ -68,7 +63,6 @@ fn explain_schedule(
     if count_words(line) > 1 {
         return notes.note(&[b"each name stands on a line of its own"]);
     }
-    Ok(())
 }
 
 /// Adds why the names make up no part.
@@ -78,11 +72,11 @@ fn explain_part(
     cause: PartCause,
     number: u64,
     texts: &AskedTexts<'_>,
-) -> Result<(), AllocError> {
+) {
     let text = names_of(texts);
-    explain_line(notes, &cause, number, &text, TextKind::Schedule, texts)?;
+    explain_line(notes, &cause, number, &text, TextKind::Schedule, texts);
     let (Some(names), Some(trace)) = (text, texts.trace) else {
-        return Ok(());
+        return;
     };
     let name = word_at(line_of(&text, number), 0);
     match cause {
@@ -92,9 +86,9 @@ fn explain_part(
 }
 
 /// Adds the number of the first line that has this name.
-fn note_first(notes: &mut Notes, text: &NamedText<'_>, name: &[u8]) -> Result<(), AllocError> {
+fn note_first(notes: &mut Notes, text: &NamedText<'_>, name: &[u8]) {
     let Some(number) = first_line_with(bytes_of(text), name, None) else {
-        return Ok(());
+        return;
     };
     let number = decimal(number);
     notes.note(&[
@@ -102,7 +96,7 @@ fn note_first(notes: &mut Notes, text: &NamedText<'_>, name: &[u8]) -> Result<()
         text.name.as_bytes(),
         b":",
         number.as_slice(),
-    ])
+    ]);
 }
 
 /// Gives what is said of a line of a solver's answer that no model has.
@@ -124,21 +118,15 @@ fn says_of_answer(line: &[u8]) -> Option<&'static str> {
 }
 
 /// Adds why a model was refused at this line.
-fn explain_model(
-    notes: &mut Notes,
-    cause: ModelCause,
-    number: u64,
-    texts: &AskedTexts<'_>,
-) -> Result<(), AllocError> {
-    explain_line(notes, &cause, number, &texts.model, TextKind::Model, texts)?;
-    match says_of_answer(line_of(&texts.model, number)) {
-        Some(says) => notes.note(&[says.as_bytes()]),
-        None => Ok(()),
+fn explain_model(notes: &mut Notes, cause: ModelCause, number: u64, texts: &AskedTexts<'_>) {
+    explain_line(notes, &cause, number, &texts.model, TextKind::Model, texts);
+    if let Some(says) = says_of_answer(line_of(&texts.model, number)) {
+        notes.note(&[says.as_bytes()]);
     }
 }
 
 /// Adds why a trace was not reduced, and which commands take it.
-fn explain_reduction(notes: &mut Notes, cause: ReduceCause, left: u64) -> Result<(), AllocError> {
+fn explain_reduction(notes: &mut Notes, cause: ReduceCause, left: u64) {
     let left = decimal(left);
     match cause {
         ReduceCause::StillTooLarge => notes.note(&[
@@ -149,77 +137,69 @@ fn explain_reduction(notes: &mut Notes, cause: ReduceCause, left: u64) -> Result
 }
 
 /// Adds why a model was not decoded.
-fn explain_decoding(notes: &mut Notes, cause: DecodeCause, clause: u64) -> Result<(), AllocError> {
+fn explain_decoding(notes: &mut Notes, cause: DecodeCause, clause: u64) {
     let clause = decimal(clause);
     notes.note(&[
         cause.meaning().as_bytes(),
         b" (clause ",
         clause.as_slice(),
         b")",
-    ])
+    ]);
 }
 
 /// Adds why a search has no results, and what to try.
-fn explain_search(notes: &mut Notes, cause: SearchCause) -> Result<(), AllocError> {
-    notes.note(&[cause.meaning().as_bytes()])?;
-    notes.note(&[b"--workers 1 needs no thread"])
+fn explain_search(notes: &mut Notes, cause: SearchCause) {
+    notes.note(&[cause.meaning().as_bytes()]);
+    notes.note(&[b"--workers 1 needs no thread"]);
 }
 
 /// Adds that a file could not be read again, if that is so: what failed, or these words if that is not known.
-fn note_unread(
-    notes: &mut Notes,
-    text: &Option<NamedText<'_>>,
-    says: &[u8],
-) -> Result<(), AllocError> {
+fn note_unread(notes: &mut Notes, text: &Option<NamedText<'_>>, says: &[u8]) {
     match text {
         Some(text) if text.bytes.is_none() => notes.note(&[
             text.name.as_bytes(),
             b": ",
             text.failure.unwrap_or(says),
         ]),
-        _ => Ok(()),
+        _ => {}
     }
 }
 
 /// Adds for each file that could not be read again its name, and what failed or these words.
-fn note_all_unread(
-    notes: &mut Notes,
-    texts: &AskedTexts<'_>,
-    says: &[u8],
-) -> Result<(), AllocError> {
-    note_unread(notes, &texts.trace, says)?;
-    note_unread(notes, &texts.schedule, says)?;
-    note_unread(notes, &texts.cnf, says)?;
-    note_unread(notes, &texts.model, says)?;
-    note_unread(notes, &texts.proof, says)?;
-    note_unread(notes, &texts.certificate, says)?;
-    note_unread(notes, &texts.names, says)
+fn note_all_unread(notes: &mut Notes, texts: &AskedTexts<'_>, says: &[u8]) {
+    note_unread(notes, &texts.trace, says);
+    note_unread(notes, &texts.schedule, says);
+    note_unread(notes, &texts.cnf, says);
+    note_unread(notes, &texts.model, says);
+    note_unread(notes, &texts.proof, says);
+    note_unread(notes, &texts.certificate, says);
+    note_unread(notes, &texts.names, says);
 }
 
 /// Adds which files cannot be read or written, and what failed.
-fn explain_device(notes: &mut Notes, texts: &AskedTexts<'_>) -> Result<(), AllocError> {
+fn explain_device(notes: &mut Notes, texts: &AskedTexts<'_>) {
     let before = notes.as_slice().len();
-    note_all_unread(notes, texts, b"the file cannot be opened or read")?;
+    note_all_unread(notes, texts, b"the file cannot be opened or read");
     if let Some(written) = texts.written {
-        notes.note(&[written])?;
+        notes.note(&[written]);
     }
     if notes.as_slice().len() > before {
-        return Ok(());
+        return;
     }
     notes.note(&[
         b"each file can be read now: standard output failed, or a file that was to be written",
-    ])
+    ]);
 }
 
 /// Adds which files are too long.
-fn explain_length(notes: &mut Notes, texts: &AskedTexts<'_>) -> Result<(), AllocError> {
-    notes.note(&[b"a file has at most 268435456 bytes"])?;
-    note_all_unread(notes, texts, b"the file is longer, or cannot be read")
+fn explain_length(notes: &mut Notes, texts: &AskedTexts<'_>) {
+    notes.note(&[b"a file has at most 268435456 bytes"]);
+    note_all_unread(notes, texts, b"the file is longer, or cannot be read");
 }
 
 /// Adds what may be done if memory ran out.
-fn explain_memory(notes: &mut Notes) -> Result<(), AllocError> {
-    notes.note(&[b"memory ran out; of verify, --workers 1 and a smaller --budget take less"])
+fn explain_memory(notes: &mut Notes) {
+    notes.note(&[b"memory ran out; of verify, --workers 1 and a smaller --budget take less"]);
 }
 
 /// Adds why a file of a command about clauses and proofs was refused.
@@ -251,16 +231,17 @@ fn explain_proofs(
                 texts,
             )
         }
-        Fault::Check(cause, step) => explain_step(alloc, notes, *cause, *step as u64, texts),
+        Fault::Check(cause, step) => explain_step(alloc, notes, *cause, *step as u64, texts)?,
         Fault::Cert(cause, place) => explain_certificate(
             alloc,
             notes,
             *cause,
             *place as u64,
             texts,
-        ),
-        _ => Ok(()),
+        )?,
+        _ => {}
     }
+    Ok(())
 }
 
 /// Adds why an engine gave up for lack of something.
@@ -277,8 +258,9 @@ fn explain_lack(
         Fault::Reduce(cause, left) => explain_reduction(notes, *cause, *left as u64),
         Fault::Decode(cause, clause) => explain_decoding(notes, *cause, *clause as u64),
         Fault::Search(cause) => explain_search(notes, *cause),
-        _ => explain_proofs(alloc, notes, fault, texts),
+        _ => explain_proofs(alloc, notes, fault, texts)?,
     }
+    Ok(())
 }
 
 /// Adds notes on a refusal: the line as it stands in its file, what was expected there, and what was probably meant.
@@ -292,6 +274,7 @@ pub fn explain_refusal(
         Fault::Trace(cause, line) => explain_trace(alloc, notes, *cause, *line as u64, texts),
         Fault::Schedule(cause, line) => explain_schedule(notes, *cause, *line as u64, texts),
         Fault::Part(cause, line) => explain_part(alloc, notes, *cause, *line as u64, texts),
-        _ => explain_lack(alloc, notes, fault, texts),
+        _ => explain_lack(alloc, notes, fault, texts)?,
     }
+    Ok(())
 }

@@ -9,7 +9,7 @@ use crate::text_kinds::TextKind;
 use crate::unknown_line::hint_of_line;
 use crate::word_notes::{BadWord, bad_name, bad_number, note_word};
 use note_text::{AskedTexts, NamedText, Notes, count_words, decimal, line_of_text, word_at};
-use std::alloc::{AllocError, Global};
+use std::alloc::Global;
 use text_lines::words::is_word;
 use trace_text::trace_fault::TraceCause;
 
@@ -67,7 +67,7 @@ fn note_bad_word(
     cause: TraceCause,
     line: &[u8],
     bad: Option<BadWord>,
-) -> Result<(), AllocError> {
+) {
     match bad {
         Some(bad) if !line.is_empty() => {
             note_word(alloc, notes, word_at(line, bad.word), bad.fault)
@@ -121,21 +121,14 @@ fn says_of_first_key(first: &[u8]) -> Option<&'static str> {
 }
 
 /// Adds the sentence, if there is one.
-fn note_if(notes: &mut Notes, says: Option<&'static str>) -> Result<(), AllocError> {
-    match says {
-        Some(says) => notes.note(&[says.as_bytes()]),
-        None => Ok(()),
+fn note_if(notes: &mut Notes, says: Option<&'static str>) {
+    if let Some(says) = says {
+        notes.note(&[says.as_bytes()]);
     }
 }
 
 /// Adds where the first line of a key stands.
-fn note_first(
-    notes: &mut Notes,
-    whose: &str,
-    key: &[u8],
-    name: &str,
-    number: &[u8],
-) -> Result<(), AllocError> {
+fn note_first(notes: &mut Notes, whose: &str, key: &[u8], name: &str, number: &[u8]) {
     notes.note(&[
         whose.as_bytes(),
         b" first `",
@@ -144,34 +137,24 @@ fn note_first(
         name.as_bytes(),
         b":",
         number,
-    ])
+    ]);
 }
 
 /// Adds the number of the first line of this key, and of the same second word if one is given, if it stands above the refused line.
-fn note_earlier(
-    notes: &mut Notes,
-    refused: &RefusedLine<'_>,
-    key: &[u8],
-    word: Option<&[u8]>,
-) -> Result<(), AllocError> {
+fn note_earlier(notes: &mut Notes, refused: &RefusedLine<'_>, key: &[u8], word: Option<&[u8]>) {
     let Some(number) = first_line_with(refused.bytes, key, word) else {
-        return Ok(());
+        return;
     };
     if number >= refused.number {
-        return Ok(());
+        return;
     }
     let whose = if word.is_some() { "its" } else { "the" };
     let number = decimal(number);
-    note_first(notes, whose, key, refused.text.name, number.as_slice())
+    note_first(notes, whose, key, refused.text.name, number.as_slice());
 }
 
 /// Adds the line above which the refused one should stand or with which it clashes, if the cause is of that kind.
-fn note_related(
-    alloc: Global,
-    notes: &mut Notes,
-    cause: TraceCause,
-    refused: &RefusedLine<'_>,
-) -> Result<(), AllocError> {
+fn note_related(alloc: Global, notes: &mut Notes, cause: TraceCause, refused: &RefusedLine<'_>) {
     let name = word_at(refused.line, 1);
     match cause {
         TraceCause::InitTwice => note_earlier(notes, refused, b"init", Some(name)),
@@ -179,7 +162,7 @@ fn note_related(
         TraceCause::ProcTwice => note_earlier(notes, refused, b"proc", Some(name)),
         TraceCause::LateHeaderLine => note_earlier(notes, refused, b"proc", None),
         TraceCause::NoSuchOp => note_missing(alloc, notes, refused.bytes, refused.line),
-        _ => Ok(()),
+        _ => {}
     }
 }
 
@@ -190,7 +173,7 @@ fn note_cause(
     cause: TraceCause,
     refused: &RefusedLine<'_>,
     texts: &AskedTexts<'_>,
-) -> Result<(), AllocError> {
+) {
     match cause {
         TraceCause::BadName => {
             return note_bad_word(alloc, notes, cause, refused.line, bad_name(refused.line));
@@ -198,12 +181,12 @@ fn note_cause(
         TraceCause::BadNumber => {
             return note_bad_word(alloc, notes, cause, refused.line, bad_number(refused.line));
         }
-        _ => notes.note(&[cause.meaning().as_bytes()])?,
+        _ => notes.note(&[cause.meaning().as_bytes()]),
     }
     match cause {
         TraceCause::NotAscii => note_if(notes, says_of_bytes(refused.bytes)),
         TraceCause::Header => {
-            note_if(notes, says_of_header(refused.line))?;
+            note_if(notes, says_of_header(refused.line));
             note_swapped(notes, &refused.text, TextKind::Trace, texts)
         }
         TraceCause::UnknownLine => {
@@ -221,11 +204,11 @@ pub(crate) fn explain_trace(
     cause: TraceCause,
     number: u64,
     texts: &AskedTexts<'_>,
-) -> Result<(), AllocError> {
+) {
     let Some(text) = texts.trace else {
         return notes.note(&[cause.meaning().as_bytes()]);
     };
     let refused = refused_line(&text, number);
-    notes.marked_line(&text, number, marked_word(cause, &refused))?;
-    note_cause(alloc, notes, cause, &refused, texts)
+    notes.marked_line(&text, number, marked_word(cause, &refused));
+    note_cause(alloc, notes, cause, &refused, texts);
 }

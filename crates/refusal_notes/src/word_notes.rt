@@ -1,8 +1,8 @@
 //! Which word of a line is no name or no number.
 
 use crate::names::{is_value, place_of};
-use note_text::{Notes, quoted, word_at};
-use std::alloc::{AllocError, Global};
+use note_text::{GrowingText, Notes, add_quoted, word_at};
+use std::alloc::Global;
 use text_lines::words::is_word;
 use trace_semantics::name::is_name_word;
 
@@ -35,20 +35,12 @@ fn says_of(fault: WordFault) -> &'static str {
     }
 }
 
-/// Adds a word and what is said of it.
-fn note_said(notes: &mut Notes, word: &[u8], says: &str) -> Result<(), AllocError> {
-    notes.note(&[word, says.as_bytes()])
-}
-
 /// Adds why the word is wrong.
-pub(crate) fn note_word(
-    alloc: Global,
-    notes: &mut Notes,
-    word: &[u8],
-    fault: WordFault,
-) -> Result<(), AllocError> {
-    let quoted = quoted(alloc, word)?;
-    note_said(notes, quoted.as_slice(), says_of(fault))
+pub(crate) fn note_word(alloc: Global, notes: &mut Notes, word: &[u8], fault: WordFault) {
+    let mut text = GrowingText::new(alloc);
+    add_quoted(&mut text, word);
+    text.add(&[says_of(fault).as_bytes()]);
+    notes.note_text(&[], &text);
 }
 
 /// The place of the word that names the process of the operation from which the line's value comes.

@@ -1,9 +1,10 @@
 //! Lines, numbers, words and marks.
 
 use note_text::{
-    NamedText, Notes, count_words, decimal, line_of_text, quoted, word_at, word_start,
+    GrowingText, NamedText, Notes, add_quoted, count_words, decimal, line_of_text, word_at,
+    word_start,
 };
-use std::alloc::{AllocError, Global};
+use std::alloc::Global;
 
 /// What is noted of lines with a tab, a byte above 127 and a carriage return, of one after the last, and of a file that could not be
 /// read again.
@@ -28,34 +29,33 @@ fn read_again(name: &'static str, bytes: &'static [u8]) -> NamedText<'static> {
 }
 
 /// Adds lines and marks of small texts.
-fn add_lines(notes: &mut Notes) -> Result<(), AllocError> {
+fn add_lines(notes: &mut Notes) {
     notes.line(&[
         b"a",
         decimal(0).as_slice(),
         b" ",
         decimal(u64::MAX).as_slice(),
-    ])?;
-    notes.note(&[b"one"])?;
+    ]);
+    notes.note(&[b"one"]);
     let text = read_again("t", b"x\x80\r\ny \tz1\n\n");
-    notes.marked_line(&text, 2, Some(1))?;
-    notes.marked_line(&text, 2, Some(2))?;
-    notes.marked_line(&text, 1, None)?;
-    notes.marked_line(&read_again("\u{e9}", b"\n\na"), 3, Some(0))?;
-    notes.marked_line(&text, 4, Some(0))?;
+    notes.marked_line(&text, 2, Some(1));
+    notes.marked_line(&text, 2, Some(2));
+    notes.marked_line(&text, 1, None);
+    notes.marked_line(&read_again("\u{e9}", b"\n\na"), 3, Some(0));
+    notes.marked_line(&text, 4, Some(0));
     let unread = NamedText {
         name: "u",
         bytes: None,
         failure: None,
     };
-    notes.marked_line(&unread, 9, Some(0))
+    notes.marked_line(&unread, 9, Some(0));
 }
 
 #[test]
-fn shows_lines_and_marks_words(rt: HostRuntime) -> Result<(), AllocError> {
+fn shows_lines_and_marks_words(rt: HostRuntime) {
     let mut notes = Notes::new(rt.alloc());
-    add_lines(&mut notes)?;
+    add_lines(&mut notes);
     assert!(rt; notes.as_slice() == MARKED.as_bytes());
-    Ok(())
 }
 
 /// Returns whether the words of a line are found by their places.
@@ -80,16 +80,16 @@ fn finds_words_and_lines(rt: HostRuntime) {
 }
 
 /// Returns whether a word is quoted so.
-fn is_quoted(alloc: Global, word: &[u8], wanted: &[u8]) -> Result<bool, AllocError> {
-    let text = quoted(alloc, word)?;
-    Ok(text.as_slice() == wanted)
+fn is_quoted(alloc: Global, word: &[u8], wanted: &[u8]) -> bool {
+    let mut text = GrowingText::new(alloc);
+    add_quoted(&mut text, word);
+    text.as_slice() == wanted
 }
 
 #[test]
-fn quotes_the_first_40_bytes(rt: HostRuntime) -> Result<(), AllocError> {
+fn quotes_the_first_40_bytes(rt: HostRuntime) {
     let long = [b'a'; 41];
     let shown = b"\"aaaaaaaaaaaaaaaaaaaaaaaaaaaaaaaaaaaaaaaa ..\"";
-    assert!(rt; is_quoted(rt.alloc(), b"a\0", b"\"a?\"")?);
-    assert!(rt; is_quoted(rt.alloc(), &long, shown)?);
-    Ok(())
+    assert!(rt; is_quoted(rt.alloc(), b"a\0", b"\"a?\""));
+    assert!(rt; is_quoted(rt.alloc(), &long, shown));
 }

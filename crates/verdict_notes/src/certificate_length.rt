@@ -1,16 +1,11 @@
 //! Certificates that are too long.
 
 use note_text::{Notes, decimal};
-use std::alloc::AllocError;
 
 /// Notes how a certificate of this many bytes gets shorter, if a file that is read has at most `most` bytes and it has more.
-pub fn explain_certificate_length(
-    notes: &mut Notes,
-    length: u64,
-    most: u64,
-) -> Result<(), AllocError> {
+pub fn explain_certificate_length(notes: &mut Notes, length: u64, most: u64) {
     if length <= most {
-        return Ok(());
+        return;
     }
     let bytes = decimal(length);
     let limit = decimal(most);
@@ -19,8 +14,8 @@ pub fn explain_certificate_length(
         bytes.as_slice(),
         b" bytes, and vsc recheck reads at most ",
         limit.as_slice(),
-    ])?;
+    ]);
     notes.note(&[
         b"--split 0 gives one proof in place of one for each cube, and mostly a shorter certificate",
-    ])
+    ]);
 }

@@ -25,11 +25,12 @@ pub fn explain_by_survey<S: Surveyor>(
         Finding::Schedule(_) => explain_no_core(notes),
         Finding::Nothing => explain_no_core(notes),
     }
+    Ok(())
 }
 
 /// Notes that a survey finds no core.
-fn explain_no_core(notes: &mut Notes) -> Result<(), AllocError> {
-    notes.note(&[b"a short survey finds no few operations that contradict each other"])
+fn explain_no_core(notes: &mut Notes) {
+    notes.note(&[b"a short survey finds no few operations that contradict each other"]);
 }
 
 /// Returns whether one of these operations works on the location.
@@ -45,41 +46,30 @@ fn is_used(trace: &Trace, names: &[OpName], location: &[u8]) -> bool {
 }
 
 /// Notes the initial values of the locations on which these operations work.
-fn explain_initial(notes: &mut Notes, trace: &Trace, names: &[OpName]) -> Result<(), AllocError> {
+fn explain_initial(notes: &mut Notes, trace: &Trace, names: &[OpName]) {
     for entry in trace.initial() {
         let location = entry.0.as_bytes();
         let value = decimal(entry.1);
         if is_used(trace, names, location) {
-            notes.note(&[b"init ", location, b" ", value.as_slice()])?;
+            notes.note(&[b"init ", location, b" ", value.as_slice()]);
         }
     }
-    Ok(())
 }
 
 /// Notes the operation, with its name.
-fn explain_operation(
-    alloc: Global,
-    notes: &mut Notes,
-    trace: &Trace,
-    name: &OpName,
-) -> Result<(), AllocError> {
+fn explain_operation(alloc: Global, notes: &mut Notes, trace: &Trace, name: &OpName) {
     let Some(op) = operation_of(trace, name) else {
-        return Ok(());
+        return;
     };
     let mut sentence = Sentence::new(alloc);
-    sentence.add_op_name(name)?;
-    sentence.add(&[b" "])?;
-    sentence.add_operation(op)?;
-    notes.note(&[sentence.as_slice()])
+    sentence.add_op_name(name);
+    sentence.add(&[b" "]);
+    sentence.add_operation(op);
+    sentence.note(notes);
 }
 
 /// Notes the operations of a core.
-fn explain_core(
-    alloc: Global,
-    notes: &mut Notes,
-    trace: &Trace,
-    names: &[OpName],
-) -> Result<(), AllocError> {
+fn explain_core(alloc: Global, notes: &mut Notes, trace: &Trace, names: &[OpName]) {
     let number = names.len() as u64;
     let count = decimal(number);
     if number > MAX_SHOWN {
@@ -92,13 +82,11 @@ fn explain_core(
     notes.note(&[
         b"a survey, which nothing checks here, finds these operations in contradiction: ",
         count.as_slice(),
-    ])?;
-    explain_initial(notes, trace, names)?;
+    ]);
+    explain_initial(notes, trace, names);
     for name in names {
-        explain_operation(alloc, notes, trace, name)?;
+        explain_operation(alloc, notes, trace, name);
     }
-    notes.note(&[
-        b"fewer may suffice; vsc part writes them as a trace, if a file has their names",
-    ])?;
-    notes.note(&[b"vsc survey finds and refutes such operations"])
+    notes.note(&[b"fewer may suffice; vsc part writes them as a trace, if a file has their names"]);
+    notes.note(&[b"vsc survey finds and refutes such operations"]);
 }

@@ -3,7 +3,6 @@
 use crate::named_operations::operation_of;
 use crate::sentence::Sentence;
 use note_text::decimal;
-use std::alloc::AllocError;
 use trace_semantics::operation::OpName;
 use trace_semantics::trace::Trace;
 
@@ -64,11 +63,11 @@ pub fn held_after<'t>(
 
 impl Sentence {
     /// Adds what is held, as `holds 1, written by P.1`.
-    pub fn add_held(&mut self, held: Option<HeldValue<'_>>) -> Result<(), AllocError> {
+    pub fn add_held(&mut self, held: Option<HeldValue<'_>>) {
         match held {
             Some(held) => {
                 let value = decimal(held.value);
-                self.add(&[b"holds ", value.as_slice()])?;
+                self.add(&[b"holds ", value.as_slice()]);
                 self.add_writer(held.writer)
             }
             None => self.add(&[b"holds no value: nothing has written it, and it has no init line"]),
@@ -76,10 +75,10 @@ impl Sentence {
     }
 
     /// Adds who wrote a value.
-    fn add_writer(&mut self, writer: Option<&OpName>) -> Result<(), AllocError> {
+    fn add_writer(&mut self, writer: Option<&OpName>) {
         match writer {
             Some(name) => {
-                self.add(&[b", written by "])?;
+                self.add(&[b", written by "]);
                 self.add_op_name(name)
             }
             None => self.add(&[b", its initial value"]),

@@ -23,7 +23,7 @@ pub fn explain_illegal(
 ) -> Result<(), AllocError> {
     let names = schedule.names();
     match judge(alloc, trace, schedule)? {
-        Judgement::Legal => Ok(()),
+        Judgement::Legal => {}
         Judgement::Illegal(IllegalCause::MissingOp, _) => {
             explain_missing(alloc, notes, trace, names)
         }
@@ -34,6 +34,7 @@ pub fn explain_illegal(
             explain_place(alloc, notes, trace, names, cause, place)
         }
     }
+    Ok(())
 }
 
 /// Notes what is wrong with the name at this place, counted from 1.
@@ -44,16 +45,16 @@ fn explain_place(
     names: &[OpName],
     cause: IllegalCause,
     place: usize,
-) -> Result<(), AllocError> {
+) {
     if place == 0 || place > names.len() {
-        return Ok(());
+        return;
     }
     let before = &names[..place - 1];
     let name = &names[place - 1];
     let mut sentence = Sentence::new(alloc);
-    sentence.add_op_name(name)?;
-    add_cause(&mut sentence, trace, before, name, cause)?;
-    notes.note(&[sentence.as_slice()])
+    sentence.add_op_name(name);
+    add_cause(&mut sentence, trace, before, name, cause);
+    sentence.note(notes);
 }
 
 /// Adds what is wrong with the name after the names before it.
@@ -63,7 +64,7 @@ fn add_cause(
     before: &[OpName],
     name: &OpName,
     cause: IllegalCause,
-) -> Result<(), AllocError> {
+) {
     match cause {
         IllegalCause::UnknownOp => add_unknown(sentence, trace, name),
         IllegalCause::RepeatedOp => add_repeated(sentence, before, name),
@@ -71,13 +72,13 @@ fn add_cause(
         IllegalCause::WrongRead => add_wrong_read(sentence, trace, before, name),
         IllegalCause::BeforeBroken => add_broken(sentence, trace, before, name),
         IllegalCause::WrongSource => add_wrong_source(sentence, trace, before, name),
-        IllegalCause::MissingOp => Ok(()),
-        IllegalCause::WrongFinal => Ok(()),
+        IllegalCause::MissingOp => {}
+        IllegalCause::WrongFinal => {}
     }
 }
 
 /// Adds why the trace has no operation of the name.
-fn add_unknown(sentence: &mut Sentence, trace: &Trace, name: &OpName) -> Result<(), AllocError> {
+fn add_unknown(sentence: &mut Sentence, trace: &Trace, name: &OpName) {
     let process = name.process.as_bytes();
     match process_of(trace, process) {
         Some(found) => {
@@ -86,7 +87,7 @@ fn add_unknown(sentence: &mut Sentence, trace: &Trace, name: &OpName) -> Result<
                 b" is no operation of the trace: process ",
                 process,
                 b" has ",
-            ])?;
+            ]);
             sentence.add(&[count.as_slice()])
         }
         None => sentence.add(&[
@@ -97,95 +98,73 @@ fn add_unknown(sentence: &mut Sentence, trace: &Trace, name: &OpName) -> Result<
 }
 
 /// Adds at which place the name stands already.
-fn add_repeated(
-    sentence: &mut Sentence,
-    before: &[OpName],
-    name: &OpName,
-) -> Result<(), AllocError> {
+fn add_repeated(sentence: &mut Sentence, before: &[OpName], name: &OpName) {
     for k in 0..before.len() {
         if is_named(&before[k], name.process.as_bytes(), name.place as u64) {
             let place = decimal(place_after(k));
             return sentence.add(&[b" stands at place ", place.as_slice(), b" already"]);
         }
     }
-    Ok(())
 }
 
 /// Adds which operation of the process has to come first.
-fn add_early(sentence: &mut Sentence, before: &[OpName], name: &OpName) -> Result<(), AllocError> {
+fn add_early(sentence: &mut Sentence, before: &[OpName], name: &OpName) {
     let process = name.process.as_bytes();
     for place in 1..name.place as u64 {
         if !has_come(before, process, place) {
-            sentence.add(&[b" comes before "])?;
-            sentence.add_name(process, place)?;
+            sentence.add(&[b" comes before "]);
+            sentence.add_name(process, place);
             return sentence.add(&[b", which stands above it in the process"]);
         }
     }
-    Ok(())
 }
 
 /// Adds what the operation reads and what its location holds. The judge finds this cause only at an operation of the trace that reads, so
 /// nothing is left out.
-fn add_wrong_read(
-    sentence: &mut Sentence,
-    trace: &Trace,
-    before: &[OpName],
-    name: &OpName,
-) -> Result<(), AllocError> {
+fn add_wrong_read(sentence: &mut Sentence, trace: &Trace, before: &[OpName], name: &OpName) {
     let Some(op) = operation_of(trace, name) else {
-        return Ok(());
+        return;
     };
     let Some(read) = op.value_read() else {
-        return Ok(());
+        return;
     };
     let location = op.location().as_bytes();
-    sentence.add_read(read, location)?;
-    sentence.add(&[b", which "])?;
-    sentence.add_held(held_after(trace, before, location))
+    sentence.add_read(read, location);
+    sentence.add(&[b", which "]);
+    sentence.add_held(held_after(trace, before, location));
 }
 
 /// Adds which operation has to come before it by a pair.
-fn add_broken(
-    sentence: &mut Sentence,
-    trace: &Trace,
-    before: &[OpName],
-    name: &OpName,
-) -> Result<(), AllocError> {
+fn add_broken(sentence: &mut Sentence, trace: &Trace, before: &[OpName], name: &OpName) {
     for pair in trace.before() {
         let first = pair.0.process.as_bytes();
         let place = pair.0.place as u64;
         if is_named(&pair.1, name.process.as_bytes(), name.place as u64)
             && !has_come(before, first, place)
         {
-            sentence.add(&[b" comes before "])?;
-            sentence.add_name(first, place)?;
+            sentence.add(&[b" comes before "]);
+            sentence.add_name(first, place);
             return sentence.add(&[b", which a before line puts before it"]);
         }
     }
-    Ok(())
 }
 
 /// Adds where the operation reads from by its line, and what its location holds.
-fn add_wrong_source(
-    sentence: &mut Sentence,
-    trace: &Trace,
-    before: &[OpName],
-    name: &OpName,
-) -> Result<(), AllocError> {
+fn add_wrong_source(sentence: &mut Sentence, trace: &Trace, before: &[OpName], name: &OpName) {
     let Some(op) = operation_of(trace, name) else {
-        return Ok(());
+        return;
     };
     let location = op.location().as_bytes();
     match origin_of(op) {
-        Some(Origin::Initial) => sentence.add(&[b" reads ", location, b" from init, and "])?,
+        Some(Origin::Initial) => sentence.add(&[b" reads ", location, b" from init, and "]),
         Some(Origin::Operation(source)) => {
-            sentence.add(&[b" reads ", location, b" from "])?;
-            sentence.add_op_name(source)?;
-            sentence.add(&[b", and "])?;
+            sentence.add(&[b" reads ", location, b" from "]);
+            sentence.add_op_name(source);
+            sentence.add(&[b", and "]);
         }
         Some(Origin::Any) => return Ok(()),
         None => return Ok(()),
     }
-    sentence.add(&[location, b" "])?;
-    sentence.add_held(held_after(trace, before, location))
+    sentence.add(&[location, b" "]);
+    sentence.add_held(held_after(trace, before, location));
 }

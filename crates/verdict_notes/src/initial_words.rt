@@ -3,12 +3,11 @@
 use crate::held_value::initial_value;
 use crate::sentence::Sentence;
 use note_text::decimal;
-use std::alloc::AllocError;
 use trace_semantics::trace::Trace;
 
 impl Sentence {
     /// Adds what the trace says of the initial value of the location.
-    pub fn add_initial(&mut self, trace: &Trace, location: &[u8]) -> Result<(), AllocError> {
+    pub fn add_initial(&mut self, trace: &Trace, location: &[u8]) {
         match initial_value(trace, location) {
             Some(value) => {
                 let number = decimal(value);

@@ -60,7 +60,7 @@ pub fn explain_open_cubes(
         b"cubes that are open: ",
         count.as_slice(),
         b"; a legal schedule can only be in one of them",
-    ])?;
+    ]);
     match reduce(alloc, trace) {
         Ok(reduced) => explain_of_reduced(alloc, notes, trace, &reduced, report),
         Err(_) => Ok(()),
@@ -94,7 +94,7 @@ fn explain_of_reduced(
         };
         if let Some(literals) = literals_of(line) {
             if shown < MAX_SHOWN {
-                orders.note_open_cube(alloc, notes, literals)?;
+                orders.note_open_cube(alloc, notes, literals);
                 shown += 1;
             }
         }

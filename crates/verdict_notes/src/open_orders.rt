@@ -7,7 +7,7 @@
 use crate::kept_operations::KeptOp;
 use crate::sentence::Sentence;
 use note_text::Notes;
-use std::alloc::{AllocError, Global};
+use std::alloc::Global;
 use text_lines::numbers::{SolverNumber, read_solver_number};
 use text_lines::words::cut_word;
 use var_layout::layout::Layout;
@@ -44,45 +44,36 @@ impl<'t> OpenOrders<'t> {
 
     /// Adds the name of the operation of this number, counted from 0. The caller has compared the number of operations with that of the
     /// layout, so none is missing.
-    fn add_name(&self, sentence: &mut Sentence, number: usize) -> Result<(), AllocError> {
+    fn add_name(&self, sentence: &mut Sentence, number: usize) {
         match self.ops.get(number) {
             Some(op) => sentence.add_name(op.process, op.place),
-            None => Ok(()),
+            None => {}
         }
     }
 
     /// Adds the order that the literal says, as `A before B`, after a comma if there is an order before it. Adds nothing for the 0 at the
     /// end of a line, which is no variable; a number of 2^64 or more (`magnitude` is `None` then) and a variable that is not of an order
     /// are in no report of the trace.
-    fn add_literal(
-        &self,
-        sentence: &mut Sentence,
-        literal: SolverNumber,
-    ) -> Result<(), AllocError> {
+    fn add_literal(&self, sentence: &mut Sentence, literal: SolverNumber) {
         let Some(variable) = literal.magnitude else {
-            return Ok(());
+            return;
         };
         let Some((i, j)) = self.pair_of(variable) else {
-            return Ok(());
+            return;
         };
         let (first, second) = if literal.is_negative { (j, i) } else { (i, j) };
-        if !sentence.as_slice().is_empty() {
-            sentence.add(&[b", "])?;
+        if !sentence.is_empty() {
+            sentence.add(&[b", "]);
         }
-        self.add_name(sentence, first)?;
-        sentence.add(&[b" before "])?;
-        self.add_name(sentence, second)
+        self.add_name(sentence, first);
+        sentence.add(&[b" before "]);
+        self.add_name(sentence, second);
     }
 
     /// Adds the note `open: A before B, ..` for the cube of these literals, which are words with spaces between. A cube without literals,
     /// of a search that was not split, leaves every order open, and its note says so. A word that is no literal is passed over, as notes
     /// are no verdict and refuse nothing.
-    pub fn note_open_cube(
-        &self,
-        alloc: Global,
-        notes: &mut Notes,
-        cube_text: &[u8],
-    ) -> Result<(), AllocError> {
+    pub fn note_open_cube(&self, alloc: Global, notes: &mut Notes, cube_text: &[u8]) {
         let mut sentence = Sentence::new(alloc);
         let mut rest = cube_text;
         // The bound is never reached: each turn takes a word away. The checker sees by it that the loop returns.
@@ -91,13 +82,13 @@ impl<'t> OpenOrders<'t> {
                 break;
             };
             if let Some(literal) = read_solver_number(word) {
-                self.add_literal(&mut sentence, literal)?;
+                self.add_literal(&mut sentence, literal);
             }
             rest = after;
         }
-        if sentence.as_slice().is_empty() {
+        if sentence.is_empty() {
             return notes.note(&[b"open: every order"]);
         }
-        notes.note(&[b"open: ", sentence.as_slice()])
+        sentence.note_after(&[b"open: "], notes);
     }
 }

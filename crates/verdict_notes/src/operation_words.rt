@@ -2,12 +2,11 @@
 
 use crate::sentence::Sentence;
 use note_text::decimal;
-use std::alloc::AllocError;
 use trace_semantics::operation::{Op, Origin};
 
 impl Sentence {
     /// Adds the operation as its line in a trace, as `R x 1 from P 2`.
-    pub fn add_operation(&mut self, op: &Op) -> Result<(), AllocError> {
+    pub fn add_operation(&mut self, op: &Op) {
         match op {
             Op::Read {
                 location,
@@ -15,7 +14,7 @@ impl Sentence {
                 origin,
             } => {
                 let read = decimal(*value);
-                self.add(&[b"R ", location.as_bytes(), b" ", read.as_slice()])?;
+                self.add(&[b"R ", location.as_bytes(), b" ", read.as_slice()]);
                 self.add_origin(origin)
             }
             Op::Write { location, value } => {
@@ -29,18 +28,18 @@ impl Sentence {
                 origin,
             } => {
                 let read = decimal(*read);
-                self.add(&[b"U ", location.as_bytes(), b" ", read.as_slice()])?;
+                self.add(&[b"U ", location.as_bytes(), b" ", read.as_slice()]);
                 let left = decimal(*left);
-                self.add(&[b" ", left.as_slice()])?;
+                self.add(&[b" ", left.as_slice()]);
                 self.add_origin(origin)
             }
         }
     }
 
     /// Adds where an operation reads from by its line.
-    fn add_origin(&mut self, origin: &Origin) -> Result<(), AllocError> {
+    fn add_origin(&mut self, origin: &Origin) {
         match origin {
-            Origin::Any => Ok(()),
+            Origin::Any => {}
             Origin::Initial => self.add(&[b" from init"]),
             Origin::Operation(name) => {
                 let place = decimal(name.place as u64);

@@ -20,7 +20,7 @@ fn explain_process<'t>(
     process: &'t Process,
     number: usize,
     found: u64,
-) -> Result<u64, AllocError> {
+) -> u64 {
     let ops = process.operations.as_slice();
     let mut count = found;
     for k in 0..ops.len() {
@@ -32,12 +32,12 @@ fn explain_process<'t>(
         };
         if let Some(missing) = reader.missing_source(table) {
             if count < MAX_NAMED {
-                reader.explain(alloc, notes, missing)?;
+                reader.explain(alloc, notes, missing);
             }
             count = count.saturating_add(1);
         }
     }
-    Ok(count)
+    count
 }
 
 /// Notes which reads have no source, and how many there are.
@@ -48,7 +48,7 @@ fn explain_reads(alloc: Global, notes: &mut Notes, trace: &Trace) -> Result<u64,
     let mut count = 0;
     for number in 0..processes.len() {
         let process = &processes[number];
-        count = explain_process(alloc, notes, trace, &table, process, number, count)?;
+        count = explain_process(alloc, notes, trace, &table, process, number, count);
     }
     Ok(count)
 }
@@ -61,7 +61,7 @@ fn explain_finals(alloc: Global, notes: &mut Notes, trace: &Trace) -> Result<u64
         let writers = writers_of_location(alloc, trace, location)?;
         if !may_be_final(trace, writers.as_slice(), location, entry.1) {
             if count < MAX_NAMED {
-                explain_final_value(alloc, notes, trace, writers.as_slice(), location, entry.1)?;
+                explain_final_value(alloc, notes, trace, writers.as_slice(), location, entry.1);
             }
             count = count.saturating_add(1);
         }
@@ -70,12 +70,12 @@ fn explain_finals(alloc: Global, notes: &mut Notes, trace: &Trace) -> Result<u64
 }
 
 /// Notes how many more there are than were named.
-fn explain_rest(notes: &mut Notes, what: &[u8], count: u64) -> Result<(), AllocError> {
+fn explain_rest(notes: &mut Notes, what: &[u8], count: u64) {
     if count <= MAX_NAMED {
-        return Ok(());
+        return;
     }
     let rest = decimal(count - MAX_NAMED);
-    notes.note(&[what, rest.as_slice()])
+    notes.note(&[what, rest.as_slice()]);
 }
 
 /// Notes what rules out each schedule, whatever the order is: reads and final values of values that nothing gives. The answer is
@@ -86,12 +86,12 @@ pub fn explain_sourceless(
     trace: &Trace,
 ) -> Result<bool, AllocError> {
     let reads = explain_reads(alloc, notes, trace)?;
-    explain_rest(notes, b"reads without a source beside these: ", reads)?;
+    explain_rest(notes, b"reads without a source beside these: ", reads);
     let finals = explain_finals(alloc, notes, trace)?;
-    explain_rest(notes, b"such final values beside these: ", finals)?;
+    explain_rest(notes, b"such final values beside these: ", finals);
     if reads == 0 && finals == 0 {
         return Ok(false);
     }
-    notes.note(&[b"each of these alone rules out all schedules"])?;
+    notes.note(&[b"each of these alone rules out all schedules"]);
     Ok(true)
 }

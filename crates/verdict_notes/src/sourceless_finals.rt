@@ -35,16 +35,16 @@ pub fn explain_final_value(
     writers: &[ChosenWriter],
     location: &[u8],
     value: u64,
-) -> Result<(), AllocError> {
+) {
     let mut sentence = Sentence::new(alloc);
-    sentence.add_final(location, value)?;
+    sentence.add_final(location, value);
     if writers.is_empty() {
-        sentence.add(&[b", and nothing writes it, and "])?;
-        sentence.add_initial(trace, location)?;
+        sentence.add(&[b", and nothing writes it, and "]);
+        sentence.add_initial(trace, location);
     } else {
-        sentence.add(&[b", which none of its writes leaves"])?;
+        sentence.add(&[b", which none of its writes leaves"]);
     }
-    notes.note(&[sentence.as_slice()])
+    sentence.note(notes);
 }
 
 /// The operations that write the location.

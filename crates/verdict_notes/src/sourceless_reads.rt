@@ -4,7 +4,7 @@ use crate::held_value::initial_value;
 use crate::named_operations::{is_named, operation_of, origin_of, place_after};
 use crate::sentence::Sentence;
 use note_text::{Notes, decimal};
-use std::alloc::{AllocError, Global};
+use std::alloc::Global;
 use trace_part::sources::leaves;
 use trace_part::writer_table::WriterTable;
 use trace_part::writers::ChosenWriter;
@@ -111,30 +111,20 @@ impl<'t> PlacedRead<'t> {
     }
 
     /// Notes that it has no source.
-    pub fn explain(
-        &self,
-        alloc: Global,
-        notes: &mut Notes,
-        missing: MissingSource<'t>,
-    ) -> Result<(), AllocError> {
+    pub fn explain(&self, alloc: Global, notes: &mut Notes, missing: MissingSource<'t>) {
         let Some(read) = self.op.value_read() else {
-            return Ok(());
+            return;
         };
         let location = self.op.location().as_bytes();
         let mut sentence = Sentence::new(alloc);
-        sentence.add_name(self.process(), place_after(self.k))?;
-        sentence.add_read(read, location)?;
-        self.add_missing_source(&mut sentence, missing, read)?;
-        notes.note(&[sentence.as_slice()])
+        sentence.add_name(self.process(), place_after(self.k));
+        sentence.add_read(read, location);
+        self.add_missing_source(&mut sentence, missing, read);
+        sentence.note(notes);
     }
 
     /// Adds why it has no source.
-    fn add_missing_source(
-        &self,
-        sentence: &mut Sentence,
-        missing: MissingSource<'t>,
-        read: u64,
-    ) -> Result<(), AllocError> {
+    fn add_missing_source(&self, sentence: &mut Sentence, missing: MissingSource<'t>, read: u64) {
         let location = self.op.location().as_bytes();
         match missing {
             MissingSource::Unwritten => {
@@ -143,16 +133,16 @@ impl<'t> PlacedRead<'t> {
                 } else {
                     b", which nothing writes, and "
                 };
-                sentence.add(&[words])?;
+                sentence.add(&[words]);
                 sentence.add_initial(self.trace, location)
             }
             MissingSource::NotInitial => {
-                sentence.add(&[b" from init, and "])?;
+                sentence.add(&[b" from init, and "]);
                 sentence.add_initial(self.trace, location)
             }
             MissingSource::NotFrom(name) => {
-                sentence.add(&[b" from "])?;
-                sentence.add_op_name(name)?;
+                sentence.add(&[b" from "]);
+                sentence.add_op_name(name);
                 let value = decimal(read);
                 sentence.add(&[
                     b", which does not write ",

@@ -31,9 +31,10 @@ pub fn explain_undecided(
     if let Some(report) = report {
         explain_open_cubes(alloc, notes, trace, report)?;
     }
-    advise_budget(notes, effort.budget)?;
-    advise_rounds(notes, effort.rounds)?;
-    advise_workers(notes, effort.workers)
+    advise_budget(notes, effort.budget);
+    advise_rounds(notes, effort.rounds);
+    advise_workers(notes, effort.workers);
+    Ok(())
 }
 
 /// The next budget to try.
@@ -46,9 +47,9 @@ fn next_budget(budget: u64) -> u64 {
 }
 
 /// Notes which budget to try.
-fn advise_budget(notes: &mut Notes, budget: u64) -> Result<(), AllocError> {
+fn advise_budget(notes: &mut Notes, budget: u64) {
     if budget >= MAX_BUDGET {
-        return Ok(());
+        return;
     }
     let next = decimal(next_budget(budget));
     let now = decimal(budget);
@@ -58,31 +59,31 @@ fn advise_budget(notes: &mut Notes, budget: u64) -> Result<(), AllocError> {
         b" in place of ",
         now.as_slice(),
         b": it bounds proofs by counting too",
-    ])
+    ]);
 }
 
 /// Notes how many rounds to try.
-fn advise_rounds(notes: &mut Notes, rounds: u32) -> Result<(), AllocError> {
+fn advise_rounds(notes: &mut Notes, rounds: u32) {
     if rounds >= MAX_ROUNDS {
-        return Ok(());
+        return;
     }
     let most = decimal(MAX_ROUNDS as u64);
     notes.note(&[
         b"try --rounds ",
         most.as_slice(),
         b": each round splits the cubes that are open",
-    ])
+    ]);
 }
 
 /// Notes how many workers to try.
-fn advise_workers(notes: &mut Notes, workers: u32) -> Result<(), AllocError> {
+fn advise_workers(notes: &mut Notes, workers: u32) {
     if workers >= MAX_WORKERS {
-        return Ok(());
+        return;
     }
     let most = decimal(MAX_WORKERS as u64);
     notes.note(&[
         b"try --workers ",
         most.as_slice(),
         b", if there are as many processors: it searches more cubes at once",
-    ])
+    ]);
 }
