@@ -30,7 +30,7 @@ fn note_pair(alloc: Global, notes: &mut Notes, trace: &[u8], process: &[u8], pla
 
 /// Adds why an operation that a `before` line names is none of the trace's.
 fn note_before(alloc: Global, notes: &mut Notes, trace: &[u8], line: &[u8]) {
-    if note_pair(alloc, notes, trace, word_at(line, 1), word_at(line, 2))? {
+    if note_pair(alloc, notes, trace, word_at(line, 1), word_at(line, 2)) {
         return;
     }
     let _ = note_pair(alloc, notes, trace, word_at(line, 3), word_at(line, 4));
@@ -41,11 +41,11 @@ fn note_source(alloc: Global, notes: &mut Notes, trace: &[u8], line: &[u8]) {
     let place = match source_place(line) {
         Some(4) => word_at(line, 5),
         Some(_) => word_at(line, 6),
-        None => return Ok(()),
+        None => return,
     };
     let process = match source_place(line) {
         Some(at) => word_at(line, at),
-        None => return Ok(()),
+        None => return,
     };
     let _ = note_pair(alloc, notes, trace, process, place);
 }

@@ -162,8 +162,8 @@ fn add_wrong_source(sentence: &mut Sentence, trace: &Trace, before: &[OpName], n
             sentence.add_op_name(source);
             sentence.add(&[b", and "]);
         }
-        Some(Origin::Any) => return Ok(()),
-        None => return Ok(()),
+        Some(Origin::Any) => return,
+        None => return,
     }
     sentence.add(&[location, b" "]);
     sentence.add_held(held_after(trace, before, location));
