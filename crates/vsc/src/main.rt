@@ -1,4 +1,4 @@
-//! The program `vsc`: its files, its standard streams and its arguments.
+//! The program `vsc`: a command line, run with the system as its host.
 #![tactic(auto)]
 
 ghost use Rattle.clap.specs.Walk.{texts};
