@@ -1,6 +1,6 @@
 //! Command lines over files in memory: what the standard streams take, and the exit status.
 
-use crate::MemoryHost;
+use crate::memory_host::MemoryHost;
 use command_run::run;
 use cube_jobs::OpenGate;
 use dimacs::ShortSink;
