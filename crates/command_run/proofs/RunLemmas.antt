@@ -2,7 +2,7 @@
 use Rattle.std.proofs.Common.{◌≡◌, ℕ, List, [], false, refl}
 use Rattle.verdict_report.specs.Runs.{SourceRun}
 use Rattle.command_run.specs.CommandRun.{ReadsFile}
-use Rattle.command_run.specs.HostCalls.{HostCalls}
+use Rattle.command_host.specs.HostCalls.{HostCalls}
 
 -- from where it was handed out
 pub reads_file : {H I O : Type 0} {calls : HostCalls H I O} {read : I → I → SourceRun} {from to : H} {path : List ℕ} (before after : I) → calls.opens from path before to

@@ -7,7 +7,7 @@ use Rattle.command_line.specs.declared.line.Line.TheVariants.{Survey, Verify}
 use Rattle.command_line.specs.declared.line.SurveyFiles.{SurveyFiles}
 use Rattle.command_run.specs.declared.clash.Clash.{Clash}
 use Rattle.command_run.specs.declared.clash.Clash.TheVariants.{CertIsNames, CertIsPart, CertIsTrace, InputTwice, NamesIsPart, NamesIsTrace, PartIsTrace, PictureIsCert, PictureIsNames, PictureIsPart, PictureIsTrace}
-use Rattle.command_run.specs.HostCalls.{HostCalls}
+use Rattle.command_host.specs.HostCalls.{HostCalls}
 use Rattle.command_run.specs.Inputs.{inputs_of, repeats_input}
 
 -- what is printed

@@ -31,9 +31,9 @@ use Rattle.verdict_report.specs.VerifyEngine.{IsRunOfCertifiedVerify, IsRunOfVer
 use Rattle.survey_report.specs.SurveyEngine.{IsRunOfCertifiedSurvey, IsRunOfSurvey, TellsExtent}
 use Rattle.command_run.specs.declared.clash.Clash.{Clash}
 use Rattle.command_run.specs.declared.inputs.InputPaths.{InputPaths}
-use Rattle.command_run.specs.declared.search_request.SearchRequest.{SearchRequest}
+use Rattle.command_host.specs.declared.search_request.SearchRequest.{SearchRequest}
 use Rattle.command_run.specs.Clashes.{ClashesBy, clash_line}
-use Rattle.command_run.specs.HostCalls.{HostCalls}
+use Rattle.command_host.specs.HostCalls.{HostCalls}
 use Rattle.command_run.specs.Inputs.{inputs_of, is_input}
 
 -- ---- engines on files

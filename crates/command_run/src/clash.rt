@@ -5,9 +5,9 @@ ghost use Rattle.command_run.specs.CommandRun.{Prints};
 ghost use Rattle.command_run.specs.Inputs.{inputs_of, repeats_input};
 ghost use Rattle.verdict_report.specs.Runs.{sink_run};
 
-use crate::host::Host;
 use crate::inputs::{inputs_of, repeats_input};
 use crate::telling::{REFUSED, print_text};
+use command_host::Host;
 use command_line::{CommandLine, Line, SurveyFiles};
 use dimacs::Sink;
 

@@ -8,13 +8,11 @@ ghost use Rattle.verdict_report.specs.declared.fault.Fault.TheVariants.{Device};
 ghost use Rattle.verdict_report.specs.Runs.{source_run, sink_run};
 
 use crate::clash::{clash_of, print_clash};
-use crate::device_failure::FailedFile;
 use crate::engine_runs::run_engine;
 use crate::explaining::{explain_outcome, explain_unmade};
-use crate::host::Host;
 use crate::picturing::draw_outcome;
-use crate::recorder::Recalls;
 use crate::telling::{DEVICE, tell_fault, tell_line_fault, tell_outcome};
+use command_host::{FailedFile, Host, Recalls};
 use command_line::{CommandLine, Line, read_line};
 use cube_jobs::Gate;
 use dimacs::Sink;

@@ -10,11 +10,10 @@ ghost use Rattle.verdict_report.specs.LratEngine.{IsRunOfLrat};
 ghost use Rattle.verdict_report.specs.RecheckEngine.{IsRunOfRecheck};
 ghost use Rattle.verdict_report.specs.Runs.{source_run, sink_run};
 
-use crate::host::Host;
-use crate::recorder::Recorder;
 use crate::refusals::write_refusals;
-use crate::search_request::{SearchRequest, certify, decide};
+use crate::search_request::{certify, decide, search_of, survey_of};
 use crate::survey_runs::survey_file;
+use command_host::{Host, Recorder, SearchRequest};
 use command_line::Line;
 use cube_jobs::Gate;
 use dimacs::Sink;
@@ -260,7 +259,7 @@ pub(crate) fn run_engine<'p, R: Threads + Wait + Sync, G: Gate + Sync, H: Host<'
             numbers,
             progress: tells_progress,
         } => {
-            let search = SearchRequest::new(numbers, tells_progress);
+            let search = search_of(numbers, tells_progress);
             verify_file(alloc, rt, progress, host, trace, cert, &search, out, length)
         }
         Line::Survey {
@@ -269,7 +268,7 @@ pub(crate) fn run_engine<'p, R: Threads + Wait + Sync, G: Gate + Sync, H: Host<'
             numbers,
             progress: tells_progress,
         } => {
-            let search = SearchRequest::of_survey(numbers, tells_progress);
+            let search = survey_of(numbers, tells_progress);
             survey_file(alloc, rt, progress, host, trace, files, &search, out)
         }
         Line::Refusals => write_refusals(alloc, out),

@@ -4,10 +4,8 @@ ghost use Rattle.command_run.specs.CommandRun.{Adds, Reopens, ReopensAll, Reopen
 ghost use Rattle.command_run.specs.Inputs.{inputs_of};
 ghost use Rattle.verdict_report.specs.Runs.{sink_run};
 
-use crate::device_failure::{DeviceFailure, FailedFile, TellsFailure};
-use crate::host::Host;
 use crate::inputs::{InputPaths, inputs_of, is_standard_input};
-use crate::recorder::Recalls;
+use command_host::{DeviceFailure, FailedFile, Host, Recalls, TellsFailure};
 use command_line::{Line, SearchNumbers};
 use dimacs::{Sink, write_whole};
 use explanation::{AskedCommand, SearchEffort, explain};

@@ -4,8 +4,8 @@ ghost use Rattle.command_run.specs.Inputs.{inputs_of};
 ghost use Rattle.verdict_report.specs.Runs.{sink_run};
 
 use crate::explaining::read_again;
-use crate::host::Host;
 use crate::inputs::inputs_of;
+use command_host::Host;
 use command_line::Line;
 use dimacs::{Sink, write_whole};
 use picture::draw_verdict;

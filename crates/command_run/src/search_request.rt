@@ -6,7 +6,7 @@ ghost use Rattle.verdict_report.specs.Runs.{source_run, sink_run};
 ghost use Rattle.verdict_report.specs.VerifyEngine.{IsRunOfCertifiedVerify, IsRunOfVerify, TellsOpen};
 ghost use Rattle.verdict_report.specs.declared.status.Status.TheVariants.{Unknown};
 
-use crate::host::Host;
+use command_host::{Host, SearchRequest};
 use command_line::{SearchNumbers, SurveyNumbers};
 use cube_jobs::{Gate, OpenGate, Options};
 use dimacs::Sink;
@@ -14,17 +14,6 @@ use std::alloc::Global;
 use std::sync::Wait;
 use std::thread::Threads;
 use verdict_report::{Fault, Status, run_certified_verify, run_verify};
-
-/// The options of a search, and whether its progress is reported.
-#[derive(Clone, Copy)]
-pub struct SearchRequest {
-    /// How it goes about its work.
-    pub options: Options,
-    /// Whether its progress is reported on standard error.
-    pub tells_progress: bool,
-    /// The number of steps after which the survey before it is given up, if there is one.
-    pub steps: Option<u64>,
-}
 
 /// The split of a search after a survey.
 const SURVEY_SPLIT: u32 = 3;
@@ -35,43 +24,41 @@ const SURVEY_CONFLICTS: u64 = 100_000;
 /// The rounds of a search after a survey.
 const SURVEY_ROUNDS: u32 = 1;
 
-impl SearchRequest {
-    /// The search of these numbers.
-    pub(crate) fn new(numbers: SearchNumbers, tells_progress: bool) -> SearchRequest
-        requires { AreSearchNumbers numbers }
-        ensures { result ≡ search_of numbers tells_progress }
-    {
-        let options = Options::new(
-            numbers.workers,
-            numbers.split,
-            numbers.budget,
-            numbers.rounds,
-        )
-        .unwrap();
-        SearchRequest {
-            options,
-            tells_progress,
-            steps: None,
-        }
+/// The search of these numbers.
+pub(crate) fn search_of(numbers: SearchNumbers, tells_progress: bool) -> SearchRequest
+    requires { AreSearchNumbers numbers }
+    ensures { result ≡ search_of numbers tells_progress }
+{
+    let options = Options::new(
+        numbers.workers,
+        numbers.split,
+        numbers.budget,
+        numbers.rounds,
+    )
+    .unwrap();
+    SearchRequest {
+        options,
+        tells_progress,
+        steps: None,
     }
+}
 
-    /// The survey of these numbers, and the searches after it, which go about their work as those of `verify` without options.
-    pub(crate) fn of_survey(survey: SurveyNumbers, tells_progress: bool) -> SearchRequest
-        requires { AreSurveyNumbers survey }
-        ensures { result ≡ survey_of survey tells_progress }
-    {
-        let options = Options::new(
-            survey.workers,
-            SURVEY_SPLIT,
-            SURVEY_CONFLICTS,
-            SURVEY_ROUNDS,
-        )
-        .unwrap();
-        SearchRequest {
-            options,
-            tells_progress,
-            steps: Some(survey.budget),
-        }
+/// The survey of these numbers, and the searches after it, which go about their work as those of `verify` without options.
+pub(crate) fn survey_of(survey: SurveyNumbers, tells_progress: bool) -> SearchRequest
+    requires { AreSurveyNumbers survey }
+    ensures { result ≡ survey_of survey tells_progress }
+{
+    let options = Options::new(
+        survey.workers,
+        SURVEY_SPLIT,
+        SURVEY_CONFLICTS,
+        SURVEY_ROUNDS,
+    )
+    .unwrap();
+    SearchRequest {
+        options,
+        tells_progress,
+        steps: Some(survey.budget),
     }
 }
 

@@ -9,9 +9,8 @@ ghost use Rattle.survey_report.specs.SurveyEngine.{IsRunOfCertifiedSurvey, IsRun
 ghost use Rattle.verdict_report.specs.Runs.{source_run, sink_run};
 ghost use Rattle.verdict_report.specs.declared.status.Status.TheVariants.{Unknown};
 
-use crate::host::Host;
 use crate::no_file::NoFile;
-use crate::search_request::SearchRequest;
+use command_host::{Host, SearchRequest};
 use command_line::SurveyFiles;
 use cube_jobs::{Gate, OpenGate};
 use dimacs::Sink;

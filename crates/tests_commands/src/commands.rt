@@ -1,6 +1,7 @@
 //! Command lines over files in memory: what the standard streams take, and the exit status.
 
-use command_run::{MemoryHost, run};
+use crate::memory_host::MemoryHost;
+use command_run::run;
 use cube_jobs::OpenGate;
 use dimacs::ShortSink;
 use std::alloc::Global;

@@ -3,3 +3,6 @@
 
 #[cfg(test)]
 mod commands;
+mod memory_host;
+
+pub use memory_host::MemoryHost;

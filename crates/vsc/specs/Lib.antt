@@ -1,3 +1,1 @@
-pub mod FileSink
-pub mod FileSource
-pub mod SystemHost
+pub mod EndsOnSystem

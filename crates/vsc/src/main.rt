@@ -1,29 +1,20 @@
-//! The program `vsc`: its files, its standard streams and its arguments.
+//! The program `vsc`: a command line, run with the system as its host.
 #![tactic(auto)]
 
 ghost use Rattle.clap.specs.Walk.{texts};
 ghost use Rattle.command_run.specs.ExitStatus.{IsExitStatus};
 ghost use Rattle.verdict_report.specs.Runs.{sink_run};
-ghost use Rattle.vsc.specs.SystemHost.{EndsOnSystem};
+ghost use Rattle.vsc.specs.EndsOnSystem.{EndsOnSystem};
 
-mod file_sink;
-mod file_source;
-mod held_numbers;
-mod progress;
-mod stream_sink;
-mod system_host;
-
-use command_run::{ArgumentFault, Recalls, Recorder, refuse, run, words_of};
+use command_host::{Recalls, Recorder};
+use command_run::{ArgumentFault, refuse, run, words_of};
 use dimacs::Sink;
-use held_numbers::HeldNumbers;
-use progress::Progress;
 use std::env;
 use std::io::ErrorKind;
 use std::process::ExitCode;
 use std::sync::Wait;
 use std::thread::Threads;
-use stream_sink::StreamSink;
-use system_host::SystemHost;
+use system_host::{HeldNumbers, Progress, StreamSink, SystemHost};
 
 /// The arguments of the program, or why there are none.
 fn arguments(rt: &HostRuntime) -> Result<Vec<String>, ArgumentFault> {

@@ -1,6 +1,6 @@
 -- What the calls of a host say of it.
 use Rattle.std.specs.Prelude.{ℕ, Bool, List}
-use Rattle.command_run.specs.declared.search_request.SearchRequest.{SearchRequest}
+use Rattle.command_host.specs.declared.search_request.SearchRequest.{SearchRequest}
 
 -- Each is a relation of the host before a call and after it. Only a call of the host gives one, so a chain of them, from a host to
 -- another one, lists what was asked of it in between, and that nothing else was.

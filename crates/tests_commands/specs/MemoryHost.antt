@@ -2,8 +2,8 @@
 use Rattle.std.specs.Prelude.{◌≡◌, Some, false}
 use Rattle.dimacs.specs.declared.memory_sink.MemorySink.{MemorySink}
 use Rattle.verdict_report.specs.declared.short_source.ShortSource.{ShortSource}
-use Rattle.command_run.specs.declared.memory_host.MemoryHost.{MemoryHost}
-use Rattle.command_run.specs.HostCalls.{HostCalls}
+use Rattle.tests_commands.specs.declared.memory_host.MemoryHost.{MemoryHost}
+use Rattle.command_host.specs.HostCalls.{HostCalls}
 
 -- handing out a file changes nothing, and neither does making one before it is given back; files of two paths are two; the last search is kept
 abbrev pub memory_calls : HostCalls MemoryHost ShortSource MemorySink

@@ -50,7 +50,7 @@ impl DeviceFailure {
     }
 
     /// Gives what failed after these words, and why, as the system says it.
-    pub(crate) fn told(&self, alloc: Global, front: &str) -> Result<String, AllocError> {
+    pub fn told(&self, alloc: Global, front: &str) -> Result<String, AllocError> {
         let says = self.says();
         match self.code {
             Some(code) => told_by_system(alloc, front, says, code),
@@ -74,7 +74,7 @@ pub struct FailedFile<'p> {
 
 impl FailedFile<'_> {
     /// Gives what failed of it, and why, with its path in front.
-    pub(crate) fn told(&self, alloc: Global) -> Result<String, AllocError> {
+    pub fn told(&self, alloc: Global) -> Result<String, AllocError> {
         let path = self.path;
         let front = format!(in alloc; "{path}: ")?;
         self.failure.told(alloc, front.as_str())

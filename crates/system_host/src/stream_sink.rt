@@ -1,7 +1,7 @@
 //! A stream of the system as a sink.
 ghost use Rattle.std.specs.Prelude.{◌≡◌, ◌<◌, ◌≤◌, [], length, IfOk};
 
-use command_run::{DeviceCall, DeviceFailure, TellsFailure};
+use command_host::{DeviceCall, DeviceFailure, TellsFailure};
 use dimacs::{Failed, FailureCount, Sink, Transcript};
 use std::io::{ErrorKind, Write};
 

@@ -1,9 +1,9 @@
 //! A file as a sink.
 ghost use Rattle.std.specs.Prelude.{◌≡◌, ◌+◌, [], IfOk, OnErr, OnOk};
-ghost use Rattle.vsc.specs.FileSink.{path_to};
+ghost use Rattle.system_host.specs.FileSink.{path_to};
 
 use crate::stream_sink::StreamSink;
-use command_run::{DeviceCall, DeviceFailure, FailedFile, TellsFailure};
+use command_host::{DeviceCall, DeviceFailure, FailedFile, TellsFailure};
 use dimacs::{Failed, FailureCount, Sink};
 use std::fs::File;
 use std::rt::Files;

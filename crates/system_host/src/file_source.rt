@@ -1,8 +1,8 @@
 //! A file, or standard input, as a source.
 ghost use Rattle.std.specs.Prelude.{◌≡◌, ◌≤◌, [], false, length, IfOk, IsSome, OnOk};
-ghost use Rattle.vsc.specs.FileSource.{path_of};
+ghost use Rattle.system_host.specs.FileSource.{path_of};
 
-use command_run::{DeviceCall, DeviceFailure, TellsFailure};
+use command_host::{DeviceCall, DeviceFailure, TellsFailure};
 use dimacs::{Failed, FailureCount, Transcript};
 use std::fs::File;
 use std::io::{ErrorKind, Read};

@@ -1,6 +1,6 @@
 //! The host of a command: what is outside of the program.
 ghost use Rattle.std.specs.Prelude.{◌≡◌, [], false, IfOk, OnErr};
-ghost use Rattle.command_run.specs.HostCalls.{HostCalls};
+ghost use Rattle.command_host.specs.HostCalls.{HostCalls};
 
 use crate::device_failure::{FailedFile, TellsFailure};
 use crate::search_request::SearchRequest;

@@ -1,7 +1,7 @@
 -- What a file as a source shows.
 use Rattle.std.specs.Prelude.{ℕ, List}
 use Rattle.verdict_report.specs.Runs.{SourceRun, source_run}
-use Rattle.vsc.specs.declared.file_source.FileSource.{FileSource}
+use Rattle.system_host.specs.declared.file_source.FileSource.{FileSource}
 
 -- the path of the file
 abbrev pub path_of : FileSource → List ℕ

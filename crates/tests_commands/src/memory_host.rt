@@ -1,9 +1,7 @@
 //! A host in memory, for tests.
-ghost use Rattle.command_run.specs.MemoryHost.{memory_calls};
+ghost use Rattle.tests_commands.specs.MemoryHost.{memory_calls};
 
-use crate::device_failure::FailedFile;
-use crate::host::Host;
-use crate::search_request::SearchRequest;
+use command_host::{FailedFile, Host, SearchRequest};
 use dimacs::{Failed, MemorySink};
 use std::alloc::Global;
 use verdict_report::ShortSource;

@@ -69,7 +69,7 @@ impl<S: Sink> Recorder<S> {
     }
 
     /// A sink that passes on to this one, and counts alone.
-    pub(crate) fn counting(alloc: Global, sink: S) -> Recorder<S>
+    pub fn counting(alloc: Global, sink: S) -> Recorder<S>
         ensures { result.sink ≡ sink }
     {
         Recorder {
@@ -79,12 +79,12 @@ impl<S: Sink> Recorder<S> {
     }
 
     /// The number of bytes that it took.
-    pub(crate) fn taken(&self) -> u64 {
+    pub fn taken(&self) -> u64 {
         self.record.taken
     }
 
     /// The sink to which it passed them on.
-    pub(crate) fn into_sink(self) -> S
+    pub fn into_sink(self) -> S
         ensures { result ≡ self.sink }
     {
         self.sink

@@ -1,7 +1,7 @@
 -- What a file as a sink shows.
 use Rattle.std.specs.Prelude.{ℕ, List}
 use Rattle.verdict_report.specs.Runs.{SinkRun, sink_run}
-use Rattle.vsc.specs.declared.file_sink.FileSink.{FileSink}
+use Rattle.system_host.specs.declared.file_sink.FileSink.{FileSink}
 
 -- the path of the file
 abbrev pub path_to : FileSink → List ℕ

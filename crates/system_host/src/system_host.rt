@@ -1,7 +1,7 @@
 //! The system as the host of a command.
 use crate::file_sink::FileSink;
 use crate::file_source::{FileSource, STANDARD_INPUT};
-use command_run::{FailedFile, Host, SearchRequest};
+use command_host::{FailedFile, Host, SearchRequest};
 use dimacs::{Failed, FailureCount};
 use std::fs::metadata;
 use std::os::unix::fs::MetadataExt;
@@ -56,7 +56,7 @@ impl<'a> SystemHost<'a> {
 }
 
 impl<'a> Host<'a> for SystemHost<'a> {
-    ghost use Rattle.vsc.specs.SystemHost.{system_calls};
+    ghost use Rattle.system_host.specs.SystemHost.{system_calls};
 
     type Input = FileSource<'a>;
 

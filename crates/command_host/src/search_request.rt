@@ -1,0 +1,14 @@
+//! How a search is asked for.
+
+use cube_jobs::Options;
+
+/// The options of a search, and whether its progress is reported.
+#[derive(Clone, Copy)]
+pub struct SearchRequest {
+    /// How it goes about its work.
+    pub options: Options,
+    /// Whether its progress is reported on standard error.
+    pub tells_progress: bool,
+    /// The number of steps after which the survey before it is given up, if there is one.
+    pub steps: Option<u64>,
+}

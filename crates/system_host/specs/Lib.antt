@@ -1,0 +1,3 @@
+pub mod FileSink
+pub mod FileSource
+pub mod SystemHost
