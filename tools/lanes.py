@@ -4,8 +4,8 @@
 are those that docs/PROVING.md has of each crate. The crates with the longest chain of others behind them come first.
 
 A check by two processes takes two thirds of the time, and by four two fifths, but three tenths more of the processors. So a crate has one process,
-unless processors are idle; only the one with the longest chain has half of the processors. With a process for each processor, and others beside it, that
-chain took no less time.
+unless processors are idle; only the one with the longest chain has half of the processors, and all of them if nothing else can begin. With a process
+for each processor, and others beside it, that chain took no less time.
 """
 
 import os
@@ -55,8 +55,11 @@ def in_order(tasks, costs):
 
 
 def jobs_of(task, longest, idle, others, processors):
-    """How many processes a task gets: its part of the idle processors, which others wait for too, and half of all if none has more seconds behind it."""
-    share = processors // 2 if task.behind == longest else 1
+    """How many processes a task gets: its part of the idle processors, which others wait for too. If none has more seconds behind it, it gets half of all
+    processors, or all if no other waits for one."""
+    share = 1
+    if task.behind == longest:
+        share = processors // 2 if others else processors
     return min(MOST_JOBS, max(1, share, idle // (1 + others)))
 
 

@@ -35,7 +35,7 @@ impl DeviceFailure {
     }
 
     /// This call failed, and the system gave no number.
-    pub fn without_word(call: DeviceCall) -> DeviceFailure {
+    pub fn without_code(call: DeviceCall) -> DeviceFailure {
         DeviceFailure { call, code: None }
     }
 
@@ -65,7 +65,7 @@ fn told_by_system(alloc: Global, front: &str, says: &str, code: i32) -> Result<S
     format!(in alloc; "{front}{says}: {error}")
 }
 
-/// What failed of a file that was made or written, and its path.
+/// What failed of a file that was to be made or written, and its path.
 #[derive(Clone, Copy)]
 pub struct FailedFile<'p> {
     pub path: &'p str,
@@ -86,6 +86,8 @@ pub trait TellsFailure {
     /// Gives what failed of it last, if that is known.
     fn failure(&self) -> Option<DeviceFailure>;
 }
+
+// The sinks and sources in memory fail for no reason of the system. They stand here since a trait is implemented beside it or its type.
 
 impl TellsFailure for MemorySink {
     fn failure(&self) -> Option<DeviceFailure> {

@@ -39,7 +39,7 @@ pub trait Host<'p> {
     fn close(&mut self, file: Self::Output)
         ensures { calls.closes self.old file self.new };
 
-    /// Returns whether there is a file at both paths, and it is the same one.
+    /// Returns whether what is written at the first path would be the file that the second one names, also if it is still to be made.
     fn is_same_file(&mut self, first: &str, second: &str) -> bool
         ensures { calls.compares self.old first.now second.now result self.new };
 
@@ -47,6 +47,6 @@ pub trait Host<'p> {
     fn begin_search(&mut self, search: &SearchRequest)
         ensures { calls.searches self.old search.now self.new };
 
-    /// Gives what failed of a file that was made or written, if that is known. Explanations alone ask, so nothing is promised of the answer.
+    /// Gives what failed of a file that was to be made or written, if that is known. Explanations alone ask, so nothing is promised of the answer.
     fn failed_file(&self) -> Option<FailedFile<'p>>;
 }

@@ -11,7 +11,7 @@ ghost use Rattle.verdict_report.specs.RecheckEngine.{IsRunOfRecheck};
 ghost use Rattle.verdict_report.specs.Runs.{source_run, sink_run};
 
 use crate::refusals::write_refusals;
-use crate::search_request::{certify, decide, search_of, survey_of};
+use crate::search_runs::{certify, decide, search_of, survey_of};
 use crate::survey_runs::survey_file;
 use command_host::{Host, Recorder, SearchRequest};
 use command_line::Line;

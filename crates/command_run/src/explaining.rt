@@ -287,7 +287,7 @@ fn notes_of_unmade(alloc: Global, failed: Option<FailedFile<'_>>) -> Vec<u8> {
         // If memory runs out, there is no explanation.
         notes.note(&[words.as_bytes()]);
     }
-    notes.into_bytes()
+    notes.into_taken()
 }
 
 /// Explains on standard error that a file could not be made.

@@ -10,7 +10,7 @@ mod inputs;
 mod no_file;
 mod picturing;
 mod refusals;
-mod search_request;
+mod search_runs;
 mod survey_runs;
 mod telling;
 

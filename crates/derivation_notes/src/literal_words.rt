@@ -61,7 +61,7 @@ fn add_source(
     candidate: Candidate,
     is_positive: bool,
 ) {
-    story.add_piece(sentence, Phrase::Whole(reader));
+    story.add_phrase(sentence, Phrase::Whole(reader));
     let words: &[u8] = if is_positive {
         b" reads"
     } else {
@@ -72,14 +72,14 @@ fn add_source(
         Candidate::InitialValue => sentence.add(&[b" the initial value"]),
         Candidate::Writer(source) => {
             sentence.add(&[b" from "]);
-            story.add_piece(sentence, Phrase::Name(source))
+            story.add_phrase(sentence, Phrase::Name(source))
         }
     }
 }
 
 /// Adds that the writer is the last one of its location, or is not.
 fn add_last(story: &Story<'_>, sentence: &mut Sentence, writer: usize, is_positive: bool) {
-    story.add_piece(sentence, Phrase::Whole(writer));
+    story.add_phrase(sentence, Phrase::Whole(writer));
     let words: &[u8] = if is_positive { b" is" } else { b" is not" };
     sentence.add(&[words, b" the last write there"]);
 }
@@ -87,9 +87,9 @@ fn add_last(story: &Story<'_>, sentence: &mut Sentence, writer: usize, is_positi
 /// Adds what the literal says.
 pub fn add_literal(layout: &Layout, story: &Story<'_>, sentence: &mut Sentence, literal: Lit) {
     if let Some((first, second)) = order_of(layout.operations(), literal) {
-        story.add_piece(sentence, Phrase::Name(first));
+        story.add_phrase(sentence, Phrase::Name(first));
         sentence.add(&[b" before "]);
-        return story.add_piece(sentence, Phrase::Name(second));
+        return story.add_phrase(sentence, Phrase::Name(second));
     }
     match meaning_of(layout, literal.variable()) {
         VariableMeaning::Source { reader, candidate } => {

@@ -167,7 +167,7 @@ impl Rests {
         for k in 0..self.operations.len() {
             if self.operations[k] {
                 sentence.add(&[b" "]);
-                story.add_piece(&mut sentence, Phrase::Name(k));
+                story.add_phrase(&mut sentence, Phrase::Name(k));
             }
         }
         sentence.note(notes);

@@ -1,4 +1,4 @@
-//! Sentences, which are noted once all are made.
+//! Sentences, which are kept apart until all are made.
 
 use note_text::Notes;
 use std::alloc::Global;
@@ -12,7 +12,7 @@ pub struct Story<'t> {
     notes: Notes,
 }
 
-/// A piece of a sentence.
+/// A phrase of a sentence.
 #[derive(Clone, Copy)]
 pub enum Phrase<'w> {
     /// These words.
@@ -40,7 +40,7 @@ impl<'t> Story<'t> {
         self.ops.as_slice()
     }
 
-    /// Appends what a piece says of the operation.
+    /// Adds what a phrase says of the operation.
     fn add_op(&self, sentence: &mut Sentence, number: usize, is_whole: bool) {
         let Some(op) = self.ops.get(number) else {
             return;
@@ -52,7 +52,7 @@ impl<'t> Story<'t> {
         }
     }
 
-    /// Appends what the operation of this number reads.
+    /// Adds what the operation of this number reads.
     fn add_value_read(&self, sentence: &mut Sentence, number: usize) {
         let Some(op) = self.ops.get(number) else {
             return;
@@ -62,9 +62,9 @@ impl<'t> Story<'t> {
         }
     }
 
-    /// Appends the piece to the sentence.
-    pub fn add_piece(&self, sentence: &mut Sentence, piece: Phrase<'_>) {
-        match piece {
+    /// Adds the phrase to the sentence.
+    pub fn add_phrase(&self, sentence: &mut Sentence, phrase: Phrase<'_>) {
+        match phrase {
             Phrase::Words(words) => sentence.add(&[words]),
             Phrase::Name(number) => self.add_op(sentence, number, false),
             Phrase::Whole(number) => self.add_op(sentence, number, true),
@@ -82,11 +82,11 @@ impl<'t> Story<'t> {
         sentence.note(&mut self.notes);
     }
 
-    /// Adds the sentence of these pieces.
-    pub fn say(&mut self, pieces: &[Phrase<'_>]) {
+    /// Adds the sentence of these phrases.
+    pub fn say(&mut self, phrases: &[Phrase<'_>]) {
         let mut sentence = self.begin();
-        for piece in pieces {
-            self.add_piece(&mut sentence, *piece);
+        for phrase in phrases {
+            self.add_phrase(&mut sentence, *phrase);
         }
         self.end(&sentence);
     }

@@ -83,7 +83,7 @@ impl<'t> Teller<'t> {
             if k > 0 {
                 sentence.add(&[b" < "]);
             }
-            self.story.add_piece(&mut sentence, Phrase::Name(chain[k]));
+            self.story.add_phrase(&mut sentence, Phrase::Name(chain[k]));
         }
         sentence.add(&[end]);
         self.story.end(&sentence);
@@ -290,7 +290,7 @@ impl<'t> Teller<'t> {
         if let Some((_, number)) = needed.step_of(id) {
             return self.tell_step(number, conclusion, unit);
         }
-        let place = usize::try_from(id.saturating_sub(1)).unwrap_or(0);
+        let place = usize::try_from(id.saturating_sub(1)).unwrap_or(usize::MAX);
         match meaning_at(self.clauses, place) {
             Some(meaning) => {
                 self.tell_orders(meaning, literals, conclusion)?;

@@ -21,5 +21,5 @@ pub fn explain<'t>(
         Ok(status) => explain_verdict(alloc, &mut notes, asked, *status),
         Err(fault) => explain_refusal(alloc, &mut notes, fault, &asked.texts(written)),
     };
-    notes.into_bytes()
+    notes.into_taken()
 }

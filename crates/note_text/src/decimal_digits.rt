@@ -6,7 +6,7 @@ const MAX_DIGITS: usize = 20;
 /// A number in decimal.
 #[derive(Drop)]
 pub struct Digits {
-    digits: [u8; 20],
+    digits: [u8; MAX_DIGITS],
     start: usize,
 }
 
@@ -22,7 +22,7 @@ impl Digits {
 
 /// Writes the number in decimal.
 pub fn decimal(number: u64) -> Digits {
-    let mut digits = [b'0'; 20];
+    let mut digits = [b'0'; MAX_DIGITS];
     let mut start = MAX_DIGITS;
     let mut rest = number;
     for place in (0..MAX_DIGITS).rev() {

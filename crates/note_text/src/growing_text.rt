@@ -47,14 +47,14 @@ impl GrowingText {
     }
 
     /// Drops what was added after this length, unless the text is whole.
-    pub(crate) fn keep_if_cut(&mut self, length: usize) {
+    pub(crate) fn drop_if_cut(&mut self, length: usize) {
         if self.outcome.is_err() {
             self.bytes.truncate(length);
         }
     }
 
     /// Returns the text, if there was memory for all of it; this takes none.
-    pub fn into_bytes(self) -> Result<Vec<u8>, AllocError> {
+    pub fn into_whole(self) -> Result<Vec<u8>, AllocError> {
         let GrowingText { bytes, outcome } = self;
         outcome?;
         Ok(bytes)

@@ -1,4 +1,4 @@
-//! Files that a command was asked to read, as they are read once more for notes.
+//! Files that a command was asked to read, as they are read once more for notes, and what failed of those that it wrote.
 
 use text_lines::lines::cut_line;
 
@@ -13,7 +13,7 @@ pub struct NamedText<'t> {
     pub failure: Option<&'t [u8]>,
 }
 
-/// The files of a command, by what each is for.
+/// The files that a command reads, by what each is for, and what failed of what it wrote.
 #[derive(Clone, Copy)]
 pub struct AskedTexts<'t> {
     /// The trace.

@@ -16,7 +16,7 @@ pub struct Notes {
     text: GrowingText,
 }
 
-/// Adds the line as `note: NAME:NUMBER: LINE`. A mark below it counts these columns.
+/// Adds the line as `note: NAME:NUMBER: LINE`. `add_mark` leaves as many columns free.
 fn add_numbered(text: &mut GrowingText, name: &str, number: u64, line: &[u8]) {
     let number = decimal(number);
     text.add(&[NOTE, name.as_bytes(), b":", number.as_slice(), b": "]);
@@ -67,13 +67,13 @@ impl Notes {
     }
 
     /// Returns the lines for which there was memory; this takes none.
-    pub fn into_bytes(self) -> Vec<u8> {
+    pub fn into_taken(self) -> Vec<u8> {
         self.text.into_taken()
     }
 
     /// Returns the lines, if there was memory for all of them; this takes none.
     pub fn into_whole(self) -> Result<Vec<u8>, AllocError> {
-        self.text.into_bytes()
+        self.text.into_whole()
     }
 
     /// Adds the words, one after the other, as a line.
@@ -81,7 +81,7 @@ impl Notes {
         let kept = self.as_slice().len();
         self.text.add(words);
         self.text.add(&[b"\n"]);
-        self.text.keep_if_cut(kept);
+        self.text.drop_if_cut(kept);
     }
 
     /// Adds the words, one after the other, as a line that begins with `note: `.
@@ -90,7 +90,7 @@ impl Notes {
         self.text.add(&[NOTE]);
         self.text.add(words);
         self.text.add(&[b"\n"]);
-        self.text.keep_if_cut(kept);
+        self.text.drop_if_cut(kept);
     }
 
     /// Adds the words, and then the text, as a line that begins with `note: `.
@@ -100,14 +100,14 @@ impl Notes {
         self.text.add(words);
         self.text.add_text(text);
         self.text.add(&[b"\n"]);
-        self.text.keep_if_cut(kept);
+        self.text.drop_if_cut(kept);
     }
 
     /// Adds the lines of the others, or none of them if memory ran out for those.
     pub fn add_all(&mut self, others: &Notes) {
         let kept = self.as_slice().len();
         self.text.add_text(&others.text);
-        self.text.keep_if_cut(kept);
+        self.text.drop_if_cut(kept);
     }
 
     /// Adds the line of this number, counted from 1, as it stands in the text, with the text's name and the number in front. If
@@ -120,7 +120,7 @@ impl Notes {
             Some(line) => {
                 let kept = self.as_slice().len();
                 add_marked(&mut self.text, text.name, number, line, word);
-                self.text.keep_if_cut(kept);
+                self.text.drop_if_cut(kept);
             }
             None => self.in_place_of_line(text.name, number, b"the text ends here"),
         }

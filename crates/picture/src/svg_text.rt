@@ -19,7 +19,7 @@ impl SvgText {
 
     /// Returns the text, if there was memory for all of it; this takes none.
     pub fn into_bytes(self) -> Result<Vec<u8>, AllocError> {
-        self.text.into_bytes()
+        self.text.into_whole()
     }
 
     /// Adds the words one after the other, as they are.

@@ -61,7 +61,7 @@ fn explain_schedule(notes: &mut Notes, cause: ScheduleCause, number: u64, texts:
         return notes.note(&[b"the first line of what verify prints is no part of the schedule"]);
     }
     if count_words(line) > 1 {
-        return notes.note(&[b"each name stands on a line of its own"]);
+        notes.note(&[b"each name stands on a line of its own"]);
     }
 }
 
@@ -131,7 +131,7 @@ fn explain_reduction(notes: &mut Notes, cause: ReduceCause, left: u64) {
     match cause {
         ReduceCause::StillTooLarge => notes.note(&[
             left.as_slice(),
-            b" operations are left after reduction, at most 160 can be decided; vsc survey and vsc part take larger traces",
+            b" operations are left after reduction, 160 at most; vsc survey and vsc part take larger traces",
         ]),
     }
 }
@@ -239,13 +239,21 @@ fn explain_proofs(
             *place as u64,
             texts,
         )?,
-        _ => {}
+        Fault::OutOfMemory
+        | Fault::Device
+        | Fault::InputTooLong
+        | Fault::Trace(..)
+        | Fault::Schedule(..)
+        | Fault::Part(..)
+        | Fault::Reduce(..)
+        | Fault::Decode(..)
+        | Fault::Search(..) => {}
     }
     Ok(())
 }
 
-/// Adds why an engine gave up for lack of something.
-fn explain_lack(
+/// Adds why an engine gave up: it lacked something, or could not go on with what the texts spell.
+fn explain_giving_up(
     alloc: Global,
     notes: &mut Notes,
     fault: &Fault,
@@ -274,7 +282,7 @@ pub fn explain_refusal(
         Fault::Trace(cause, line) => explain_trace(alloc, notes, *cause, *line as u64, texts),
         Fault::Schedule(cause, line) => explain_schedule(notes, *cause, *line as u64, texts),
         Fault::Part(cause, line) => explain_part(alloc, notes, *cause, *line as u64, texts),
-        _ => explain_lack(alloc, notes, fault, texts)?,
+        _ => explain_giving_up(alloc, notes, fault, texts)?,
     }
     Ok(())
 }

@@ -59,7 +59,7 @@ fn read_open<F: Read>(file: &mut F, buffer: &mut [u8]) -> Result<usize, DeviceFa
             Err(_) => {}
         }
     }
-    Err(DeviceFailure::without_word(DeviceCall::Read))
+    Err(DeviceFailure::without_code(DeviceCall::Read))
 }
 
 /// Reads from the file at this path, which is opened where it is not open yet.
@@ -81,7 +81,7 @@ fn read_file<R: Files<File = File>>(
     }
     match file {
         Some(file) => read_open(file, buffer),
-        None => Err(DeviceFailure::without_word(DeviceCall::Open)),
+        None => Err(DeviceFailure::without_code(DeviceCall::Open)),
     }
 }
 

@@ -13,7 +13,8 @@ pub struct HeldNumbers {
 }
 
 impl HeldNumbers {
-    /// Takes the three lowest numbers that are free. If no file can be opened, there is none that would get such a number.
+    /// Takes the three lowest numbers that are free. If the root folder cannot be opened, the next file may still get the number of a
+    /// stream that is closed.
     pub fn take<R: Files<File = File>>(rt: &R) -> HeldNumbers {
         HeldNumbers {
             input: File::open(rt, "/").ok(),

@@ -39,12 +39,12 @@ fn write_some<W: Write>(stream: &mut W, bytes: &[u8]) -> Result<usize, DeviceFai
     for _ in 0..u64::MAX {
         match stream.write(bytes) {
             Ok(count) if count > 0 || bytes.is_empty() => return Ok(count),
-            Ok(_) => return Err(DeviceFailure::without_word(DeviceCall::Write)),
+            Ok(_) => return Err(DeviceFailure::without_code(DeviceCall::Write)),
             Err(error) if error.kind() == ErrorKind::Interrupted => {}
             Err(error) => return Err(DeviceFailure::of(DeviceCall::Write, &error)),
         }
     }
-    Err(DeviceFailure::without_word(DeviceCall::Write))
+    Err(DeviceFailure::without_code(DeviceCall::Write))
 }
 
 impl<W: Write> Sink for StreamSink<W> {
