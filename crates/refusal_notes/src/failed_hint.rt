@@ -23,8 +23,12 @@ enum HintWorth {
 
 /// Adds the literal as it stands in a text.
 fn add_number(words: &mut GrowingText, literal: Lit) {
-    let sign: &[u8] = if literal.is_positive() { b" " } else { b" -" };
-    words.add(&[sign, decimal(literal.variable() as u64).as_slice()]);
+    if literal.is_positive() {
+        words.add(&[b" "]);
+    } else {
+        words.add(&[b" -"]);
+    }
+    words.add(&[decimal(literal.variable() as u64).as_slice()]);
 }
 
 /// Adds the literals as they stand in a text.
