@@ -32,10 +32,14 @@ def peak_of(command, out):
     ptrace.restype = ctypes.c_long
     child = os.fork()
     if child == 0:
-        os.dup2(out, 1)
-        os.dup2(out, 2)
-        ptrace(traceme, 0, None, None)
-        os.execv(command[0], command)
+        # A fault must end the child here, and not in the rest of this program.
+        try:
+            os.dup2(out, 1)
+            os.dup2(out, 2)
+            ptrace(traceme, 0, None, None)
+            os.execv(command[0], command)
+        finally:
+            os._exit(127)
     peak = None
     _, status = os.waitpid(child, 0)
     if os.WIFSTOPPED(status):

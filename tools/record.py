@@ -48,8 +48,8 @@ def tracked(root):
 
 
 def untracked(root):
-    """The paths of the files of the crates that git neither tracks nor ignores."""
-    return (listed(root, "--others", "--exclude-standard", "--", "crates") or []) if listed(root) else []
+    """The paths of the files that git neither tracks nor ignores."""
+    return (listed(root, "--others", "--exclude-standard") or []) if listed(root) else []
 
 
 def kit_logic():
