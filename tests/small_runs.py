@@ -15,9 +15,9 @@ NO_THREAD = (2, b"refused: search 3 NoThread\n")
 DEVICE = (4, b"refused: device\n")
 
 # What each file that a command writes has before a run, and what stands for their paths in a command, in the order in which these files are
-# emptied and written: a certificate, the names of a core, and its part.
+# emptied and written: a certificate, the names of a core, and its part; and a picture, which is written after the report.
 EARLIER = b"what stood here before\n"
-WRITTEN = ("CERT", "NAMES", "PART")
+WRITTEN = ("CERT", "NAMES", "PART", "PICTURE")
 
 # What stands for the path of a text in a command; the texts that are not named so come at its end.
 TEXT = "TEXT"
