@@ -11,10 +11,16 @@ use std::marker::Model;
 
 /// A tree whose nodes split on a variable or are leaves. It is at most 20 splits deep and has at most 1,024 leaves. In the
 /// left tree of a split its variable is true, in the right tree false.
-#[derive(Drop)]
 pub struct Tree {
     /// In preorder.
     nodes: Vec<Node>,
+}
+
+/// Drops the nodes, in one call at each exit of a function that owns a tree.
+impl Drop for Tree {
+    fn drop(self) {
+        let Tree { nodes: _nodes } = self;
+    }
 }
 
 impl Model for Tree {

@@ -7,9 +7,15 @@ use std::alloc::{AllocError, Global};
 use std::marker::Model;
 
 /// A truth value for each variable: those of 1, 2 and so on, and false past its end.
-#[derive(Drop)]
 pub struct Assignment {
     values: Vec<bool>,
+}
+
+/// Drops the values, in one call at each exit of a function that owns an assignment.
+impl Drop for Assignment {
+    fn drop(self) {
+        let Assignment { values: _values } = self;
+    }
 }
 
 impl Model for Assignment {

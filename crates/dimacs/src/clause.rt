@@ -11,9 +11,17 @@ use std::marker::Model;
 const INLINE: usize = 4;
 
 /// A list of literals, of which a true one makes it true.
-#[derive(Drop)]
 pub struct Clause {
     literals: SmallVec<Lit, INLINE>,
+}
+
+/// Drops the literals, in one call at each exit of a function that owns a clause.
+impl Drop for Clause {
+    fn drop(self) {
+        let Clause {
+            literals: _literals,
+        } = self;
+    }
 }
 
 impl Model for Clause {

@@ -15,9 +15,17 @@ pub const MAX_CUBE_LITERALS: usize = 20;
 
 /// Literals that are assumed together: those of the splits from the root of a tree to a leaf. They stand inside the value, so a cube needs
 /// no memory of its own.
-#[derive(Drop)]
 pub struct Cube {
     literals: SmallVec<Lit, MAX_CUBE_LITERALS>,
+}
+
+/// Drops the literals, in one call at each exit of a function that owns a cube.
+impl Drop for Cube {
+    fn drop(self) {
+        let Cube {
+            literals: _literals,
+        } = self;
+    }
 }
 
 impl Model for Cube {

@@ -9,7 +9,6 @@ use dimacs::Clause;
 use std::marker::Model;
 
 /// A step of a derivation.
-#[derive(Drop)]
 pub enum Step {
     /// Adds a clause under an id. The hints say which clauses justify it, in the order of their use. After the negative of
     /// an id stand those for the clause of that id.
@@ -25,10 +24,33 @@ pub enum Step {
     },
 }
 
+/// Drops the clause and hints, or the ids, in one call at each exit of a function that owns a step.
+impl Drop for Step {
+    fn drop(self) {
+        match self {
+            Step::Addition {
+                id: _,
+                literals: _literals,
+                hints: _hints,
+            } => {}
+            Step::Deletion {
+                first: _,
+                ids: _ids,
+            } => {}
+        }
+    }
+}
+
 /// A list of steps.
-#[derive(Drop)]
 pub struct Derivation {
     steps: Vec<Step>,
+}
+
+/// Drops the steps, in one call at each exit of a function that owns a derivation.
+impl Drop for Derivation {
+    fn drop(self) {
+        let Derivation { steps: _steps } = self;
+    }
 }
 
 impl Model for Derivation {

@@ -16,18 +16,34 @@ use std::marker::Model;
 const FEW: usize = 4;
 
 /// Numbers, in 32 bits each if all of them fit. A few of those stand in the value itself.
-#[derive(Drop)]
 pub enum NumberList {
     Few(ArrayVec<i32, FEW>),
     Short(Vec<i32>),
     Long(Vec<i64>),
 }
 
+/// Drops the numbers, in one call at each exit of a function that owns a list of them.
+impl Drop for NumberList {
+    fn drop(self) {
+        match self {
+            NumberList::Few(_few) => {}
+            NumberList::Short(_short) => {}
+            NumberList::Long(_long) => {}
+        }
+    }
+}
+
 /// The hints of an addition, in the order of their use: ids of clauses, and the negatives of ids, each of which begins a
 /// group.
-#[derive(Drop)]
 pub struct Hints {
     numbers: NumberList,
+}
+
+/// Drops the numbers, in one call at each exit of a function that owns hints.
+impl Drop for Hints {
+    fn drop(self) {
+        let Hints { numbers: _numbers } = self;
+    }
 }
 
 impl Model for Hints {

@@ -10,9 +10,15 @@ use std::marker::Model;
 const INLINE: usize = 3;
 
 /// A list of ids of clauses.
-#[derive(Drop)]
 pub struct Ids {
     ids: SmallVec<u64, INLINE>,
+}
+
+/// Drops the ids, in one call at each exit of a function that owns a list of them.
+impl Drop for Ids {
+    fn drop(self) {
+        let Ids { ids: _ids } = self;
+    }
 }
 
 impl Model for Ids {

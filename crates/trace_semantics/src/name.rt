@@ -13,9 +13,15 @@ use std::marker::Model;
 const INLINE: usize = 16;
 
 /// A name, as its bytes. Names of processes and names of locations are apart from one another.
-#[derive(Drop)]
 pub struct Name {
     bytes: SmallVec<u8, INLINE>,
+}
+
+/// Drops the bytes, in one call at each exit of a function that owns a name.
+impl Drop for Name {
+    fn drop(self) {
+        let Name { bytes: _bytes } = self;
+    }
 }
 
 impl Model for Name {

@@ -3,14 +3,22 @@
 use crate::name::Name;
 
 /// The name of an operation: its process, and its place there, counted from 1.
-#[derive(Drop)]
 pub struct OpName {
     pub process: Name,
     pub place: u16,
 }
 
+/// Drops the process's name, in one call at each exit of a function that owns the name of an operation.
+impl Drop for OpName {
+    fn drop(self) {
+        let OpName {
+            process: _process,
+            place: _,
+        } = self;
+    }
+}
+
 /// What a trace says of where a reading operation has its value from.
-#[derive(Drop)]
 pub enum Origin {
     /// Nothing is said.
     Any,
@@ -20,8 +28,18 @@ pub enum Origin {
     Operation(OpName),
 }
 
+/// Drops the operation's name, in one call at each exit of a function that owns an origin.
+impl Drop for Origin {
+    fn drop(self) {
+        match self {
+            Origin::Any => {}
+            Origin::Initial => {}
+            Origin::Operation(_operation) => {}
+        }
+    }
+}
+
 /// An operation. Each is one point of a schedule.
-#[derive(Drop)]
 pub enum Op {
     /// Reads this value at the location.
     Read {
@@ -41,6 +59,29 @@ pub enum Op {
         left: u64,
         origin: Origin,
     },
+}
+
+/// Drops the names, in one call at each exit of a function that owns an operation.
+impl Drop for Op {
+    fn drop(self) {
+        match self {
+            Op::Read {
+                location: _location,
+                value: _,
+                origin: _origin,
+            } => {}
+            Op::Write {
+                location: _location,
+                value: _,
+            } => {}
+            Op::Update {
+                location: _location,
+                read: _,
+                left: _,
+                origin: _origin,
+            } => {}
+        }
+    }
 }
 
 impl Op {

@@ -5,9 +5,15 @@ use crate::operation::{Op, OpName};
 use std::marker::Model;
 
 /// The operations of a process, in program order.
-#[derive(Drop)]
 pub struct Operations {
     ops: Vec<Op>,
+}
+
+/// Drops the operations, in one call at each exit of a function that owns a list of them.
+impl Drop for Operations {
+    fn drop(self) {
+        let Operations { ops: _ops } = self;
+    }
 }
 
 impl Model for Operations {
@@ -38,19 +44,39 @@ impl Operations {
 }
 
 /// A process: its name and its operations in program order.
-#[derive(Drop)]
 pub struct Process {
     pub name: Name,
     pub operations: Operations,
 }
 
+/// Drops the name and the operations, in one call at each exit of a function that owns a process.
+impl Drop for Process {
+    fn drop(self) {
+        let Process {
+            name: _name,
+            operations: _operations,
+        } = self;
+    }
+}
+
 /// What each process read and wrote, what memory held before and after, and which orders are known.
-#[derive(Drop)]
 pub struct Trace {
     processes: Vec<Process>,
     initial: Vec<(Name, u64)>,
     final_values: Vec<(Name, u64)>,
     before: Vec<(OpName, OpName)>,
+}
+
+/// Drops the lists, in one call at each exit of a function that owns a trace.
+impl Drop for Trace {
+    fn drop(self) {
+        let Trace {
+            processes: _processes,
+            initial: _initial,
+            final_values: _final_values,
+            before: _before,
+        } = self;
+    }
 }
 
 impl Model for Trace {
