@@ -12,7 +12,6 @@ use std::alloc::{AllocError, Global};
 /// A trail, and the order that the hints describe. When a literal of the order becomes true, all that transitivity implies becomes true
 /// with it, so that its clauses never come into conflict and are never visited. (To close the order only when the literal is propagated
 /// took up to twice the time in a prototype.)
-#[derive(Drop)]
 pub struct OrderedTrail<'a> {
     /// The trail. Literals are made true by `assign` alone.
     pub trail: Trail,
@@ -22,6 +21,19 @@ pub struct OrderedTrail<'a> {
     pub reads_from: Option<&'a ReadsFromTable>,
     /// Reads-from candidates.
     pub candidates: Candidates,
+}
+
+/// Drops the tables, in one call at each exit of a function that owns an ordered trail.
+impl Drop for OrderedTrail<'_> {
+    fn drop(self) {
+        let OrderedTrail {
+            trail: _trail,
+            order: _order,
+            ids: _ids,
+            reads_from: _,
+            candidates: _candidates,
+        } = self;
+    }
 }
 
 impl<'a> OrderedTrail<'a> {

@@ -25,13 +25,25 @@ pub enum Piece<'a> {
 }
 
 /// The pieces of a trace's clause list. All families but transitivity are stored.
-#[derive(Drop)]
 pub(crate) struct Pieces {
     layout: Layout,
     program_order: Vec<Clause>,
     reads: Vec<Clause>,
     final_values: Vec<Clause>,
     before: Vec<Clause>,
+}
+
+/// Drops the layout and the clauses, in one call at each exit of a function that owns pieces.
+impl Drop for Pieces {
+    fn drop(self) {
+        let Pieces {
+            layout: _layout,
+            program_order: _program_order,
+            reads: _reads,
+            final_values: _final_values,
+            before: _before,
+        } = self;
+    }
 }
 
 impl Model for Pieces {

@@ -17,12 +17,23 @@ use var_layout::layout::Layout;
 
 /// The clause list of a reduced trace. The clauses of transitivity, which are almost all, are made when they are asked for;
 /// the others are stored.
-#[derive(Drop)]
 pub struct TraceClauses {
     pieces: Pieces,
     starts: Vec<u32>,
     near: Landmarks,
     triples: TripleTable,
+}
+
+/// Drops the tables, in one call at each exit of a function that owns trace clauses.
+impl Drop for TraceClauses {
+    fn drop(self) {
+        let TraceClauses {
+            pieces: _pieces,
+            starts: _starts,
+            near: _near,
+            triples: _triples,
+        } = self;
+    }
 }
 
 impl Model for TraceClauses {

@@ -45,7 +45,6 @@ pub struct LastWriter {
 /// any clauses are; the count of sources cites them by their numbers.
 ///
 /// Untrusted too: an error here can only slow the search down (see `EncodingHints`).
-#[derive(Drop)]
 pub struct ReadsFromTable {
     elements: u32,
     /// The last variable of the order.
@@ -63,6 +62,22 @@ pub struct ReadsFromTable {
     variables: Vec<u32>,
     /// The last writers, those of one location one after the other.
     last_writers: Vec<LastWriter>,
+}
+
+/// Drops the tables, in one call at each exit of a function that owns a table.
+impl Drop for ReadsFromTable {
+    fn drop(self) {
+        let ReadsFromTable {
+            elements: _,
+            base: _,
+            writers: _writers,
+            choices: _choices,
+            reading: _reading,
+            writing: _writing,
+            variables: _variables,
+            last_writers: _last_writers,
+        } = self;
+    }
 }
 
 impl ReadsFromTable {

@@ -17,7 +17,6 @@ pub enum Side {
 
 /// Operations, each with a clause which says that one of some others stands on this side of it, or that its own literal is true. When one
 /// is eliminated, what stands on that side of it takes its place.
-#[derive(Drop)]
 pub struct Elimination {
     order: OrderClauses,
     cycles: TripleIds,
@@ -30,6 +29,22 @@ pub struct Elimination {
     /// For each operation 1 at those whose own literals its clause has.
     owners: Grid<u8>,
     clauses: Vec<u32>,
+}
+
+/// Drops the tables, in one call at each exit of a function that owns an elimination.
+impl Drop for Elimination {
+    fn drop(self) {
+        let Elimination {
+            order: _,
+            cycles: _cycles,
+            side: _,
+            operations: _operations,
+            others: _others,
+            own: _own,
+            owners: _owners,
+            clauses: _clauses,
+        } = self;
+    }
 }
 
 impl Elimination {

@@ -10,7 +10,6 @@ use std::alloc::{AllocError, Global};
 
 /// The counts of the readers 1 to i: for sources 1 to j and a count k the literal "at least k of them have one of these sources", and
 /// clauses on it. Some of these literals are constants: each reader has a source, and no two have the same.
-#[derive(Drop)]
 pub struct CountRow {
     reader: u32,
     sources: u32,
@@ -22,6 +21,20 @@ pub struct CountRow {
     without_last: Grid<ShortClause>,
     /// If at least k of them have one of the sources 1 to j, then k - 1 have one of those before j.
     one_fewer: Grid<ShortClause>,
+}
+
+/// Drops the tables, in one call at each exit of a function that owns a row.
+impl Drop for CountRow {
+    fn drop(self) {
+        let CountRow {
+            reader: _,
+            sources: _,
+            served: _served,
+            counts: _counts,
+            without_last: _without_last,
+            one_fewer: _one_fewer,
+        } = self;
+    }
 }
 
 /// The place in a definition of the clause "the literal is true if the count of the row before is reached". The places follow the order in

@@ -5,11 +5,21 @@ use std::alloc::Global;
 use verdict_notes::{KeptOp, Sentence};
 
 /// Operations by their numbers, and sentences on them.
-#[derive(Drop)]
 pub struct Story<'t> {
     alloc: Global,
     ops: Vec<KeptOp<'t>>,
     notes: Notes,
+}
+
+/// Drops the tables, in one call at each exit of a function that owns a story.
+impl Drop for Story<'_> {
+    fn drop(self) {
+        let Story {
+            alloc: _,
+            ops: _ops,
+            notes: _notes,
+        } = self;
+    }
 }
 
 /// A phrase of a sentence.

@@ -32,13 +32,25 @@ pub enum StepEnd {
 }
 
 /// What is known and what was said of it, within one step of a derivation.
-#[derive(Drop)]
 pub struct Teller<'t> {
     alloc: Global,
     pub clauses: &'t TraceClauses,
     pub story: Story<'t>,
     facts: Facts,
     said: Vec<(usize, usize)>,
+}
+
+/// Drops the tables, in one call at each exit of a function that owns a teller.
+impl Drop for Teller<'_> {
+    fn drop(self) {
+        let Teller {
+            alloc: _,
+            clauses: _,
+            story: _story,
+            facts: _facts,
+            said: _said,
+        } = self;
+    }
 }
 
 impl<'t> Teller<'t> {

@@ -11,10 +11,19 @@ use std::alloc::{AllocError, Global};
 
 /// How often each literal stands in the clauses that became active after the formula's own, and in those that are active no more.
 /// What is the same as in the formula has no entry, so a derivation costs what it touches itself.
-#[derive(Drop)]
 pub struct CountChanges {
     more: LiteralCounts,
     less: LiteralCounts,
+}
+
+/// Drops the counts, in one call at each exit of a function that owns changes.
+impl Drop for CountChanges {
+    fn drop(self) {
+        let CountChanges {
+            more: _more,
+            less: _less,
+        } = self;
+    }
 }
 
 impl CountChanges {

@@ -13,10 +13,19 @@ use dimacs::{Clause, ClauseList, Lit};
 use std::alloc::{AllocError, Global};
 
 /// The active clauses and, once a count was asked for, by what the counts of their literals differ from the formula's.
-#[derive(Drop)]
 pub struct CountedClauses<'a> {
     pub clauses: ActiveClauses<'a>,
     changes: Option<CountChanges>,
+}
+
+/// Drops the tables, in one call at each exit of a function that owns counted clauses.
+impl Drop for CountedClauses<'_> {
+    fn drop(self) {
+        let CountedClauses {
+            clauses: _clauses,
+            changes: _changes,
+        } = self;
+    }
 }
 
 /// Counts a clause that becomes active, if clauses are counted.

@@ -53,7 +53,6 @@ pub struct NumberedPair {
 }
 
 /// A trace whose processes, locations and operations have numbers, counted from 0.
-#[derive(Drop)]
 pub struct NumberedLog {
     operations: Vec<Operation>,
     /// For each process the number of its first operation, and how many there are in all.
@@ -63,6 +62,19 @@ pub struct NumberedLog {
     /// For each location its value in the end, if it is known.
     last: Vec<Option<u64>>,
     pairs: Vec<NumberedPair>,
+}
+
+/// Drops the tables, in one call at each exit of a function that owns a log.
+impl Drop for NumberedLog {
+    fn drop(self) {
+        let NumberedLog {
+            operations: _operations,
+            starts: _starts,
+            initial: _initial,
+            last: _last,
+            pairs: _pairs,
+        } = self;
+    }
 }
 
 impl NumberedLog {

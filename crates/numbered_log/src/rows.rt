@@ -21,7 +21,6 @@ const MAX_CHANGES: usize = 1 << 22;
 ///
 /// Since a process is a chain, these rows say of each two operations whether one stands before the other, in as many entries as there are
 /// operations times processes. A table of all pairs of operations would grow with the square of the trace.
-#[derive(Drop)]
 pub struct Rows {
     width: u32,
     /// The place after the last where nothing stands after the operation.
@@ -40,6 +39,25 @@ pub struct Rows {
     first: Bound,
     /// The second operation.
     second: Bound,
+}
+
+/// Drops the tables, in one call at each exit of a function that owns rows.
+impl Drop for Rows {
+    fn drop(self) {
+        let Rows {
+            width: _,
+            after: _after,
+            before: _before,
+            changes: _changes,
+            keeps_changes: _,
+            floors: _floors,
+            floor_count: _,
+            ceilings: _ceilings,
+            ceiling_count: _,
+            first: _,
+            second: _,
+        } = self;
+    }
 }
 
 /// A place of a process.

@@ -31,7 +31,6 @@ pub(crate) struct OrderArrow {
 }
 
 /// The part of the order of the boxes that is found, and what contradicts it.
-#[derive(Drop)]
 pub(crate) struct FoundOrder {
     pub relation: Relation,
     pub arrows: Vec<OrderArrow>,
@@ -41,6 +40,19 @@ pub(crate) struct FoundOrder {
     pub sources: Vec<Option<usize>>,
     /// Whether the order has a cycle, which is marked.
     pub is_contradicted: bool,
+}
+
+/// Drops the tables, in one call at each exit of a function that owns an order.
+impl Drop for FoundOrder {
+    fn drop(self) {
+        let FoundOrder {
+            relation: _relation,
+            arrows: _arrows,
+            lacking: _lacking,
+            sources: _sources,
+            is_contradicted: _,
+        } = self;
+    }
 }
 
 impl FoundOrder {

@@ -18,13 +18,24 @@ struct End {
 }
 
 /// The additions of a derivation, apart from the search, so that nothing but `add` makes them more. Contracts see their number.
-#[derive(Drop)]
 pub struct ProofLog {
     /// The number of the first addition.
     first: u32,
     literals: Vec<u32>,
     hints: Vec<u32>,
     ends: Vec<End>,
+}
+
+/// Drops the tables, in one call at each exit of a function that owns a log.
+impl Drop for ProofLog {
+    fn drop(self) {
+        let ProofLog {
+            first: _,
+            literals: _literals,
+            hints: _hints,
+            ends: _ends,
+        } = self;
+    }
 }
 
 impl Model for ProofLog {

@@ -21,11 +21,21 @@ use trace_semantics::trace::Trace;
 const MAX_KEPT: usize = 160;
 
 /// A trace without its repeated local reads, and the places of these. The whole trace is seen by clauses alone.
-#[derive(Drop)]
 pub struct Reduced {
     whole: Snapshot<Trace>,
     kept: Trace,
     bounds: Vec<KeptPlaces>,
+}
+
+/// Drops the trace and the bounds, in one call at each exit of a function that owns a reduced trace.
+impl Drop for Reduced {
+    fn drop(self) {
+        let Reduced {
+            whole: _whole,
+            kept: _kept,
+            bounds: _bounds,
+        } = self;
+    }
 }
 
 impl Model for Reduced {

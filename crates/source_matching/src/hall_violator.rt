@@ -7,12 +7,22 @@ use std::alloc::{AllocError, Global};
 
 /// A Hall violator (Hall, "On representatives of subsets", 1935): some readers, and their possible sources, of which there is one fewer.
 /// Both are counted from 1, as the counts of the derivation are.
-#[derive(Drop)]
 pub struct HallViolator {
     readers: Vec<u32>,
     sources: u32,
     /// For each reader and source the number of the choice, plus one, or 0.
     choices: Grid<u32>,
+}
+
+/// Drops the tables, in one call at each exit of a function that owns a violator.
+impl Drop for HallViolator {
+    fn drop(self) {
+        let HallViolator {
+            readers: _readers,
+            sources: _,
+            choices: _choices,
+        } = self;
+    }
 }
 
 impl HallViolator {

@@ -7,7 +7,6 @@ use order_sets::tables::{at, put, size};
 use std::alloc::{AllocError, Global};
 
 /// A matching of maximum size: readers with sources of their own.
-#[derive(Drop)]
 pub struct Matching {
     possible: SourceSets,
     readers: u32,
@@ -25,6 +24,23 @@ pub struct Matching {
     reached: Vec<u32>,
     /// The unmatched readers.
     left_over: Vec<u32>,
+}
+
+/// Drops the tables, in one call at each exit of a function that owns a matching.
+impl Drop for Matching {
+    fn drop(self) {
+        let Matching {
+            possible: _possible,
+            readers: _,
+            source_of: _source_of,
+            reader_of: _reader_of,
+            free: _free,
+            unseen: _unseen,
+            came_from: _came_from,
+            reached: _reached,
+            left_over: _left_over,
+        } = self;
+    }
 }
 
 impl Matching {

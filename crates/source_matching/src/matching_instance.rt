@@ -68,13 +68,24 @@ impl ReadsFromEdge {
 }
 
 /// The readers that need a source of their own, and their edges.
-#[derive(Drop)]
 pub struct MatchingInstance {
     readers: Vec<Reader>,
     choices: Vec<ReadsFromEdge>,
     /// The place where the choices of each reader begin.
     begins: Vec<u32>,
     sources: u32,
+}
+
+/// Drops the tables, in one call at each exit of a function that owns an instance.
+impl Drop for MatchingInstance {
+    fn drop(self) {
+        let MatchingInstance {
+            readers: _readers,
+            choices: _choices,
+            begins: _begins,
+            sources: _,
+        } = self;
+    }
 }
 
 impl MatchingInstance {

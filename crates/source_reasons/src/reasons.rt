@@ -55,7 +55,6 @@ struct Ends {
 }
 
 /// The pairs that were added to program order, and the lemmas of some.
-#[derive(Drop)]
 pub struct Reasons {
     edges: Vec<Edge>,
     /// For each operation its last pair, or `NOBODY`.
@@ -63,6 +62,19 @@ pub struct Reasons {
     operations: Vec<u32>,
     decisions: Vec<u32>,
     ends: Vec<Ends>,
+}
+
+/// Drops the tables, in one call at each exit of a function that owns reasons.
+impl Drop for Reasons {
+    fn drop(self) {
+        let Reasons {
+            edges: _edges,
+            heads: _heads,
+            operations: _operations,
+            decisions: _decisions,
+            ends: _ends,
+        } = self;
+    }
 }
 
 impl Reasons {

@@ -50,7 +50,6 @@ struct Dropped {
 
 /// For each reader its possible sources. Readers have numbers: an operation its own, and the final value of a location the location's
 /// number after those of all operations.
-#[derive(Drop)]
 pub struct Sources {
     sources: Vec<PossibleSource>,
     /// For each reader where its sources begin, and where all end.
@@ -60,6 +59,19 @@ pub struct Sources {
     living: Vec<u32>,
     dropped: Vec<Dropped>,
     keeps_drops: bool,
+}
+
+/// Drops the tables, in one call at each exit of a function that owns sources.
+impl Drop for Sources {
+    fn drop(self) {
+        let Sources {
+            sources: _sources,
+            begins: _begins,
+            living: _living,
+            dropped: _dropped,
+            keeps_drops: _,
+        } = self;
+    }
 }
 
 /// The source in place of one that is not there.

@@ -15,10 +15,19 @@ use trace_semantics::operation::Op;
 use trace_semantics::trace::Process;
 
 /// What remains of a process: the old places, and the operations.
-#[derive(Drop)]
 pub struct Left {
     places: Vec<u16>,
     ops: Vec<Op>,
+}
+
+/// Drops the places and the operations, in one call at each exit of a function that owns what is left.
+impl Drop for Left {
+    fn drop(self) {
+        let Left {
+            places: _places,
+            ops: _ops,
+        } = self;
+    }
 }
 
 impl Model for Left {

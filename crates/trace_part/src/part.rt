@@ -25,10 +25,19 @@ use trace_semantics::operation::OpName;
 use trace_semantics::trace::Trace;
 
 /// A part of a trace, and the places of its operations in the whole.
-#[derive(Drop)]
 pub struct TracePart {
     trace: Trace,
     left: Vec<Left>,
+}
+
+/// Drops the trace and what is left, in one call at each exit of a function that owns a part.
+impl Drop for TracePart {
+    fn drop(self) {
+        let TracePart {
+            trace: _trace,
+            left: _left,
+        } = self;
+    }
 }
 
 impl Model for TracePart {

@@ -6,10 +6,21 @@ use trace_semantics::op_set::OpSet;
 use trace_semantics::trace::Trace;
 
 /// A trace, an order that is known of its operations, the operations that are selected, and the writers of each location.
-#[derive(Drop)]
 pub struct Selection<'a> {
     pub trace: &'a Trace,
     pub order: ForcedOrder,
     pub set: OpSet<'a>,
     pub writers: WriterTable<'a>,
+}
+
+/// Drops the tables, in one call at each exit of a function that owns a selection.
+impl Drop for Selection<'_> {
+    fn drop(self) {
+        let Selection {
+            trace: _,
+            order: _order,
+            set: _set,
+            writers: _writers,
+        } = self;
+    }
 }

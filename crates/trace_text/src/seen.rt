@@ -19,7 +19,6 @@ use trace_semantics::name_table::NameTable;
 
 /// What must be known of the earlier lines to judge the next one: the names that they name, and the number of each kind. The tables are
 /// used as sets: the number under a name is not read.
-#[derive(Drop)]
 pub struct Seen<'a> {
     initial: NameTable<'a>,
     final_values: NameTable<'a>,
@@ -29,6 +28,22 @@ pub struct Seen<'a> {
     operation_count: usize,
     before_count: usize,
     location_count: usize,
+}
+
+/// Drops the tables, in one call at each exit of a function that owns them.
+impl Drop for Seen<'_> {
+    fn drop(self) {
+        let Seen {
+            initial: _initial,
+            final_values: _final_values,
+            processes: _processes,
+            locations: _locations,
+            process_count: _,
+            operation_count: _,
+            before_count: _,
+            location_count: _,
+        } = self;
+    }
 }
 
 fn has_name<'a>(table: &NameTable<'a>, name: &'a [u8]) -> bool

@@ -40,13 +40,25 @@ pub enum ReadsFromOwner {
 }
 
 /// The variables of a reduced trace, in tables. The trace itself is seen by clauses alone.
-#[derive(Drop)]
 pub struct Layout {
     trace: Snapshot<Trace>,
     operations: Vec<OpVariables>,
     final_values: Vec<FinalTable>,
     before: Vec<(usize, usize)>,
     count: u32,
+}
+
+/// Drops the tables, in one call at each exit of a function that owns a layout.
+impl Drop for Layout {
+    fn drop(self) {
+        let Layout {
+            trace: _trace,
+            operations: _operations,
+            final_values: _final_values,
+            before: _before,
+            count: _,
+        } = self;
+    }
 }
 
 impl Model for Layout {
