@@ -87,7 +87,7 @@ pub trait TellsFailure {
     fn failure(&self) -> Option<DeviceFailure>;
 }
 
-// The sinks and sources in memory fail for no reason of the system. They stand here since a trait is implemented beside it or its type.
+// A sink or a source in memory never fails because of the system. Such an impl can stand only where its trait or its type is declared.
 
 impl TellsFailure for MemorySink {
     fn failure(&self) -> Option<DeviceFailure> {

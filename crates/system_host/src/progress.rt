@@ -49,10 +49,10 @@ impl<'a> Progress<'a> {
     fn show(&self, what: &str, ticket: u32) {
         let seconds = self.seconds();
         let settled = self.settled.load(Ordering::SeqCst);
-        let taken = self.taken.load(Ordering::SeqCst);
+        let in_work = self.taken.load(Ordering::SeqCst).saturating_sub(settled);
         let conflicts = self.conflicts.load(Ordering::SeqCst);
         let _ = eprint!(self.rt;
-            "\r{settled} of {taken} cubes settled after {seconds} s, {conflicts} conflicts, cube {ticket} {what}   \r"
+            "\r{settled} cubes settled, {in_work} in work, {seconds} s, {conflicts} conflicts, cube {ticket} {what}   \r"
         );
         // The last worker that comes here finds that all are settled, whatever the others wrote meanwhile.
         if self.settled.load(Ordering::SeqCst) == self.taken.load(Ordering::SeqCst) {

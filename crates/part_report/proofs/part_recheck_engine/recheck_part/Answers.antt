@@ -8,7 +8,7 @@ use Rattle.part_report.proofs.part_recheck_engine.recheck_part.Goals as goal
 
 pub returns : goal.returns
 returns c = said c.args.trace_text.now c.args.cert_text.items c.args.names_text.now c.in_ok-trace.trace c.in_ok-trace.ensures.trace c.in_ok-trace.ensures.spelled c.in_ok-certificate.certificate c.in_ok-certificate.ensures.spelled
-    c.in_ok-names.names c.in_ok-names.ensures.spelled c.in_ok-part.part c.in_ok-part.ensures.part c.in_ok-reduced.reduced (c.in_ok-reduced.ensures.whole ∙ c.trace-2.ensures) c.recheck_reduced.result c.recheck_reduced.ensures
+    c.in_ok-names.names c.in_ok-names.ensures.spelled c.in_ok-part.part c.in_ok-part.ensures.part c.in_ok-reduced.reduced (c.in_ok-reduced.ensures.whole ∙ c.trace.ensures) c.recheck_reduced.result c.recheck_reduced.ensures
 
 pub returns-in_err-certificate : goal.returns-in_err-certificate
 returns-in_err-certificate c =
@@ -31,4 +31,4 @@ returns-in_err-reduced c =
     let p = err_from_is_err_and c.from_residual-in_err-reduced.result c.from_residual-in_err-reduced.ensures.1 in
     rw (p.1, p.2) (unreduced c.args.trace_text.now c.args.cert_text.items c.args.names_text.now c.in_ok-trace.trace c.in_ok-trace.ensures.trace c.in_ok-trace.ensures.spelled c.in_ok-certificate.certificate c.in_ok-certificate.ensures.spelled
     c.in_ok-names.names c.in_ok-names.ensures.spelled c.in_ok-part.part c.in_ok-part.ensures.part c.in_err-reduced.field-0.0
-    (subst (λ (t : TraceValue). IsRefusal (HasReduceFault t) c.in_err-reduced.field-0.0) c.trace-2.ensures c.in_err-reduced.ensures.refused))
+    (subst (λ (t : TraceValue). IsRefusal (HasReduceFault t) c.in_err-reduced.field-0.0) c.trace.ensures c.in_err-reduced.ensures.refused))
