@@ -8,7 +8,7 @@ use crate::settling::{is_model_result, settle_job};
 use cube_jobs::{Gate, Settled};
 use cube_tree::{Tree, cubes};
 use dimacs::ClauseList;
-use solver::PreparedFormula;
+use proof_log::CubeSolver;
 use std::alloc::{AllocError, Global};
 
 /// Returns whether the last of the results is a model of the formula that makes its cube true.
@@ -29,10 +29,10 @@ fn knows_model<L: ClauseList>(formula: &L, known_before: bool, results: &[Settle
 }
 
 /// Searches the cubes of these leaves of the tree one after the other, between the two calls of the gate, as worker 0.
-pub(crate) fn search_in_turn<L: ClauseList, G: Gate>(
+pub(crate) fn search_in_turn<L: ClauseList, S: CubeSolver, G: Gate>(
     alloc: Global,
     formula: &L,
-    prepared: &PreparedFormula,
+    solver: &S,
     tree: &Tree,
     which: &[u32],
     budget: u64,
@@ -49,8 +49,8 @@ pub(crate) fn search_in_turn<L: ClauseList, G: Gate>(
         has_model = knows_model(formula, has_model, results.as_slice());
         let job = job_of(alloc, cubes.as_slice(), *leaf);
         gate.before(0, *leaf);
-        let settled = settle_job(alloc, prepared, job, budget, has_model);
-        gate.conflicts(prepared.take_conflicts());
+        let settled = settle_job(alloc, solver, job, budget, has_model);
+        gate.conflicts(solver.take_conflicts());
         results.push(settled)?;
         gate.after(0, *leaf);
     }

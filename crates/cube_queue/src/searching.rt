@@ -14,16 +14,21 @@ use cube_jobs::options::needed;
 use cube_jobs::{Gate, Options, SearchFault, Settled};
 use cube_tree::{Tree, bounded_cubes};
 use dimacs::ClauseList;
-use solver::PreparedFormula;
+use proof_log::CubeSolver;
 use std::alloc::{AllocError, Global};
 use std::sync::Wait;
 use std::thread::Threads;
 
 /// Searches the cubes of these leaves of the tree by several workers in threads of their own, no more of them than leaves.
-fn search_in_threads<R: Threads + Wait + Sync, L: ClauseList + Sync, G: Gate + Sync>(
+fn search_in_threads<
+    R: Threads + Wait + Sync,
+    L: ClauseList + Sync,
+    S: CubeSolver + Sync,
+    G: Gate + Sync,
+>(
     alloc: Global,
     rt: &R,
-    settler: &CubeSettler<L>,
+    settler: &CubeSettler<L, S>,
     tree: &Tree,
     which: &[u32],
     workers: u32,
@@ -45,7 +50,7 @@ fn search_in_threads<R: Threads + Wait + Sync, L: ClauseList + Sync, G: Gate + S
 
 /// Searches the cubes of these leaves of the tree (cube and conquer: Heule, Kullmann, Wieringa and Biere, 2011), between the two calls of
 /// the gate. There is one result for each of them, with its cube, and no other. What a result says of its cube is untrusted, and checked by
-/// the caller. What is prepared of the formula is shared by all cubes, and nothing rests on it.
+/// the caller. All cubes share the solver, and nothing rests on it.
 ///
 /// The workers search in threads of their own; a single one, or one for a single leaf, in the caller's. A worker that finds no memory
 /// in a cube leaves that cube open. After a result that is a model of the formula and makes its cube true, the cubes of higher leaves
@@ -53,11 +58,11 @@ fn search_in_threads<R: Threads + Wait + Sync, L: ClauseList + Sync, G: Gate + S
 ///
 /// A single worker fails only if memory runs out. If several are to search, it answers `NoThread` if the thread of one could not be
 /// started, and then no job was put; and `Cut` if a job or a stop ticket came back, or fewer results than jobs came.
-pub fn search<R: Threads + Wait + Sync, L: ClauseList + Sync, G: Gate + Sync>(
+pub fn search<R: Threads + Wait + Sync, L: ClauseList + Sync, S: CubeSolver + Sync, G: Gate + Sync>(
     alloc: Global,
     rt: &R,
     formula: &L,
-    prepared: &PreparedFormula,
+    solver: &S,
     tree: &Tree,
     which: &[u32],
     options: &Options,
@@ -70,12 +75,12 @@ pub fn search<R: Threads + Wait + Sync, L: ClauseList + Sync, G: Gate + Sync>(
     let workers = needed(options.workers(), which.len());
     let budget = options.budget();
     if workers < 2 {
-        let results = search_in_turn(alloc, formula, prepared, tree, which, budget, gate)?;
+        let results = search_in_turn(alloc, formula, solver, tree, which, budget, gate)?;
         return Ok(results);
     }
     let settler = CubeSettler {
         formula,
-        prepared,
+        solver,
         budget,
     };
     search_in_threads(alloc, rt, &settler, tree, which, workers, gate)

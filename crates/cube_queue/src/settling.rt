@@ -6,22 +6,22 @@ ghost use Rattle.cube_jobs.specs.Models.{IsModelResult};
 use crate::settler::Settler;
 use cube_jobs::{Job, Outcome, Settled, is_model_in};
 use dimacs::{ClauseList, Lit};
-use solver::{Answer, PreparedFormula, solve_cube};
+use proof_log::{Answer, CubeSolver};
 use std::alloc::Global;
 
-/// A formula, what is prepared of it for all cubes, and how many conflicts are worked on in a cube.
+/// A formula, a solver of its cubes, and how many conflicts are worked on in a cube.
 #[derive(Clone, Copy)]
-pub(crate) struct CubeSettler<'a, L> {
+pub(crate) struct CubeSettler<'a, L, S> {
     pub(crate) formula: &'a L,
-    pub(crate) prepared: &'a PreparedFormula<'a>,
+    pub(crate) solver: &'a S,
     pub(crate) budget: u64,
 }
 
-impl<'a, L: ClauseList> Settler for CubeSettler<'a, L> {
+impl<'a, L: ClauseList, S: CubeSolver> Settler for CubeSettler<'a, L, S> {
     ghost clauses = { λ settler. (L.formula settler.formula.now).clauses };
 
     fn settle(&self, alloc: Global, job: Job, skips: bool) -> Settled {
-        settle_job(alloc, self.prepared, job, self.budget, skips)
+        settle_job(alloc, self.solver, job, self.budget, skips)
     }
 
     fn confirms(&self, settled: &Settled) -> bool {
@@ -29,15 +29,15 @@ impl<'a, L: ClauseList> Settler for CubeSettler<'a, L> {
     }
 
     fn take_conflicts(&self) -> u64 {
-        self.prepared.take_conflicts()
+        self.solver.take_conflicts()
     }
 }
 
 /// The solver's answer for the cube. A search that finds no memory leaves it open.
-fn outcome_of(alloc: Global, prepared: &PreparedFormula, cube: &[Lit], budget: u64) -> Outcome
+fn outcome_of<S: CubeSolver>(alloc: Global, solver: &S, cube: &[Lit], budget: u64) -> Outcome
     ensures { result ≡ Skipped → ⊥ }
 {
-    match solve_cube(alloc, prepared, cube, budget) {
+    match solver.solve(alloc, cube, budget) {
         Ok(Answer::Model(assignment)) => Outcome::Model(assignment),
         Ok(Answer::Refuted(derivation)) => Outcome::Refuted(derivation),
         Ok(Answer::Open) => Outcome::Open,
@@ -46,9 +46,9 @@ fn outcome_of(alloc: Global, prepared: &PreparedFormula, cube: &[Lit], budget: u
 }
 
 /// Settles the job: its cube is searched, or skipped if a model in a lower leaf makes it unneeded.
-pub(crate) fn settle_job(
+pub(crate) fn settle_job<S: CubeSolver>(
     alloc: Global,
-    prepared: &PreparedFormula,
+    solver: &S,
     job: Job,
     budget: u64,
     skips: bool,
@@ -60,7 +60,7 @@ pub(crate) fn settle_job(
     if skips {
         return job.settle(Outcome::Skipped);
     }
-    let outcome = outcome_of(alloc, prepared, job.cube(), budget);
+    let outcome = outcome_of(alloc, solver, job.cube(), budget);
     job.settle(outcome)
 }
 

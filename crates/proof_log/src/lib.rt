@@ -5,6 +5,7 @@
 //!   addition. `search_alone` runs one by turns, and `take_turns` two; after each turn it looks for a derivation that takes no further
 //!   conflict. The search is any `Learner`, of which nothing is promised.
 //! - `Answer` is the result: a model, a derivation within the budget, or open.
+//! - `CubeSolver` is what answers the cubes of a formula, each within a budget.
 //! - `within` and `refuted_within` keep derivations that no search has made to a budget.
 //! - `codes` says how literals are written as numbers.
 //!
@@ -15,6 +16,7 @@
 mod answer;
 mod attempt;
 pub mod codes;
+mod cube_solver;
 mod learner;
 mod limit;
 mod proof_log;
@@ -22,6 +24,7 @@ mod searching;
 
 pub use answer::Answer;
 pub use attempt::{Attempt, TURN, search_alone, take_turns};
+pub use cube_solver::CubeSolver;
 pub use learner::Learner;
 pub use limit::{refuted_within, within};
 pub use proof_log::ProofLog;

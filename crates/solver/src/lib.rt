@@ -32,5 +32,5 @@ mod whole;
 
 pub use clause_database::{EncodingHints, LastWriter, ReadsFromTable, ReadsFromVariable};
 pub use prepared_formula::PreparedFormula;
-pub use proof_log::Answer;
+pub use proof_log::{Answer, CubeSolver};
 pub use solving::{solve, solve_cube};

@@ -109,9 +109,8 @@ impl<'a> PreparedFormula<'a> {
         self.conflicts.load(Ordering::SeqCst)
     }
 
-    /// Takes the number of conflicts of the searches that have ended since it was last taken: those of cubes, and that of the formula itself.
-    /// It is for reports, and nothing is promised of it.
-    pub fn take_conflicts(&self) -> u64 {
+    /// Returns how many conflicts are counted, and begins to count anew.
+    pub(crate) fn begin_count(&self) -> u64 {
         self.conflicts.swap(0, Ordering::SeqCst)
     }
 

@@ -8,7 +8,7 @@ use crate::schedule_heuristic::{begins_with_a_schedule, suits_a_schedule};
 use crate::search::Search;
 use clause_database::EncodingHints;
 use dimacs::{ClauseList, Lit};
-use proof_log::{Answer, Attempt, TURN, search_alone, take_turns};
+use proof_log::{Answer, Attempt, CubeSolver, TURN, search_alone, take_turns};
 use std::alloc::{AllocError, Global};
 
 /// Returns the largest variable of the formula and of the cube.
@@ -145,6 +145,16 @@ pub fn solve_cube(
         prepared.id_in_cube(cube.len()),
         budget,
     )
+}
+
+impl CubeSolver for PreparedFormula<'_> {
+    fn solve(&self, alloc: Global, cube: &[Lit], budget: u64) -> Result<Answer, AllocError> {
+        solve_cube(alloc, self, cube, budget)
+    }
+
+    fn take_conflicts(&self) -> u64 {
+        self.begin_count()
+    }
 }
 
 /// Looks for a model of the formula that makes all literals of the cube true, or for a derivation that there is none.

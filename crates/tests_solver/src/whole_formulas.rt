@@ -6,7 +6,7 @@ use crate::formulas::{PIGEONHOLE, STORE_BUFFERING, listed, literals_of};
 use dimacs::Formula;
 use lrat_check::derivation::Derivation;
 use lrat_check::derivation_copies::are_same;
-use solver::{Answer, EncodingHints, PreparedFormula, solve_cube};
+use solver::{Answer, CubeSolver, EncodingHints, PreparedFormula, solve_cube};
 use std::alloc::{AllocError, Global};
 
 /// Conflicts and steps enough for each of these formulas.
