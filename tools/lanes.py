@@ -4,8 +4,8 @@
 are those that docs/PROVING.md has of each crate. The crates with the longest chain of others behind them come first.
 
 A check by two processes takes two thirds of the time, and by four two fifths, but three tenths more of the processors. So a crate has one process,
-unless processors are idle. Two are for those whose chain would else take much longer than each processor's share of the work that is left, and half of
-the processors for the longest chain; all of them, if nothing else can begin.
+unless processors are idle; only the one with the longest chain has half of the processors, and all of them if nothing else can begin. With a process
+for each processor, and others beside it, that chain took no less time.
 """
 
 import os
@@ -16,8 +16,6 @@ ROOT = os.path.dirname(os.path.dirname(os.path.realpath(__file__)))
 # The most processes of a check, as of `rt ci`.
 MOST_JOBS = 4
 MEMORY_SHARE = 0.85
-# How many times a processor's share of the work a chain takes that has two processes a crate.
-LONG = 1.4
 GIGABYTE = 1_000_000_000
 
 
@@ -56,13 +54,13 @@ def in_order(tasks, costs):
     return sorted(made.values(), key=lambda it: -it.behind)
 
 
-def jobs_of(task, longest, work, idle, others, processors):
-    """How many processes a task gets: its part of the idle processors, which others wait for too, and two if its chain takes much longer than a
-    processor's share of the work. The longest chain gets half of the processors, or all if no other task waits for one."""
-    share = 2 if task.behind > LONG * work / processors else 1
+def jobs_of(task, longest, idle, others, processors):
+    """How many processes a task gets: its part of the idle processors, which others wait for too. If none has more seconds behind it, it gets half of all
+    processors, or all if no other waits for one."""
+    share = 1
     if task.behind == longest:
-        share = max(share, processors // 2) if others else processors
-    return min(MOST_JOBS, max(1, min(share, idle), idle // (1 + others)))
+        share = processors // 2 if others else processors
+    return min(MOST_JOBS, max(1, share, idle // (1 + others)))
 
 
 def run_all(tasks, processors, free):
@@ -71,14 +69,13 @@ def run_all(tasks, processors, free):
     with ThreadPoolExecutor(processors) as pool:
         while left or running:
             memory = MEMORY_SHARE * free - sum(task.memory for task, _ in running.values())
-            unended = [*left, *(task for task, _ in running.values())]
-            longest, work = max(it.behind for it in unended), sum(it.seconds for it in unended)
+            longest = max(it.behind for it in [*left, *(task for task, _ in running.values())])
             ready = [it for it in left if all(below in given for below in it.waits)]
             for at, task in enumerate(ready):
                 idle = processors - sum(jobs for _, jobs in running.values())
                 if idle > 0 and (not running or task.memory <= memory):
                     others = sum(1 for it in ready[at + 1:] if it.seconds)
-                    jobs = jobs_of(task, longest, work, idle, others, processors)
+                    jobs = jobs_of(task, longest, idle, others, processors)
                     left.remove(task)
                     running[pool.submit(task.call, given, jobs)] = task, jobs
                     memory -= task.memory
