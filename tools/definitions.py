@@ -282,10 +282,17 @@ class Crates:
                 return self.source(path).items[name]
         raise NotFound(f"{source.path} uses {name}, which is nowhere in {crate}")
 
+    def of_shown_fields(self, source, item):
+        """The types of the fields that the model of a type shows, if they are of these crates."""
+        shown = set(re.findall(r"\.(\w+)", "\n".join(item.model_lines())))
+        fields = (re.match(r"\s+(?:pub\(crate\) )?(\w+): (.*)", line) for line in item.body)
+        types = (word for field in fields if field and field[1] in shown for word in re.findall(r"\b[A-Z]\w+", field[2]))
+        return list(filter(None, (self.rust_type(source, word) for word in types)))
+
     def of_rust(self, source, item):
         """What a type, a trait or a constant speaks of."""
         lines = item.model_lines() if item.is_seen_by_its_model() else item.body
-        found = []
+        found = self.of_shown_fields(source, item) if item.is_seen_by_its_model() else []
         for line in lines:
             line = re.sub(r"//.*|#\[.*", "", line)
             clause = re.match(r"\s+(?:ghost \w+\s*[:=]|(?:ensures|requires) \w* ?)(.*)", line)

@@ -3,7 +3,8 @@ ghost use Rattle.std.specs.Prelude.{◌≡◌, [], ◌∷◌, ◌≤◌, length,
 ghost use Rattle.dimacs.specs.Literal.{is_clause, is_clause_up_to};
 
 use crate::literal::Lit;
-use smallvec::SmallVec;
+use short_lists::inline_list::InlineList;
+use short_lists::short_list::ShortList;
 use std::alloc::{AllocError, Global};
 use std::marker::Model;
 
@@ -12,7 +13,7 @@ const INLINE: usize = 4;
 
 /// A list of literals, of which a true one makes it true.
 pub struct Clause {
-    literals: SmallVec<Lit, INLINE>,
+    literals: ShortList<Lit, INLINE>,
 }
 
 /// Drops the literals, in one call at each exit of a function that owns a clause.
@@ -30,9 +31,9 @@ impl Model for Clause {
 
     ghost Value = { List ℤ };
 
-    ghost view = { λ clause. clause.literals.items };
+    ghost view = { λ clause. clause.literals };
 
-    ghost invariant = { λ clause. IsTrue (is_clause clause.literals.items) };
+    ghost invariant = { λ clause. IsTrue (is_clause clause.literals) };
 }
 
 /// Hands its caller, in proofs alone, what literals keep: none is 0. Does nothing when run.
@@ -52,40 +53,40 @@ impl Clause {
     {
         recall_literals(literals);
         Ok(Clause {
-            literals: SmallVec::from_slice(alloc, literals)?,
+            literals: ShortList::from_slice(alloc, literals)?,
         })
     }
 
     /// The clause of this literal. It needs no memory.
-    pub fn unit(alloc: Global, literal: Lit) -> Clause
+    pub fn unit(literal: Lit) -> Clause
         ensures { result ≡ literal ∷ [] }
     {
         let places = [literal; INLINE];
         recall_literals(&places);
         Clause {
-            literals: SmallVec::from_buf_and_len(alloc, places, 1),
+            literals: ShortList::of(InlineList::first_of(places, 1)),
         }
     }
 
     /// The clause of these two literals. It needs no memory.
-    pub fn binary(alloc: Global, first: Lit, second: Lit) -> Clause
+    pub fn binary(first: Lit, second: Lit) -> Clause
         ensures { result ≡ first ∷ (second ∷ []) }
     {
         let places = [first, second, second, second];
         recall_literals(&places);
         Clause {
-            literals: SmallVec::from_buf_and_len(alloc, places, 2),
+            literals: ShortList::of(InlineList::first_of(places, 2)),
         }
     }
 
     /// The clause of these three literals. It needs no memory.
-    pub fn ternary(alloc: Global, first: Lit, second: Lit, third: Lit) -> Clause
+    pub fn ternary(first: Lit, second: Lit, third: Lit) -> Clause
         ensures { result ≡ first ∷ (second ∷ (third ∷ [])) }
     {
         let places = [first, second, third, third];
         recall_literals(&places);
         Clause {
-            literals: SmallVec::from_buf_and_len(alloc, places, 3),
+            literals: ShortList::of(InlineList::first_of(places, 3)),
         }
     }
 

@@ -5,6 +5,6 @@ use Rattle.lrat_check.specs.declared.hints.NumberList.TheVariants.{Few, Short, L
 
 -- the numbers, whatever room each of them has
 abbrev pub numbers_in : NumberList → List ℤ
-numbers_in (Few few) = few.items
+numbers_in (Few few) = few
 numbers_in (Short short) = short.items
 numbers_in (Long long) = long.items

@@ -8,7 +8,7 @@ ghost use Rattle.lrat_check.specs.OtherCubes.{is_outside};
 
 use crate::lrat_number::is_hint;
 use crate::other_cubes::is_outside;
-use arrayvec::ArrayVec;
+use short_lists::inline_list::InlineList;
 use std::alloc::{AllocError, Global};
 use std::marker::Model;
 
@@ -17,7 +17,7 @@ const FEW: usize = 4;
 
 /// Numbers, in 32 bits each if all of them fit. A few of those stand in the value itself.
 pub enum NumberList {
-    Few(ArrayVec<i32, FEW>),
+    Few(InlineList<i32, FEW>),
     Short(Vec<i32>),
     Long(Vec<i64>),
 }
@@ -63,14 +63,15 @@ fn shorten(number: i64) -> Option<i32>
 }
 
 /// The numbers, if they are few and each of them fits 32 bits.
-fn few_of(numbers: &[i64]) -> Option<ArrayVec<i32, FEW>>
-    ensures { IfSome result (λ few. few.items ≡ numbers.now) }
+fn few_of(numbers: &[i64]) -> Option<InlineList<i32, FEW>>
+    ensures { IfSome result (λ few. few ≡ numbers.now) }
 {
-    let mut few = ArrayVec::new();
+    let mut few = InlineList::empty();
     for number in numbers {
-        if few.try_push(shorten(*number)?).is_err() {
+        if few.is_full() {
             return None;
         }
+        few.push(shorten(*number)?);
     }
     Some(few)
 }
@@ -213,7 +214,7 @@ impl Hints {
         ensures { IfOk result (λ hints. hints ≡ self.now) }
     {
         let numbers = match &self.numbers {
-            NumberList::Few(few) => NumberList::Few(few.clone()?),
+            NumberList::Few(few) => NumberList::Few(InlineList::copy_of(few.as_slice())),
             NumberList::Short(short) => NumberList::Short(Vec::from_slice(
                 alloc,
                 short.as_slice(),

@@ -2,7 +2,7 @@
 
 ghost use Rattle.std.specs.Prelude.{◌≡◌, ◌≤◌, length, IsOk, IfOk};
 
-use smallvec::SmallVec;
+use short_lists::short_list::ShortList;
 use std::alloc::{AllocError, Global};
 use std::marker::Model;
 
@@ -11,7 +11,7 @@ const INLINE: usize = 3;
 
 /// A list of ids of clauses.
 pub struct Ids {
-    ids: SmallVec<u64, INLINE>,
+    ids: ShortList<u64, INLINE>,
 }
 
 /// Drops the ids, in one call at each exit of a function that owns a list of them.
@@ -26,7 +26,7 @@ impl Model for Ids {
 
     ghost Value = { List ℕ };
 
-    ghost view = { λ ids. ids.ids.items };
+    ghost view = { λ ids. ids.ids };
 }
 
 impl Ids {
@@ -36,7 +36,7 @@ impl Ids {
         ensures short { length ids.now ≤ 3 → IsOk result }
     {
         Ok(Ids {
-            ids: SmallVec::from_slice(alloc, ids)?,
+            ids: ShortList::from_slice(alloc, ids)?,
         })
     }
 

@@ -1,4 +1,4 @@
-//! Tests of calls that no command reaches, and of devices that move few bytes a call or fail: lines and words, sinks and
+//! Tests of calls that no command reaches, and of devices that move few bytes a call or fail: short lists, lines and words, sinks and
 //! sources, traces and schedules, the engine that judges, and verdicts of workers that are held. `tests/examples` has what a command
 //! answers to a text.
 #![tactic(auto)]
@@ -15,6 +15,8 @@ mod expectations;
 mod failing_devices;
 #[cfg(test)]
 mod held_verdicts;
+#[cfg(test)]
+mod inline_lists;
 #[cfg(test)]
 mod lines_and_words;
 #[cfg(test)]

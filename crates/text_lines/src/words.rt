@@ -5,7 +5,7 @@ ghost use Rattle.std.specs.List.{before_first, after_first, list_any};
 ghost use Rattle.std.specs.Str.{bytes_eq};
 ghost use Rattle.text_lines.specs.Words.{words_of, is_blank};
 
-use arrayvec::ArrayVec;
+use short_lists::inline_list::InlineList;
 
 /// Returns whether the byte is a space, a tab or a carriage return.
 pub fn is_blank_byte(byte: u8) -> bool
@@ -58,10 +58,10 @@ pub fn cut_word(line: &[u8]) -> Option<(&[u8], &[u8])>
 }
 
 /// The first words of the line, at most eight of them, which is more than a line of a trace has.
-pub fn first_words(line: &[u8]) -> ArrayVec<&[u8], 8>
-    ensures { map (λ word. word.now) result.items ≡ take 8 (words_of line.now) }
+pub fn first_words(line: &[u8]) -> InlineList<&[u8], 8>
+    ensures { map (λ word. word.now) result ≡ take 8 (words_of line.now) }
 {
-    let mut words = ArrayVec::new();
+    let mut words = InlineList::empty();
     let mut rest = line;
     while !words.is_full() {
         match cut_word(rest) {

@@ -5,7 +5,7 @@ ghost use Rattle.std.specs.List.{list_all};
 ghost use Rattle.trace_semantics.specs.Names.{is_name, may_begin_name, may_be_in_name};
 
 use crate::limits::MAX_NAME;
-use smallvec::SmallVec;
+use short_lists::short_list::ShortList;
 use std::alloc::{AllocError, Global};
 use std::marker::Model;
 
@@ -14,7 +14,7 @@ const INLINE: usize = 16;
 
 /// A name, as its bytes. Names of processes and names of locations are apart from one another.
 pub struct Name {
-    bytes: SmallVec<u8, INLINE>,
+    bytes: ShortList<u8, INLINE>,
 }
 
 /// Drops the bytes, in one call at each exit of a function that owns a name.
@@ -29,7 +29,7 @@ impl Model for Name {
 
     ghost Value = { List ℕ };
 
-    ghost view = { λ name. name.bytes.items };
+    ghost view = { λ name. name.bytes };
 }
 
 impl Name {
@@ -38,7 +38,7 @@ impl Name {
         ensures { IfOk result (λ name. name ≡ bytes.now) }
     {
         Ok(Name {
-            bytes: SmallVec::from_slice(alloc, bytes)?,
+            bytes: ShortList::from_slice(alloc, bytes)?,
         })
     }
 
