@@ -285,7 +285,7 @@ class Crates:
     def of_shown_fields(self, source, item):
         """The types of the fields that the model of a type shows, if they are of these crates."""
         shown = set(re.findall(r"\.(\w+)", "\n".join(item.model_lines())))
-        fields = (re.match(r"\s+(?:pub\(crate\) )?(\w+): (.*)", line) for line in item.body)
+        fields = (re.match(r"\s+(?:pub(?:\(crate\))? )?(\w+): (.*)", line) for line in item.body)
         types = (word for field in fields if field and field[1] in shown for word in re.findall(r"\b[A-Z]\w+", field[2]))
         return list(filter(None, (self.rust_type(source, word) for word in types)))
 
