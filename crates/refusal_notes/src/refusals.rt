@@ -131,7 +131,7 @@ fn explain_reduction(notes: &mut Notes, cause: ReduceCause, left: u64) {
     match cause {
         ReduceCause::StillTooLarge => notes.note(&[
             left.as_slice(),
-            b" operations are left after reduction, 160 at most; vsc survey and vsc part take larger traces",
+            b" operations are left after reduction, 160 at most; vsc survey and vsc part take larger traces, vsc recheck --part their certificates",
         ]),
     }
 }

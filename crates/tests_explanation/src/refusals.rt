@@ -205,7 +205,7 @@ static CASES: [Case; 22] = [
         fault: Fault::Reduce(ReduceCause::StillTooLarge, 1000),
         first: b"vsc 1\n",
         second: b"",
-        notes: "note: 1000 operations are left after reduction, 160 at most; vsc survey and vsc part take larger traces\n",
+        notes: "note: 1000 operations are left after reduction, 160 at most; vsc survey and vsc part take larger traces, vsc recheck --part their certificates\n",
     },
     Case {
         fault: Fault::Search(SearchCause::NoThread),
