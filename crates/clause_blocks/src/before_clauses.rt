@@ -4,11 +4,12 @@ ghost use Rattle.std.specs.Prelude.{◌≡◌, ◌++◌, OnOk};
 ghost use Rattle.clause_blocks.specs.Blocks.{before_clauses};
 
 use dimacs::Clause;
-use std::alloc::AllocError;
+use std::alloc::{AllocError, Global};
 use var_layout::layout::Layout;
 
 /// Appends the clauses of the before pairs.
 pub(crate) fn push_before_clauses(
+    alloc: Global,
     layout: &Layout,
     clauses: &mut Vec<Clause>,
 ) -> Result<(), AllocError>
@@ -16,7 +17,7 @@ pub(crate) fn push_before_clauses(
 {
     layout.recall_limits();
     for pair in layout.before() {
-        clauses.push(Clause::unit(layout.order_lit(pair.0, pair.1)))?;
+        clauses.push(Clause::unit(alloc, layout.order_lit(pair.0, pair.1)))?;
     }
     Ok(())
 }

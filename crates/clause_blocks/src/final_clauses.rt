@@ -29,6 +29,7 @@ fn literals_of(alloc: Global, finals: &[FinalChoice]) -> Result<Vec<Lit>, AllocE
 
 /// Appends what it means that a writer is the last one of these: each other one stands before it.
 fn push_writes_last(
+    alloc: Global,
     layout: &Layout,
     writers: &[usize],
     choice: FinalChoice,
@@ -43,7 +44,7 @@ fn push_writes_last(
     for v in writers {
         if *v != choice.writer {
             let before = layout.order_lit(*v, choice.writer);
-            clauses.push(Clause::binary(unchosen, before))?;
+            clauses.push(Clause::binary(alloc, unchosen, before))?;
         }
     }
     Ok(())
@@ -69,7 +70,7 @@ fn push_finals(
     clauses.push(Clause::from_slice(alloc, literals.as_slice())?)?;
     let writers = layout.final_writers(k);
     for choice in finals {
-        push_writes_last(layout, writers, *choice, clauses)?;
+        push_writes_last(alloc, layout, writers, *choice, clauses)?;
     }
     Ok(())
 }
@@ -86,7 +87,7 @@ fn push_clauses_of_final(
 {
     layout.recall_limits();
     match layout.void_var(ReadsFromOwner::Final(k)) {
-        Some(variable) => push_void(variable, clauses),
+        Some(variable) => push_void(alloc, variable, clauses),
         None => push_finals(alloc, layout, k, clauses),
     }
 }

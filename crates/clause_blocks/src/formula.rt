@@ -46,7 +46,7 @@ fn push_piece<R: Threads + Sync>(
         Piece::TransitivityFrom(i) if workers > 1 => push_transitivity_in_threads(
             alloc, rt, layout, i, clauses,
         ),
-        Piece::TransitivityFrom(i) => push_transitivity_from(layout, i, clauses),
+        Piece::TransitivityFrom(i) => push_transitivity_from(alloc, layout, i, clauses),
     }
 }
 

@@ -21,7 +21,7 @@ pub(crate) struct TripleClauses {
 
 impl TripleClauses {
     /// The two clauses of three operations i, j and k. A clause of three literals allocates nothing.
-    fn of(layout: &Layout, i: usize, j: usize, k: usize) -> TripleClauses
+    fn of(alloc: Global, layout: &Layout, i: usize, j: usize, k: usize) -> TripleClauses
         requires rising { i < j }
         requires above { j < k }
         requires within { k < operation_count layout.now }
@@ -31,8 +31,8 @@ impl TripleClauses {
         let jk = layout.order_lit(j, k);
         let ik = layout.order_lit(i, k);
         TripleClauses {
-            first: Clause::ternary(ij.negated(), jk.negated(), ik),
-            second: Clause::ternary(ij, jk, ik.negated()),
+            first: Clause::ternary(alloc, ij.negated(), jk.negated(), ik),
+            second: Clause::ternary(alloc, ij, jk, ik.negated()),
         }
     }
 }
@@ -63,7 +63,7 @@ fn cycles_from<R: Threads + Sync>(
             |pair: usize| -> TripleClauses
                 requires { IsTrue (is_above n i pair) × (0 < n) × (n ≡ operation_count layout.now) }
                 ensures { result ≡ cycle_at n i pair }
-            { TripleClauses::of(layout, i, pair / n, pair % n) },
+            { TripleClauses::of(alloc, layout, i, pair / n, pair % n) },
         )
         .collect(rt, alloc)
 }

@@ -64,13 +64,13 @@ impl Pieces {
     {
         let layout = Layout::of(alloc, reduced)?;
         let mut program_order = Vec::new(alloc);
-        push_program_order(&layout, &mut program_order)?;
+        push_program_order(alloc, &layout, &mut program_order)?;
         let mut reads = Vec::new(alloc);
         push_read_clauses(alloc, &layout, &mut reads)?;
         let mut final_values = Vec::new(alloc);
         push_final_clauses(alloc, &layout, &mut final_values)?;
         let mut before = Vec::new(alloc);
-        push_before_clauses(&layout, &mut before)?;
+        push_before_clauses(alloc, &layout, &mut before)?;
         Ok(Pieces {
             layout,
             program_order,

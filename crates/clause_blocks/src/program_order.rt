@@ -4,11 +4,12 @@ ghost use Rattle.std.specs.Prelude.{◌≡◌, ◌++◌, OnOk};
 ghost use Rattle.clause_blocks.specs.Blocks.{program_order};
 
 use dimacs::Clause;
-use std::alloc::AllocError;
+use std::alloc::{AllocError, Global};
 use var_layout::layout::Layout;
 
 /// Appends the clauses of program order.
 pub(crate) fn push_program_order(
+    alloc: Global,
     layout: &Layout,
     clauses: &mut Vec<Clause>,
 ) -> Result<(), AllocError>
@@ -17,7 +18,7 @@ pub(crate) fn push_program_order(
     layout.recall_limits();
     for i in 0..layout.operations() {
         if layout.in_one_process(i, i + 1) {
-            clauses.push(Clause::unit(layout.order_lit(i, i + 1)))?;
+            clauses.push(Clause::unit(alloc, layout.order_lit(i, i + 1)))?;
         }
     }
     Ok(())

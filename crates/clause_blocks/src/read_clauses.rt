@@ -43,6 +43,7 @@ fn others_after(alloc: Global, layout: &Layout, r: usize) -> Result<Vec<Lit>, Al
 
 /// Appends what it means that an operation reads the initial value: it stands before each other writer of the location.
 fn push_reads_initial(
+    alloc: Global,
     after: &[Lit],
     variable: u32,
     clauses: &mut Vec<Clause>,
@@ -52,7 +53,7 @@ fn push_reads_initial(
 {
     let unchosen = Lit::positive(variable).negated();
     for literal in after {
-        clauses.push(Clause::binary(unchosen, *literal))?;
+        clauses.push(Clause::binary(alloc, unchosen, *literal))?;
     }
     Ok(())
 }
@@ -60,6 +61,7 @@ fn push_reads_initial(
 /// Appends what it means that an operation reads from a writer: the writer stands before it, and each other writer
 /// before the writer or after the operation.
 fn push_reads_writer(
+    alloc: Global,
     layout: &Layout,
     r: usize,
     after: &[Lit],
@@ -74,13 +76,13 @@ fn push_reads_writer(
 {
     layout.recall_limits();
     let unchosen = Lit::positive(variable).negated();
-    clauses.push(Clause::binary(unchosen, layout.order_lit(w, r)))?;
+    clauses.push(Clause::binary(alloc, unchosen, layout.order_lit(w, r)))?;
     let writers = layout.other_writers(r);
     for k in 0..writers.len() {
         let v = writers[k];
         if v != w {
             let before = layout.order_lit(v, w);
-            clauses.push(Clause::ternary(unchosen, before, after[k]))?;
+            clauses.push(Clause::ternary(alloc, unchosen, before, after[k]))?;
         }
     }
     Ok(())
@@ -88,6 +90,7 @@ fn push_reads_writer(
 
 /// Appends what it means that an operation reads from this candidate.
 fn push_reads_from(
+    alloc: Global,
     layout: &Layout,
     r: usize,
     after: &[Lit],
@@ -100,8 +103,10 @@ fn push_reads_from(
     ensures { OnOk result (clauses.new.items ≡ clauses.old.items ++ blocks.reads_from layout.now r choice.variable choice.candidate) }
 {
     match choice.candidate {
-        Candidate::InitialValue => push_reads_initial(after, choice.variable, clauses),
-        Candidate::Writer(w) => { push_reads_writer(layout, r, after, w, choice.variable, clauses) }
+        Candidate::InitialValue => push_reads_initial(alloc, after, choice.variable, clauses),
+        Candidate::Writer(w) => {
+            push_reads_writer(alloc, layout, r, after, w, choice.variable, clauses)
+        }
     }
 }
 
@@ -121,7 +126,7 @@ fn push_choices(
     clauses.push(Clause::from_slice(alloc, literals.as_slice())?)?;
     let after = others_after(alloc, layout, r)?;
     for choice in choices {
-        push_reads_from(layout, r, after.as_slice(), *choice, clauses)?;
+        push_reads_from(alloc, layout, r, after.as_slice(), *choice, clauses)?;
     }
     Ok(())
 }
@@ -138,7 +143,7 @@ fn push_clauses_of_read(
 {
     layout.recall_limits();
     match layout.void_var(ReadsFromOwner::Read(r)) {
-        Some(variable) => push_void(variable, clauses),
+        Some(variable) => push_void(alloc, variable, clauses),
         None => push_choices(alloc, layout, r, clauses),
     }
 }

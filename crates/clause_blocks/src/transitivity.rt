@@ -10,20 +10,27 @@ ghost use Rattle.clause_blocks.specs.Blocks.{no_cycle};
 ghost use Rattle.clause_blocks.specs.Blocks as blocks;
 
 use dimacs::{Clause, CnfWriter, Failed, Lit, Sink};
-use std::alloc::AllocError;
+use std::alloc::{AllocError, Global};
 use var_layout::layout::Layout;
 
 /// Appends the two clauses of three operations i, j and k, by the literals of their pairs.
-fn push_no_cycle(ij: Lit, jk: Lit, ik: Lit, clauses: &mut Vec<Clause>) -> Result<(), AllocError>
+fn push_no_cycle(
+    alloc: Global,
+    ij: Lit,
+    jk: Lit,
+    ik: Lit,
+    clauses: &mut Vec<Clause>,
+) -> Result<(), AllocError>
     ensures { OnOk result (clauses.new.items ≡ clauses.old.items ++ (neg_ℤ ij ∷ neg_ℤ jk ∷ ik ∷ []) ∷ (ij ∷ jk ∷ neg_ℤ ik ∷ []) ∷ []) }
 {
-    clauses.push(Clause::ternary(ij.negated(), jk.negated(), ik))?;
-    clauses.push(Clause::ternary(ij, jk, ik.negated()))?;
+    clauses.push(Clause::ternary(alloc, ij.negated(), jk.negated(), ik))?;
+    clauses.push(Clause::ternary(alloc, ij, jk, ik.negated()))?;
     Ok(())
 }
 
 /// Appends the clauses of a pair i below j and each operation above j.
 fn push_of_pair(
+    alloc: Global,
     layout: &Layout,
     i: usize,
     j: usize,
@@ -35,13 +42,20 @@ fn push_of_pair(
 {
     let ij = layout.order_lit(i, j);
     for k in j + 1..layout.operations() {
-        push_no_cycle(ij, layout.order_lit(j, k), layout.order_lit(i, k), clauses)?;
+        push_no_cycle(
+            alloc,
+            ij,
+            layout.order_lit(j, k),
+            layout.order_lit(i, k),
+            clauses,
+        )?;
     }
     Ok(())
 }
 
 /// Appends the clauses of three operations of which this one is the lowest.
 pub(crate) fn push_transitivity_from(
+    alloc: Global,
     layout: &Layout,
     i: usize,
     clauses: &mut Vec<Clause>,
@@ -54,7 +68,7 @@ pub(crate) fn push_transitivity_from(
         return Ok(());
     }
     for j in i + 1..operations {
-        push_of_pair(layout, i, j, clauses)?;
+        push_of_pair(alloc, layout, i, j, clauses)?;
     }
     Ok(())
 }

@@ -5,15 +5,19 @@ ghost use Rattle.clause_blocks.specs.Blocks as blocks;
 ghost use Rattle.clause_blocks.specs.Ranges.{FitsFormula};
 
 use dimacs::{Clause, Lit};
-use std::alloc::AllocError;
+use std::alloc::{AllocError, Global};
 
 /// Appends the two clauses of a void variable, which no assignment makes true.
-pub(crate) fn push_void(variable: u32, clauses: &mut Vec<Clause>) -> Result<(), AllocError>
+pub(crate) fn push_void(
+    alloc: Global,
+    variable: u32,
+    clauses: &mut Vec<Clause>,
+) -> Result<(), AllocError>
     requires { FitsFormula variable }
     ensures { OnOk result (clauses.new.items ≡ clauses.old.items ++ blocks.void_clauses variable) }
 {
     let chosen = Lit::positive(variable);
-    clauses.push(Clause::unit(chosen))?;
-    clauses.push(Clause::unit(chosen.negated()))?;
+    clauses.push(Clause::unit(alloc, chosen))?;
+    clauses.push(Clause::unit(alloc, chosen.negated()))?;
     Ok(())
 }

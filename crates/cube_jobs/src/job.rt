@@ -3,6 +3,7 @@ ghost use Rattle.std.specs.Prelude.{◌≡◌, ◌≤◌, length};
 
 use crate::outcome::Outcome;
 use dimacs::{Cube, Lit, MAX_CUBE_LITERALS};
+use std::alloc::Global;
 
 /// A cube to search, under a ticket: its leaf's number. It is not copied, so that each job is in one place at a time. Contracts see it as
 /// the pair of its ticket and its cube.
@@ -22,14 +23,14 @@ pub struct Settled {
 
 impl Job {
     /// The job of this cube, under this ticket. It takes no memory.
-    pub fn new(ticket: u32, cube: &[Lit]) -> Job
+    pub fn new(alloc: Global, ticket: u32, cube: &[Lit]) -> Job
         requires { length cube.now ≤ MAX_CUBE_LITERALS }
         ensures ticket { result.ticket ≡ ticket }
         ensures cube { result.cube ≡ cube.now }
     {
         Job {
             ticket,
-            cube: Cube::of(cube),
+            cube: Cube::of(alloc, cube),
         }
     }
 

@@ -47,7 +47,7 @@ pub(crate) fn search_in_turn<L: ClauseList, S: CubeSolver, G: Gate>(
     for leaf in which {
         // What the last leaf says is not looked at here: no leaf comes after it that could be skipped.
         has_model = knows_model(formula, has_model, results.as_slice());
-        let job = job_of(cubes.as_slice(), *leaf);
+        let job = job_of(alloc, cubes.as_slice(), *leaf);
         gate.before(0, *leaf);
         let settled = settle_job(alloc, solver, job, budget, has_model);
         gate.conflicts(solver.take_conflicts());

@@ -9,12 +9,12 @@ use dimacs::Cube;
 use std::alloc::{AllocError, Global};
 
 /// The job of a leaf, where these are the cubes of all leaves.
-pub(crate) fn job_of(cubes: &[Cube], leaf: u32) -> Job
+pub(crate) fn job_of(alloc: Global, cubes: &[Cube], leaf: u32) -> Job
     requires { leaf < length cubes.now }
     ensures ticket { result.ticket ≡ leaf }
     ensures cube { slice_get cubes.now leaf ≡ Some result.cube }
 {
-    Job::new(leaf, cubes[leaf as usize].as_slice())
+    Job::new(alloc, leaf, cubes[leaf as usize].as_slice())
 }
 
 /// The jobs of these leaves, in their order, where these are the cubes of all leaves.
@@ -24,7 +24,7 @@ pub(crate) fn jobs_of(alloc: Global, cubes: &[Cube], which: &[u32]) -> Result<Ve
 {
     let mut jobs = Vec::with_capacity(alloc, which.len())?;
     for leaf in which {
-        jobs.push(job_of(cubes, *leaf))?;
+        jobs.push(job_of(alloc, cubes, *leaf))?;
     }
     Ok(jobs)
 }

@@ -6,6 +6,7 @@ ghost use Rattle.cube_queue.specs.Participants.{WithStops};
 
 use cube_jobs::Job;
 use job_board::{Board, DealerSeat};
+use std::alloc::Global;
 use std::sync::Wait;
 
 /// Puts these jobs, in their order, and says whether all were put. It ends at the first that comes back.
@@ -28,7 +29,12 @@ fn put_jobs<R: Wait>(rt: &R, board: &Board, seat: &mut DealerSeat, jobs: Vec<Job
 }
 
 /// Puts one stop ticket for each worker, and says whether all were put. It ends at the first that comes back. It takes no memory.
-pub(crate) fn put_stops<R: Wait>(rt: &R, board: &Board, seat: &mut DealerSeat) -> bool
+pub(crate) fn put_stops<R: Wait>(
+    alloc: Global,
+    rt: &R,
+    board: &Board,
+    seat: &mut DealerSeat,
+) -> bool
     requires seat { IsDealerAt board.now seat.old }
     requires low { All (λ job. job.ticket < board.now.cubes) (put_by seat.old) }
     requires few { (board.now.cubes ≤ 1024) × (board.now.workers ≤ 8) }
@@ -39,7 +45,7 @@ pub(crate) fn put_stops<R: Wait>(rt: &R, board: &Board, seat: &mut DealerSeat) -
 {
     let cubes = board.cubes();
     for worker in 0..board.workers() {
-        let stop = Job::new(cubes + worker, &[]);
+        let stop = Job::new(alloc, cubes + worker, &[]);
         match board.put(rt, seat, stop) {
             Ok(()) => (),
             Err(_stop) => return false,
@@ -50,7 +56,13 @@ pub(crate) fn put_stops<R: Wait>(rt: &R, board: &Board, seat: &mut DealerSeat) -
 
 /// Puts these jobs, and in any case the stop tickets: without them a worker waits for ever. It says whether all were put. It takes no
 /// memory.
-pub(crate) fn deal<R: Wait>(rt: &R, board: &Board, seat: &mut DealerSeat, jobs: Vec<Job>) -> bool
+pub(crate) fn deal<R: Wait>(
+    alloc: Global,
+    rt: &R,
+    board: &Board,
+    seat: &mut DealerSeat,
+    jobs: Vec<Job>,
+) -> bool
     requires seat { IsDealerAt board.now seat.old × (put_by seat.old ≡ []) }
     requires rising { AllPairs (λ a b. a.ticket < b.ticket) jobs.items }
     requires low { All (λ job. job.ticket < board.now.cubes) jobs.items }
@@ -60,6 +72,6 @@ pub(crate) fn deal<R: Wait>(rt: &R, board: &Board, seat: &mut DealerSeat, jobs: 
     ensures fewer { IsFalse result → length (put_by seat.new) < length jobs.items + board.now.workers }
 {
     let dealt = put_jobs(rt, board, seat, jobs);
-    let stopped = put_stops(rt, board, seat);
+    let stopped = put_stops(alloc, rt, board, seat);
     dealt && stopped
 }

@@ -42,11 +42,11 @@ fn run_members<'s, E, R: Threads + Wait + Sync, S: Settler + Sync, G: Gate + Syn
     let handles = match start_all(alloc, rt, scope, site, settler, gate, members) {
         Ok(handles) => handles,
         Err(fault) => {
-            put_stops(rt, &site.board, &mut dealer);
+            put_stops(alloc, rt, &site.board, &mut dealer);
             return Err(fault);
         }
     };
-    if !deal(rt, &site.board, &mut dealer, jobs) {
+    if !deal(alloc, rt, &site.board, &mut dealer, jobs) {
         return Err(PlainFault::For(SearchCause::Cut));
     }
     let results = gather_all(alloc, rt, &site.board, &mut collector, count)?;

@@ -106,7 +106,7 @@ pub(crate) fn work<R: Wait, S: Settler, G: Gate>(
 {
     let Worker { mut seat, mut stop } = member;
     for _ in rt.forever() {
-        let Ok(job) = site.board.take(rt, &mut seat) else {
+        let Ok(job) = site.board.take(alloc, rt, &mut seat) else {
             return Worker { seat, stop };
         };
         if !settle_next(alloc, rt, site, settler, gate, &mut seat, &mut stop, job) {

@@ -16,7 +16,7 @@ pub fn cubes(alloc: Global, tree: &Tree) -> Result<Vec<Cube>, AllocError>
 {
     let mut cubes = Vec::new(alloc);
     let mut due = Vec::new(alloc);
-    due.push(Cube::empty())?;
+    due.push(Cube::empty(alloc))?;
     let mut rest = tree.nodes();
     while let Some((node, after)) = rest.split_first() {
         let Some(cube) = due.pop() else {
@@ -26,8 +26,8 @@ pub fn cubes(alloc: Global, tree: &Tree) -> Result<Vec<Cube>, AllocError>
             Node::Leaf => cubes.push(cube)?,
             Node::Split(variable) => {
                 let literal = Lit::positive(*variable);
-                due.push(cube.with(literal.negated()))?;
-                due.push(cube.with(literal))?;
+                due.push(cube.with(alloc, literal.negated()))?;
+                due.push(cube.with(alloc, literal))?;
             }
         }
         rest = after;

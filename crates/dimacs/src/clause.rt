@@ -3,8 +3,7 @@ ghost use Rattle.std.specs.Prelude.{◌≡◌, [], ◌∷◌, ◌≤◌, length,
 ghost use Rattle.dimacs.specs.Literal.{is_clause, is_clause_up_to};
 
 use crate::literal::Lit;
-use short_lists::inline_list::InlineList;
-use short_lists::short_list::ShortList;
+use smallvec::SmallVec;
 use std::alloc::{AllocError, Global};
 use std::marker::Model;
 
@@ -13,7 +12,7 @@ const INLINE: usize = 4;
 
 /// A list of literals, of which a true one makes it true.
 pub struct Clause {
-    literals: ShortList<Lit, INLINE>,
+    literals: SmallVec<Lit, INLINE>,
 }
 
 /// Drops the literals, in one call at each exit of a function that owns a clause.
@@ -31,9 +30,9 @@ impl Model for Clause {
 
     ghost Value = { List ℤ };
 
-    ghost view = { λ clause. clause.literals };
+    ghost view = { λ clause. clause.literals.items };
 
-    ghost invariant = { λ clause. IsTrue (is_clause clause.literals) };
+    ghost invariant = { λ clause. IsTrue (is_clause clause.literals.items) };
 }
 
 /// Hands its caller, in proofs alone, what literals keep: none is 0. Does nothing when run.
@@ -53,40 +52,40 @@ impl Clause {
     {
         recall_literals(literals);
         Ok(Clause {
-            literals: ShortList::from_slice(alloc, literals)?,
+            literals: SmallVec::from_slice(alloc, literals)?,
         })
     }
 
     /// The clause of this literal. It needs no memory.
-    pub fn unit(literal: Lit) -> Clause
+    pub fn unit(alloc: Global, literal: Lit) -> Clause
         ensures { result ≡ literal ∷ [] }
     {
         let places = [literal; INLINE];
         recall_literals(&places);
         Clause {
-            literals: ShortList::of(InlineList::first_of(places, 1)),
+            literals: SmallVec::from_buf_and_len(alloc, places, 1),
         }
     }
 
     /// The clause of these two literals. It needs no memory.
-    pub fn binary(first: Lit, second: Lit) -> Clause
+    pub fn binary(alloc: Global, first: Lit, second: Lit) -> Clause
         ensures { result ≡ first ∷ (second ∷ []) }
     {
         let places = [first, second, second, second];
         recall_literals(&places);
         Clause {
-            literals: ShortList::of(InlineList::first_of(places, 2)),
+            literals: SmallVec::from_buf_and_len(alloc, places, 2),
         }
     }
 
     /// The clause of these three literals. It needs no memory.
-    pub fn ternary(first: Lit, second: Lit, third: Lit) -> Clause
+    pub fn ternary(alloc: Global, first: Lit, second: Lit, third: Lit) -> Clause
         ensures { result ≡ first ∷ (second ∷ (third ∷ [])) }
     {
         let places = [first, second, third, third];
         recall_literals(&places);
         Clause {
-            literals: ShortList::of(InlineList::first_of(places, 3)),
+            literals: SmallVec::from_buf_and_len(alloc, places, 3),
         }
     }
 

@@ -6,7 +6,8 @@ ghost use Rattle.dimacs.specs.Literal.{is_clause};
 
 use crate::clause::recall_literals;
 use crate::literal::Lit;
-use short_lists::inline_list::InlineList;
+use smallvec::SmallVec;
+use std::alloc::Global;
 use std::marker::Model;
 
 /// Maximum number of literals of a cube: no split tree is deeper.
@@ -15,7 +16,7 @@ pub const MAX_CUBE_LITERALS: usize = 20;
 /// Literals that are assumed together: those of the splits from the root of a tree to a leaf. They stand inside the value, so a cube needs
 /// no memory of its own.
 pub struct Cube {
-    literals: InlineList<Lit, MAX_CUBE_LITERALS>,
+    literals: SmallVec<Lit, MAX_CUBE_LITERALS>,
 }
 
 /// Drops the literals, in one call at each exit of a function that owns a cube.
@@ -33,9 +34,9 @@ impl Model for Cube {
 
     ghost Value = { List ℤ };
 
-    ghost view = { λ cube. cube.literals };
+    ghost view = { λ cube. cube.literals.items };
 
-    ghost invariant = { λ cube. (length cube.literals ≤ 20) × IsTrue (is_clause cube.literals) };
+    ghost invariant = { λ cube. (length cube.literals.items ≤ 20) × IsTrue (is_clause cube.literals.items) };
 }
 
 /// Returns whether these are the same literals in the same order.
@@ -45,34 +46,43 @@ pub fn are_same(first: &[Lit], second: &[Lit]) -> bool
     first == second
 }
 
+/// Copies the literals, with room for a whole cube.
+fn copy_literals(alloc: Global, literals: &[Lit]) -> SmallVec<Lit, MAX_CUBE_LITERALS>
+    requires { length literals.now ≤ MAX_CUBE_LITERALS }
+    ensures items { result.items ≡ literals.now }
+    ensures room { result.capacity ≡ 20 }
+{
+    SmallVec::from_slice(alloc, literals).unwrap()
+}
+
 impl Cube {
     /// Returns the cube without literals.
-    pub fn empty() -> Cube
+    pub fn empty(alloc: Global) -> Cube
         ensures { result ≡ [] }
     {
         Cube {
-            literals: InlineList::empty(),
+            literals: SmallVec::new(alloc),
         }
     }
 
     /// Copies these literals. It takes no memory.
-    pub fn of(literals: &[Lit]) -> Cube
+    pub fn of(alloc: Global, literals: &[Lit]) -> Cube
         requires { length literals.now ≤ MAX_CUBE_LITERALS }
         ensures { result ≡ literals.now }
     {
         recall_literals(literals);
         Cube {
-            literals: InlineList::copy_of(literals),
+            literals: copy_literals(alloc, literals),
         }
     }
 
     /// Returns the cube with one more literal after its own. It takes no memory.
-    pub fn with(&self, literal: Lit) -> Cube
+    pub fn with(&self, alloc: Global, literal: Lit) -> Cube
         requires { length self.now < MAX_CUBE_LITERALS }
         ensures { result ≡ self.now ++ literal ∷ [] }
     {
-        let mut literals = InlineList::copy_of(self.literals.as_slice());
-        literals.push(literal);
+        let mut literals = copy_literals(alloc, self.literals.as_slice());
+        literals.push_reserved(literal);
         recall_literals(literals.as_slice());
         Cube { literals }
     }

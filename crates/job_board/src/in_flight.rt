@@ -7,6 +7,7 @@ ghost use Rattle.job_board.specs.declared.in_flight.HeldJob.{HeldJob};
 
 use cube_jobs::{Job, Settled};
 use dimacs::{Cube, are_same};
+use std::alloc::Global;
 
 /// The ticket and the cube of a job that a worker has taken and not yet settled.
 #[derive(Drop)]
@@ -30,13 +31,13 @@ pub enum InFlight {
 
 impl HeldJob {
     /// The ticket and the cube of this job. It takes no memory.
-    pub(crate) fn of(job: &Job) -> HeldJob
+    pub(crate) fn of(alloc: Global, job: &Job) -> HeldJob
         ensures ticket { result.ticket ≡ job.now.ticket }
         ensures cube { result.cube ≡ job.now.cube }
     {
         HeldJob {
             ticket: job.ticket(),
-            cube: Cube::of(job.cube()),
+            cube: Cube::of(alloc, job.cube()),
         }
     }
 

@@ -14,6 +14,7 @@ use crate::ended::Ended;
 use crate::in_flight::{HeldJob, InFlight};
 use crate::seats::{CollectorSeat, DealerSeat, WorkerSeat};
 use cube_jobs::{Job, Settled};
+use std::alloc::Global;
 use std::sync::Wait;
 
 impl WorkerSeat {
@@ -59,7 +60,7 @@ impl Board {
     }
 
     /// Takes the next job. Once the seat has received a stop ticket, or its channel has ended, it answers `Ended`. It takes no memory.
-    pub fn take<R: Wait>(&self, rt: &R, seat: &mut WorkerSeat) -> Result<Job, Ended>
+    pub fn take<R: Wait>(&self, alloc: Global, rt: &R, seat: &mut WorkerSeat) -> Result<Job, Ended>
         requires seat { IsWorkerAt self.now seat.old }
         requires holds_no_job { ticket_in seat.old.hand ≡ None }
         ensures seat { IsWorkerAt self.now seat.new × (seat.new.number ≡ seat.old.number) }
@@ -76,7 +77,7 @@ impl Board {
         match self.job_receiver.recv_as::<OneItem, R>(rt, &mut seat.jobs) {
             Ok(job) => {
                 if job.ticket() < seat.cubes {
-                    seat.hand = InFlight::Holds(HeldJob::of(&job));
+                    seat.hand = InFlight::Holds(HeldJob::of(alloc, &job));
                     seat.taken = next;
                     Ok(job)
                 } else {

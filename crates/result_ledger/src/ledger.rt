@@ -44,18 +44,18 @@ fn empty_slots(alloc: Global, cubes: &[Cube]) -> Result<Vec<Slot>, AllocError>
 {
     let mut slots = Vec::with_capacity(alloc, cubes.len())?;
     for cube in cubes {
-        slots.push(empty(cube.as_slice()))?;
+        slots.push(empty(alloc, cube.as_slice()))?;
     }
     Ok(slots)
 }
 
 /// A slot of this cube without an answer.
-fn empty(cube: &[Lit]) -> Slot
+fn empty(alloc: Global, cube: &[Lit]) -> Slot
     requires { length cube.now ≤ MAX_CUBE_LITERALS }
     ensures { result ≡ empty_slot cube.now }
 {
     Slot {
-        cube: Cube::of(cube),
+        cube: Cube::of(alloc, cube),
         outcome: None,
     }
 }
@@ -258,8 +258,8 @@ impl Ledger {
             return Err((self, AllocError));
         };
         let place = leaf as usize;
-        let left = empty(cubes.as_slice()[place].as_slice());
-        let right = empty(cubes.as_slice()[place + 1].as_slice());
+        let left = empty(alloc, cubes.as_slice()[place].as_slice());
+        let right = empty(alloc, cubes.as_slice()[place + 1].as_slice());
         let Ledger { slots } = self;
         match split_slot(slots, place, left, right) {
             Ok(slots) => Ok(Ledger { slots }),

@@ -63,7 +63,7 @@ fn job_of(rt: &impl Abort, leaf: u32, literals: &[Lit]) -> Job {
     if literals.len() > MAX_CUBE_LITERALS {
         panic!(rt; "a cube has no more than 20 literals");
     }
-    Job::new(leaf, literals)
+    Job::new(alloc, leaf, literals)
 }
 
 /// The result that says this of a cube, under a leaf's number.

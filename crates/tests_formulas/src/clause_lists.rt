@@ -154,6 +154,6 @@ fn makes_clauses_without_memory(rt: HostRuntime) {
     assert!(rt; is_of(ListedClause::binary(first, second), &[first, second]));
     let made = ListedClause::ternary(first, second, third);
     assert!(rt; is_of(made, &[first, second, third]));
-    let clause = Clause::ternary(third, second, first);
+    let clause = Clause::ternary(rt.alloc(), third, second, first);
     assert!(rt; is_of(ListedClause::lent(&clause), &[third, second, first]));
 }

@@ -126,9 +126,9 @@ fn keeps_literals_in_clauses(rt: HostRuntime) {
     let [first, second] = [Lit::positive(7), Lit::positive(9).negated()];
     let last = Lit::positive(MAX_VARIABLE).negated();
     recall_literals(&[first, second, last]);
-    assert!(rt; is_of(Clause::unit(first), &[first]));
-    assert!(rt; is_of(Clause::binary(first, second), &[first, second]));
-    let clause = Clause::ternary(first, second, last);
+    assert!(rt; is_of(Clause::unit(alloc, first), &[first]));
+    assert!(rt; is_of(Clause::binary(alloc, first, second), &[first, second]));
+    let clause = Clause::ternary(alloc, first, second, last);
     assert!(rt; clause.is_over(MAX_VARIABLE) && !clause.is_over(9));
     assert!(rt; is_of(clause, &[first, second, last]));
 }

@@ -55,25 +55,37 @@ fn close_for_two<R: Wait>(
 }
 
 /// Asserts that the board takes a job under the next ticket. Its cube is empty.
-fn assert_puts<R: Wait + Abort>(rt: &R, board: &Board, seat: &mut DealerSeat, ticket: u32)
+fn assert_puts<R: Wait + Abort>(
+    alloc: Global,
+    rt: &R,
+    board: &Board,
+    seat: &mut DealerSeat,
+    ticket: u32,
+)
     requires seat { IsDealerAt board.now seat.old }
     requires above { All (λ earlier. earlier.ticket < ticket) (put_by seat.old) }
     ensures seat { IsDealerAt board.now seat.new }
     ensures above { All (λ earlier. earlier.ticket < ticket + 1) (put_by seat.new) }
 {
-    match board.put(rt, seat, Job::new(ticket, &[])) {
+    match board.put(rt, seat, Job::new(alloc, ticket, &[])) {
         Ok(()) => (),
         Err(_job) => panic!(rt; "the job comes back"),
     }
 }
 
 /// Asserts that the worker takes a job under this ticket, and holds it.
-fn assert_takes<R: Wait + Abort>(rt: &R, board: &Board, seat: &mut WorkerSeat, ticket: u32) -> Job
+fn assert_takes<R: Wait + Abort>(
+    alloc: Global,
+    rt: &R,
+    board: &Board,
+    seat: &mut WorkerSeat,
+    ticket: u32,
+) -> Job
     requires seat { IsWorkerAt board.now seat.old }
     requires hand { ticket_in seat.old.hand ≡ None }
     ensures seat { IsWorkerAt board.now seat.new × (seat.new.number ≡ seat.old.number) }
 {
-    let Ok(job) = board.take(rt, seat) else {
+    let Ok(job) = board.take(alloc, rt, seat) else {
         panic!(rt; "there is no job");
     };
     assert!(rt; job.ticket() == ticket);
@@ -106,12 +118,12 @@ fn assert_gets_back<R: Wait + Abort>(rt: &R, board: &Board, seat: &mut WorkerSea
 }
 
 /// Asserts that the worker ends, and holds no job.
-fn assert_ends<R: Wait + Abort>(rt: &R, board: &Board, seat: &mut WorkerSeat)
+fn assert_ends<R: Wait + Abort>(alloc: Global, rt: &R, board: &Board, seat: &mut WorkerSeat)
     requires seat { IsWorkerAt board.now seat.old }
     requires hand { ticket_in seat.old.hand ≡ None }
     ensures { IsWorkerAt board.now seat.new × (seat.new.number ≡ seat.old.number) }
 {
-    assert!(rt; board.take(rt, seat).is_err());
+    assert!(rt; board.take(alloc, rt, seat).is_err());
     assert!(rt; seat.holds().is_none());
 }
 
@@ -131,16 +143,16 @@ fn assert_gathers<R: Wait + Abort>(rt: &R, board: &Board, seat: &mut CollectorSe
 fn settles_each_job_once(rt: HostRuntime) -> Result<(), Fail> {
     let alloc = rt.alloc();
     let (board, mut dealer, mut first, mut second, mut collector) = open_for_two(alloc)?;
-    assert_puts(&rt, &board, &mut dealer, 0);
-    assert_puts(&rt, &board, &mut dealer, 1);
-    assert_puts(&rt, &board, &mut dealer, 2);
-    assert_puts(&rt, &board, &mut dealer, 3);
-    let job = assert_takes(&rt, &board, &mut second, 0);
-    let other = assert_takes(&rt, &board, &mut first, 1);
+    assert_puts(alloc, &rt, &board, &mut dealer, 0);
+    assert_puts(alloc, &rt, &board, &mut dealer, 1);
+    assert_puts(alloc, &rt, &board, &mut dealer, 2);
+    assert_puts(alloc, &rt, &board, &mut dealer, 3);
+    let job = assert_takes(alloc, &rt, &board, &mut second, 0);
+    let other = assert_takes(alloc, &rt, &board, &mut first, 1);
     assert_gives(&rt, &board, &mut first, other.settle(Outcome::Open));
     assert_gives(&rt, &board, &mut second, job.settle(Outcome::Open));
-    assert_ends(&rt, &board, &mut first);
-    assert_ends(&rt, &board, &mut second);
+    assert_ends(alloc, &rt, &board, &mut first);
+    assert_ends(alloc, &rt, &board, &mut second);
     assert_gathers(&rt, &board, &mut collector, 1);
     assert_gathers(&rt, &board, &mut collector, 0);
     let account = close_for_two(alloc, &rt, board, dealer, first, second, collector)?;
@@ -155,22 +167,22 @@ fn settles_each_job_once(rt: HostRuntime) -> Result<(), Fail> {
 fn counts_what_is_left(rt: HostRuntime) -> Result<(), Fail> {
     let alloc = rt.alloc();
     let (board, mut dealer, mut first, second, collector) = open_for_two(alloc)?;
-    assert_puts(&rt, &board, &mut dealer, 0);
-    assert_puts(&rt, &board, &mut dealer, 1);
-    assert_puts(&rt, &board, &mut dealer, 2);
-    let job = assert_takes(&rt, &board, &mut first, 0);
+    assert_puts(alloc, &rt, &board, &mut dealer, 0);
+    assert_puts(alloc, &rt, &board, &mut dealer, 1);
+    assert_puts(alloc, &rt, &board, &mut dealer, 2);
+    let job = assert_takes(alloc, &rt, &board, &mut first, 0);
     assert_gets_back(
         &rt,
         &board,
         &mut first,
-        Job::new(1, &[]).settle(Outcome::Open),
+        Job::new(alloc, 1, &[]).settle(Outcome::Open),
     );
     assert_gives(&rt, &board, &mut first, job.settle(Outcome::Open));
     assert_gets_back(
         &rt,
         &board,
         &mut first,
-        Job::new(0, &[]).settle(Outcome::Open),
+        Job::new(alloc, 0, &[]).settle(Outcome::Open),
     );
     let account = close_for_two(alloc, &rt, board, dealer, first, second, collector)?;
     assert!(rt; account.put == 2);
@@ -181,13 +193,13 @@ fn counts_what_is_left(rt: HostRuntime) -> Result<(), Fail> {
 }
 
 /// Settles jobs until there are no more.
-fn work<R: Wait + Abort>(rt: &R, board: &Board, mut seat: WorkerSeat) -> WorkerSeat
+fn work<R: Wait + Abort>(alloc: Global, rt: &R, board: &Board, mut seat: WorkerSeat) -> WorkerSeat
     requires seat { IsWorkerAt board.now seat }
     requires hand { ticket_in seat.hand ≡ None }
     ensures { IsWorkerAt board.now result × (result.number ≡ seat.number) }
 {
     for _ in rt.forever() {
-        let Ok(job) = board.take(rt, &mut seat) else {
+        let Ok(job) = board.take(alloc, rt, &mut seat) else {
             return seat;
         };
         assert_gives(rt, board, &mut seat, job.settle(Outcome::Open));
@@ -199,16 +211,16 @@ fn work<R: Wait + Abort>(rt: &R, board: &Board, mut seat: WorkerSeat) -> WorkerS
 fn settles_jobs_in_two_threads(rt: HostRuntime) -> Result<(), Fail> {
     let alloc = rt.alloc();
     let (board, mut dealer, first, second, collector) = open_for_two(alloc)?;
-    assert_puts(&rt, &board, &mut dealer, 0);
-    assert_puts(&rt, &board, &mut dealer, 1);
-    assert_puts(&rt, &board, &mut dealer, 2);
-    assert_puts(&rt, &board, &mut dealer, 3);
+    assert_puts(alloc, &rt, &board, &mut dealer, 0);
+    assert_puts(alloc, &rt, &board, &mut dealer, 1);
+    assert_puts(alloc, &rt, &board, &mut dealer, 2);
+    assert_puts(alloc, &rt, &board, &mut dealer, 3);
     let shared = &board;
     let handle = &rt;
     let (first, second) = join(
         &rt,
-        move || work(handle, shared, first),
-        move || work(handle, shared, second),
+        move || work(alloc, handle, shared, first),
+        move || work(alloc, handle, shared, second),
     );
     let account = close_for_two(alloc, &rt, board, dealer, first, second, collector)?;
     assert!(rt; account.put == 2);

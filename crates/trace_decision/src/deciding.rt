@@ -50,7 +50,7 @@ fn cubes_of_leaves(alloc: Global, ledger: &Ledger, leaves: &[u32]) -> Result<Cub
 {
     let mut cubes = Vec::with_capacity(alloc, leaves.len())?;
     for leaf in leaves {
-        cubes.push(Cube::of(ledger.cube(*leaf)))?;
+        cubes.push(Cube::of(alloc, ledger.cube(*leaf)))?;
     }
     Ok(Cubes::new(cubes))
 }
