@@ -43,6 +43,7 @@ fn make_room<W: Sink>(buffer: &[u8], end: usize, sink: &mut W) -> Result<usize, 
     ensures well { OnOk result (W.failures sink.new ≡ W.failures sink.old) }
     ensures front { OnErr result (AppendsFront (W.written sink.old) (W.written sink.new) (take end buffer.now)) }
     ensures failed { OnErr result (W.failures sink.new ≡ W.failures sink.old + 1) }
+    ensures same { W.path sink.new ≡ W.path sink.old }
 {
     if buffer.len() - end >= LITERAL {
         return Ok(end);
@@ -80,6 +81,7 @@ fn put_long_clause<W: Sink>(
     ensures well { OnOk result (W.failures sink.new ≡ W.failures sink.old) }
     ensures front { OnErr result (AppendsFront (W.written sink.old) (W.written sink.new) (take at buffer.old ++ clause_line literals.now)) }
     ensures failed { OnErr result (W.failures sink.new ≡ W.failures sink.old + 1) }
+    ensures same { W.path sink.new ≡ W.path sink.old }
 {
     let mut end = at;
     for literal in literals {
@@ -105,6 +107,7 @@ fn put_line<W: Sink>(
     ensures well { OnOk result (W.failures sink.new ≡ W.failures sink.old) }
     ensures front { OnErr result (AppendsFront (W.written sink.old) (W.written sink.new) (take at buffer.old ++ clause_line literals.now)) }
     ensures failed { OnErr result (W.failures sink.new ≡ W.failures sink.old + 1) }
+    ensures same { W.path sink.new ≡ W.path sink.old }
 {
     if literals.len() <= SHORT && buffer.len() - at >= SHORT_LINE {
         return Ok(put_short_clause(literals, table, buffer, at));
@@ -127,6 +130,7 @@ fn put_clauses<W: Sink>(
     ensures well { OnOk result (W.failures sink.new ≡ W.failures sink.old) }
     ensures front { OnErr result (AppendsFront (W.written sink.old) (W.written sink.new) (take at buffer.old ++ flat_map clause_line clauses.now)) }
     ensures failed { OnErr result (W.failures sink.new ≡ W.failures sink.old + 1) }
+    ensures same { W.path sink.new ≡ W.path sink.old }
 {
     let mut end = at;
     for clause in clauses {
@@ -153,6 +157,7 @@ fn put_each_line<W: Sink>(
     ensures well { OnOk result (W.failures sink.new ≡ W.failures sink.old) }
     ensures front { OnErr result (AppendsFront (W.written sink.old) (W.written sink.new) (take at buffer.old ++ flat_map clause_line ((neg_ℤ first ∷ neg_ℤ second ∷ third ∷ []) ∷ (first ∷ second ∷ neg_ℤ third ∷ []) ∷ []))) }
     ensures failed { OnErr result (W.failures sink.new ≡ W.failures sink.old + 1) }
+    ensures same { W.path sink.new ≡ W.path sink.old }
 {
     let opposite = [first.negated(), second.negated(), third];
     let kept = put_line(&opposite, table, buffer, at, sink)?;
@@ -178,6 +183,7 @@ fn put_agreement<W: Sink>(
     ensures well { OnOk result (W.failures sink.new ≡ W.failures sink.old) }
     ensures front { OnErr result (AppendsFront (W.written sink.old) (W.written sink.new) (take at buffer.old ++ flat_map clause_line ((neg_ℤ first ∷ neg_ℤ second ∷ third ∷ []) ∷ (first ∷ second ∷ neg_ℤ third ∷ []) ∷ []))) }
     ensures failed { OnErr result (W.failures sink.new ≡ W.failures sink.old + 1) }
+    ensures same { W.path sink.new ≡ W.path sink.old }
 {
     if buffer.len() - at >= AGREEMENT {
         if let Some(texts) = AgreementTexts::of(first, second, third, table) {
@@ -224,6 +230,7 @@ impl CnfWriter {
         ensures well { OnOk result (W.failures sink.new ≡ W.failures sink.old) }
         ensures front { OnErr result (AppendsFront (W.written sink.old) (W.written sink.new) (self.old ++ flat_map clause_line clauses.now)) }
         ensures failed { OnErr result (W.failures sink.new ≡ W.failures sink.old + 1) }
+        ensures same { W.path sink.new ≡ W.path sink.old }
     {
         let end = put_clauses(
             clauses,
@@ -250,6 +257,7 @@ impl CnfWriter {
         ensures well { OnOk result (W.failures sink.new ≡ W.failures sink.old) }
         ensures front { OnErr result (AppendsFront (W.written sink.old) (W.written sink.new) (self.old ++ flat_map clause_line ((neg_ℤ first ∷ neg_ℤ second ∷ third ∷ []) ∷ (first ∷ second ∷ neg_ℤ third ∷ []) ∷ []))) }
         ensures failed { OnErr result (W.failures sink.new ≡ W.failures sink.old + 1) }
+        ensures same { W.path sink.new ≡ W.path sink.old }
     {
         let end = put_agreement(
             first,
@@ -270,6 +278,7 @@ impl CnfWriter {
         ensures well { OnOk result (W.failures sink.new ≡ W.failures sink.old) }
         ensures front { OnErr result (AppendsFront (W.written sink.old) (W.written sink.new) self) }
         ensures failed { OnErr result (W.failures sink.new ≡ W.failures sink.old + 1) }
+        ensures same { W.path sink.new ≡ W.path sink.old }
     {
         let rest = &self.buffer.as_slice()[..self.end];
         write_whole(sink, rest)
@@ -282,6 +291,7 @@ pub fn write_cnf<W: Sink>(alloc: Global, formula: &Formula, sink: &mut W) -> Res
     ensures well { OnOk result (W.failures sink.new ≡ W.failures sink.old) }
     ensures front { OnErr result (AppendsFront (W.written sink.old) (W.written sink.new) (cnf_text formula.now)) }
     ensures failed { IfErr result (λ fault. W.failures sink.new ≡ W.failures sink.old + failures_told fault) }
+    ensures same { W.path sink.new ≡ W.path sink.old }
 {
     let clauses = formula.clauses();
     let mut writer = CnfWriter::begin(alloc, formula.variables(), clauses.len())?;

@@ -47,6 +47,8 @@ impl Sink for MemorySink {
 
     ghost failures = { λ s. s.failures.count };
 
+    ghost path = { λ _. [] };
+
     fn write(&mut self, bytes: &[u8]) -> Result<usize, Failed> {
         if self.bytes.extend_from_slice(bytes).is_err() {
             return self.fail();

@@ -52,6 +52,8 @@ impl Sink for ShortSink {
 
     ghost failures = { λ s. ⟦<MemorySink as Sink>⟧.failures s.memory };
 
+    ghost path = { λ _. [] };
+
     fn write(&mut self, bytes: &[u8]) -> Result<usize, Failed> {
         if self.calls_before_failure == 0 {
             self.calls_before_failure = u64::MAX;

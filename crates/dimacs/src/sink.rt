@@ -14,6 +14,9 @@ pub trait Sink {
     /// The number of its failures up to now.
     ghost failures: { Self → ℕ };
 
+    /// The path of the file that it writes, from its making on; of what is no file any list.
+    ghost path: { Self → List ℕ };
+
     /// Takes the first bytes of a slice, at least one if there is one, and returns their number. A sink that fails
     /// takes none of them.
     fn write(&mut self, bytes: &[u8]) -> Result<usize, Failed>
@@ -22,7 +25,8 @@ pub trait Sink {
         ensures taken { IfOk result (λ count. written self.new ≡ written self.old ++ take count bytes.now) }
         ensures well { OnOk result (failures self.new ≡ failures self.old) }
         ensures unchanged { OnErr result (written self.new ≡ written self.old) }
-        ensures failed { OnErr result (failures self.new ≡ failures self.old + 1) };
+        ensures failed { OnErr result (failures self.new ≡ failures self.old + 1) }
+        ensures same { path self.new ≡ path self.old };
 }
 
 /// Writes the whole slice, through however many calls that takes. If the sink fails, it has taken a prefix of the slice
@@ -32,6 +36,7 @@ pub fn write_whole<S: Sink>(sink: &mut S, bytes: &[u8]) -> Result<(), Failed>
     ensures well { OnOk result (S.failures sink.new ≡ S.failures sink.old) }
     ensures front { OnErr result (AppendsFront (S.written sink.old) (S.written sink.new) bytes.now) }
     ensures failed { OnErr result (S.failures sink.new ≡ S.failures sink.old + 1) }
+    ensures same { S.path sink.new ≡ S.path sink.old }
 {
     let mut taken = 0;
     while taken < bytes.len() {

@@ -26,4 +26,5 @@ loop-clause-preserved g c =
       sent = sent_on _ _ _ _ _ _ sent
           (subst (λ literals. IsSent (g.W.Sink.written c.loop-clause.sink) (g.W.Sink.written c.put_line.new.sink) (take c.in_ok-end.end c.put_line.new.buffer) (kept ++ clause_line literals)) line c.in_ok-end.ensures.sent);
       failures = c.in_ok-end.ensures.well ∙ c.loop-clause.invariant.failures;
+      same = c.put_line.ensures.same ∙ c.loop-clause.invariant.same;
     }

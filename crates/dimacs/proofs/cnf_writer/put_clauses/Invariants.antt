@@ -9,4 +9,5 @@ invariant-loop-clause g l = record {
   within : l.end ≤ length l.buffer;
   sent : IsSent (g.W.Sink.written l.fn.sink) (g.W.Sink.written l.sink) (take l.end l.buffer) (take l.at l.fn.buffer ++ flat_map clause_line (take l.clause-index l.clauses));
   failures : g.W.Sink.failures l.sink ≡ g.W.Sink.failures l.fn.sink;
+  same : g.W.Sink.path l.sink ≡ g.W.Sink.path l.fn.sink;
 }

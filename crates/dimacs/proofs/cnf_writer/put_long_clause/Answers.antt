@@ -16,6 +16,7 @@ loop-literal-preserved g c =
       within = search rules;
       sent = line_sent (take c.args.at c.args.buffer.now) literal_text c.args.literals.now _ _ _ _ c.loop-literal.literal-index c.literal-item.result within c.literal-item.is sent c.put_literal-end.ensures.written;
       failures = c.in_ok-start.ensures.well ∙ c.loop-literal.invariant.failures;
+      same = c.make_room.ensures.same ∙ c.loop-literal.invariant.same;
     }
 
 pub returns-in_err-start-2-clause-front : goal.returns-in_err-start-2-clause-front

@@ -13,4 +13,5 @@ loop-taken-preserved g c = record {
   in_bytes = le-rest _ _ _ c.loop-taken.invariant.in_bytes c.in_ok-count.ensures.within;
   written = take-rest _ _ _ _ _ _ c.loop-taken.invariant.written c.in_ok-count.ensures.taken;
   failures = c.in_ok-count.ensures.well ∙ c.loop-taken.invariant.failures;
+  same = c.write.ensures.same ∙ c.loop-taken.invariant.same;
 }

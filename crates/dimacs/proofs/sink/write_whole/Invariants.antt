@@ -6,6 +6,7 @@ invariant-loop-taken g l = record {
   in_bytes : l.taken ≤ length l.bytes;
   written : g.S.Sink.written l.sink ≡ g.S.Sink.written l.fn.sink ++ take l.taken l.bytes;
   failures : g.S.Sink.failures l.sink ≡ g.S.Sink.failures l.fn.sink;
+  same : g.S.Sink.path l.sink ≡ g.S.Sink.path l.fn.sink;
 }
 
 abbrev pub decreases-loop-taken : goal.decreases-loop-taken
