@@ -23,7 +23,7 @@ pub record ReadsRight (t : TraceValue) (names : List OpName) (op : Op) : Type 0 
 -- an interleaving in which each operation reads right after those before it, and each final value is held in the end
 pub record IsLegal (t : TraceValue) (names : List OpName) : Type 0 where
   pub interleaving : IsInterleaving t names
-  pub reads : (before : List OpName) (n : OpName) (after : List OpName) (op : Op) → names ≡ before ++ n ∷ after → operation_at t n ≡ Some op → ReadsRight t before op
+  pub reads : (earlier : List OpName) (n : OpName) (later : List OpName) (op : Op) → names ≡ earlier ++ n ∷ later → operation_at t n ≡ Some op → ReadsRight t earlier op
   pub finals : (location : List ℕ) (d : ℕ) → value_of t.final_values location ≡ Some d → value_after t location names ≡ Some d
 
 -- no list of names is a legal schedule of the trace
