@@ -1,5 +1,5 @@
 -- The bytes that a sink has taken after some calls.
-use Rattle.std.proofs.Common.{◌≡◌, ℕ, ◌+◌, ◌-◌, ◌≤◌, List, [], ◌++◌, length, take, drop, arith}
+use Rattle.std.proofs.Common.{◌≡◌, ℕ, ◌+◌, ◌-◌, ◌≤◌, List, ◌++◌, length, take, drop, arith}
 use Rattle.std.proofs.lemmas.List.{take_all, length-drop, take-append-drop, append_assoc}
 use Rattle.std.proofs.Math.Seq.{take-add}
 use Rattle.dimacs.specs.Sink.{AppendsFront}

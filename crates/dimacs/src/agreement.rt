@@ -3,17 +3,17 @@ ghost use Rattle.std.specs.Prelude.{◌≡◌, ◌+◌, ◌≤◌, [], ◌∷◌
 ghost use Rattle.std.specs.List.{flat_map};
 ghost use Rattle.dimacs.specs.CnfText.{clause_line, literal_text};
 
-use crate::line_buffer::put_bytes;
+use crate::line_buffer::{put_bytes, put_short_clause};
 use crate::literal::Lit;
 use crate::variable_table::{VariableTable, VariableText};
 use std::marker::Model;
 
-/// Maximum length of both lines, in bytes, if a table has the variables' texts.
-pub(crate) const AGREEMENT: usize = 56;
+/// Maximum length of both lines, in bytes.
+pub(crate) const AGREEMENT: usize = 84;
 
 /// The texts of the three literals, each of which says that its variable is true.
 #[derive(Drop)]
-pub(crate) struct AgreementTexts {
+struct AgreementTexts {
     first: VariableText,
     second: VariableText,
     third: VariableText,
@@ -31,12 +31,7 @@ impl Model for AgreementTexts {
 impl AgreementTexts {
     /// The texts of the three literals, if the table has them.
     #[inline(always)]
-    pub(crate) fn of(
-        first: Lit,
-        second: Lit,
-        third: Lit,
-        table: &VariableTable,
-    ) -> Option<AgreementTexts>
+    fn of(first: Lit, second: Lit, third: Lit, table: &VariableTable) -> Option<AgreementTexts>
         ensures { IfSome result (λ texts. texts ≡ flat_map clause_line ((neg_ℤ first ∷ neg_ℤ second ∷ third ∷ []) ∷ (first ∷ second ∷ neg_ℤ third ∷ []) ∷ [])) }
     {
         Some(AgreementTexts {
@@ -48,7 +43,7 @@ impl AgreementTexts {
 
     /// Writes both lines.
     #[inline(always)]
-    pub(crate) fn put(&self, buffer: &mut [u8], at: usize) -> usize
+    fn put(&self, buffer: &mut [u8], at: usize) -> usize
         requires room { at + AGREEMENT ≤ length buffer.old }
         ensures within { result ≤ length buffer.new }
         ensures written { take result buffer.new ≡ take at buffer.old ++ self.now }
@@ -61,5 +56,45 @@ impl AgreementTexts {
         let end = self.second.put(buffer, end);
         let end = self.third.put_negated(buffer, end);
         put_bytes(b"0\n", buffer, end)
+    }
+}
+
+/// Writes the lines one after the other.
+#[inline(never)]
+fn put_one_by_one(
+    first: Lit,
+    second: Lit,
+    third: Lit,
+    table: &VariableTable,
+    buffer: &mut [u8],
+    at: usize,
+) -> usize
+    requires { at + AGREEMENT ≤ length buffer.old }
+    ensures within { result ≤ length buffer.new }
+    ensures written { take result buffer.new ≡ take at buffer.old ++ flat_map clause_line ((neg_ℤ first ∷ neg_ℤ second ∷ third ∷ []) ∷ (first ∷ second ∷ neg_ℤ third ∷ []) ∷ []) }
+{
+    let opposite = [first.negated(), second.negated(), third];
+    let end = put_short_clause(&opposite, table, buffer, at);
+    let same = [first, second, third.negated()];
+    put_short_clause(&same, table, buffer, end)
+}
+
+/// Writes the lines of both clauses: at once, if the table has the variables' texts.
+#[inline(always)]
+pub(crate) fn put_both_lines(
+    first: Lit,
+    second: Lit,
+    third: Lit,
+    table: &VariableTable,
+    buffer: &mut [u8],
+    at: usize,
+) -> usize
+    requires { at + AGREEMENT ≤ length buffer.old }
+    ensures within { result ≤ length buffer.new }
+    ensures written { take result buffer.new ≡ take at buffer.old ++ flat_map clause_line ((neg_ℤ first ∷ neg_ℤ second ∷ third ∷ []) ∷ (first ∷ second ∷ neg_ℤ third ∷ []) ∷ []) }
+{
+    match AgreementTexts::of(first, second, third, table) {
+        Some(texts) => texts.put(buffer, at),
+        None => put_one_by_one(first, second, third, table, buffer, at),
     }
 }

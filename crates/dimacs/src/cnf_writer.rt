@@ -5,10 +5,12 @@ ghost use Rattle.dimacs.specs.CnfText.{header_line, clause_line, cnf_text};
 ghost use Rattle.dimacs.specs.Sink.{AppendsFront, IsSent};
 ghost use Rattle.dimacs.specs.SinkFault.{failures_told};
 
-use crate::agreement::{AGREEMENT, AgreementTexts};
+use crate::agreement::{AGREEMENT, put_both_lines};
 use crate::clause::Clause;
 use crate::formula::Formula;
-use crate::line_buffer::{HEADER, LITERAL, put_bytes, put_header, put_literal};
+use crate::line_buffer::{
+    HEADER, LITERAL, SHORT, SHORT_LINE, put_bytes, put_header, put_literal, put_short_clause,
+};
 use crate::literal::Lit;
 use crate::sink::{Failed, Sink, write_whole};
 use crate::sink_fault::SinkFault;
@@ -18,12 +20,6 @@ use std::marker::Model;
 
 /// Bytes of the text that are made before they go to the sink, since each call of a sink may be slow.
 const BUFFER: usize = 65_536;
-
-/// Literals of the longest clause that is short: its line is made without a look at the room for each literal.
-const SHORT: usize = 4;
-
-/// Maximum length of a short clause's line, in bytes.
-const SHORT_LINE: usize = 42;
 
 /// A buffer of that size.
 fn new_buffer(alloc: Global) -> Result<Vec<u8>, AllocError>
@@ -50,20 +46,6 @@ fn make_room<W: Sink>(buffer: &[u8], end: usize, sink: &mut W) -> Result<usize, 
     }
     write_whole(sink, &buffer[..end])?;
     Ok(0)
-}
-
-/// Writes the line of a clause that needs no more room than the buffer has.
-fn put_short_clause(literals: &[Lit], table: &VariableTable, buffer: &mut [u8], at: usize) -> usize
-    requires short { length literals.now ≤ SHORT }
-    requires room { at + SHORT_LINE ≤ length buffer.old }
-    ensures within { result ≤ length buffer.new }
-    ensures written { take result buffer.new ≡ take at buffer.old ++ clause_line literals.now }
-{
-    let mut end = at;
-    for literal in literals {
-        end = put_literal(*literal, table, buffer, end);
-    }
-    put_bytes(b"0\n", buffer, end)
 }
 
 /// Writes the clause's line after what the buffer has. If the buffer is full, the sink takes it.
@@ -165,7 +147,7 @@ fn put_each_line<W: Sink>(
     put_line(&same, table, buffer, kept, sink)
 }
 
-/// Writes the same two lines: at once, if the buffer has room and the table has the texts.
+/// Writes the same two lines: at once, if the buffer has room.
 #[inline(always)]
 fn put_agreement<W: Sink>(
     first: Lit,
@@ -186,9 +168,7 @@ fn put_agreement<W: Sink>(
     ensures same { W.path sink.new ≡ W.path sink.old }
 {
     if buffer.len() - at >= AGREEMENT {
-        if let Some(texts) = AgreementTexts::of(first, second, third, table) {
-            return Ok(texts.put(buffer, at));
-        }
+        return Ok(put_both_lines(first, second, third, table, buffer, at));
     }
     put_each_line(first, second, third, table, buffer, at, sink)
 }
@@ -270,6 +250,24 @@ impl CnfWriter {
         )?;
         self.end = end;
         Ok(())
+    }
+
+    /// The texts of variables that the writer uses, for those who make lines elsewhere.
+    pub fn table(&self) -> &VariableTable {
+        &self.table
+    }
+
+    /// Writes text that was made elsewhere, as by `ClauseLines`.
+    pub fn put_text<W: Sink>(&mut self, text: &[u8], sink: &mut W) -> Result<(), Failed>
+        ensures sent { OnOk result (IsSent (W.written sink.old) (W.written sink.new) self.new (self.old ++ text.now)) }
+        ensures well { OnOk result (W.failures sink.new ≡ W.failures sink.old) }
+        ensures front { OnErr result (AppendsFront (W.written sink.old) (W.written sink.new) (self.old ++ text.now)) }
+        ensures failed { OnErr result (W.failures sink.new ≡ W.failures sink.old + 1) }
+        ensures same { W.path sink.new ≡ W.path sink.old }
+    {
+        write_whole(sink, &self.buffer.as_slice()[..self.end])?;
+        self.end = 0;
+        write_whole(sink, text)
     }
 
     /// Writes what the writer keeps.

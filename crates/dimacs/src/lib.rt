@@ -5,6 +5,7 @@
 mod agreement;
 mod assignment;
 mod clause;
+mod clause_lines;
 mod clause_list;
 mod cnf_writer;
 mod cube;
@@ -22,6 +23,7 @@ mod variable_table;
 
 pub use assignment::Assignment;
 pub use clause::{Clause, recall_literals};
+pub use clause_lines::ClauseLines;
 pub use clause_list::ClauseList;
 pub use cnf_writer::{CnfWriter, write_cnf};
 pub use cube::{Cube, MAX_CUBE_LITERALS, are_same};
@@ -33,3 +35,4 @@ pub use short_sink::ShortSink;
 pub use sink::{Failed, Sink, write_whole};
 pub use sink_fault::SinkFault;
 pub use transcript::{FailureCount, Transcript};
+pub use variable_table::VariableTable;

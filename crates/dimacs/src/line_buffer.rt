@@ -1,6 +1,6 @@
 //! Text written into a buffer of fixed size, from left to right.
 ghost use Rattle.std.specs.Prelude.{◌≡◌, ◌+◌, ◌*◌, ◌/◌, ◌%◌, ◌<◌, ◌≤◌, [], ◌∷◌, ◌++◌, length, take, decimal};
-ghost use Rattle.dimacs.specs.CnfText.{header_line, literal_text};
+ghost use Rattle.dimacs.specs.CnfText.{header_line, clause_line, literal_text};
 
 use crate::literal::Lit;
 use crate::variable_table::VariableTable;
@@ -8,6 +8,12 @@ use itoa::Buffer;
 
 /// Maximum length of a literal's text, in bytes, with its sign and its space.
 pub(crate) const LITERAL: usize = 10;
+
+/// Literals of the longest clause that is short: its line is made without a look at the room for each literal.
+pub(crate) const SHORT: usize = 4;
+
+/// Maximum length of a short clause's line, in bytes.
+pub(crate) const SHORT_LINE: usize = 42;
 
 /// Maximum length of a header line, in bytes.
 pub(crate) const HEADER: usize = 128;
@@ -108,6 +114,25 @@ pub(crate) fn put_bytes(bytes: &[u8], buffer: &mut [u8], at: usize) -> usize
     let end = at + bytes.len();
     buffer[at..end].copy_from_slice(bytes);
     end
+}
+
+/// Writes the line of a clause that needs no more room than the buffer has.
+pub(crate) fn put_short_clause(
+    literals: &[Lit],
+    table: &VariableTable,
+    buffer: &mut [u8],
+    at: usize,
+) -> usize
+    requires short { length literals.now ≤ SHORT }
+    requires room { at + SHORT_LINE ≤ length buffer.old }
+    ensures within { result ≤ at + SHORT_LINE }
+    ensures written { take result buffer.new ≡ take at buffer.old ++ clause_line literals.now }
+{
+    let mut end = at;
+    for literal in literals {
+        end = put_literal(*literal, table, buffer, end);
+    }
+    put_bytes(b"0\n", buffer, end)
 }
 
 /// Writes the first line.

@@ -98,7 +98,7 @@ fn put_unlisted(variable: u32, buffer: &mut [u8], at: usize) -> usize
 
 /// The texts of the variables from 0 up to some number.
 #[derive(Drop)]
-pub(crate) struct VariableTable {
+pub struct VariableTable {
     texts: Vec<VariableText>,
 }
 

@@ -1,7 +1,7 @@
 use Rattle.std.proofs.Common.{◌≡◌, ◌≤◌, ◌+◌, ◌*◌, ◌++◌, take}
 use Rattle.std.specs.List.{flat_map}
 use Rattle.dimacs.specs.CnfText.{literal_text}
-use Rattle.dimacs.proofs.cnf_writer.put_short_clause.Given as goal
+use Rattle.dimacs.proofs.line_buffer.put_short_clause.Given as goal
 
 abbrev pub invariant-loop-literal : goal.invariant-loop-literal
 invariant-loop-literal l = record {
