@@ -9,8 +9,8 @@ use crate::variable_table::VariableTable;
 use std::alloc::{AllocError, Global};
 use std::marker::Model;
 
-/// How many bytes a buffer grows at once.
-const GROWTH: usize = 4096;
+/// By how many bytes a buffer grows at once, whatever they are.
+static GROWTH: [u8; 4096] = [0; 4096];
 
 /// The lines of some clauses, one after the other. Several threads can make lines side by side, which a `CnfWriter` then sends.
 #[derive(Drop)]
@@ -31,6 +31,7 @@ impl Model for ClauseLines {
 }
 
 /// Makes the buffer longer, if it has no room for two lines after its first bytes.
+#[inline]
 fn make_room(buffer: &mut Vec<u8>, end: usize) -> Result<(), AllocError>
     requires { end ≤ length buffer.old.items }
     ensures room { OnOk result (end + AGREEMENT ≤ length buffer.new.items) }
@@ -40,7 +41,7 @@ fn make_room(buffer: &mut Vec<u8>, end: usize) -> Result<(), AllocError>
     if buffer.len() - end >= AGREEMENT {
         return Ok(());
     }
-    buffer.extend_from_slice(&[0; GROWTH])
+    buffer.extend_from_slice(&GROWTH)
 }
 
 impl ClauseLines {
