@@ -1,3 +1,4 @@
+pub mod ClosedLemmas
 pub mod ForcedLemmas
-pub mod RisingLemmas
+pub mod RiseLemmas
 pub mod RowLemmas

@@ -6,7 +6,7 @@ use Rattle.std.specs.Str.{bytes_eq}
 use Rattle.std.proofs.lemmas.Bool.{leb-true}
 use Rattle.std.proofs.lemmas.List.Elements.{All-contains, Contains-get_or}
 use Rattle.std.proofs.lemmas.List.Folds.{find_at}
-use Rattle.std.proofs.lemmas.Option.{option_and_then_some, slice_get_read, slice_get_within}
+use Rattle.std.proofs.lemmas.Option.{option_and_then_some, slice_get_within, get_or_from_slice_get}
 use Rattle.trace_semantics.specs.declared.operation.OpName.{OpName}
 use Rattle.trace_semantics.specs.declared.trace.Process.{Process}
 use Rattle.trace_semantics.specs.PairOrder.{order_of}
@@ -14,10 +14,11 @@ use Rattle.trace_semantics.specs.Trace.{TraceValue, IsTrace, at_place, process_n
 use Rattle.trace_semantics.proofs.ElementLemmas.{found, from_map}
 use Rattle.trace_semantics.proofs.NameLemmas.{same_bytes, some_value, known_named, named_known}
 use Rattle.forced_order.specs.declared.numbered.OperationNumber.{OperationNumber}
+use Rattle.forced_order.specs.Closed.{IsClosedStep}
 use Rattle.forced_order.specs.Forced.{IsForcedByNumber, AreForced, numbered_pair, numbered_pairs}
-use Rattle.forced_order.specs.Order.{IsForced, IsPath, IsStep}
+use Rattle.forced_order.specs.Order.{IsForced, IsPath, IsStep, IsWithinForced}
 use Rattle.forced_order.specs.Raised.{IsRaised}
-use Rattle.forced_order.specs.Rows.{OrderValue, last_before, numbered, IsSoundOrder}
+use Rattle.forced_order.specs.Rows.{OrderValue, HasRow, HasRows, last_before, numbered, ordered_by}
 use Rattle.forced_order.proofs.ForcedLemmas.{forced_over, forced_lower}
 
 within : {X : Type 0} (xs : List X) (k : ℕ) (x : X) → at_place xs k ≡ Some x → (1 ≤ k) × (k ≤ length xs)
@@ -56,7 +57,7 @@ forced_numbers t m n h k f =
       forced = subst (λ (x : OpName). IsForced t x (record { process = second.process.name; place = n.place })) (sym (same_name m first.process.name first.called)) renamed;
     }
 
-one_process : (t : TraceValue) (k : ℕ) (p q : Process) → slice_get t.processes k ≡ Some p → slice_get t.processes k ≡ Some q → p ≡ q
+pub one_process : (t : TraceValue) (k : ℕ) (p q : Process) → slice_get t.processes k ≡ Some p → slice_get t.processes k ≡ Some q → p ≡ q
 one_process t k p q h g = let same : Some p ≡ Some q = sym h ∙ g in cc
 
 pub forced_through : (t : TraceValue) (m x n : OperationNumber) → IsForcedByNumber t m x → IsForcedByNumber t x n → IsForcedByNumber t m n
@@ -97,7 +98,7 @@ first_known : (t : TraceValue) → IsTrace t → (m n : OpName) → IsStep t m n
 first_known t ok m n (inl h) = h.first
 first_known t ok m n (inr c) = (All-contains (λ (pair : OpName × OpName). IsSome (operation_at t pair.0) × IsSome (operation_at t pair.1)) t.before (m, n) ok.known c).0
 
-path_known : (t : TraceValue) → IsTrace t → (m : OpName) (between : List OpName) (n : OpName) → IsPath t m between n → IsSome (operation_at t m)
+pub path_known : (t : TraceValue) → IsTrace t → (m : OpName) (between : List OpName) (n : OpName) → IsPath t m between n → IsSome (operation_at t m)
 path_known t ok m [] n h = first_known t ok m n h
 path_known t ok m (x ∷ between) n h = first_known t ok m x h.0
 
@@ -112,24 +113,38 @@ pair_forced t ok pair c =
 pub pair_forced_at : (t : TraceValue) → IsTrace t → (pairs : List (OperationNumber × OperationNumber)) (k : ℕ) (d : OperationNumber × OperationNumber) → pairs ≡ numbered_pairs t → k < length pairs → IsForcedByNumber t (get_or pairs k d).0 (get_or pairs k d).1
 pair_forced_at t ok pairs k d e l = pair_forced t ok (get_or pairs k d) (subst (λ l. Contains l (get_or pairs k d)) e (Contains-get_or pairs k d l))
 
-pub at_least : (n : ℕ) → (n ≡ 0 → ⊥) → 1 ≤ n
-at_least zero h = absurd (h refl)
-at_least (suc n) h = omega arith
-
 -- an operation is forced to stand before the next of its process
-pub next_forced : (t : TraceValue) → IsTrace t → (p : Process) (k place : ℕ) → k < length t.processes → p ≡ get_or t.processes k p → 1 ≤ place → place < length p.operations →
+pub next_forced : (t : TraceValue) → IsTrace t → (p : Process) (k place : ℕ) → slice_get t.processes k ≡ Some p → 1 ≤ place → place < length p.operations →
     IsForcedByNumber t (record { process = k; place = place }) (record { process = k; place = place + 1 })
-next_forced t ok p k place l is low less =
-    let listed : Contains t.processes p = subst (λ q. Contains t.processes q) (sym is) (Contains-get_or t.processes k p l) in
-    let at : slice_get t.processes k ≡ Some p = slice_get_read t.processes (length t.processes) k p refl l is in
+next_forced t ok p k place at low less =
+    let listed : Contains t.processes p = (k, slice_get_within t.processes k p at, get_or_from_slice_get t.processes k p p at) in
     let m : OpName = record { process = p.name; place = place } in
     let n : OpName = record { process = p.name; place = place + 1 } in
     let known : IsSome (operation_at t m) = named_known t ok m (record { process = p; listed = listed; called = refl; least = low; most = omega (arith, less) }) in
     let follows : IsSome (operation_at t n) = named_known t ok n (record { process = p; listed = listed; called = refl; least = omega arith; most = omega (arith, less) }) in
     record { first = p; second = p; first_at = at; second_at = at; forced = ([], inl (record { first = known; second = follows; process = refl; lower = omega arith })) }
 
+few_process : (t : TraceValue) → IsTrace t → (m : OpName) → IsSome (operation_at t m) → order_of t.processes m.process < 64
+few_process t ok m h = omega (arith, slice_get_within t.processes (order_of t.processes m.process) (placed t m h).process (placed t m h).at, ok.few_processes)
+
+-- what is shown of a pair whose second operation has a row, and whose processes are few
+pub pair_closed : (t : TraceValue) → IsTrace t → (pairs : List (OperationNumber × OperationNumber)) (k : ℕ) (d : OperationNumber × OperationNumber) (order new : OrderValue) → pairs ≡ numbered_pairs t → HasRows t.processes order →
+    (HasRow order (get_or pairs k d).1 → (get_or pairs k d).0.process < 64 → IsClosedStep new (get_or pairs k d).0 (get_or pairs k d).1) →
+    (pair : OperationNumber × OperationNumber) → slice_get pairs k ≡ Some pair → IsClosedStep new pair.0 pair.1
+pair_closed t ok pairs k d order new is rows closed pair at =
+    let same : get_or pairs k d ≡ pair = get_or_from_slice_get pairs k pair d at in
+    let listed : Contains pairs pair = (k, slice_get_within pairs k pair at, get_or_from_slice_get pairs k pair pair at) in
+    let of = from_map (numbered_pair t.processes) t.before pair (subst (λ (l : List (OperationNumber × OperationNumber)). Contains l pair) is listed) in
+    let known = All-contains (λ (p : OpName × OpName). IsSome (operation_at t p.0) × IsSome (operation_at t p.1)) t.before of.0 ok.known of.1 in
+    let second = placed t of.0.1 known.1 in
+    let row : HasRow order (numbered t.processes of.0.1) = rows (order_of t.processes of.0.1.process) of.0.1.place second.process second.at second.most in
+    let named : numbered_pair t.processes of.0 ≡ get_or pairs k d = of.2 ∙ sym same in
+    let there : HasRow order (get_or pairs k d).1 = subst (λ (p : OperationNumber × OperationNumber). HasRow order p.1) named row in
+    let few : (get_or pairs k d).0.process < 64 = subst (λ (p : OperationNumber × OperationNumber). p.0.process < 64) named (few_process t ok of.0.0 known.0) in
+    subst (λ (p : OperationNumber × OperationNumber). IsClosedStep new p.0 p.1) same (closed there few)
+
 -- rows whose places are forced say no more than the forced order
-pub sound : (t : TraceValue) → IsTrace t → (order : OrderValue) → AreForced t order → IsSoundOrder t order
+pub sound : (t : TraceValue) → IsTrace t → (order : OrderValue) → AreForced t order → IsWithinForced t (ordered_by t order)
 sound t ok order given m n h k ordered =
     let q = order_of t.processes m.process in
     let l = last_before order (numbered t.processes n) q in

@@ -1,5 +1,6 @@
+pub mod Closed
 pub mod Forced
 pub mod Order
 pub mod Raised
-pub mod Rising
+pub mod Room
 pub mod Rows

@@ -1,5 +1,5 @@
 -- Orders that every legal schedule of a trace keeps.
-use Rattle.std.specs.Prelude.{◌≡◌, ◌⊎◌, ◌<◌, true, Bool, List, [], ◌∷◌, IsSome}
+use Rattle.std.specs.Prelude.{◌≡◌, ◌⊎◌, ◌<◌, true, false, Bool, List, [], ◌∷◌, IsSome}
 use Rattle.std.specs.List.{Contains}
 use Rattle.trace_semantics.specs.declared.operation.OpName.{OpName}
 use Rattle.trace_semantics.specs.Interleaving.{StandsBefore}
@@ -37,6 +37,20 @@ IsObeyed t ordered = (names : List OpName) → IsLegal t names → Obeys t names
 -- the order says no more of the operations of the trace than the forced order
 abbrev pub IsWithinForced : TraceValue → (OpName → OpName → Bool) → Type 0
 IsWithinForced t ordered = (m n : OpName) → IsSome (operation_at t m) → IsSome (operation_at t n) → ordered m n ≡ true → IsForced t m n
+
+-- some operation is forced to stand before itself, since program order and before pairs lead in a circle
+abbrev pub IsCyclic : TraceValue → Type 0
+IsCyclic t = (n : OpName) × IsForced t n n
+
+-- the order is the forced one: it says no more, and no less; but if the forced order is cyclic, it says nothing of the operations of the trace
+pub record IsForcedOrder (t : TraceValue) (ordered : OpName → OpName → Bool) : Type 0 where
+  pub within : IsWithinForced t ordered
+  pub whole : (IsCyclic t → ⊥) → (m n : OpName) → IsForced t m n → ordered m n ≡ true
+  pub silent : IsCyclic t → (m n : OpName) → IsSome (operation_at t m) → IsSome (operation_at t n) → ordered m n ≡ false
+
+-- the orders say the same of the operations of the trace
+abbrev pub Agree : TraceValue → (OpName → OpName → Bool) → (OpName → OpName → Bool) → Type 0
+Agree t first second = (m n : OpName) → IsSome (operation_at t m) → IsSome (operation_at t n) → first m n ≡ second m n
 
 -- what the order puts before an operation, it puts before the later ones of that process
 abbrev pub IsClosedForward : TraceValue → (OpName → OpName → Bool) → Type 0

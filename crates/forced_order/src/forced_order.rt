@@ -1,14 +1,13 @@
-//! Which operations of a trace are known to stand before which.
+//! Which operations of a trace are forced to stand before which.
 
+use crate::closing::rows_of;
 use crate::numbered::OperationNumber;
-use crate::raising::rows_of;
-use crate::rising::is_rising;
 use crate::rows::OrderRows;
 use std::alloc::{AllocError, Global};
 use std::marker::Model;
 use trace_semantics::trace::Trace;
 
-/// For each operation and each process, the last place there that is known to stand before the operation.
+/// For each operation and each process, the last place there that is forced to stand before the operation.
 #[derive(Drop)]
 pub struct ForcedOrder {
     rows: OrderRows,
@@ -24,32 +23,16 @@ impl Model for ForcedOrder {
 
 impl ForcedOrder {
     ghost use Rattle.std.specs.Prelude.{◌≡◌, IfOk};
-    ghost use Rattle.trace_semantics.specs.Trace.{TraceValue};
-    ghost use Rattle.forced_order.specs.Order.{IsClosedForward};
-    ghost use Rattle.forced_order.specs.Rows.{last_before, stands_by, ordered_by, IsSoundOrder};
+    ghost use Rattle.forced_order.specs.Order.{IsForcedOrder};
+    ghost use Rattle.forced_order.specs.Rows.{last_before, stands_by, ordered_by};
 
-    /// Returns the order that says nothing.
-    pub fn none(alloc: Global) -> ForcedOrder
-        ensures sound { (t : TraceValue) → IsSoundOrder t result }
-        ensures forward { (t : TraceValue) → IsClosedForward t (ordered_by t result) }
-    {
-        ForcedOrder {
-            rows: OrderRows::none(alloc),
-        }
-    }
-
-    /// Returns the forced order of a trace. All of it is found unless before pairs are cyclic, when there is no legal schedule.
+    /// Returns the forced order of a trace; if that is cyclic, as before pairs may be, the order that says nothing.
     pub fn of_trace(alloc: Global, trace: &Trace) -> Result<ForcedOrder, AllocError>
-        ensures sound { IfOk result (λ order. IsSoundOrder trace.now order) }
-        ensures forward { IfOk result (λ order. IsClosedForward trace.now (ordered_by trace.now order)) }
+        ensures { IfOk result (λ order. IsForcedOrder trace.now (ordered_by trace.now order)) }
     {
-        trace.recall_invariant();
-        let rows = rows_of(alloc, trace)?;
-        if is_rising(&rows, trace) {
-            Ok(ForcedOrder { rows })
-        } else {
-            Ok(ForcedOrder::none(alloc))
-        }
+        Ok(ForcedOrder {
+            rows: rows_of(alloc, trace)?,
+        })
     }
 
     /// Returns the last place of the process that stands before the operation; 0 if none does.

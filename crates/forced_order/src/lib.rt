@@ -1,11 +1,12 @@
 //! The order that program order and the before pairs of a trace force on its operations.
 #![tactic(auto)]
 
+mod circle;
+mod closing;
 pub mod forced_order;
 pub mod laws;
 pub mod numbered;
 mod pairs;
 mod raising;
-mod rising;
 pub mod rows;
 mod walk;

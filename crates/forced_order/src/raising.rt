@@ -1,48 +1,34 @@
 //! Raises the rows of a trace along the steps of its forced order.
 
-ghost use Rattle.std.specs.Prelude.{◌≡◌, IfOk};
+ghost use Rattle.std.specs.Prelude.{◌≡◌, ◌≤◌, ◌<◌, ◌+◌, Some, length};
+ghost use Rattle.std.specs.List.{slice_get};
+ghost use Rattle.trace_semantics.specs.declared.trace.Process.{Process as Listed};
 ghost use Rattle.trace_semantics.specs.Trace.{IsTrace};
-ghost use Rattle.forced_order.specs.Forced.{AreForced, numbered_pairs};
+ghost use Rattle.forced_order.specs.Closed.{AreClosed, AreProcessesClosed, ArePairsClosed, AreStepsClosed, IsClosedStep};
+ghost use Rattle.forced_order.specs.Forced.{numbered_pairs};
+ghost use Rattle.forced_order.specs.Raised.{IsPass};
 
+use crate::circle::count_of;
 use crate::numbered::OperationNumber;
-use crate::pairs::pairs_of;
-use crate::rows::OrderRows;
-use crate::walk::{OrderStep, steps_of};
-use std::alloc::{AllocError, Global};
-use trace_semantics::limits::{MAX_OPERATIONS, MAX_PROCESSES};
+use crate::rows::{OrderRows, either};
+use crate::walk::OrderStep;
 use trace_semantics::trace::Trace;
-
-/// Bound on how often rows are raised along all steps. Once is enough unless pairs are cyclic; the second time finds nothing to raise.
-const ROUNDS: usize = 16;
-
-/// Returns the number of rows of each process: one more than its operations.
-fn row_counts(alloc: Global, trace: &Trace) -> Result<Vec<usize>, AllocError> {
-    let processes = trace.processes();
-    let mut counts = Vec::with_capacity(alloc, processes.len())?;
-    for p in processes {
-        counts.push(p.operations.as_slice().len().saturating_add(1))?;
-    }
-    Ok(counts)
-}
 
 /// Raises the row of the operation after this one in its process.
 fn raise_next(rows: &mut OrderRows, trace: &Trace, n: OperationNumber) -> bool
-    ensures { IsTrace trace.now → AreForced trace.now rows.old → AreForced trace.now rows.new }
+    requires trace { IsTrace trace.now }
+    ensures { IsPass trace.now result rows.old rows.new (λ order. (p : Listed) → slice_get trace.now.processes n.process ≡ Some p → 1 ≤ n.place → n.place < length p.operations → IsClosedStep order n (record { process = n.process; place = n.place + 1 })) }
 {
-    let processes = trace.processes();
-    let k = n.process as usize;
-    if k >= processes.len() {
-        return false;
+    let count = count_of(trace, n.process as usize);
+    if 1 <= n.place && (n.place as usize) < count {
+        let next = OperationNumber {
+            process: n.process,
+            place: n.place + 1,
+        };
+        rows.raise_from(n, next)
+    } else {
+        false
     }
-    let count = processes[k].operations.as_slice().len();
-    if n.place == 0 || n.place == u16::MAX || n.place as usize >= count {
-        return false;
-    }
-    let next = OperationNumber {
-        process: n.process,
-        place: n.place + 1,
-    };
-    rows.raise_from(n, next)
 }
 
 /// Raises the row of the second operation of the pair under this number.
@@ -52,7 +38,9 @@ fn raise_pair(
     pairs: &[(OperationNumber, OperationNumber)],
     k: usize,
 ) -> bool
-    ensures { IsTrace trace.now → pairs.now ≡ numbered_pairs trace.now → AreForced trace.now rows.old → AreForced trace.now rows.new }
+    requires trace { IsTrace trace.now }
+    requires pairs { pairs.now ≡ numbered_pairs trace.now }
+    ensures { IsPass trace.now result rows.old rows.new (λ order. (pair : OperationNumber × OperationNumber) → slice_get pairs.now k ≡ Some pair → IsClosedStep order pair.0 pair.1) }
 {
     if k < pairs.len() {
         let (first, second) = pairs[k];
@@ -62,13 +50,16 @@ fn raise_pair(
     }
 }
 
+/// Raises a row along one step of a walk.
 fn raise_step(
     rows: &mut OrderRows,
     trace: &Trace,
     pairs: &[(OperationNumber, OperationNumber)],
     step: OrderStep,
 ) -> bool
-    ensures { IsTrace trace.now → pairs.now ≡ numbered_pairs trace.now → AreForced trace.now rows.old → AreForced trace.now rows.new }
+    requires trace { IsTrace trace.now }
+    requires pairs { pairs.now ≡ numbered_pairs trace.now }
+    ensures { IsPass trace.now result rows.old rows.new (λ order. Unit {0}) }
 {
     match step {
         OrderStep::Next(n) => raise_next(rows, trace, n),
@@ -76,62 +67,85 @@ fn raise_step(
     }
 }
 
-/// Raises rows along all steps, and returns whether one was lower.
-fn raise_all(
+/// Raises rows along the steps of a walk, and returns whether one was lower.
+pub fn raise_walked(
     rows: &mut OrderRows,
     trace: &Trace,
     pairs: &[(OperationNumber, OperationNumber)],
     steps: &[OrderStep],
 ) -> bool
-    ensures { IsTrace trace.now → pairs.now ≡ numbered_pairs trace.now → AreForced trace.now rows.old → AreForced trace.now rows.new }
+    requires trace { IsTrace trace.now }
+    requires pairs { pairs.now ≡ numbered_pairs trace.now }
+    ensures { IsPass trace.now result rows.old rows.new (λ order. Unit {0}) }
 {
     let mut rose = false;
     for step in steps {
-        if raise_step(rows, trace, pairs, *step) {
-            rose = true;
-        }
+        let more = raise_step(rows, trace, pairs, *step);
+        rose = either(rose, more);
     }
     rose
 }
 
-/// Raises the row of each operation to what is in that of the operation before it in its process.
-fn raise_forward(rows: &mut OrderRows, trace: &Trace)
-    ensures { IsTrace trace.now → AreForced trace.now rows.old → AreForced trace.now rows.new }
+/// Raises the rows of a process along its program order, and returns whether one was lower.
+fn raise_process(rows: &mut OrderRows, trace: &Trace, process: u16) -> bool
+    requires trace { IsTrace trace.now }
+    ensures { IsPass trace.now result rows.old rows.new (λ order. (p : Listed) → slice_get trace.now.processes process ≡ Some p → AreStepsClosed order process (length p.operations)) }
 {
-    for process in 0..MAX_PROCESSES as u16 {
-        for place in 1..MAX_OPERATIONS as u16 {
-            raise_next(rows, trace, OperationNumber { process, place });
-        }
+    let count = count_of(trace, process as usize);
+    let mut rose = false;
+    for place in 1..count {
+        let n = OperationNumber {
+            process,
+            place: place as u16,
+        };
+        let more = raise_next(rows, trace, n);
+        rose = either(rose, more);
     }
+    rose
 }
 
-/// Raises rows along all steps, again and again, until none is lower.
-fn raise_fully(
+/// Raises rows along program order, and returns whether one was lower.
+fn raise_processes(rows: &mut OrderRows, trace: &Trace) -> bool
+    requires trace { IsTrace trace.now }
+    ensures { IsPass trace.now result rows.old rows.new (AreProcessesClosed trace.now.processes) }
+{
+    let mut rose = false;
+    for k in 0..trace.processes().len() {
+        let more = raise_process(rows, trace, k as u16);
+        rose = either(rose, more);
+    }
+    rose
+}
+
+/// Raises rows along the before pairs, and returns whether one was lower.
+fn raise_pairs(
     rows: &mut OrderRows,
     trace: &Trace,
     pairs: &[(OperationNumber, OperationNumber)],
-    steps: &[OrderStep],
-)
-    ensures { IsTrace trace.now → pairs.now ≡ numbered_pairs trace.now → AreForced trace.now rows.old → AreForced trace.now rows.new }
+) -> bool
+    requires trace { IsTrace trace.now }
+    requires pairs { pairs.now ≡ numbered_pairs trace.now }
+    ensures { IsPass trace.now result rows.old rows.new (ArePairsClosed pairs.now) }
 {
-    for _ in 0..ROUNDS {
-        if !raise_all(rows, trace, pairs, steps) {
-            return;
-        }
+    let mut rose = false;
+    for k in 0..pairs.len() {
+        let more = raise_pair(rows, trace, pairs, k);
+        rose = either(rose, more);
     }
+    rose
 }
 
-/// Returns the rows of a trace.
-pub fn rows_of(alloc: Global, trace: &Trace) -> Result<OrderRows, AllocError>
-    ensures { IfOk result (λ rows. AreForced trace.now rows) }
+/// Raises rows once along all steps of the forced order, and returns whether one was lower. If not, the rows say all that is forced.
+pub fn raise_all(
+    rows: &mut OrderRows,
+    trace: &Trace,
+    pairs: &[(OperationNumber, OperationNumber)],
+) -> bool
+    requires trace { IsTrace trace.now }
+    requires pairs { pairs.now ≡ numbered_pairs trace.now }
+    ensures { IsPass trace.now result rows.old rows.new (AreClosed trace.now) }
 {
-    trace.recall_invariant();
-    let counts = row_counts(alloc, trace)?;
-    let numbers = pairs_of(alloc, trace)?;
-    let pairs = numbers.as_slice();
-    let steps = steps_of(alloc, counts.as_slice(), pairs)?;
-    let mut rows = OrderRows::zeros(alloc, counts.as_slice())?;
-    raise_fully(&mut rows, trace, pairs, steps.as_slice());
-    raise_forward(&mut rows, trace);
-    Ok(rows)
+    let first = raise_processes(rows, trace);
+    let second = raise_pairs(rows, trace, pairs);
+    either(first, second)
 }

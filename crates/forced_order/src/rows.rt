@@ -1,8 +1,18 @@
 //! Rows of places: what is known of each operation of a trace.
 
+ghost use Rattle.std.specs.Prelude.{◌≡◌, ◌||◌};
+
 use crate::numbered::OperationNumber;
 use std::alloc::{AllocError, Global};
 use std::marker::Model;
+use trace_semantics::limits::MAX_PROCESSES;
+
+/// Returns whether one of the two holds.
+pub fn either(first: bool, second: bool) -> bool
+    ensures { result ≡ (first || second) }
+{
+    first || second
+}
 
 /// What is known of one operation: for each process the last place there that stands before it, or 0.
 #[derive(Drop)]
@@ -19,15 +29,17 @@ impl Model for OperationRow {
 }
 
 impl OperationRow {
-    ghost use Rattle.std.specs.Prelude.{◌≡◌, ℕ, IfOk, slice_index_or};
+    ghost use Rattle.std.specs.Prelude.{◌≡◌, ◌≤◌, ◌<◌, ℕ, true, false, length, IfOk, slice_index_or};
     ghost use Rattle.forced_order.specs.Raised.{IsRowRaised};
+    ghost use Rattle.forced_order.specs.Room.{row_room};
 
-    /// Returns a row of zeros, one for each process.
-    fn zeros(alloc: Global, width: usize) -> Result<OperationRow, AllocError>
-        ensures { IfOk result (λ row. (q : ℕ) → slice_index_or row q 0 ≡ 0) }
+    /// Returns a row of zeros, one for each process that a trace may have.
+    fn zeros(alloc: Global) -> Result<OperationRow, AllocError>
+        ensures zero { IfOk result (λ row. (q : ℕ) → slice_index_or row q 0 ≡ 0) }
+        ensures wide { IfOk result (λ row. length row ≡ 64) }
     {
-        let mut places = Vec::with_capacity(alloc, width)?;
-        for _ in 0..width {
+        let mut places = Vec::with_capacity(alloc, MAX_PROCESSES)?;
+        for process in 0..MAX_PROCESSES {
             places.push(0)?;
         }
         Ok(OperationRow { places })
@@ -47,7 +59,11 @@ impl OperationRow {
 
     /// Raises the place of the process to this one, and returns whether it was lower.
     fn raise(&mut self, process: u16, place: u16) -> bool
-        ensures { IsRowRaised self.old self.new process place }
+        ensures raised { IsRowRaised self.old self.new process place }
+        ensures less { result ≡ true → row_room self.new < row_room self.old }
+        ensures same { result ≡ false → self.new ≡ self.old }
+        ensures wide { length self.new ≡ length self.old }
+        ensures high { result ≡ false → process < length self.old → place ≤ slice_index_or self.old process 0 }
     {
         let k = process as usize;
         if k < self.places.len() && self.places[k] < place {
@@ -74,16 +90,18 @@ impl Model for ProcessRows {
 }
 
 impl ProcessRows {
-    ghost use Rattle.std.specs.Prelude.{◌≡◌, ℕ, [], IfOk, slice_index_or};
+    ghost use Rattle.std.specs.Prelude.{◌≡◌, ◌≤◌, ◌<◌, ℕ, true, false, [], length, IfOk, slice_index_or};
     ghost use Rattle.forced_order.specs.Raised.{AreRowsRaised};
+    ghost use Rattle.forced_order.specs.Room.{process_room};
 
     /// Returns rows of zeros.
-    fn zeros(alloc: Global, count: usize, width: usize) -> Result<ProcessRows, AllocError>
-        ensures { IfOk result (λ rows. (k q : ℕ) → slice_index_or (slice_index_or rows k []) q 0 ≡ 0) }
+    fn zeros(alloc: Global, count: usize) -> Result<ProcessRows, AllocError>
+        ensures zero { IfOk result (λ rows. (k q : ℕ) → slice_index_or (slice_index_or rows k []) q 0 ≡ 0) }
+        ensures wide { IfOk result (λ rows. (k : ℕ) → k < count → length (slice_index_or rows k []) ≡ 64) }
     {
         let mut rows = Vec::with_capacity(alloc, count)?;
-        for _ in 0..count {
-            rows.push(OperationRow::zeros(alloc, width)?)?;
+        for place in 0..count {
+            rows.push(OperationRow::zeros(alloc)?)?;
         }
         Ok(ProcessRows { rows })
     }
@@ -102,7 +120,11 @@ impl ProcessRows {
 
     /// Raises the place of the process in the row of the operation at this place.
     fn raise(&mut self, at: u16, process: u16, place: u16) -> bool
-        ensures { AreRowsRaised self.old self.new at process place }
+        ensures raised { AreRowsRaised self.old self.new at process place }
+        ensures less { result ≡ true → process_room self.new < process_room self.old }
+        ensures same { result ≡ false → self.new ≡ self.old }
+        ensures wide { (k : ℕ) → length (slice_index_or self.new k []) ≡ length (slice_index_or self.old k []) }
+        ensures high { result ≡ false → process < length (slice_index_or self.old at []) → place ≤ slice_index_or (slice_index_or self.old at []) process 0 }
     {
         let k = at as usize;
         if k < self.rows.len() {
@@ -128,11 +150,13 @@ impl Model for OrderRows {
 }
 
 impl OrderRows {
-    ghost use Rattle.std.specs.Prelude.{◌≡◌, ℕ, IfOk};
+    ghost use Rattle.std.specs.Prelude.{◌≡◌, ◌≤◌, ◌<◌, ℕ, Some, false, IfOk};
+    ghost use Rattle.std.specs.List.{slice_get};
     ghost use Rattle.trace_semantics.specs.Trace.{TraceValue};
+    ghost use Rattle.forced_order.specs.Closed.{IsClosedStep};
     ghost use Rattle.forced_order.specs.Forced.{IsForcedByNumber, AreForced};
-    ghost use Rattle.forced_order.specs.Raised.{IsRaised};
-    ghost use Rattle.forced_order.specs.Rows.{last_before};
+    ghost use Rattle.forced_order.specs.Raised.{IsRaised, IsRise};
+    ghost use Rattle.forced_order.specs.Rows.{HasRow, last_before};
     ghost use Rattle.forced_order.specs.declared.numbered.OperationNumber.{OperationNumber as Named};
 
     /// Returns rows of no process.
@@ -146,11 +170,12 @@ impl OrderRows {
 
     /// Returns rows of zeros: for each process the number that is given.
     pub fn zeros(alloc: Global, counts: &[usize]) -> Result<OrderRows, AllocError>
-        ensures { IfOk result (λ rows. (n : Named) (q : ℕ) → last_before rows n q ≡ 0) }
+        ensures zero { IfOk result (λ rows. (n : Named) (q : ℕ) → last_before rows n q ≡ 0) }
+        ensures rows { IfOk result (λ rows. (j k count : ℕ) → slice_get counts.now j ≡ Some count → k < count → HasRow rows (record { process = j; place = k })) }
     {
         let mut processes = Vec::with_capacity(alloc, counts.len())?;
-        for count in counts {
-            processes.push(ProcessRows::zeros(alloc, *count, counts.len())?)?;
+        for k in 0..counts.len() {
+            processes.push(ProcessRows::zeros(alloc, counts[k])?)?;
         }
         Ok(OrderRows { processes })
     }
@@ -169,7 +194,9 @@ impl OrderRows {
 
     /// Raises the place of the process in the row of the operation, and returns whether it was lower.
     fn raise(&mut self, n: OperationNumber, process: u16, place: u16) -> bool
-        ensures { IsRaised self.old self.new n process place }
+        ensures raised { IsRaised self.old self.new n process place }
+        ensures rise { IsRise result self.old self.new }
+        ensures high { result ≡ false → HasRow self.old n → process < 64 → place ≤ last_before self.old n process }
     {
         let k = n.process as usize;
         if k < self.processes.len() {
@@ -181,14 +208,15 @@ impl OrderRows {
 
     /// Raises the row of the second operation to what follows if the first stands before it, and returns whether it was lower.
     pub fn raise_from(&mut self, first: OperationNumber, second: OperationNumber) -> bool
-        ensures { (t : TraceValue) → IsForcedByNumber t first second → AreForced t self.old → AreForced t self.new }
+        ensures forced { (t : TraceValue) → IsForcedByNumber t first second → AreForced t self.old → AreForced t self.new }
+        ensures rise { IsRise result self.old self.new }
+        ensures closed { result ≡ false → HasRow self.old second → first.process < 64 → IsClosedStep self.new first second }
     {
         let mut rose = self.raise(second, first.process, first.place);
         for process in 0..64 {
             let place = self.last_before(first, process);
-            if self.raise(second, process, place) {
-                rose = true;
-            }
+            let more = self.raise(second, process, place);
+            rose = either(rose, more);
         }
         rose
     }

@@ -1,16 +1,20 @@
-use Rattle.std.proofs.Common.{◌≡◌, ◌<◌, List, length, get_or, ap, sym, ◌∙◌, subst}
-use Rattle.trace_semantics.specs.declared.operation.Op.{Op}
-use Rattle.trace_semantics.specs.declared.trace.Process.{Process}
+use Rattle.std.proofs.Common.{◌≡◌, ◌<◌, arith, subst}
+use Rattle.std.specs.List.{slice_get}
+use Rattle.std.proofs.lemmas.Option.{slice_get_within}
 use Rattle.trace_semantics.specs.Trace.{TraceValue}
-use Rattle.forced_order.proofs.RowLemmas.{at_least, next_forced}
+use Rattle.trace_semantics.proofs.NameLemmas.{some_value}
+use Rattle.forced_order.proofs.RowLemmas.{next_forced}
 use Rattle.forced_order.proofs.raising.raise_next.Goals as goal
 
-pub returns : goal.returns
-returns c = λ ok given.
+pub returns-then-n-count : goal.returns-then-n-count
+returns-then-n-count c =
     let t : TraceValue = c.args.trace.now in
-    let p : Process = c.index-processes-k.result in
-    let bound : c.args.n.process < length t.processes = subst (λ (ps : List Process). c.args.n.process < length ps) c.processes-processes.ensures c.if-k-processes.false in
-    let is : p ≡ get_or t.processes c.args.n.process p = subst (λ (ps : List Process). p ≡ get_or ps c.args.n.process p) c.processes-processes.ensures c.index-processes-k.is in
-    let same : c.as_slice-count.result.now ≡ p.operations = c.as_slice-count.ensures ∙ ap (λ (x : Process). x.operations) (sym c.index-processes-k.is) in
-    let less : c.args.n.place < length p.operations = subst (λ (ops : List Op). c.args.n.place < length ops) same c.if-n-count.false in
-    c.raise_from.ensures t (next_forced t ok p c.args.n.process c.args.n.place bound is (at_least c.args.n.place c.if-n-eq0.false) less) given
+    let q = c.args.n.process in
+    let p = some_value (slice_get t.processes q) (c.count_of-count.ensures.found (omega arith)) in
+    let count = c.count_of-count.ensures.count p.0 p.1 in
+    let within = slice_get_within t.processes q p.0 p.1 in
+    record {
+      forced = λ given. c.raise_from.ensures.forced t (next_forced t c.requires.trace p.0 q c.args.n.place p.1 c.if-n-ge1.true (omega (arith, count))) given;
+      rise = c.raise_from.ensures.rise;
+      closed = λ e rows other at low less. c.raise_from.ensures.closed e (rows q _ other at (omega (arith, less))) (omega (arith, within, c.requires.trace.few_processes));
+    }

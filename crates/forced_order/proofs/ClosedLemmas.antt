@@ -1,0 +1,140 @@
+-- Rows that no step raises say all that is forced.
+use Rattle.std.proofs.Common.{◌≡◌, ℕ, zero, suc, ◌+◌, ◌-◌, ◌<◌, ◌≤◌, List, [], ◌∷◌, length, get_or, true, false, refl, ap, sym, ◌∙◌, subst, arith, inl, inr}
+use Rattle.std.specs.Prelude.{IsSome, Some}
+use Rattle.std.specs.List.{Contains, slice_get}
+use Rattle.std.proofs.lemmas.Bool.{cases_lt, cases_order, leb-true, le-leb, false_from_ne_true}
+use Rattle.std.proofs.lemmas.Option.{slice_get_read, slice_get_within, get_or_from_slice_get}
+use Rattle.trace_semantics.specs.declared.operation.OpName.{OpName}
+use Rattle.trace_semantics.specs.declared.trace.Process.{Process}
+use Rattle.trace_semantics.specs.PairOrder.{order_of}
+use Rattle.trace_semantics.specs.Trace.{TraceValue, IsTrace, operation_at}
+use Rattle.trace_semantics.proofs.ElementLemmas.{to_map}
+use Rattle.trace_semantics.proofs.NameLemmas.{known_named, named_known}
+use Rattle.forced_order.specs.declared.numbered.OperationNumber.{OperationNumber}
+use Rattle.forced_order.specs.Closed.{AreClosed, IsCircle, HasNoCircle}
+use Rattle.forced_order.specs.Forced.{AreForced, numbered_pair, numbered_pairs}
+use Rattle.forced_order.specs.Order.{IsInProgramOrder, IsStep, IsPath, IsForced, IsCyclic, IsForcedOrder}
+use Rattle.forced_order.specs.Rows.{OrderValue, last_before, numbered, ordered_by}
+use Rattle.forced_order.proofs.ForcedLemmas.{forced_lower}
+use Rattle.forced_order.proofs.RowLemmas.{placed, path_known, one_process, sound}
+
+-- from each place to the next, so from each to each after it
+rises_by : (f : ℕ → ℕ) (count : ℕ) → ((k : ℕ) → 1 ≤ k → k < count → f k ≤ f (k + 1)) → (a d : ℕ) → 1 ≤ a → a + d ≤ count → f a ≤ f (a + d)
+rises_by f count step a zero low high = let same : f (a + zero) ≡ f a = ap f (omega arith) in omega (arith, same)
+rises_by f count step a (suc d) low high =
+    let before = rises_by f count step a d low (omega (arith, high)) in
+    let next = step (a + d) (omega (arith, low)) (omega (arith, high)) in
+    let same : f (a + suc d) ≡ f (a + d + 1) = ap f (omega arith) in
+    omega (arith, before, next, same)
+
+rises : (f : ℕ → ℕ) (count : ℕ) → ((k : ℕ) → 1 ≤ k → k < count → f k ≤ f (k + 1)) → (a b : ℕ) → 1 ≤ a → a < b → b ≤ count → f a ≤ f b
+rises f count step a b low less high =
+    let same : f (a + (b - a)) ≡ f b = ap f (omega (arith, less)) in
+    subst (λ r. f a ≤ r) same (rises_by f count step a (b - a) low (omega (arith, less, high)))
+
+-- the step from a lower place is the last of those from each place to the next
+reaches : (f : ℕ → ℕ) (count : ℕ) → ((k : ℕ) → 1 ≤ k → k < count → k ≤ f (k + 1)) → (a b : ℕ) → 1 ≤ a → a < b → b ≤ count → a ≤ f b
+reaches f count step a zero low less high = absurd (omega (arith, less))
+reaches f count step a (suc b) low less high =
+    let here = step b (omega (arith, low, less)) (omega (arith, high)) in
+    let same : f (b + 1) ≡ f (suc b) = ap f (omega arith) in
+    omega (arith, here, same, less)
+
+module _ (t : TraceValue) (ok : IsTrace t) (order : OrderValue) where
+  -- m stands before n by the rows
+  abbrev Stands : OpName → OpName → Type 0
+  Stands m n = m.place ≤ last_before order (numbered t.processes n) (order_of t.processes m.process)
+
+  module _ (closed : AreClosed t order) where
+    -- where two operations of one process stand
+    program_known : (m n : OpName) → IsInProgramOrder t m n → (p : Process) × (slice_get t.processes (order_of t.processes m.process) ≡ Some p) × (1 ≤ m.place) × (n.place ≤ length p.operations) × (order_of t.processes n.process ≡ order_of t.processes m.process)
+    program_known m n into =
+        let first = placed t m into.first in
+        let second = placed t n into.second in
+        let one : order_of t.processes n.process ≡ order_of t.processes m.process = ap (order_of t.processes) (sym into.process) in
+        let same = one_process t (order_of t.processes m.process) second.process first.process (subst (λ j. slice_get t.processes j ≡ Some second.process) one second.at) first.at in
+        (first.process, first.at, first.least, subst (λ (p : Process). n.place ≤ length p.operations) same second.most, one)
+
+    in_pairs : (m n : OpName) → Contains t.before (m, n) → (j : ℕ) × (slice_get (numbered_pairs t) j ≡ Some (numbered_pair t.processes (m, n)))
+    in_pairs m n c =
+        let at = to_map (numbered_pair t.processes) t.before (m, n) c in
+        (at.0, slice_get_read (numbered_pairs t) (length (numbered_pairs t)) at.0 (numbered_pair t.processes (m, n)) refl at.1 (sym at.2))
+
+    step_stands : (m n : OpName) → IsStep t m n → Stands m n
+    step_stands m n (inl into) =
+        let at = program_known m n into in
+        let j = order_of t.processes m.process in
+        let up = reaches (λ k. last_before order (record { process = j; place = k }) j) (length at.0.operations) (λ k low less. (closed.program j at.0 at.1 k low less).first) m.place n.place at.2 into.lower at.3 in
+        subst (λ i. m.place ≤ last_before order (record { process = i; place = n.place }) j) (sym at.4) up
+    step_stands m n (inr c) = let at = in_pairs m n c in (closed.pairs at.0 (numbered_pair t.processes (m, n)) at.1).first
+
+    step_over : (m x n : OpName) → IsSome (operation_at t m) → Stands m x → IsStep t x n → Stands m n
+    step_over m x n known h (inl into) =
+        let at = program_known x n into in
+        let j = order_of t.processes x.process in
+        let q = order_of t.processes m.process in
+        let few : q < 64 = omega (arith, slice_get_within t.processes q (placed t m known).process (placed t m known).at, ok.few_processes) in
+        let up = rises (λ k. last_before order (record { process = j; place = k }) q) (length at.0.operations) (λ k low less. (closed.program j at.0 at.1 k low less).before q few) x.place n.place at.2 into.lower at.3 in
+        subst (λ i. m.place ≤ last_before order (record { process = i; place = n.place }) q) (sym at.4) (omega (arith, h, up))
+    step_over m x n known h (inr c) =
+        let at = in_pairs x n c in
+        let q = order_of t.processes m.process in
+        let few : q < 64 = omega (arith, slice_get_within t.processes q (placed t m known).process (placed t m known).at, ok.few_processes) in
+        let up = (closed.pairs at.0 (numbered_pair t.processes (x, n)) at.1).before q few in
+        omega (arith, h, up)
+
+    path_over : (m x : OpName) (between : List OpName) (n : OpName) → IsSome (operation_at t m) → Stands m x → IsPath t x between n → Stands m n
+    path_over m x [] n known h step = step_over m x n known h step
+    path_over m x (y ∷ between) n known h path = path_over m y between n known (step_over m x y known h path.0) path.1
+
+    path_stands : (m : OpName) (between : List OpName) (n : OpName) → IsPath t m between n → Stands m n
+    path_stands m [] n step = step_stands m n step
+    path_stands m (x ∷ between) n path = path_over m x between n (path_known t ok m (x ∷ between) n path) (step_stands m x path.0) path.1
+
+    complete : (m n : OpName) → IsForced t m n → Stands m n
+    complete m n f = path_stands m f.0 n f.1
+
+    pub forced_order : AreForced t order → HasNoCircle t.processes order → IsForcedOrder t (ordered_by t order)
+    forced_order forced none = record {
+      within = sound t ok order forced;
+      whole = λ _ m n f. le-leb m.place (last_before order (numbered t.processes n) (order_of t.processes m.process)) (complete m n f);
+      silent = λ cyclic m n h k. (let x = cyclic.0 in
+          let at = placed t x (path_known t ok x cyclic.1.0 x cyclic.1.1) in
+          let low = none (order_of t.processes x.process) at.process at.at x.place at.least at.most in
+          let high = complete x x cyclic.1 in
+          absurd (omega (arith, low, high)));
+    }
+
+  -- an operation that stands before itself by rows that are forced
+  pub circle_forced : AreForced t order → IsCircle t.processes order → IsCyclic t
+  circle_forced forced c =
+      let n : OperationNumber = record { process = c.process; place = c.place } in
+      let l = last_before order n c.process in
+      let before = c.before in
+      let least = c.least in
+      elim (forced n c.process) [
+        | inl none ↦ absurd (omega (arith, before, least, none))
+        | inr f ↦ (let same_first = one_process t c.process f.first c.called f.first_at c.listed in
+            let same_second = one_process t c.process f.second c.called f.second_at c.listed in
+            let last : OpName = record { process = c.called.name; place = l } in
+            let here : OpName = record { process = c.called.name; place = c.place } in
+            let one : IsForced t last (record { process = f.second.name; place = c.place }) = subst (λ (p : Process). IsForced t (record { process = p.name; place = l }) (record { process = f.second.name; place = c.place })) same_first f.forced in
+            let two : IsForced t last here = subst (λ (p : Process). IsForced t last (record { process = p.name; place = c.place })) same_second one in
+            let listed : Contains t.processes c.called = (c.process, slice_get_within t.processes c.process c.called c.listed, get_or_from_slice_get t.processes c.process c.called c.called c.listed) in
+            let known : IsSome (operation_at t here) = named_known t ok here (record { process = c.called; listed = listed; called = refl; least = least; most = c.most }) in
+            (here, forced_lower t here last here known (path_known t ok last two.0 here two.1) refl before two))
+      ]
+
+  -- rows of nothing, if the forced order is cyclic
+  pub no_order : ((n : OperationNumber) (q : ℕ) → last_before order n q ≡ 0) → IsCyclic t → IsForcedOrder t (ordered_by t order)
+  no_order zero_all cyclic = record {
+    within = λ m n h k ordered. absurd (never m n h ordered);
+    whole = λ not_cyclic. absurd (not_cyclic cyclic);
+    silent = λ _ m n h k. false_from_ne_true (ordered_by t order m n) (never m n h);
+  }
+    where
+      never : (m n : OpName) → IsSome (operation_at t m) → ordered_by t order m n ≡ true → ⊥
+      never m n h ordered =
+          let high = leb-true m.place (last_before order (numbered t.processes n) (order_of t.processes m.process)) ordered in
+          let none = zero_all (numbered t.processes n) (order_of t.processes m.process) in
+          omega (arith, (known_named t m h).least, high, none)
