@@ -1,3 +1,4 @@
+pub mod AgreedLemmas
 mod Examples
 pub mod PartLemmas
 pub mod TraceLemmas

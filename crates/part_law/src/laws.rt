@@ -10,7 +10,7 @@ ghost use Rattle.trace_semantics.specs.Legal.{IsLegal, HasNoSchedule};
 ghost use Rattle.trace_semantics.specs.Trace.{TraceValue, IsTrace, operation_at};
 ghost use Rattle.part_law.specs.Derived.{IsDerived};
 ghost use Rattle.restriction.specs.Left.{restricted};
-ghost use Rattle.forced_order.specs.Order.{Obeys, IsObeyed};
+ghost use Rattle.forced_order.specs.Order.{Agree, Obeys, IsObeyed};
 ghost use Rattle.part_law.specs.Part.{stays, part};
 
 /// A legal schedule of a trace that obeys the order, restricted to what remains, is a legal schedule of the part.
@@ -37,4 +37,9 @@ pub fn refuted_order_is_turned()
 /// A legal schedule that obeys an order also keeps what follows from it and from the only possible source of a reading operation.
 pub fn derived_stands()
     ensures { (t : TraceValue) (ordered : OpName → OpName → Bool) (names : List OpName) (m n : OpName) → IsTrace t → IsLegal t names → Obeys t names ordered → IsDerived t ordered m n → StandsBefore names m n }
+{}
+
+/// Two orders that agree on the operations of a trace make the same part of it.
+pub fn orders_that_agree_make_one_part()
+    ensures { (t : TraceValue) (first second : OpName → OpName → Bool) (chosen : OpName → Bool) → IsTrace t → Agree t first second → part t first chosen ≡ part t second chosen }
 {}
