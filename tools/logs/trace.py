@@ -1,0 +1,140 @@
+"""The trace that a log becomes: its names, its numbers and its lines."""
+
+import collections
+import re
+
+from logs.log import ADVICE, MOST_LOCATIONS
+from logs.mistakes import Mistake, note
+
+LARGEST = 2**64 - 1
+
+
+class Names:
+    """Names of the trace for what the log calls by any text: a letter or `_`, then letters, digits and `_`, 32 at most."""
+
+    def __init__(self, what, letter):
+        self.what, self.letter = what, letter
+        self.of, self.taken = {}, set()
+
+    def fill(self, texts):
+        """Texts that are names already keep them; the others get one each."""
+        for text in texts:
+            if re.fullmatch(r"[A-Za-z_][A-Za-z0-9_]{0,31}", text):
+                self.of[text] = text
+                self.taken.add(text)
+        for text in texts:
+            if text not in self.of:
+                self.of[text] = self.free(text)
+                self.taken.add(self.of[text])
+
+    def free(self, text):
+        plain = re.sub(r"[^A-Za-z0-9_]+", "_", text)
+        stem = plain if re.match(r"[A-Za-z_]", plain) else self.letter + plain
+        name, number = stem[:32], 1
+        while name in self.taken:
+            number += 1
+            name = f"{stem[:26]}_{number}"
+        return name
+
+    def table(self, whole):
+        return [f"{self.what} {name} is {text}" for text, name in self.of.items() if whole or name != text]
+
+
+class Values:
+    """Numbers of the trace for the values of the log. Those from 0 to 2^64 - 1 stay, and each other value gets one that no row has."""
+
+    def __init__(self):
+        # The values that do not stay.
+        self.of = {}
+
+    def fill(self, keys):
+        plain = {key for key in keys if isinstance(key, int) and 0 <= key <= LARGEST}
+        free = self.free(plain)
+        for key in keys:
+            if key not in plain and key not in self.of:
+                self.of[key] = next(free)
+
+    @staticmethod
+    def free(plain):
+        """Numbers that are not among these: first those above all of them."""
+        following = max(plain, default=-1) + 1
+        yield from range(following, LARGEST + 1)
+        yield from (number for number in range(following) if number not in plain)
+
+    def number(self, key):
+        return self.of.get(key, key)
+
+    def table(self, keys):
+        return [f"value {self.number(key)} is {key}" for key in keys]
+
+
+class Naming:
+    """What processes, locations and values are called in a trace of a log, and in traces of its pieces."""
+
+    def __init__(self, log, initial, final):
+        operations = log.operations()
+        self.log = log
+        self.processes, self.locations, self.values = Names("process", "P"), Names("location", "L"), Values()
+        self.processes.fill(list(log.processes))
+        self.locations.fill(list(collections.OrderedDict.fromkeys([*(op.location for op in operations), *initial, *final])))
+        self.used = dict.fromkeys(key for op in operations for key in (op.read, op.written) if key is not None)
+        self.used.update(dict.fromkeys([*initial.values(), *final.values()]))
+        self.values.fill(self.used)
+
+    def look_at_limits(self):
+        count = len(self.locations.of)
+        if count > MOST_LOCATIONS:
+            raise Mistake(f"{count} locations, and a trace has {MOST_LOCATIONS} at most: {ADVICE}")
+
+    def renamed(self):
+        return self.processes.table(False) + self.locations.table(False) + self.values.table(self.values.of)
+
+    def table(self):
+        said = self.processes.table(True) + self.locations.table(True) + self.values.table(self.used)
+        return said + [f"operation {self.operation(op)} is line {op.line}" for op in self.log.operations()]
+
+    def operation(self, op):
+        return f"{self.processes.of[op.process]}.{op.place}"
+
+
+class Trace:
+    """The text of a trace: operations by process, orders, and what is held at the start and in the end."""
+
+    def __init__(self, processes, orders, initial, final, naming):
+        self.processes, self.orders, self.initial, self.final, self.naming = processes, orders, initial, final, naming
+
+    def operation_line(self, op):
+        words = ["U" if None not in (op.read, op.written) else "W" if op.read is None else "R", self.naming.locations.of[op.location]]
+        words += [str(self.naming.values.number(key)) for key in (op.read, op.written) if key is not None]
+        if op.source:
+            words.append("from init" if op.source == "init" else f"from {self.naming.processes.of[op.source[0]]} {op.source[1]}")
+        return " ".join(words)
+
+    def value_lines(self, key, values):
+        named = sorted((self.naming.locations.of[text], self.naming.values.number(value)) for text, value in values.items())
+        return [f"{key} {location} {value}" for location, value in named]
+
+    def head(self):
+        has_sources = any(op.source for operations in self.processes.values() for op in operations)
+        return ["vsc 2" if self.orders or has_sources else "vsc 1", *self.value_lines("init", self.initial), *self.value_lines("final", self.final)]
+
+    def tail(self):
+        name = self.naming.processes.of
+        return (f"before {name[earlier[0]]} {earlier[1]} {name[later[0]]} {later[1]}" for earlier, later in self.orders)
+
+    def lines(self):
+        yield from self.head()
+        for process, operations in self.processes.items():
+            yield f"proc {self.naming.processes.of[process]}"
+            yield from map(self.operation_line, operations)
+        yield from self.tail()
+
+
+def note_reads_without_source(log, initial):
+    """Says which reads nothing can explain, since such a trace has no legal schedule for that reason alone."""
+    written = {(op.location, op.written) for op in log.operations()}
+    for op in log.operations():
+        if op.read is None or (op.location, op.read) in written or initial.get(op.location) == op.read:
+            continue
+        has = f"holds {initial[op.location]} at the start" if op.location in initial else "has no initial value (--init)"
+        note(f"line {op.line}: reads {op.read} at {op.location}, which nothing writes, and {op.location} {has}")
