@@ -11,7 +11,7 @@ use clap::ArgMatches;
 /// When a command explains its answer or its refusal.
 #[derive(Clone, Copy, Debug)]
 pub enum Explains {
-    /// If standard error is a terminal, so that somebody reads it.
+    /// If standard error is a terminal.
     IfTerminal,
     /// Wherever standard error goes.
     Always,
