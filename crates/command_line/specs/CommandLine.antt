@@ -1,5 +1,5 @@
 -- The command line of `vsc`, in the words of `clap`.
-use Rattle.std.specs.Prelude.{◌≡◌, ◌⊎◌, ◌≤◌, ⊤, IsSomeAnd, ℕ, Bool, List, [], ◌∷◌, Option, Some, codes, option_and_then, option_map, pos, true}
+use Rattle.std.specs.Prelude.{◌≡◌, ◌⊎◌, ◌≤◌, ⊤, IsSomeAnd, ℕ, Bool, List, [], ◌∷◌, Option, Some, codes, false, option_and_then, option_map, pos, true}
 use Rattle.std.specs.Str.Parse.{IsNumeral, digits_value, without_leading_plus}
 use Rattle.clap.specs.Words.{App, IsAmong, Rule, Text, fault_of, first_of, new_app, new_rule, subcommand_of, with_rule, with_subcommand}
 use Rattle.clap.specs.Simple.{on_top}
@@ -8,6 +8,8 @@ use Rattle.clap.specs.declared.builder.action.ArgAction.TheVariants.{SetTrue}
 use Rattle.clap.specs.declared.builder.value_parser.ValueParser.TheVariants.{Signed, Unsigned}
 use Rattle.clap.specs.declared.error.kind.ErrorKind.{ErrorKind}
 use Rattle.clap.specs.declared.error.kind.ErrorKind.TheVariants.{OutOfMemory}
+use Rattle.command_line.specs.declared.explains.Explains.{Explains}
+use Rattle.command_line.specs.declared.explains.Explains.TheVariants.{Always, IfTerminal, Never}
 use Rattle.command_line.specs.declared.line.Line.{Line}
 use Rattle.command_line.specs.declared.line.CommandLine.{CommandLine}
 use Rattle.command_line.specs.declared.line.Line.TheVariants.{Cnf, Decode, Judge, Lrat, Part, Recheck, Refusals, Survey, Verify}
@@ -29,12 +31,15 @@ optional_path id = record (new_rule id) { long = Some id; value_names = 1 }
 abbrev pub flag_rule : (id name : Text) → Rule
 flag_rule id name = record (new_rule id) { long = Some name; action = Some SetTrue }
 
--- --explain, a flag, which each command has after its own arguments
+-- --explain and --no-explain, two flags, which each command has after its own arguments
 abbrev pub explain_rule : Rule
 explain_rule = flag_rule (codes "explain") (codes "explain")
 
+abbrev pub no_explain_rule : Rule
+no_explain_rule = flag_rule (codes "no-explain") (codes "no-explain")
+
 abbrev pub explained : App → App
-explained app = with_rule app explain_rule
+explained app = with_rule (with_rule app explain_rule) no_explain_rule
 
 -- --cert FILE
 abbrev pub cert_rule : Rule
@@ -237,10 +242,22 @@ AsksFor command given (Verify trace cert numbers progress) = AsksToVerify comman
 AsksFor command given (Survey trace files numbers progress) = AsksToSurvey command given trace.now files numbers progress
 AsksFor command given Refusals = command ≡ Some (codes "refusals")
 
+-- it asks for an explanation by --explain, wherever standard error goes, for none by --no-explain alone, and by neither for one on a terminal
+abbrev pub AsksToExplain : (given : Text → Option Text) → Explains → Type 0
+AsksToExplain given Always = given (codes "explain") ≡ Some (bool_text true)
+AsksToExplain given Never = (given (codes "explain") ≡ Some (bool_text false)) × (given (codes "no-explain") ≡ Some (bool_text true))
+AsksToExplain given IfTerminal = (given (codes "explain") ≡ Some (bool_text false)) × (given (codes "no-explain") ≡ Some (bool_text false))
+
+-- whether the answer is explained, if standard error is a terminal and if it is none
+abbrev pub is_explained : (is_terminal : Bool) → Explains → Bool
+is_explained is_terminal Always = true
+is_explained is_terminal Never = false
+is_explained is_terminal IfTerminal = is_terminal
+
 -- it asks for the line, for an explanation of the answer or for none, and for a picture in a file or for none
 pub record AsksWith (command : Option Text) (given : Text → Option Text) (asked : CommandLine) : Type 0 where
   pub line : AsksFor command given asked.line
-  pub explain_text : given (codes "explain") ≡ Some (bool_text asked.explains)
+  pub explanation : AsksToExplain given asked.explains
   pub picture_path : given (codes "picture") ≡ option_map (λ path. path.now) asked.picture
 
 -- the words ask for the line, with an explanation or without

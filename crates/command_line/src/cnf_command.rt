@@ -6,8 +6,9 @@ ghost use Rattle.clap.specs.declared.builder.command.Command.TheViews.{out-Comma
 ghost use Rattle.command_line.specs.CommandLine.{AsksWith, cnf_app};
 ghost use Rattle.command_line.specs.Arguments.{HasFlag, HasWorkers};
 
-use crate::arguments::{flag_of, optional_text_of, text_of, trace_argument};
+use crate::arguments::{optional_text_of, text_of, trace_argument};
 use crate::building::command_of_two;
+use crate::explains::explains_of;
 use crate::line::{CommandLine, Line};
 use crate::numbers::{workers_argument, workers_of};
 use clap::{ArgMatches, Command};
@@ -46,6 +47,7 @@ pub fn cnf_line<'a>(matches: &ArgMatches<'a>) -> CommandLine<'a>
     requires trace { IsSome (first_value (found_of matches.now) (codes "trace")) }
     requires workers { HasWorkers (found_of matches.now) }
     requires explain { HasFlag (codes "explain") (found_of matches.now) }
+    requires no_explain { HasFlag (codes "no-explain") (found_of matches.now) }
     ensures { AsksWith (Some (codes "cnf")) (first_value (found_of matches.now)) result }
 {
     let line = Line::Cnf {
@@ -54,7 +56,7 @@ pub fn cnf_line<'a>(matches: &ArgMatches<'a>) -> CommandLine<'a>
     };
     CommandLine {
         line,
-        explains: flag_of(matches, "explain"),
+        explains: explains_of(matches),
         picture: optional_text_of(matches, "picture"),
     }
 }

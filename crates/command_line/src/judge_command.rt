@@ -6,8 +6,9 @@ ghost use Rattle.clap.specs.declared.builder.command.Command.TheViews.{out-Comma
 ghost use Rattle.command_line.specs.Arguments.{HasFlag};
 ghost use Rattle.command_line.specs.CommandLine.{AsksWith, judge_app};
 
-use crate::arguments::{flag_of, optional_text_of, path_argument, text_of, trace_argument};
+use crate::arguments::{optional_text_of, path_argument, text_of, trace_argument};
 use crate::building::command_of_two;
+use crate::explains::explains_of;
 use crate::line::{CommandLine, Line};
 use clap::{ArgMatches, Command};
 use std::alloc::{AllocError, Global};
@@ -47,6 +48,7 @@ pub fn judge_line<'a>(matches: &ArgMatches<'a>) -> CommandLine<'a>
     requires trace { IsSome (first_value (found_of matches.now) (codes "trace")) }
     requires schedule { IsSome (first_value (found_of matches.now) (codes "schedule")) }
     requires explain { HasFlag (codes "explain") (found_of matches.now) }
+    requires no_explain { HasFlag (codes "no-explain") (found_of matches.now) }
     ensures { AsksWith (Some (codes "judge")) (first_value (found_of matches.now)) result }
 {
     let line = Line::Judge {
@@ -55,7 +57,7 @@ pub fn judge_line<'a>(matches: &ArgMatches<'a>) -> CommandLine<'a>
     };
     CommandLine {
         line,
-        explains: flag_of(matches, "explain"),
+        explains: explains_of(matches),
         picture: optional_text_of(matches, "picture"),
     }
 }

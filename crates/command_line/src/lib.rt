@@ -5,6 +5,7 @@ mod arguments;
 mod building;
 mod cnf_command;
 mod decode_command;
+mod explains;
 mod judge_command;
 mod line;
 mod line_fault;
@@ -18,5 +19,6 @@ mod refusals_command;
 mod survey_command;
 mod verify_command;
 
+pub use explains::Explains;
 pub use line::{CommandLine, Line, SearchNumbers, SurveyFiles, SurveyNumbers, read_line};
 pub use line_fault::LineFault;

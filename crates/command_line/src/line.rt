@@ -7,6 +7,7 @@ ghost use Rattle.command_line.specs.CommandLine.{Asks, IsFaultOf, IsFaultless, I
 
 use crate::cnf_command::cnf_line;
 use crate::decode_command::decode_line;
+use crate::explains::Explains;
 use crate::judge_command::judge_line;
 use crate::line_fault::LineFault;
 use crate::lrat_command::lrat_line;
@@ -111,8 +112,8 @@ pub enum Line<'a> {
 pub struct CommandLine<'a> {
     /// What the command is to do.
     pub line: Line<'a>,
-    /// Whether it asks for an explanation of its answer or its refusal.
-    pub explains: bool,
+    /// When its answer or its refusal is explained.
+    pub explains: Explains,
     /// The path of the file that takes a picture, if one was given. Only `verify` and `survey` have that option.
     pub picture: Option<&'a str>,
 }

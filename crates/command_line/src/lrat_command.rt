@@ -6,8 +6,9 @@ ghost use Rattle.clap.specs.declared.builder.command.Command.TheViews.{out-Comma
 ghost use Rattle.command_line.specs.Arguments.{HasFlag};
 ghost use Rattle.command_line.specs.CommandLine.{AsksWith, lrat_app};
 
-use crate::arguments::{flag_of, optional_text_of, path_argument, text_of};
+use crate::arguments::{optional_text_of, path_argument, text_of};
 use crate::building::command_of_two;
+use crate::explains::explains_of;
 use crate::line::{CommandLine, Line};
 use clap::{ArgMatches, Command};
 use std::alloc::{AllocError, Global};
@@ -41,6 +42,7 @@ pub fn lrat_line<'a>(matches: &ArgMatches<'a>) -> CommandLine<'a>
     requires cnf { IsSome (first_value (found_of matches.now) (codes "cnf")) }
     requires proof { IsSome (first_value (found_of matches.now) (codes "proof")) }
     requires explain { HasFlag (codes "explain") (found_of matches.now) }
+    requires no_explain { HasFlag (codes "no-explain") (found_of matches.now) }
     ensures { AsksWith (Some (codes "lrat")) (first_value (found_of matches.now)) result }
 {
     let line = Line::Lrat {
@@ -49,7 +51,7 @@ pub fn lrat_line<'a>(matches: &ArgMatches<'a>) -> CommandLine<'a>
     };
     CommandLine {
         line,
-        explains: flag_of(matches, "explain"),
+        explains: explains_of(matches),
         picture: optional_text_of(matches, "picture"),
     }
 }

@@ -10,6 +10,7 @@ use crate::arguments::{
     flag_argument, flag_of, optional_text_of, path_argument, text_of, trace_argument,
 };
 use crate::building::command_of_three;
+use crate::explains::explains_of;
 use crate::line::{CommandLine, Line};
 use clap::{Arg, ArgMatches, Command};
 use std::alloc::{AllocError, Global};
@@ -67,6 +68,7 @@ pub fn part_line<'a>(matches: &ArgMatches<'a>) -> CommandLine<'a>
     requires names { IsSome (first_value (found_of matches.now) (codes "names")) }
     requires names_flag { HasFlag (codes "show-names") (found_of matches.now) }
     requires explain { HasFlag (codes "explain") (found_of matches.now) }
+    requires no_explain { HasFlag (codes "no-explain") (found_of matches.now) }
     ensures { AsksWith (Some (codes "part")) (first_value (found_of matches.now)) result }
 {
     let line = Line::Part {
@@ -76,7 +78,7 @@ pub fn part_line<'a>(matches: &ArgMatches<'a>) -> CommandLine<'a>
     };
     CommandLine {
         line,
-        explains: flag_of(matches, "explain"),
+        explains: explains_of(matches),
         picture: optional_text_of(matches, "picture"),
     }
 }

@@ -25,8 +25,9 @@ operations explains what each process read.";
 
 const AFTER_HELP: &str =
     "'vsc COMMAND --help' says what the files of a command are, with an example.
-'-' in place of a file that is read is standard input. With --explain a command
-also says, on standard error, why it answers as it does.
+'-' in place of a file that is read is standard input. If standard error is a
+terminal, a command also says there why it answers as it does; --explain has it
+do so elsewhere too, and --no-explain keeps it from that.
 
 Exit status:
     0  CONSISTENT, LEGAL or ACCEPTED, or a text was written

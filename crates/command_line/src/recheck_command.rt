@@ -7,9 +7,10 @@ ghost use Rattle.command_line.specs.Arguments.{HasFlag};
 ghost use Rattle.command_line.specs.CommandLine.{AsksWith, part_rule, recheck_app};
 
 use crate::arguments::{
-    flag_of, optional_path_argument, optional_text_of, path_argument, text_of, trace_argument,
+    optional_path_argument, optional_text_of, path_argument, text_of, trace_argument,
 };
 use crate::building::command_of_three;
+use crate::explains::explains_of;
 use crate::line::{CommandLine, Line};
 use clap::{Arg, ArgMatches, Command};
 use std::alloc::{AllocError, Global};
@@ -66,6 +67,7 @@ pub fn recheck_line<'a>(matches: &ArgMatches<'a>) -> CommandLine<'a>
     requires trace { IsSome (first_value (found_of matches.now) (codes "trace")) }
     requires cert { IsSome (first_value (found_of matches.now) (codes "cert")) }
     requires explain { HasFlag (codes "explain") (found_of matches.now) }
+    requires no_explain { HasFlag (codes "no-explain") (found_of matches.now) }
     ensures { AsksWith (Some (codes "recheck")) (first_value (found_of matches.now)) result }
 {
     let line = Line::Recheck {
@@ -75,7 +77,7 @@ pub fn recheck_line<'a>(matches: &ArgMatches<'a>) -> CommandLine<'a>
     };
     CommandLine {
         line,
-        explains: flag_of(matches, "explain"),
+        explains: explains_of(matches),
         picture: optional_text_of(matches, "picture"),
     }
 }

@@ -6,7 +6,8 @@ ghost use Rattle.clap.specs.declared.builder.command.Command.TheViews.{out-Comma
 ghost use Rattle.command_line.specs.Arguments.{HasFlag};
 ghost use Rattle.command_line.specs.CommandLine.{AsksWith, refusals_app};
 
-use crate::arguments::{flag_of, optional_text_of};
+use crate::arguments::optional_text_of;
+use crate::explains::explains_of;
 use crate::line::{CommandLine, Line};
 use clap::{ArgMatches, Command};
 use std::alloc::{AllocError, Global};
@@ -41,11 +42,12 @@ pub fn new_refusals_command<'a>(alloc: Global) -> Result<Command<'a>, AllocError
 /// Gives what the matches of the command ask for.
 pub fn refusals_line<'a>(matches: &ArgMatches<'a>) -> CommandLine<'a>
     requires explain { HasFlag (codes "explain") (found_of matches.now) }
+    requires no_explain { HasFlag (codes "no-explain") (found_of matches.now) }
     ensures { AsksWith (Some (codes "refusals")) (first_value (found_of matches.now)) result }
 {
     CommandLine {
         line: Line::Refusals,
-        explains: flag_of(matches, "explain"),
+        explains: explains_of(matches),
         picture: optional_text_of(matches, "picture"),
     }
 }

@@ -12,6 +12,7 @@ use crate::arguments::{
     text_of, trace_argument,
 };
 use crate::building::{command_of_three, with_two};
+use crate::explains::explains_of;
 use crate::line::{CommandLine, Line, SurveyFiles, SurveyNumbers};
 use crate::numbers::{budget_of, steps_argument, workers_argument, workers_of};
 use clap::{Arg, ArgMatches, Command};
@@ -117,6 +118,7 @@ pub fn survey_line<'a>(matches: &ArgMatches<'a>) -> CommandLine<'a>
     requires workers { HasWorkers (found_of matches.now) }
     requires progress { HasFlag (codes "progress") (found_of matches.now) }
     requires explain { HasFlag (codes "explain") (found_of matches.now) }
+    requires no_explain { HasFlag (codes "no-explain") (found_of matches.now) }
     ensures { AsksWith (Some (codes "survey")) (first_value (found_of matches.now)) result }
 {
     let numbers = SurveyNumbers {
@@ -131,7 +133,7 @@ pub fn survey_line<'a>(matches: &ArgMatches<'a>) -> CommandLine<'a>
     };
     CommandLine {
         line,
-        explains: flag_of(matches, "explain"),
+        explains: explains_of(matches),
         picture: optional_text_of(matches, "picture"),
     }
 }

@@ -12,6 +12,7 @@ use crate::arguments::{
     text_of, trace_argument,
 };
 use crate::building::{command_of_two, with_two};
+use crate::explains::explains_of;
 use crate::line::{CommandLine, Line, SearchNumbers};
 use crate::numbers::{
     budget_argument, budget_of, rounds_argument, rounds_of, split_argument, split_of,
@@ -82,6 +83,7 @@ pub fn verify_line<'a>(matches: &ArgMatches<'a>) -> CommandLine<'a>
     requires rounds { HasNumber (codes "rounds") 1 4 (found_of matches.now) }
     requires progress { HasFlag (codes "progress") (found_of matches.now) }
     requires explain { HasFlag (codes "explain") (found_of matches.now) }
+    requires no_explain { HasFlag (codes "no-explain") (found_of matches.now) }
     ensures { AsksWith (Some (codes "verify")) (first_value (found_of matches.now)) result }
 {
     let numbers = SearchNumbers {
@@ -98,7 +100,7 @@ pub fn verify_line<'a>(matches: &ArgMatches<'a>) -> CommandLine<'a>
     };
     CommandLine {
         line,
-        explains: flag_of(matches, "explain"),
+        explains: explains_of(matches),
         picture: optional_text_of(matches, "picture"),
     }
 }

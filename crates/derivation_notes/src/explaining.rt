@@ -11,7 +11,7 @@ use note_text::{Notes, decimal};
 use reducer::reduced::reduce;
 use std::alloc::{AllocError, Global};
 use trace_semantics::trace::Trace;
-use verdict_notes::kept_ops;
+use verdict_notes::{ShownPlaces, kept_ops};
 
 /// The most hints of a derivation that is said clause by clause.
 const MAX_HINTS: u64 = 60;
@@ -31,11 +31,12 @@ pub trait Deriver {
 }
 
 /// Notes why the trace has no legal schedule, if a derivation is found: a short one sentence by sentence, and of a long one on what it
-/// rests. The answer is whether the derivation was said in sentences.
+/// rests, with its operations named by these places. The answer is whether the derivation was said in sentences.
 pub fn explain_derivation<D: Deriver>(
     alloc: Global,
     notes: &mut Notes,
     trace: &Trace,
+    places: &ShownPlaces,
     deriver: &D,
 ) -> Result<bool, AllocError> {
     let Ok(reduced) = reduce(alloc, trace) else {
@@ -43,7 +44,7 @@ pub fn explain_derivation<D: Deriver>(
     };
     let clauses = TraceClauses::of(alloc, &reduced)?;
     match deriver.derivation_of(alloc, &clauses)? {
-        Some(derivation) => explain_derived(alloc, notes, trace, &clauses, &derivation),
+        Some(derivation) => explain_derived(alloc, notes, trace, places, &clauses, &derivation),
         None => Ok(false),
     }
 }
@@ -53,10 +54,11 @@ fn explain_derived(
     alloc: Global,
     notes: &mut Notes,
     trace: &Trace,
+    places: &ShownPlaces,
     clauses: &TraceClauses,
     derivation: &Derivation,
 ) -> Result<bool, AllocError> {
-    let ops = kept_ops(alloc, trace)?;
+    let ops = kept_ops(alloc, trace, places)?;
     if ops.len() != clauses.layout().operations() {
         return Ok(false);
     }

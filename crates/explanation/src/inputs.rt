@@ -2,10 +2,28 @@
 
 use note_text::NamedText;
 use schedule_text::schedule_reader::read_schedule;
-use std::alloc::Global;
+use std::alloc::{AllocError, Global};
+use text_lines::lines::cut_line;
 use trace_semantics::schedule::Schedule;
 use trace_semantics::trace::Trace;
 use trace_text::trace_reader::read_trace;
+use verdict_notes::ShownPlaces;
+
+/// A trace, and the places under which its operations are named.
+pub(crate) struct PlacedTrace {
+    pub trace: Trace,
+    pub places: ShownPlaces,
+}
+
+/// Drops the trace and the places, in one call at each exit of a function that owns them.
+impl Drop for PlacedTrace {
+    fn drop(self) {
+        let PlacedTrace {
+            trace: _trace,
+            places: _places,
+        } = self;
+    }
+}
 
 /// The trace that the text spells, if its bytes are at hand and spell one.
 pub(crate) fn trace_of(alloc: Global, text: &NamedText<'_>) -> Option<Trace> {
@@ -27,4 +45,31 @@ pub(crate) fn schedule_of(alloc: Global, text: &NamedText<'_>) -> Option<Schedul
         Ok(schedule) => Some(schedule),
         Err(_) => None,
     }
+}
+
+/// The names of the core that the report of a survey has, if it has one.
+pub(crate) fn core_of_report(alloc: Global, report: &[u8]) -> Option<Schedule> {
+    let (first, rest) = cut_line(report)?;
+    if !first.starts_with(b"INCONSISTENT operations=") {
+        return None;
+    }
+    match read_schedule(alloc, rest) {
+        Ok(names) => Some(names),
+        Err(_) => None,
+    }
+}
+
+/// The trace that the text spells, and under which places its operations are named, if its bytes are at hand and spell one.
+pub(crate) fn placed_trace_of(
+    alloc: Global,
+    text: &NamedText<'_>,
+) -> Result<Option<PlacedTrace>, AllocError> {
+    let Some(bytes) = text.bytes else {
+        return Ok(None);
+    };
+    let Ok(trace) = read_trace(alloc, bytes) else {
+        return Ok(None);
+    };
+    let places = ShownPlaces::of_comments(alloc, bytes)?;
+    Ok(Some(PlacedTrace { trace, places }))
 }

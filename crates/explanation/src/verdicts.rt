@@ -2,15 +2,16 @@
 
 use crate::asked_command::AskedCommand;
 use crate::by_solver::BySolver;
-use crate::inputs::{schedule_of, trace_of};
+use crate::inputs::{PlacedTrace, core_of_report, placed_trace_of, schedule_of, trace_of};
 use derivation_notes::explain_derivation;
 use note_text::{NamedText, Notes};
 use std::alloc::{AllocError, Global};
 use survey::BySaturation;
+use trace_semantics::operation::OpName;
 use trace_semantics::trace::Trace;
 use verdict_notes::{
-    SearchEffort, explain_by_survey, explain_certificate_length, explain_illegal,
-    explain_sourceless, explain_undecided,
+    CorePart, SearchEffort, ShownPlaces, explain_by_survey, explain_certificate_length,
+    explain_counted, explain_illegal, explain_refuted, explain_sourceless, explain_undecided,
 };
 use verdict_report::{MAX_INPUT_BYTES, Status};
 
@@ -43,7 +44,9 @@ pub(crate) fn explain_verdict(
         AskedCommand::Recheck { trace, names, .. } => {
             explain_rechecked(alloc, notes, trace, names.is_some(), status)?;
         }
-        AskedCommand::Survey { trace } => explain_surveyed(alloc, notes, trace, status)?,
+        AskedCommand::Survey { trace, report } => {
+            explain_surveyed(alloc, notes, trace, *report, status)?;
+        }
         AskedCommand::Cnf { .. } => {}
         AskedCommand::Decode { .. } => {}
         AskedCommand::Lrat { .. } => {}
@@ -72,41 +75,95 @@ fn explain_judged(
     }
 }
 
+/// Notes how operations are named, if not by their places in the file.
+fn explain_places(notes: &mut Notes, places: &ShownPlaces) {
+    if places.are_of_whole() {
+        notes.note(&[b"operations are named as in the whole, by the comments above them"]);
+    }
+}
+
 /// Notes why the trace in this file has no legal schedule.
 fn explain_contradiction(
     alloc: Global,
     notes: &mut Notes,
     trace: &NamedText<'_>,
 ) -> Result<(), AllocError> {
-    match trace_of(alloc, trace) {
-        Some(trace) => explain_inconsistent(alloc, notes, &trace),
+    match placed_trace_of(alloc, trace)? {
+        Some(placed) => {
+            explain_places(notes, &placed.places);
+            explain_inconsistent(alloc, notes, &placed.trace, &placed.places)
+        }
         None => Ok(()),
     }
 }
 
-/// Notes why the trace has no legal schedule: reads and final values of values that nothing gives; or else a short derivation of a
-/// contradiction; or else a few operations that a survey finds.
-fn explain_inconsistent(alloc: Global, notes: &mut Notes, trace: &Trace) -> Result<(), AllocError> {
-    if explain_sourceless(alloc, notes, trace)? {
-        return Ok(());
+/// Notes what rules out all schedules without a search: reads and final values of values that nothing gives, or more updates than
+/// sources. The answer is whether there is something.
+fn explain_at_once(
+    alloc: Global,
+    notes: &mut Notes,
+    trace: &Trace,
+    places: &ShownPlaces,
+) -> Result<bool, AllocError> {
+    if explain_sourceless(alloc, notes, trace, places)? {
+        return Ok(true);
     }
+    Ok(explain_counted(alloc, notes, trace, places))
+}
+
+/// Notes a derivation of the contradiction in the trace in sentences, if a short one is found. The answer is whether it was.
+fn explain_derived(
+    alloc: Global,
+    notes: &mut Notes,
+    trace: &Trace,
+    places: &ShownPlaces,
+) -> Result<bool, AllocError> {
     let deriver = BySolver {
         budget: SEARCH_CONFLICTS,
     };
-    if explain_derivation(alloc, notes, trace, &deriver)? {
+    explain_derivation(alloc, notes, trace, places, &deriver)
+}
+
+/// Notes why the trace has no legal schedule: what rules out all of them without a search; or else a short derivation of a contradiction;
+/// or else a few operations that a survey finds.
+fn explain_inconsistent(
+    alloc: Global,
+    notes: &mut Notes,
+    trace: &Trace,
+    places: &ShownPlaces,
+) -> Result<(), AllocError> {
+    if explain_at_once(alloc, notes, trace, places)? {
+        return Ok(());
+    }
+    if explain_derived(alloc, notes, trace, places)? {
         return Ok(());
     }
     let surveyor = BySaturation {
         budget: SURVEY_STEPS,
     };
-    explain_by_survey(alloc, notes, trace, &surveyor)
+    explain_by_survey(alloc, notes, trace, places, &surveyor)
 }
 
-/// Notes what is asked of a schedule if there is one.
-fn explain_consistent(notes: &mut Notes) {
+/// Notes what is asked of a schedule if there is one, or that there is nothing to put in order.
+fn explain_consistent(alloc: Global, notes: &mut Notes, trace: &NamedText<'_>) {
+    if let Some(trace) = trace_of(alloc, trace) {
+        if is_without_operation(&trace) {
+            return notes.note(&[b"the trace has no operation: is it the whole file?"]);
+        }
+    }
     notes.note(&[
         b"the schedule keeps program order; what came first in time is known only by before lines",
     ]);
+}
+
+/// Returns whether no process of the trace has an operation.
+fn is_without_operation(trace: &Trace) -> bool {
+    for process in trace.processes() {
+        if !process.operations.as_slice().is_empty() {
+            return false;
+        }
+    }
+    true
 }
 
 /// Notes what was decided of a trace.
@@ -119,15 +176,27 @@ fn explain_decided(
     status: Status,
 ) -> Result<(), AllocError> {
     match status {
-        Status::Yes => explain_consistent(notes),
+        Status::Yes => explain_consistent(alloc, notes, trace),
         Status::No => explain_contradiction(alloc, notes, trace)?,
         Status::Unknown => {
-            if let Some(trace) = trace_of(alloc, trace) {
-                explain_undecided(alloc, notes, &trace, effort, report)?;
+            if let Some(placed) = placed_trace_of(alloc, trace)? {
+                explain_open(alloc, notes, &placed, effort, report)?;
             }
         }
     }
     Ok(())
+}
+
+/// Notes what a search leaves open, and what to try.
+fn explain_open(
+    alloc: Global,
+    notes: &mut Notes,
+    placed: &PlacedTrace,
+    effort: SearchEffort,
+    report: Option<&[u8]>,
+) -> Result<(), AllocError> {
+    explain_places(notes, &placed.places);
+    explain_undecided(alloc, notes, &placed.trace, &placed.places, effort, report)
 }
 
 /// Notes how a certificate gets shorter that is too long to be read.
@@ -159,16 +228,56 @@ fn explain_rechecked(
     explain_contradiction(alloc, notes, trace)
 }
 
+/// Notes why the operations of the core that the report names have no legal schedule, in sentences if a short derivation is found, and
+/// else which they are.
+fn explain_reported_core(
+    alloc: Global,
+    notes: &mut Notes,
+    placed: &PlacedTrace,
+    names: &[OpName],
+) -> Result<(), AllocError> {
+    if let Some(core) = CorePart::of(alloc, &placed.trace, names)? {
+        if explain_derived(alloc, notes, core.trace(), core.places())? {
+            return Ok(());
+        }
+    }
+    // The report has names of the file.
+    let own = ShownPlaces::own(alloc);
+    explain_refuted(alloc, notes, &placed.trace, &own, names);
+    Ok(())
+}
+
+/// Notes why the trace has no legal schedule, of which a survey made the report.
+fn explain_survey_report(
+    alloc: Global,
+    notes: &mut Notes,
+    placed: &PlacedTrace,
+    report: &[u8],
+) -> Result<(), AllocError> {
+    let Some(names) = core_of_report(alloc, report) else {
+        return explain_inconsistent(alloc, notes, &placed.trace, &placed.places);
+    };
+    if explain_at_once(alloc, notes, &placed.trace, &placed.places)? {
+        return Ok(());
+    }
+    explain_reported_core(alloc, notes, placed, names.names())
+}
+
 /// Notes what a survey decided of a trace.
 fn explain_surveyed(
     alloc: Global,
     notes: &mut Notes,
     trace: &NamedText<'_>,
+    report: Option<&[u8]>,
     status: Status,
 ) -> Result<(), AllocError> {
     match status {
-        Status::Yes => explain_consistent(notes),
-        Status::No => explain_contradiction(alloc, notes, trace)?,
+        Status::Yes => explain_consistent(alloc, notes, trace),
+        Status::No => {
+            if let Some(placed) = placed_trace_of(alloc, trace)? {
+                explain_survey_report(alloc, notes, &placed, report.unwrap_or(b""))?;
+            }
+        }
         Status::Unknown => {
             notes.note(&[
                 b"vsc part makes a smaller trace of operations that are named, for vsc verify",

@@ -17,6 +17,7 @@ pub(crate) enum TextKind {
     Certificate,
     Report,
     Json,
+    Table,
     Other,
 }
 
@@ -32,6 +33,7 @@ impl TextKind {
             TextKind::Certificate => "a certificate",
             TextKind::Report => "what vsc verify prints",
             TextKind::Json => "JSON",
+            TextKind::Table => "a table (CSV)",
             TextKind::Other => "another text",
         }
     }
@@ -86,6 +88,8 @@ fn kind_of_form(line: &[u8]) -> TextKind {
         TextKind::Derivation
     } else if has_byte(first, b'{') || has_byte(first, b'[') {
         TextKind::Json
+    } else if has_byte(line, b',') || has_byte(line, b';') || has_byte(line, b'\t') {
+        TextKind::Table
     } else {
         TextKind::Other
     }

@@ -5,7 +5,7 @@ use crate::meanings::Explained;
 use crate::name_notes::note_missing;
 use crate::names::{has_byte, is_word_in_any_case};
 use crate::swapped::{bytes_of, note_swapped};
-use crate::text_kinds::TextKind;
+use crate::text_kinds::{TextKind, kind_of};
 use crate::unknown_line::hint_of_line;
 use crate::word_notes::{BadWord, bad_name, bad_number, note_word};
 use note_text::{AskedTexts, NamedText, Notes, count_words, decimal, line_of_text, word_at};
@@ -87,6 +87,19 @@ fn says_of_bytes(bytes: &[u8]) -> Option<&'static str> {
         [255, 254, ..] | [254, 255, ..] => {
             Some("the file is UTF-16: save it as plain ASCII or UTF-8")
         }
+        [31, 139, ..] => {
+            Some(
+                "the file is packed by gzip: unpack it first; of a log tools/from-log makes a trace",
+            )
+        }
+        [253, b'7', b'z', b'X', b'Z', ..] => {
+            Some("the file is packed by xz: unpack it first; of a log tools/from-log makes a trace")
+        }
+        [40, 181, 47, 253, ..] => {
+            Some(
+                "the file is packed by zstd: unpack it first; of a log tools/from-log makes a trace",
+            )
+        }
         _ => None,
     }
 }
@@ -117,6 +130,16 @@ fn says_of_first_key(first: &[u8]) -> Option<&'static str> {
         Some("the header is missing: `vsc 2` stands above this line")
     } else {
         None
+    }
+}
+
+/// Gives what is said of a text that may be a log.
+fn says_of_log(bytes: &[u8]) -> Option<&'static str> {
+    match kind_of(bytes) {
+        TextKind::Table | TextKind::Json => {
+            Some("of a log in CSV or in JSON lines tools/from-log makes a trace: see docs/LOGS.md")
+        }
+        _ => None,
     }
 }
 
@@ -187,7 +210,8 @@ fn note_cause(
         TraceCause::NotAscii => note_if(notes, says_of_bytes(refused.bytes)),
         TraceCause::Header => {
             note_if(notes, says_of_header(refused.line));
-            note_swapped(notes, &refused.text, TextKind::Trace, texts)
+            note_swapped(notes, &refused.text, TextKind::Trace, texts);
+            note_if(notes, says_of_log(refused.bytes))
         }
         TraceCause::UnknownLine => {
             let hint = hint_of_line(refused.line, is_version_2(refused.bytes));

@@ -123,11 +123,11 @@ fn says_why_a_schedule_is_illegal(rt: HostRuntime) {
 const SOURCELESS: [(&str, &str); 6] = [
     (
         "vsc 1\nproc P\nW x 1\nproc Q\nR x 0\n",
-        "note: Q.1 reads 0 at x, which nothing writes, and x has no init line\nnote: each of these alone rules out all schedules\n",
+        "note: Q.1 reads 0 at x, which nothing writes, and x has no init line\nnote: if x held 0 at first, the line `init x 0` is missing above the first proc line\nnote: this alone rules out all schedules\n",
     ),
     (
         "vsc 1\ninit x 7\nproc P\nU x 1 1\n",
-        "note: P.1 reads 1 at x, which nothing else writes, and init x is 7\nnote: each of these alone rules out all schedules\n",
+        "note: P.1 reads 1 at x, which nothing else writes, and init x is 7\nnote: this alone rules out all schedules\n",
     ),
     (
         "vsc 2\ninit x 0\nproc P\nW x 1\nW y 2\nproc Q\nR x 2 from P 2\nR x 1 from init\n",
@@ -178,7 +178,7 @@ fn says_how_a_certificate_gets_shorter(rt: HostRuntime) {
         certificate_length: Some(268_435_457),
     };
     let wanted =
-        "note: P.1 reads 1 at x, which nothing writes, and x has no init line\nnote: each of these alone rules out all schedules\nnote: the certificate has 268435457 bytes, and vsc recheck reads at most 268435456\nnote: --split 0 gives one proof in place of one for each cube, and mostly a shorter certificate\n";
+        "note: P.1 reads 1 at x, which nothing writes, and x has no init line\nnote: this alone rules out all schedules\nnote: the certificate has 268435457 bytes, and vsc recheck reads at most 268435456\nnote: --split 0 gives one proof in place of one for each cube, and mostly a shorter certificate\n";
     assert_notes(rt.alloc(), &rt, &asked, Status::No, wanted, 1);
 }
 

@@ -2,6 +2,7 @@
 
 use crate::named_operations::operation_of;
 use crate::sentence::Sentence;
+use crate::shown_places::ShownPlaces;
 use note_text::{Notes, decimal};
 use std::alloc::{AllocError, Global};
 use surveyor::{Finding, Surveyor};
@@ -17,11 +18,12 @@ pub fn explain_by_survey<S: Surveyor>(
     alloc: Global,
     notes: &mut Notes,
     trace: &Trace,
+    places: &ShownPlaces,
     surveyor: &S,
 ) -> Result<(), AllocError> {
     let overview = surveyor.survey(alloc, trace)?;
     match &overview.finding {
-        Finding::Core(names) => explain_core(alloc, notes, trace, names.as_slice()),
+        Finding::Core(names) => explain_core(alloc, notes, trace, places, names.as_slice()),
         Finding::Schedule(_) => explain_no_core(notes),
         Finding::Nothing => explain_no_core(notes),
     }
@@ -57,19 +59,45 @@ fn explain_initial(notes: &mut Notes, trace: &Trace, names: &[OpName]) {
 }
 
 /// Notes the operation, with its name.
-fn explain_operation(alloc: Global, notes: &mut Notes, trace: &Trace, name: &OpName) {
+fn explain_operation(
+    alloc: Global,
+    notes: &mut Notes,
+    trace: &Trace,
+    places: &ShownPlaces,
+    name: &OpName,
+) {
     let Some(op) = operation_of(trace, name) else {
         return;
     };
     let mut sentence = Sentence::new(alloc);
-    sentence.add_op_name(name);
+    sentence.add_name(name.process.as_bytes(), places.of_name(trace, name));
     sentence.add(&[b" "]);
     sentence.add_operation(op);
     sentence.note(notes);
 }
 
-/// Notes the operations of a core.
-fn explain_core(alloc: Global, notes: &mut Notes, trace: &Trace, names: &[OpName]) {
+/// Notes the operations, with the initial values of their locations.
+fn explain_operations(
+    alloc: Global,
+    notes: &mut Notes,
+    trace: &Trace,
+    places: &ShownPlaces,
+    names: &[OpName],
+) {
+    explain_initial(notes, trace, names);
+    for name in names {
+        explain_operation(alloc, notes, trace, places, name);
+    }
+}
+
+/// Notes the operations of a core that was not refuted.
+fn explain_core(
+    alloc: Global,
+    notes: &mut Notes,
+    trace: &Trace,
+    places: &ShownPlaces,
+    names: &[OpName],
+) {
     let number = names.len() as u64;
     let count = decimal(number);
     if number > MAX_SHOWN {
@@ -83,10 +111,26 @@ fn explain_core(alloc: Global, notes: &mut Notes, trace: &Trace, names: &[OpName
         b"a survey, which nothing checks here, finds these operations in contradiction: ",
         count.as_slice(),
     ]);
-    explain_initial(notes, trace, names);
-    for name in names {
-        explain_operation(alloc, notes, trace, name);
-    }
+    explain_operations(alloc, notes, trace, places, names);
     notes.note(&[b"fewer may suffice; vsc part writes them as a trace, if a file has their names"]);
     notes.note(&[b"vsc survey finds and refutes such operations"]);
+}
+
+/// Notes the operations of a core, which the command has refuted.
+pub fn explain_refuted(
+    alloc: Global,
+    notes: &mut Notes,
+    trace: &Trace,
+    places: &ShownPlaces,
+    names: &[OpName],
+) {
+    let number = names.len() as u64;
+    let count = decimal(number);
+    notes.note(&[
+        b"the operations that contradict each other, as the proofs show: ",
+        count.as_slice(),
+    ]);
+    if number <= MAX_SHOWN {
+        explain_operations(alloc, notes, trace, places, names);
+    }
 }

@@ -1,6 +1,7 @@
 //! The operations that have numbers in the formula of a trace, by their names in the whole trace.
 
 use crate::named_operations::{is_named, origin_of, place_after};
+use crate::shown_places::ShownPlaces;
 use std::alloc::{AllocError, Global};
 use trace_semantics::operation::{Op, Origin};
 use trace_semantics::trace::{Process, Trace};
@@ -10,7 +11,7 @@ use trace_semantics::trace::{Process, Trace};
 pub struct KeptOp<'t> {
     /// The name of its process.
     pub process: &'t [u8],
-    /// Its place in the process, counted from 1.
+    /// The place under which it is named.
     pub place: u64,
     pub op: &'t Op,
 }
@@ -82,18 +83,20 @@ fn is_left_out(trace: &Trace, process: &Process, k: usize) -> bool {
     repeats(&ops[k - 1], &ops[k]) && !is_spoken_of(trace, process.name.as_bytes(), place_after(k))
 }
 
-/// Adds the operations of the process that are kept.
+/// Adds the operations of the process of this number that are kept.
 fn add_process<'t>(
     kept: &mut Vec<KeptOp<'t>>,
     trace: &'t Trace,
+    places: &ShownPlaces,
     process: &'t Process,
+    number: usize,
 ) -> Result<(), AllocError> {
     let ops = process.operations.as_slice();
     for k in 0..ops.len() {
         if !is_left_out(trace, process, k) {
             kept.push(KeptOp {
                 process: process.name.as_bytes(),
-                place: place_after(k),
+                place: places.at(number, k),
                 op: &ops[k],
             })?;
         }
@@ -102,10 +105,15 @@ fn add_process<'t>(
 }
 
 /// The operations that the reduction keeps, in the order of their numbers.
-pub fn kept_ops<'t>(alloc: Global, trace: &'t Trace) -> Result<Vec<KeptOp<'t>>, AllocError> {
+pub fn kept_ops<'t>(
+    alloc: Global,
+    trace: &'t Trace,
+    places: &ShownPlaces,
+) -> Result<Vec<KeptOp<'t>>, AllocError> {
     let mut kept = Vec::new(alloc);
-    for process in trace.processes() {
-        add_process(&mut kept, trace, process)?;
+    let processes = trace.processes();
+    for number in 0..processes.len() {
+        add_process(&mut kept, trace, places, &processes[number], number)?;
     }
     Ok(kept)
 }

@@ -2,6 +2,7 @@
 
 use crate::kept_operations::kept_ops;
 use crate::open_orders::OpenOrders;
+use crate::shown_places::ShownPlaces;
 use note_text::{Notes, decimal};
 use reducer::reduced::{Reduced, reduce};
 use std::alloc::{AllocError, Global};
@@ -49,6 +50,7 @@ pub fn explain_open_cubes(
     alloc: Global,
     notes: &mut Notes,
     trace: &Trace,
+    places: &ShownPlaces,
     report: &[u8],
 ) -> Result<(), AllocError> {
     let open = count_open(report);
@@ -62,7 +64,7 @@ pub fn explain_open_cubes(
         b"; a legal schedule can only be in one of them",
     ]);
     match reduce(alloc, trace) {
-        Ok(reduced) => explain_of_reduced(alloc, notes, trace, &reduced, report),
+        Ok(reduced) => explain_of_reduced(alloc, notes, trace, places, &reduced, report),
         Err(_) => Ok(()),
     }
 }
@@ -73,11 +75,12 @@ fn explain_of_reduced(
     alloc: Global,
     notes: &mut Notes,
     trace: &Trace,
+    places: &ShownPlaces,
     reduced: &Reduced,
     report: &[u8],
 ) -> Result<(), AllocError> {
     let layout = Layout::of(alloc, reduced)?;
-    let ops = kept_ops(alloc, trace)?;
+    let ops = kept_ops(alloc, trace, places)?;
     if ops.len() != layout.operations() {
         return Ok(());
     }

@@ -1,7 +1,9 @@
 //! What rules out each schedule without a search.
 
+use crate::read_slips::{note_final_slip, note_slip};
+use crate::shown_places::ShownPlaces;
 use crate::sourceless_finals::{explain_final_value, may_be_final, writers_of_location};
-use crate::sourceless_reads::PlacedRead;
+use crate::sourceless_reads::{MissingSource, PlacedRead};
 use note_text::{Notes, decimal};
 use std::alloc::{AllocError, Global};
 use trace_part::writer_table::{WriterTable, writer_table};
@@ -11,50 +13,119 @@ use trace_semantics::trace::{Process, Trace};
 /// The most reads, and the most final values, that are named.
 const MAX_NAMED: u64 = 5;
 
-/// Notes which reads of the process have no source, after `found` ones, and how many there are by then.
+/// The reads without a source so far.
+#[derive(Clone, Copy)]
+struct SourcelessReads<'t> {
+    count: u64,
+    /// A location without an initial value at which a named one reads 0, and nothing else was probably meant.
+    bare: Option<&'t [u8]>,
+}
+
+impl<'t> SourcelessReads<'t> {
+    /// Notes the read, unless enough are named, and gives what is then known.
+    fn noted(
+        self,
+        alloc: Global,
+        notes: &mut Notes,
+        places: &ShownPlaces,
+        reader: &PlacedRead<'t>,
+        missing: MissingSource<'t>,
+    ) -> SourcelessReads<'t> {
+        let mut bare = self.bare;
+        if self.count < MAX_NAMED {
+            reader.explain(alloc, notes, places, missing);
+            let is_told = note_slip(alloc, notes, places, reader, missing);
+            if !is_told && reader.wants_initial_zero(missing) {
+                bare = Some(reader.op.location().as_bytes());
+            }
+        }
+        SourcelessReads {
+            count: self.count.saturating_add(1),
+            bare,
+        }
+    }
+}
+
+/// The tables by which reads without a source are found.
+#[derive(Clone, Copy)]
+struct ReadTables<'t, 'l> {
+    trace: &'t Trace,
+    writers: &'l WriterTable<'t>,
+    places: &'l ShownPlaces,
+}
+
+/// Notes which reads of the process of this number have no source, after these ones.
 fn explain_process<'t>(
     alloc: Global,
     notes: &mut Notes,
-    trace: &'t Trace,
-    table: &WriterTable<'t>,
+    tables: ReadTables<'t, '_>,
     process: &'t Process,
     number: usize,
-    found: u64,
-) -> u64 {
+    before: SourcelessReads<'t>,
+) -> SourcelessReads<'t> {
     let ops = process.operations.as_slice();
-    let mut count = found;
+    let mut found = before;
     for k in 0..ops.len() {
         let reader = PlacedRead {
-            trace,
+            trace: tables.trace,
             number,
             k,
             op: &ops[k],
         };
-        if let Some(missing) = reader.missing_source(table) {
-            if count < MAX_NAMED {
-                reader.explain(alloc, notes, missing);
-            }
-            count = count.saturating_add(1);
+        if let Some(missing) = reader.missing_source(tables.writers) {
+            found = found.noted(alloc, notes, tables.places, &reader, missing);
         }
     }
-    count
+    found
+}
+
+/// Notes how a location gets its initial value, if one of a value 0 is missing.
+fn advise_initial(notes: &mut Notes, bare: Option<&[u8]>) {
+    if let Some(location) = bare {
+        notes.note(&[
+            b"if ",
+            location,
+            b" held 0 at first, the line `init ",
+            location,
+            b" 0` is missing above the first proc line",
+        ]);
+    }
 }
 
 /// Notes which reads have no source, and how many there are.
-fn explain_reads(alloc: Global, notes: &mut Notes, trace: &Trace) -> Result<u64, AllocError> {
+fn explain_reads(
+    alloc: Global,
+    notes: &mut Notes,
+    trace: &Trace,
+    places: &ShownPlaces,
+) -> Result<u64, AllocError> {
     let set = OpSet::new(alloc);
-    let table = writer_table(alloc, trace, &set)?;
+    let writers = writer_table(alloc, trace, &set)?;
+    let tables = ReadTables {
+        trace,
+        writers: &writers,
+        places,
+    };
     let processes = trace.processes();
-    let mut count = 0;
+    let mut found = SourcelessReads {
+        count: 0,
+        bare: None,
+    };
     for number in 0..processes.len() {
-        let process = &processes[number];
-        count = explain_process(alloc, notes, trace, &table, process, number, count);
+        found = explain_process(alloc, notes, tables, &processes[number], number, found);
     }
-    Ok(count)
+    explain_rest(notes, b"reads without a source beside these: ", found.count);
+    advise_initial(notes, found.bare);
+    Ok(found.count)
 }
 
 /// Notes which final values no order of the operations leaves, and how many there are.
-fn explain_finals(alloc: Global, notes: &mut Notes, trace: &Trace) -> Result<u64, AllocError> {
+fn explain_finals(
+    alloc: Global,
+    notes: &mut Notes,
+    trace: &Trace,
+    places: &ShownPlaces,
+) -> Result<u64, AllocError> {
     let mut count: u64 = 0;
     for entry in trace.final_values() {
         let location = entry.0.as_bytes();
@@ -62,6 +133,7 @@ fn explain_finals(alloc: Global, notes: &mut Notes, trace: &Trace) -> Result<u64
         if !may_be_final(trace, writers.as_slice(), location, entry.1) {
             if count < MAX_NAMED {
                 explain_final_value(alloc, notes, trace, writers.as_slice(), location, entry.1);
+                note_final_slip(alloc, notes, trace, places, location, entry.1);
             }
             count = count.saturating_add(1);
         }
@@ -84,14 +156,16 @@ pub fn explain_sourceless(
     alloc: Global,
     notes: &mut Notes,
     trace: &Trace,
+    places: &ShownPlaces,
 ) -> Result<bool, AllocError> {
-    let reads = explain_reads(alloc, notes, trace)?;
-    explain_rest(notes, b"reads without a source beside these: ", reads);
-    let finals = explain_finals(alloc, notes, trace)?;
+    let reads = explain_reads(alloc, notes, trace, places)?;
+    let finals = explain_finals(alloc, notes, trace, places)?;
     explain_rest(notes, b"such final values beside these: ", finals);
-    if reads == 0 && finals == 0 {
+    let all = reads.saturating_add(finals);
+    if all == 0 {
         return Ok(false);
     }
-    notes.note(&[b"each of these alone rules out all schedules"]);
+    let which: &[u8] = if all == 1 { b"this" } else { b"each of these" };
+    notes.note(&[which, b" alone rules out all schedules"]);
     Ok(true)
 }

@@ -3,6 +3,7 @@
 use crate::held_value::initial_value;
 use crate::named_operations::{is_named, operation_of, origin_of, place_after};
 use crate::sentence::Sentence;
+use crate::shown_places::ShownPlaces;
 use note_text::{Notes, decimal};
 use std::alloc::Global;
 use trace_part::sources::leaves;
@@ -35,12 +36,15 @@ pub enum MissingSource<'t> {
     FromItself,
 }
 
+/// Returns whether the writer is the operation at this place.
+fn is_itself(writer: &ChosenWriter, number: usize, k: usize) -> bool {
+    writer.name.process as usize == number && writer.name.place as u64 == place_after(k)
+}
+
 /// Returns whether another operation writes the value, of these writers.
 fn is_written_by_another(writers: &[ChosenWriter], number: usize, k: usize, value: u64) -> bool {
     for writer in writers {
-        let is_itself = writer.name.process as usize == number
-            && writer.name.place as u64 == place_after(k);
-        if !is_itself && leaves(writer, value) {
+        if !is_itself(writer, number, k) && leaves(writer, value) {
             return true;
         }
     }
@@ -110,21 +114,47 @@ impl<'t> PlacedRead<'t> {
         }
     }
 
+    /// Returns whether it reads a 0 that nothing writes, at a location without an initial value.
+    pub fn wants_initial_zero(&self, missing: MissingSource<'t>) -> bool {
+        let is_unwritten = match missing {
+            MissingSource::Unwritten => true,
+            MissingSource::NotInitial => true,
+            MissingSource::NotFrom(_) => false,
+            MissingSource::FromItself => false,
+        };
+        let location = self.op.location().as_bytes();
+        is_unwritten
+            && self.op.value_read() == Some(0)
+            && initial_value(self.trace, location).is_none()
+    }
+
     /// Notes that it has no source.
-    pub fn explain(&self, alloc: Global, notes: &mut Notes, missing: MissingSource<'t>) {
+    pub fn explain(
+        &self,
+        alloc: Global,
+        notes: &mut Notes,
+        places: &ShownPlaces,
+        missing: MissingSource<'t>,
+    ) {
         let Some(read) = self.op.value_read() else {
             return;
         };
         let location = self.op.location().as_bytes();
         let mut sentence = Sentence::new(alloc);
-        sentence.add_name(self.process(), place_after(self.k));
+        sentence.add_name(self.process(), places.at(self.number, self.k));
         sentence.add_read(read, location);
-        self.add_missing_source(&mut sentence, missing, read);
+        self.add_missing_source(&mut sentence, places, missing, read);
         sentence.note(notes);
     }
 
     /// Adds why it has no source.
-    fn add_missing_source(&self, sentence: &mut Sentence, missing: MissingSource<'t>, read: u64) {
+    fn add_missing_source(
+        &self,
+        sentence: &mut Sentence,
+        places: &ShownPlaces,
+        missing: MissingSource<'t>,
+        read: u64,
+    ) {
         let location = self.op.location().as_bytes();
         match missing {
             MissingSource::Unwritten => {
@@ -142,7 +172,7 @@ impl<'t> PlacedRead<'t> {
             }
             MissingSource::NotFrom(name) => {
                 sentence.add(&[b" from "]);
-                sentence.add_op_name(name);
+                sentence.add_name(name.process.as_bytes(), places.of_name(self.trace, name));
                 let value = decimal(read);
                 sentence.add(&[
                     b", which does not write ",

@@ -1,6 +1,7 @@
 //! What to try if a trace is not decided.
 
 use crate::open_cubes::explain_open_cubes;
+use crate::shown_places::ShownPlaces;
 use cube_jobs::limits::{MAX_BUDGET, MAX_ROUNDS, MAX_WORKERS};
 use note_text::{Notes, decimal};
 use std::alloc::{AllocError, Global};
@@ -25,11 +26,12 @@ pub fn explain_undecided(
     alloc: Global,
     notes: &mut Notes,
     trace: &Trace,
+    places: &ShownPlaces,
     effort: SearchEffort,
     report: Option<&[u8]>,
 ) -> Result<(), AllocError> {
     if let Some(report) = report {
-        explain_open_cubes(alloc, notes, trace, report)?;
+        explain_open_cubes(alloc, notes, trace, places, report)?;
     }
     advise_budget(notes, effort.budget);
     advise_rounds(notes, effort.rounds);

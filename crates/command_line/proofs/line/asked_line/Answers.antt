@@ -100,7 +100,7 @@ module _ (rules : List Rule) (found : Found) where
 -- ---- judge
 
 judge_fits : AllFit (passes judge_built.rules) judge_built.rules
-judge_fits = (fits judge_built.rules _ refl refl refl refl, (fits judge_built.rules _ refl refl refl refl, (fits judge_built.rules _ refl refl refl refl, (fits judge_built.rules _ refl refl refl refl, tt))))
+judge_fits = (fits judge_built.rules _ refl refl refl refl, (fits judge_built.rules _ refl refl refl refl, (fits judge_built.rules _ refl refl refl refl, (fits judge_built.rules _ refl refl refl refl, (fits judge_built.rules _ refl refl refl refl, tt)))))
 
 judge_met : (c : In-Some) → EntersAs (texts c.args.words.now) (codes "judge") (found_of c.in-Some.judge.now)
 judge_met c = enters_as _ _ _ c.in_ok-matches.matches c.in_ok-matches.ensures.ok c.in_ok-matches.ensures.kinds (c.in-Some.ensures.found.0 refl) c.in-Some.ensures.rows
@@ -113,6 +113,7 @@ judge_line-requires c =
       trace = has_text found judge_built.rules (codes "trace") (read (codes "trace") refl);
       schedule = has_text found judge_built.rules (codes "schedule") (read (codes "schedule") refl);
       explain = has_flag judge_built.rules found (codes "explain") refl (read (codes "explain") refl);
+      no_explain = has_flag judge_built.rules found (codes "no-explain") refl (read (codes "no-explain") refl);
     }
 
 pub returns-in-Some-clause-line : goal.returns-in-Some-clause-line
@@ -123,7 +124,7 @@ returns-in-Some-clause-line c =
 -- ---- cnf
 
 cnf_fits : AllFit (passes cnf_built.rules) cnf_built.rules
-cnf_fits = (fits cnf_built.rules _ refl refl refl refl, (fits cnf_built.rules _ refl refl refl refl, (fits cnf_built.rules _ refl refl refl refl, (fits cnf_built.rules _ refl refl refl refl, tt))))
+cnf_fits = (fits cnf_built.rules _ refl refl refl refl, (fits cnf_built.rules _ refl refl refl refl, (fits cnf_built.rules _ refl refl refl refl, (fits cnf_built.rules _ refl refl refl refl, (fits cnf_built.rules _ refl refl refl refl, tt)))))
 
 cnf_met : (c : In-Some-subcommand_matches) → EntersAs (texts c.args.words.now) (codes "cnf") (found_of c.in-Some-subcommand_matches.cnf.now)
 cnf_met c =
@@ -138,6 +139,7 @@ cnf_line-requires c =
       trace = has_text found cnf_built.rules (codes "trace") (read (codes "trace") refl);
       workers = has_workers cnf_built.rules found refl (read (codes "workers") refl);
       explain = has_flag cnf_built.rules found (codes "explain") refl (read (codes "explain") refl);
+      no_explain = has_flag cnf_built.rules found (codes "no-explain") refl (read (codes "no-explain") refl);
     }
 
 pub returns-in-Some-subcommand_matches-clause-line : goal.returns-in-Some-subcommand_matches-clause-line
@@ -148,7 +150,7 @@ returns-in-Some-subcommand_matches-clause-line c =
 -- ---- decode
 
 decode_fits : AllFit (passes decode_built.rules) decode_built.rules
-decode_fits = (fits decode_built.rules _ refl refl refl refl, (fits decode_built.rules _ refl refl refl refl, (fits decode_built.rules _ refl refl refl refl, (fits decode_built.rules _ refl refl refl refl, tt))))
+decode_fits = (fits decode_built.rules _ refl refl refl refl, (fits decode_built.rules _ refl refl refl refl, (fits decode_built.rules _ refl refl refl refl, (fits decode_built.rules _ refl refl refl refl, (fits decode_built.rules _ refl refl refl refl, tt)))))
 
 decode_met : (c : In-Some-subcommand_matches-2) → EntersAs (texts c.args.words.now) (codes "decode") (found_of c.in-Some-subcommand_matches-2.decode.now)
 decode_met c =
@@ -163,6 +165,7 @@ decode_line-requires c =
       trace = has_text found decode_built.rules (codes "trace") (read (codes "trace") refl);
       model = has_text found decode_built.rules (codes "model") (read (codes "model") refl);
       explain = has_flag decode_built.rules found (codes "explain") refl (read (codes "explain") refl);
+      no_explain = has_flag decode_built.rules found (codes "no-explain") refl (read (codes "no-explain") refl);
     }
 
 pub returns-in-Some-subcommand_matches-2-clause-line : goal.returns-in-Some-subcommand_matches-2-clause-line
@@ -173,7 +176,7 @@ returns-in-Some-subcommand_matches-2-clause-line c =
 -- ---- lrat
 
 lrat_fits : AllFit (passes lrat_built.rules) lrat_built.rules
-lrat_fits = (fits lrat_built.rules _ refl refl refl refl, (fits lrat_built.rules _ refl refl refl refl, (fits lrat_built.rules _ refl refl refl refl, (fits lrat_built.rules _ refl refl refl refl, tt))))
+lrat_fits = (fits lrat_built.rules _ refl refl refl refl, (fits lrat_built.rules _ refl refl refl refl, (fits lrat_built.rules _ refl refl refl refl, (fits lrat_built.rules _ refl refl refl refl, (fits lrat_built.rules _ refl refl refl refl, tt)))))
 
 lrat_met : (c : In-Some-subcommand_matches-3) → EntersAs (texts c.args.words.now) (codes "lrat") (found_of c.in-Some-subcommand_matches-3.lrat.now)
 lrat_met c =
@@ -188,6 +191,7 @@ lrat_line-requires c =
       cnf = has_text found lrat_built.rules (codes "cnf") (read (codes "cnf") refl);
       proof = has_text found lrat_built.rules (codes "proof") (read (codes "proof") refl);
       explain = has_flag lrat_built.rules found (codes "explain") refl (read (codes "explain") refl);
+      no_explain = has_flag lrat_built.rules found (codes "no-explain") refl (read (codes "no-explain") refl);
     }
 
 pub returns-in-Some-subcommand_matches-3-clause-line : goal.returns-in-Some-subcommand_matches-3-clause-line
@@ -198,7 +202,7 @@ returns-in-Some-subcommand_matches-3-clause-line c =
 -- ---- verify
 
 verify_fits : AllFit (passes verify_built.rules) verify_built.rules
-verify_fits = (fits verify_built.rules _ refl refl refl refl, (fits verify_built.rules _ refl refl refl refl, (fits verify_built.rules _ refl refl refl refl, (fits verify_built.rules _ refl refl refl refl, (fits verify_built.rules _ refl refl refl refl, (fits verify_built.rules _ refl refl refl refl, (fits verify_built.rules _ refl refl refl refl, (fits verify_built.rules _ refl refl refl refl, (fits verify_built.rules _ refl refl refl refl, (fits verify_built.rules _ refl refl refl refl, tt))))))))))
+verify_fits = (fits verify_built.rules _ refl refl refl refl, (fits verify_built.rules _ refl refl refl refl, (fits verify_built.rules _ refl refl refl refl, (fits verify_built.rules _ refl refl refl refl, (fits verify_built.rules _ refl refl refl refl, (fits verify_built.rules _ refl refl refl refl, (fits verify_built.rules _ refl refl refl refl, (fits verify_built.rules _ refl refl refl refl, (fits verify_built.rules _ refl refl refl refl, (fits verify_built.rules _ refl refl refl refl, (fits verify_built.rules _ refl refl refl refl, tt)))))))))))
 
 verify_met : (c : In-Some-subcommand_matches-4) → EntersAs (texts c.args.words.now) (codes "verify") (found_of c.in-Some-subcommand_matches-4.verify.now)
 verify_met c =
@@ -217,6 +221,7 @@ verify_line-requires c =
       rounds = has_number verify_built.rules found (codes "rounds") 1 4 refl (read (codes "rounds") refl);
       progress = has_flag verify_built.rules found (codes "progress") refl (read (codes "progress") refl);
       explain = has_flag verify_built.rules found (codes "explain") refl (read (codes "explain") refl);
+      no_explain = has_flag verify_built.rules found (codes "no-explain") refl (read (codes "no-explain") refl);
     }
 
 pub returns-in-Some-subcommand_matches-4-clause-line : goal.returns-in-Some-subcommand_matches-4-clause-line
@@ -227,7 +232,7 @@ returns-in-Some-subcommand_matches-4-clause-line c =
 -- ---- recheck
 
 recheck_fits : AllFit (passes recheck_built.rules) recheck_built.rules
-recheck_fits = (fits recheck_built.rules _ refl refl refl refl, (fits recheck_built.rules _ refl refl refl refl, (fits recheck_built.rules _ refl refl refl refl, (fits recheck_built.rules _ refl refl refl refl, (fits recheck_built.rules _ refl refl refl refl, tt)))))
+recheck_fits = (fits recheck_built.rules _ refl refl refl refl, (fits recheck_built.rules _ refl refl refl refl, (fits recheck_built.rules _ refl refl refl refl, (fits recheck_built.rules _ refl refl refl refl, (fits recheck_built.rules _ refl refl refl refl, (fits recheck_built.rules _ refl refl refl refl, tt))))))
 
 recheck_met : (c : In-Some-subcommand_matches-5) → EntersAs (texts c.args.words.now) (codes "recheck") (found_of c.in-Some-subcommand_matches-5.recheck.now)
 recheck_met c =
@@ -242,6 +247,7 @@ recheck_line-requires c =
       trace = has_text found recheck_built.rules (codes "trace") (read (codes "trace") refl);
       cert = has_text found recheck_built.rules (codes "cert") (read (codes "cert") refl);
       explain = has_flag recheck_built.rules found (codes "explain") refl (read (codes "explain") refl);
+      no_explain = has_flag recheck_built.rules found (codes "no-explain") refl (read (codes "no-explain") refl);
     }
 
 pub returns-in-Some-subcommand_matches-5-clause-line : goal.returns-in-Some-subcommand_matches-5-clause-line
@@ -252,7 +258,7 @@ returns-in-Some-subcommand_matches-5-clause-line c =
 -- ---- part
 
 part_fits : AllFit (passes part_built.rules) part_built.rules
-part_fits = (fits part_built.rules _ refl refl refl refl, (fits part_built.rules _ refl refl refl refl, (fits part_built.rules _ refl refl refl refl, (fits part_built.rules _ refl refl refl refl, (fits part_built.rules _ refl refl refl refl, tt)))))
+part_fits = (fits part_built.rules _ refl refl refl refl, (fits part_built.rules _ refl refl refl refl, (fits part_built.rules _ refl refl refl refl, (fits part_built.rules _ refl refl refl refl, (fits part_built.rules _ refl refl refl refl, (fits part_built.rules _ refl refl refl refl, tt))))))
 
 part_met : (c : In-Some-subcommand_matches-6) → EntersAs (texts c.args.words.now) (codes "part") (found_of c.in-Some-subcommand_matches-6.part.now)
 part_met c =
@@ -268,6 +274,7 @@ part_line-requires c =
       names = has_text found part_built.rules (codes "names") (read (codes "names") refl);
       names_flag = has_flag part_built.rules found (codes "show-names") refl (read (codes "show-names") refl);
       explain = has_flag part_built.rules found (codes "explain") refl (read (codes "explain") refl);
+      no_explain = has_flag part_built.rules found (codes "no-explain") refl (read (codes "no-explain") refl);
     }
 
 pub returns-in-Some-subcommand_matches-6-clause-line : goal.returns-in-Some-subcommand_matches-6-clause-line
@@ -278,7 +285,7 @@ returns-in-Some-subcommand_matches-6-clause-line c =
 -- ---- survey
 
 survey_fits : AllFit (passes survey_built.rules) survey_built.rules
-survey_fits = (fits survey_built.rules _ refl refl refl refl, (fits survey_built.rules _ refl refl refl refl, (fits survey_built.rules _ refl refl refl refl, (fits survey_built.rules _ refl refl refl refl, (fits survey_built.rules _ refl refl refl refl, (fits survey_built.rules _ refl refl refl refl, (fits survey_built.rules _ refl refl refl refl, (fits survey_built.rules _ refl refl refl refl, (fits survey_built.rules _ refl refl refl refl, (fits survey_built.rules _ refl refl refl refl, tt))))))))))
+survey_fits = (fits survey_built.rules _ refl refl refl refl, (fits survey_built.rules _ refl refl refl refl, (fits survey_built.rules _ refl refl refl refl, (fits survey_built.rules _ refl refl refl refl, (fits survey_built.rules _ refl refl refl refl, (fits survey_built.rules _ refl refl refl refl, (fits survey_built.rules _ refl refl refl refl, (fits survey_built.rules _ refl refl refl refl, (fits survey_built.rules _ refl refl refl refl, (fits survey_built.rules _ refl refl refl refl, (fits survey_built.rules _ refl refl refl refl, tt)))))))))))
 
 survey_met : (c : In-Some-subcommand_matches-7) → EntersAs (texts c.args.words.now) (codes "survey") (found_of c.in-Some-subcommand_matches-7.survey.now)
 survey_met c =
@@ -295,6 +302,7 @@ survey_line-requires c =
       workers = has_workers survey_built.rules found refl (read (codes "workers") refl);
       progress = has_flag survey_built.rules found (codes "progress") refl (read (codes "progress") refl);
       explain = has_flag survey_built.rules found (codes "explain") refl (read (codes "explain") refl);
+      no_explain = has_flag survey_built.rules found (codes "no-explain") refl (read (codes "no-explain") refl);
     }
 
 pub returns-in-Some-subcommand_matches-7-clause-line : goal.returns-in-Some-subcommand_matches-7-clause-line
@@ -305,7 +313,7 @@ returns-in-Some-subcommand_matches-7-clause-line c =
 -- ---- refusals
 
 refusals_fits : AllFit (passes refusals_built.rules) refusals_built.rules
-refusals_fits = (fits refusals_built.rules _ refl refl refl refl, (fits refusals_built.rules _ refl refl refl refl, tt))
+refusals_fits = (fits refusals_built.rules _ refl refl refl refl, (fits refusals_built.rules _ refl refl refl refl, (fits refusals_built.rules _ refl refl refl refl, tt)))
 
 refusals_met : (c : In-Some-subcommand_matches-8) → EntersAs (texts c.args.words.now) (codes "refusals") (found_of c.in-Some-subcommand_matches-8.refusals.now)
 refusals_met c =
@@ -318,6 +326,7 @@ refusals_line-requires c =
     let read = reads (texts c.args.words.now) (codes "refusals") found (refusals_met c) refusals_built refl refusals_fits in
     record {
       explain = has_flag refusals_built.rules found (codes "explain") refl (read (codes "explain") refl);
+      no_explain = has_flag refusals_built.rules found (codes "no-explain") refl (read (codes "no-explain") refl);
     }
 
 pub returns-in-Some-subcommand_matches-8-clause-line : goal.returns-in-Some-subcommand_matches-8-clause-line
