@@ -1,50 +1,73 @@
 //! Arrows between boxes.
 
-use crate::found_order::{ArrowKind, FoundOrder, OrderArrow};
-use crate::item::PictureItem;
-use crate::placement::{BoxEdges, Placement};
+use crate::placement::Placement;
+use crate::routes::{Lanes, Route};
 use crate::svg_text::SvgText;
+use drawn_order::{ArrowKind, Exclusion, FoundOrder, OrderArrow, PictureItem};
+use note_text::decimal;
+use std::alloc::{AllocError, Global};
+
+/// The most arrows from sources that are excluded.
+const MOST_EXCLUDED: usize = 16;
 
 /// The look of an arrow.
 #[derive(Clone, Copy)]
 pub(crate) struct ArrowStyle {
     /// The class of its line.
     pub class: &'static [u8],
-    /// The name of its head.
-    pub head: &'static [u8],
+    /// The colour of its line, and the name of its head.
+    pub colour: &'static [u8],
 }
 
-/// The style of the arrow, or none if it is not drawn. `skips` says whether operations between its ends are left out.
-pub(crate) fn style_of(arrow: &OrderArrow, skips: bool) -> Option<ArrowStyle> {
-    let head: &'static [u8] = if arrow.is_marked {
-        b"red"
-    } else {
-        head_of(arrow.kind)
-    };
-    let class: &'static [u8] = match arrow.kind {
-        ArrowKind::Program if skips => b"program skips",
-        ArrowKind::Program => b"program",
-        ArrowKind::Source => b"source",
-        ArrowKind::Before => b"before",
-        ArrowKind::Derived if arrow.is_marked => b"derived",
-        ArrowKind::Derived => return None,
-    };
-    Some(ArrowStyle { class, head })
+/// What arrows are drawn in.
+pub(crate) struct ArrowPage<'p, 't> {
+    pub svg: &'p mut SvgText,
+    pub placement: &'p Placement<'t>,
+    pub lanes: Lanes,
+    pub is_schedule: bool,
 }
 
-/// The colour of arrows of this kind.
-fn head_of(kind: ArrowKind) -> &'static [u8] {
-    match kind {
-        ArrowKind::Program => b"grey",
-        ArrowKind::Source => b"blue",
-        ArrowKind::Before => b"violet",
-        ArrowKind::Derived => b"red",
+/// Drops the counters, in one call at each exit of a function that owns a page.
+impl Drop for ArrowPage<'_, '_> {
+    fn drop(self) {
+        let ArrowPage {
+            svg: _,
+            placement: _,
+            lanes: _lanes,
+            is_schedule: _,
+        } = self;
     }
 }
 
+/// Returns whether the arrow is drawn: one that only follows of others is drawn if the contradiction rests on it.
+pub(crate) fn is_shown(arrow: &OrderArrow) -> bool {
+    match arrow.kind {
+        ArrowKind::Derived(_) => arrow.is_used || arrow.is_marked,
+        _ => true,
+    }
+}
+
+/// The style of the arrow. `skips` says whether operations between its ends are left out.
+pub(crate) fn style_of(arrow: &OrderArrow, skips: bool) -> ArrowStyle {
+    let (class, colour): (&'static [u8], &'static [u8]) = match arrow.kind {
+        ArrowKind::Program if skips => (b"program skips", b"grey"),
+        ArrowKind::Program => (b"program", b"grey"),
+        ArrowKind::Source => (b"source", b"blue"),
+        ArrowKind::Before => (b"before", b"violet"),
+        ArrowKind::Derived(_) => (b"derived", b"brown"),
+    };
+    ArrowStyle { class, colour }
+}
+
+/// The style of an arrow from a source that is excluded.
+pub(crate) const EXCLUDED: ArrowStyle = ArrowStyle {
+    class: b"excluded",
+    colour: b"orange",
+};
+
 /// Returns whether operations between the two boxes of a process are left out.
 pub(crate) fn skips_between(first: &PictureItem<'_>, second: &PictureItem<'_>) -> bool {
-    first.place.saturating_add(1) < second.place
+    first.number.place.saturating_add(1) < second.number.place
 }
 
 /// Begins a path of this style.
@@ -53,85 +76,161 @@ pub(crate) fn begin_path(svg: &mut SvgText, style: ArrowStyle) {
         b"<path class=\"",
         style.class,
         b" ",
-        style.head,
+        style.colour,
         b"\" marker-end=\"url(#",
-        style.head,
+        style.colour,
         b")\" d=\"M",
     ]);
 }
 
-/// Adds a straight line down, from the one box to the other.
-fn add_line_down(svg: &mut SvgText, from: BoxEdges, to: BoxEdges) {
-    svg.add_numbers(&[from.center(), from.bottom]);
-    svg.add(&[b" L"]);
-    svg.add_numbers(&[to.center(), to.top]);
-}
-
-/// Adds a curve that leaves at one place and arrives at another by way of two places at this distance beside them.
-fn add_curve(svg: &mut SvgText, start: (u64, u64), first: u64, second: u64, end: (u64, u64)) {
-    svg.add_numbers(&[start.0, start.1]);
-    svg.add(&[b" C"]);
-    svg.add_numbers(&[first, start.1, second, end.1, end.0, end.1]);
-}
-
-/// Adds a curve from the side of the one box to the side of the other.
-fn add_curve_across(svg: &mut SvgText, from: BoxEdges, to: BoxEdges) {
-    let leave = from.middle().saturating_add(5);
-    let arrive = to.middle().saturating_sub(5);
-    if from.left == to.left {
-        let beside = from.right.saturating_add(44);
-        add_curve(svg, (from.right, leave), beside, beside, (to.right, arrive));
-        return;
-    }
-    if from.right <= to.left {
-        let half = (to.left.saturating_sub(from.right) / 2).min(120);
-        let first = from.right.saturating_add(half);
-        let second = to.left.saturating_sub(half);
-        add_curve(svg, (from.right, leave), first, second, (to.left, arrive));
-        return;
-    }
-    let half = (from.left.saturating_sub(to.right) / 2).min(120);
-    let first = from.left.saturating_sub(half);
-    let second = to.right.saturating_add(half);
-    add_curve(svg, (from.left, leave), first, second, (to.right, arrive));
-}
-
-/// Draws the arrow, if it is drawn.
-fn draw_arrow(
-    svg: &mut SvgText,
-    placement: &Placement<'_>,
-    arrow: &OrderArrow,
-    first: &PictureItem<'_>,
-    second: &PictureItem<'_>,
-) {
-    let Some(style) = style_of(arrow, skips_between(first, second)) else {
-        return;
-    };
-    let from = placement.edges_of(first);
-    let to = placement.edges_of(second);
+/// Draws a line along the way.
+fn draw_route(svg: &mut SvgText, style: ArrowStyle, route: &Route) {
     begin_path(svg, style);
-    match arrow.kind {
-        ArrowKind::Program => add_line_down(svg, from, to),
-        _ => add_curve_across(svg, from, to),
-    }
+    route.add_to(svg);
     svg.add(&[b"\"/>\n"]);
 }
 
-/// Draws the arrows that are of a cycle, or those that are not.
-pub(crate) fn draw_arrows(
-    svg: &mut SvgText,
-    placement: &Placement<'_>,
-    items: &[PictureItem<'_>],
-    found: &FoundOrder,
-    marked: bool,
-) {
-    for arrow in &found.arrows {
-        if arrow.is_marked == marked {
-            if let Some(first) = items.get(arrow.from) {
-                if let Some(second) = items.get(arrow.to) {
-                    draw_arrow(svg, placement, arrow, first, second);
+/// Draws the broad line below an arrow of a cycle.
+fn draw_halo(svg: &mut SvgText, route: &Route) {
+    svg.add(&[b"<path class=\"halo\" d=\"M"]);
+    route.add_to(svg);
+    svg.add(&[b"\"/>\n"]);
+}
+
+/// Draws the number of the sentence that says why the arrow is there.
+fn draw_number(svg: &mut SvgText, route: &Route, number: u64) {
+    let place = route.label_place();
+    svg.add(&[b"<rect class=\"number\" rx=\"3\""]);
+    svg.at(place.x.saturating_sub(8), place.y.saturating_sub(7));
+    svg.attribute(b"width", 16);
+    svg.attribute(b"height", 14);
+    svg.add(&[b"/>\n"]);
+    let digits = decimal(number);
+    let baseline = place.y.saturating_add(4);
+    svg.line_of_text(b"label", place.x, baseline, &[digits.as_slice()]);
+}
+
+/// Draws a cross on the way.
+fn draw_cross(svg: &mut SvgText, route: &Route) {
+    let place = route.label_place();
+    let left = place.x.saturating_sub(4);
+    let right = place.x.saturating_add(4);
+    let top = place.y.saturating_sub(4);
+    let bottom = place.y.saturating_add(4);
+    svg.add(&[b"<path class=\"cross orange\" d=\"M"]);
+    svg.add_numbers(&[left, top]);
+    svg.add(&[b" L"]);
+    svg.add_numbers(&[right, bottom]);
+    svg.add(&[b" M"]);
+    svg.add_numbers(&[left, bottom]);
+    svg.add(&[b" L"]);
+    svg.add_numbers(&[right, top]);
+    svg.add(&[b"\"/>\n"]);
+}
+
+impl ArrowPage<'_, '_> {
+    /// The way of an arrow between two boxes.
+    fn route(
+        &mut self,
+        alloc: Global,
+        kind: ArrowKind,
+        first: &PictureItem<'_>,
+        second: &PictureItem<'_>,
+    ) -> Result<Route, AllocError> {
+        match kind {
+            ArrowKind::Program => {
+                let from = self.placement.edges_of(first);
+                let to = self.placement.edges_of(second);
+                Route::down(alloc, from, to)
+            }
+            _ => Route::beside(
+                alloc,
+                self.placement,
+                &mut self.lanes,
+                first,
+                second,
+                self.is_schedule,
+            ),
+        }
+    }
+
+    /// Draws the arrow, with the number of its sentence, if it has one.
+    fn draw_arrow(
+        &mut self,
+        alloc: Global,
+        arrow: &OrderArrow,
+        first: &PictureItem<'_>,
+        second: &PictureItem<'_>,
+        number: Option<u64>,
+    ) -> Result<(), AllocError> {
+        let route = self.route(alloc, arrow.kind, first, second)?;
+        if arrow.is_marked {
+            draw_halo(self.svg, &route);
+        }
+        let style = style_of(arrow, skips_between(first, second));
+        draw_route(self.svg, style, &route);
+        if let Some(number) = number {
+            draw_number(self.svg, &route, number);
+        }
+        Ok(())
+    }
+
+    /// Draws all arrows of the order.
+    pub fn draw_arrows(
+        &mut self,
+        alloc: Global,
+        items: &[PictureItem<'_>],
+        found: &FoundOrder,
+    ) -> Result<(), AllocError> {
+        let mut sentences: u64 = 0;
+        for arrow in &found.arrows {
+            if is_shown(arrow) {
+                let number = match arrow.kind {
+                    ArrowKind::Derived(_) => {
+                        sentences = sentences.saturating_add(1);
+                        Some(sentences)
+                    }
+                    _ => None,
+                };
+                if let (Some(first), Some(second)) = (items.get(arrow.from), items.get(arrow.to)) {
+                    self.draw_arrow(alloc, arrow, first, second, number)?;
                 }
             }
         }
+        Ok(())
+    }
+
+    /// Draws the arrow from a source that is excluded.
+    fn draw_exclusion(
+        &mut self,
+        alloc: Global,
+        items: &[PictureItem<'_>],
+        exclusion: &Exclusion,
+    ) -> Result<(), AllocError> {
+        if let (Some(first), Some(second)) =
+            (items.get(exclusion.writer), items.get(exclusion.reader))
+        {
+            let route = self.route(alloc, ArrowKind::Source, first, second)?;
+            draw_route(self.svg, EXCLUDED, &route);
+            draw_cross(self.svg, &route);
+        }
+        Ok(())
+    }
+
+    /// Draws arrows from the sources that are excluded, if the contradiction rests on that.
+    pub fn draw_exclusions(
+        &mut self,
+        alloc: Global,
+        items: &[PictureItem<'_>],
+        found: &FoundOrder,
+    ) -> Result<(), AllocError> {
+        let mut drawn: usize = 0;
+        for exclusion in &found.exclusions {
+            if exclusion.is_used && drawn < MOST_EXCLUDED {
+                self.draw_exclusion(alloc, items, exclusion)?;
+                drawn = drawn.saturating_add(1);
+            }
+        }
+        Ok(())
     }
 }

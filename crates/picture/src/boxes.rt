@@ -1,11 +1,19 @@
 //! Boxes and titles of columns.
 
-use crate::found_order::FoundOrder;
-use crate::item::PictureItem;
 use crate::operation_text::BoxText;
 use crate::placement::{Placement, text_width};
 use crate::svg_text::SvgText;
+use drawn_order::{FoundOrder, PictureItem};
 use std::alloc::{AllocError, Global};
+
+/// The class of a box of which too few have a source, if it is one.
+fn class_of_shortage(found: &FoundOrder, number: usize) -> Option<&'static [u8]> {
+    match &found.shortage {
+        Some(shortage) if shortage.is_needing(number) => Some(b"lacking"),
+        Some(shortage) if shortage.is_giving(number) => Some(b"giving"),
+        _ => None,
+    }
+}
 
 /// The class of the box of this number.
 fn class_of(found: &FoundOrder, item: &PictureItem<'_>, number: usize) -> &'static [u8] {
@@ -13,6 +21,10 @@ fn class_of(found: &FoundOrder, item: &PictureItem<'_>, number: usize) -> &'stat
         b"lacking"
     } else if found.is_in_cycle(number) {
         b"marked"
+    } else if let Some(class) = class_of_shortage(found, number) {
+        class
+    } else if item.is_beside() {
+        b"beside"
     } else if item.is_operation() {
         b"operation"
     } else {

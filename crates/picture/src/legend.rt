@@ -1,10 +1,9 @@
 //! What the colours and lines of a picture mean.
 
-use crate::arrows::{ArrowStyle, begin_path, skips_between};
-use crate::found_order::{ArrowKind, FoundOrder};
-use crate::item::PictureItem;
+use crate::arrows::{ArrowStyle, EXCLUDED, begin_path, is_shown, skips_between};
 use crate::placement::MARGIN;
 use crate::svg_text::SvgText;
+use drawn_order::{ArrowKind, FoundOrder, PictureItem};
 
 /// The height of a line of the legend.
 pub(crate) const LEGEND_STEP: u64 = 22;
@@ -17,8 +16,11 @@ pub(crate) struct LegendEntries {
     source: bool,
     before: bool,
     derived: bool,
+    excluded: bool,
     cycle: bool,
     lack: bool,
+    shortage: bool,
+    beside: bool,
     is_schedule: bool,
 }
 
@@ -31,39 +33,50 @@ impl LegendEntries {
             source: false,
             before: false,
             derived: false,
+            excluded: false,
             cycle: false,
             lack: false,
+            shortage: false,
+            beside: false,
             is_schedule,
         }
     }
 
     /// Notes an arrow of this kind.
-    fn note(&mut self, kind: ArrowKind, is_marked: bool, skips: bool) {
+    fn note(&mut self, kind: ArrowKind, skips: bool) {
         match kind {
-            ArrowKind::Program => {
-                self.program = true;
-                self.skips = self.skips || skips;
-            }
+            ArrowKind::Program if skips => self.skips = true,
+            ArrowKind::Program => self.program = true,
             ArrowKind::Source => self.source = true,
             ArrowKind::Before => self.before = true,
-            ArrowKind::Derived => self.derived = self.derived || is_marked,
+            ArrowKind::Derived(_) => self.derived = true,
         }
-        self.cycle = self.cycle || is_marked;
+    }
+
+    /// Notes the arrows.
+    fn note_arrows(&mut self, items: &[PictureItem<'_>], found: &FoundOrder) {
+        for arrow in &found.arrows {
+            if let (Some(first), Some(second)) = (items.get(arrow.from), items.get(arrow.to)) {
+                if is_shown(arrow) {
+                    self.note(arrow.kind, skips_between(first, second));
+                }
+                self.cycle = self.cycle || arrow.is_marked;
+            }
+        }
+        for exclusion in &found.exclusions {
+            self.excluded = self.excluded || exclusion.is_used;
+        }
     }
 
     /// Gives what occurs in the picture.
     pub fn of(items: &[PictureItem<'_>], found: &FoundOrder, is_schedule: bool) -> LegendEntries {
         let mut entries = LegendEntries::none(is_schedule);
-        for arrow in &found.arrows {
-            if let Some(first) = items.get(arrow.from) {
-                if let Some(second) = items.get(arrow.to) {
-                    entries.note(arrow.kind, arrow.is_marked, skips_between(first, second));
-                }
-            }
+        entries.note_arrows(items, found);
+        for item in items {
+            entries.beside = entries.beside || item.is_beside();
         }
-        for is_lacking in &found.lacking {
-            entries.lack = entries.lack || *is_lacking;
-        }
+        entries.lack = found.first_lacking().is_some();
+        entries.shortage = found.shortage.is_some();
         entries
     }
 
@@ -76,8 +89,12 @@ impl LegendEntries {
             self.source,
             self.before,
             self.derived,
+            self.excluded,
             self.cycle,
             self.lack,
+            self.shortage,
+            self.shortage,
+            self.beside,
         ] {
             if is_there {
                 count = count.saturating_add(1);
@@ -100,19 +117,24 @@ impl LegendLine {
         self.y = self.y.saturating_add(LEGEND_STEP);
     }
 
+    /// Draws the sample of an arrow.
+    fn draw_sample(&self, svg: &mut SvgText, style: ArrowStyle) {
+        begin_path(svg, style);
+        svg.add_numbers(&[MARGIN, self.y]);
+        svg.add(&[b" L"]);
+        svg.add_numbers(&[MARGIN + 40, self.y]);
+        svg.add(&[b"\"/>\n"]);
+    }
+
     /// Draws a line with an arrow, and what it means.
     fn arrow(
         &mut self,
         svg: &mut SvgText,
         class: &'static [u8],
-        head: &'static [u8],
+        colour: &'static [u8],
         words: &[u8],
     ) {
-        begin_path(svg, ArrowStyle { class, head });
-        svg.add_numbers(&[MARGIN, self.y]);
-        svg.add(&[b" L"]);
-        svg.add_numbers(&[MARGIN + 40, self.y]);
-        svg.add(&[b"\"/>\n"]);
+        self.draw_sample(svg, ArrowStyle { class, colour });
         self.end(svg, words);
     }
 
@@ -127,7 +149,7 @@ impl LegendLine {
     }
 }
 
-/// Draws what of the legend is of arrows that are in each picture.
+/// Draws what of the legend is of arrows.
 fn draw_plain(svg: &mut SvgText, line: &mut LegendLine, entries: &LegendEntries) {
     if entries.program {
         line.arrow(svg, b"program", b"grey", b"program order");
@@ -138,14 +160,23 @@ fn draw_plain(svg: &mut SvgText, line: &mut LegendLine, entries: &LegendEntries)
     }
     if entries.source {
         let words: &[u8] = if entries.is_schedule {
-            b"to a read from the write, or the initial value, that gives it its value"
+            b"reads from: the last write before it, or the initial value"
         } else {
-            b"to a read from the only write, or initial value, that can give it its value"
+            b"reads from: what is drawn leaves no other source"
         };
         line.arrow(svg, b"source", b"blue", words);
     }
     if entries.before {
-        line.arrow(svg, b"before", b"violet", b"known order, by a before line");
+        let words = b"known order: what before lines say of the operations that are drawn";
+        line.arrow(svg, b"before", b"violet", words);
+    }
+    if entries.derived {
+        let words = b"has to come first, by the sentence of this number below";
+        line.arrow(svg, b"derived", b"brown", words);
+    }
+    if entries.excluded {
+        let words = b"with a cross: cannot be the source, by a sentence below";
+        line.arrow(svg, EXCLUDED.class, EXCLUDED.colour, words);
     }
 }
 
@@ -153,22 +184,20 @@ fn draw_plain(svg: &mut SvgText, line: &mut LegendLine, entries: &LegendEntries)
 pub(crate) fn draw_legend(svg: &mut SvgText, entries: &LegendEntries, y: u64) {
     let mut line = LegendLine { y };
     draw_plain(svg, &mut line, entries);
-    if entries.derived {
-        let words = b"has to come first: else a read would find the value of another write";
-        line.arrow(svg, b"derived", b"red", words);
-    }
     if entries.cycle {
-        line.sample(
-            svg,
-            b"marked",
-            b"red: a cycle, each of which would have to come before the next",
-        );
+        let words = b"on broad red lines: a cycle, where each would have to come before the next";
+        line.sample(svg, b"marked", words);
     }
     if entries.lack {
-        line.sample(
-            svg,
-            b"lacking",
-            b"a value that no order of these operations gives",
-        );
+        line.sample(svg, b"lacking", b"a value that nothing can give");
+    }
+    if entries.shortage {
+        let words = b"needs a source of its own: two updates never read the same write";
+        line.sample(svg, b"lacking", words);
+        line.sample(svg, b"giving", b"can be such a source");
+    }
+    if entries.beside {
+        let words = b"dashed: drawn beside the others, since it excludes a source";
+        line.sample(svg, b"beside", words);
     }
 }

@@ -1,6 +1,6 @@
 //! What is written into a box.
 
-use crate::item::PictureItem;
+use drawn_order::PictureItem;
 use note_text::decimal;
 use std::alloc::{AllocError, Global};
 use trace_semantics::operation::{Op, Origin};
@@ -102,7 +102,7 @@ impl BoxText {
                     let number = decimal((item.row as u64).saturating_add(1));
                     append(&mut position, &[number.as_slice(), b" "])?;
                 }
-                let place = decimal(item.place);
+                let place = decimal(item.number.place as u64);
                 append(&mut name, &[item.process, b".", place.as_slice(), b" "])?;
                 append_operation(&mut words, op)?;
             }

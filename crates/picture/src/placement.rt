@@ -1,8 +1,7 @@
 //! The places of the boxes of a picture, in pixels.
 
-use crate::item::PictureItem;
-use crate::items::count_rows;
 use crate::operation_text::BoxText;
+use drawn_order::{PictureItem, count_rows};
 use std::alloc::{AllocError, Global};
 use trace_semantics::trace::Trace;
 
@@ -127,7 +126,7 @@ impl<'t> Placement<'t> {
         }
         Ok(Placement {
             columns,
-            row_step: if has_position { 38 } else { 56 },
+            row_step: if has_position { 38 } else { 60 },
             rows: count_rows(items) as u64,
             right,
         })
@@ -148,9 +147,33 @@ impl<'t> Placement<'t> {
         }
     }
 
+    /// Where the column of this number ends.
+    pub fn right_of(&self, column: usize) -> u64 {
+        match self.columns.get(column) {
+            Some(column) => column.left.saturating_add(column.width),
+            None => MARGIN,
+        }
+    }
+
+    /// The column with boxes that stands next to the left of this one.
+    pub fn column_before(&self, column: usize) -> usize {
+        let mut last = 0;
+        for number in 0..self.columns.len().min(column) {
+            if self.columns[number].width > 0 {
+                last = number;
+            }
+        }
+        last
+    }
+
     /// The height at which the boxes of the row begin.
     pub fn top_of_row(&self, row: u64) -> u64 {
         TOP.saturating_add(self.row_step.saturating_mul(row))
+    }
+
+    /// The height at which the boxes of the row end.
+    pub fn bottom_of_row(&self, row: u64) -> u64 {
+        self.top_of_row(row).saturating_add(BOX_HEIGHT)
     }
 
     /// The height of the columns' titles.

@@ -1,51 +1,38 @@
 //! What a picture is of.
 
-use trace_semantics::operation::OpName;
+use trace_semantics::trace::Trace;
 
-/// The most operations that are drawn.
-pub const MAX_DRAWN: usize = 100;
+/// The most operations that a picture is of.
+pub(crate) const MAX_DRAWN: u64 = 100;
 
-/// The operations of a trace that a picture is of, and in which order they are drawn.
+/// What the operations of a picture are.
 #[derive(Clone, Copy)]
-pub enum PictureSubject<'t> {
+pub(crate) enum PictureSubject {
     /// All operations, which have no legal schedule.
     Whole,
-    /// These operations, which have none by themselves.
-    Core(&'t [OpName]),
-    /// All operations, in the order of this schedule.
-    InOrder(&'t [OpName]),
+    /// Operations that a survey found to have none by themselves.
+    Core,
+    /// Operations that need more sources than there are.
+    TooFew,
+    /// All operations, in the order of a legal schedule.
+    InOrder,
 }
 
-/// The place of the operation among these, counted from 0.
-fn position_among(names: &[OpName], process: &[u8], place: u64) -> Option<usize> {
-    for k in 0..names.len() {
-        let name = &names[k];
-        if name.place as u64 == place && name.process.as_bytes() == process {
-            return Some(k);
-        }
-    }
-    None
-}
-
-impl<'t> PictureSubject<'t> {
-    /// The row of the operation, if it is drawn and `next` operations of its process are drawn above it.
-    pub(crate) fn row_of(&self, process: &[u8], place: u64, next: usize) -> Option<usize> {
-        match self {
-            PictureSubject::Whole => Some(next),
-            PictureSubject::Core(names) => match position_among(names, process, place) {
-                Some(_) => Some(next),
-                None => None,
-            },
-            PictureSubject::InOrder(names) => position_among(names, process, place),
-        }
-    }
-
+impl PictureSubject {
     /// Returns whether the rows are those of a schedule.
-    pub(crate) fn is_in_order(&self) -> bool {
+    pub fn is_in_order(&self) -> bool {
         match self {
-            PictureSubject::Whole => false,
-            PictureSubject::Core(_) => false,
-            PictureSubject::InOrder(_) => true,
+            PictureSubject::InOrder => true,
+            _ => false,
         }
     }
+}
+
+/// The number of operations of the trace.
+pub(crate) fn count_all(trace: &Trace) -> u64 {
+    let mut count: u64 = 0;
+    for process in trace.processes() {
+        count = count.saturating_add(process.operations.as_slice().len() as u64);
+    }
+    count
 }

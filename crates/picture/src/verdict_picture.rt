@@ -1,24 +1,98 @@
 //! The picture of a verdict.
 
-use crate::drawing::{count_all, draw};
-use crate::subject::{MAX_DRAWN, PictureSubject};
+use crate::drawing::Content;
+use crate::message::{NothingDrawn, draw_message};
+use crate::subject::{MAX_DRAWN, PictureSubject, count_all};
+use drawn_order::{
+    DrawnChoice, DrawnPart, PartTrace, items_of_schedule, order_of_schedule, too_few_sources,
+};
+use forced_order::forced_order::ForcedOrder;
+use schedule_judge::judge::judge;
 use std::alloc::{AllocError, Global};
-use surveyor::{Finding, Surveyor};
+use surveyor::{Finding, Overview, Surveyor};
+use trace_semantics::judgement::Judgement;
+use trace_semantics::operation::OpName;
+use trace_semantics::schedule::Schedule;
 use trace_semantics::trace::Trace;
 
 /// The most operations of a trace that is drawn whole where no core of it is found.
 const MAX_OF_WHOLE: u64 = 60;
 
-/// Draws the trace whole, if it is small.
-fn draw_whole(alloc: Global, trace: &Trace) -> Result<Vec<u8>, AllocError> {
-    if count_all(trace) > MAX_OF_WHOLE {
-        return Ok(Vec::new(alloc));
+/// Draws the schedule, if it is legal.
+fn draw_schedule(
+    alloc: Global,
+    part: PartTrace<'_>,
+    names: Vec<OpName>,
+) -> Result<Vec<u8>, AllocError> {
+    let schedule = Schedule::new(names);
+    if judge(alloc, part.trace, &schedule)? != Judgement::Legal {
+        return draw_message(alloc, NothingDrawn::NoSchedule);
     }
-    draw(alloc, trace, &PictureSubject::Whole)
+    let items = items_of_schedule(alloc, part.trace, schedule.names())?;
+    let found = order_of_schedule(alloc, part, items.as_slice())?;
+    let content = Content {
+        trace: part.trace,
+        subject: PictureSubject::InOrder,
+        items: items.as_slice(),
+        found: &found,
+    };
+    content.draw(alloc)
 }
 
-/// The picture of a verdict: of a schedule that the survey finds if the trace is consistent, and else of a core that it finds, or of the
-/// whole trace if it finds none and this is small. No bytes if there is nothing to be drawn.
+/// Draws operations that have no legal schedule, if they are not too many.
+fn draw_choice(
+    alloc: Global,
+    part: PartTrace<'_>,
+    subject: PictureSubject,
+    choice: &mut DrawnChoice,
+) -> Result<Vec<u8>, AllocError> {
+    let count = choice.count() as u64;
+    if count > MAX_DRAWN {
+        return draw_message(alloc, NothingDrawn::LargeCore(count));
+    }
+    let drawn = DrawnPart::of(alloc, part, choice)?;
+    let found = drawn.saturate(alloc)?;
+    let content = Content {
+        trace: part.trace,
+        subject,
+        items: drawn.items.as_slice(),
+        found: &found,
+    };
+    content.draw(alloc)
+}
+
+/// Draws operations that need more sources than there are, or else the trace whole, if it is small.
+fn draw_whole(alloc: Global, part: PartTrace<'_>) -> Result<Vec<u8>, AllocError> {
+    if let Some(mut choice) = too_few_sources(alloc, part.trace)? {
+        return draw_choice(alloc, part, PictureSubject::TooFew, &mut choice);
+    }
+    if count_all(part.trace) > MAX_OF_WHOLE {
+        return draw_message(alloc, NothingDrawn::NoCore);
+    }
+    let mut choice = DrawnChoice::of_all(alloc, part.trace)?;
+    draw_choice(alloc, part, PictureSubject::Whole, &mut choice)
+}
+
+/// Draws what the survey finds, or says why it is not drawn.
+fn draw_finding(
+    alloc: Global,
+    part: PartTrace<'_>,
+    finding: Finding,
+    is_consistent: bool,
+) -> Result<Vec<u8>, AllocError> {
+    match finding {
+        Finding::Schedule(names) if is_consistent => draw_schedule(alloc, part, names),
+        Finding::Core(names) if !is_consistent => {
+            let mut choice = DrawnChoice::of_names(alloc, part.trace, names.as_slice())?;
+            draw_choice(alloc, part, PictureSubject::Core, &mut choice)
+        }
+        _ if is_consistent => draw_message(alloc, NothingDrawn::NoSchedule),
+        _ => draw_whole(alloc, part),
+    }
+}
+
+/// The picture of a verdict: of a schedule that the survey finds if the trace is consistent, and else of operations that contradict each
+/// other, or of the whole trace if none are found and it is small. If there is nothing to be drawn, the picture says why.
 ///
 /// # Errors
 ///
@@ -29,18 +103,15 @@ pub fn draw_verdict<S: Surveyor>(
     surveyor: &S,
     is_consistent: bool,
 ) -> Result<Vec<u8>, AllocError> {
-    if is_consistent && count_all(trace) > MAX_DRAWN as u64 {
-        return Ok(Vec::new(alloc));
+    let count = count_all(trace);
+    if is_consistent && count > MAX_DRAWN {
+        return draw_message(alloc, NothingDrawn::LongSchedule(count));
     }
-    let overview = surveyor.survey(alloc, trace)?;
-    match &overview.finding {
-        Finding::Schedule(names) if is_consistent => {
-            draw(alloc, trace, &PictureSubject::InOrder(names.as_slice()))
-        }
-        Finding::Core(names) if !is_consistent => {
-            draw(alloc, trace, &PictureSubject::Core(names.as_slice()))
-        }
-        _ if is_consistent => Ok(Vec::new(alloc)),
-        _ => draw_whole(alloc, trace),
-    }
+    let Overview { finding, extent: _ } = surveyor.survey(alloc, trace)?;
+    let forced = ForcedOrder::of_trace(alloc, trace)?;
+    let part = PartTrace {
+        trace,
+        forced: &forced,
+    };
+    draw_finding(alloc, part, finding, is_consistent)
 }

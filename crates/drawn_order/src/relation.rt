@@ -11,7 +11,7 @@ pub(crate) struct Relation {
 
 impl Relation {
     /// No number stands before another one.
-    pub fn none(alloc: Global, size: usize) -> Result<Relation, AllocError> {
+    pub(crate) fn none(alloc: Global, size: usize) -> Result<Relation, AllocError> {
         let mut cells = Vec::new(alloc);
         for _ in 0..size.saturating_mul(size) {
             cells.push(false)?;
@@ -25,7 +25,7 @@ impl Relation {
     }
 
     /// Returns whether the first stands before the second.
-    pub fn holds(&self, first: usize, second: usize) -> bool {
+    pub(crate) fn holds(&self, first: usize, second: usize) -> bool {
         match self.cells.get(self.cell(first, second)) {
             Some(holds) => *holds,
             None => false,
@@ -50,7 +50,7 @@ impl Relation {
     }
 
     /// Notes that the first stands before the second, and what follows of it.
-    pub fn order(&mut self, first: usize, second: usize) {
+    pub(crate) fn order(&mut self, first: usize, second: usize) {
         for earlier in 0..self.size {
             if earlier == first || self.holds(earlier, first) {
                 self.put_after(earlier, second);

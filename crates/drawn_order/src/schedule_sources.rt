@@ -2,8 +2,8 @@
 
 use crate::found_order::{ArrowKind, FoundOrder};
 use crate::item::PictureItem;
+use crate::known_order::PartTrace;
 use std::alloc::{AllocError, Global};
-use trace_semantics::trace::Trace;
 
 /// Returns whether the box stands before the other one: initial values first, final ones last.
 fn stands_before(first: &PictureItem<'_>, second: &PictureItem<'_>) -> bool {
@@ -38,25 +38,17 @@ fn later_of(items: &[PictureItem<'_>], first: usize, second: usize) -> usize {
     }
 }
 
-/// Returns whether the reader may have its value from the box of this number.
-fn is_right(items: &[PictureItem<'_>], reader: usize, writer: usize) -> bool {
-    reader < items.len() && writer < items.len() && items[reader].may_read_from(&items[writer])
-}
-
-/// Gives what the schedule says of the boxes.
-pub(crate) fn order_of_schedule(
+/// Gives what a legal schedule says of the boxes, whose rows are its places.
+pub fn order_of_schedule(
     alloc: Global,
+    part: PartTrace<'_>,
     items: &[PictureItem<'_>],
-    trace: &Trace,
 ) -> Result<FoundOrder, AllocError> {
-    let mut found = FoundOrder::of_lines(alloc, items, trace)?;
+    let mut found = FoundOrder::of_lines(alloc, items, part)?;
     for reader in 0..items.len() {
         if items[reader].read.is_some() {
-            match last_write_before(items, reader) {
-                Some(writer) if is_right(items, reader, writer) => {
-                    found.add(alloc, writer, reader, ArrowKind::Source)?
-                }
-                _ => found.note_lack(reader),
+            if let Some(writer) = last_write_before(items, reader) {
+                found.add(alloc, writer, reader, ArrowKind::Source)?;
             }
         }
     }

@@ -1,21 +1,24 @@
 //! What stands in a box of a picture.
 
+use forced_order::numbered::OperationNumber;
 use trace_semantics::operation::{Op, Origin};
 
 /// What a box is of.
 #[derive(Clone, Copy)]
-pub(crate) enum ItemKind {
+pub enum ItemKind {
     /// The initial value of a location.
     Initial,
-    /// An operation.
-    Operation,
+    /// An operation that the picture is of.
+    Chosen,
+    /// An operation that is drawn beside those, for what it excludes.
+    Beside,
     /// The final value of a location.
     Final,
 }
 
 /// A box of a picture: an operation, or an initial or a final value, which is seen as a write or a read.
 #[derive(Clone, Copy)]
-pub(crate) struct PictureItem<'t> {
+pub struct PictureItem<'t> {
     pub kind: ItemKind,
     pub location: &'t [u8],
     /// The value that it reads.
@@ -28,8 +31,8 @@ pub(crate) struct PictureItem<'t> {
     pub row: usize,
     /// The name of its process, if it is an operation.
     pub process: &'t [u8],
-    /// The operation's place in its process, counted from 1.
-    pub place: u64,
+    /// Its number, if it is an operation.
+    pub number: OperationNumber,
     pub op: Option<&'t Op>,
 }
 
@@ -38,17 +41,23 @@ impl<'t> PictureItem<'t> {
     pub fn is_initial(&self) -> bool {
         match self.kind {
             ItemKind::Initial => true,
-            ItemKind::Operation => false,
-            ItemKind::Final => false,
+            _ => false,
         }
     }
 
     /// Returns whether it is a final value.
     pub fn is_final(&self) -> bool {
         match self.kind {
-            ItemKind::Initial => false,
-            ItemKind::Operation => false,
             ItemKind::Final => true,
+            _ => false,
+        }
+    }
+
+    /// Returns whether it is drawn for what it excludes alone.
+    pub fn is_beside(&self) -> bool {
+        match self.kind {
+            ItemKind::Beside => true,
+            _ => false,
         }
     }
 
@@ -57,9 +66,14 @@ impl<'t> PictureItem<'t> {
         self.op.is_some()
     }
 
+    /// Returns whether it needs a source of its own: two updates never read one write, and the last write of a location is read by none.
+    pub fn takes_its_source(&self) -> bool {
+        self.read.is_some() && (self.left.is_some() || self.is_final())
+    }
+
     /// Returns whether it is the operation at this place of the process.
-    pub fn is_named(&self, process: &[u8], place: u64) -> bool {
-        self.op.is_some() && self.place == place && self.process == process
+    pub fn is_named(&self, process: &[u8], place: u16) -> bool {
+        self.op.is_some() && self.number.place == place && self.process == process
     }
 
     /// Returns whether it leaves a value at the location.
@@ -68,7 +82,7 @@ impl<'t> PictureItem<'t> {
     }
 
     /// The origin that its line names.
-    pub fn origin(&self) -> Option<&'t Origin> {
+    pub(crate) fn origin(&self) -> Option<&'t Origin> {
         match self.op? {
             Op::Read { origin, .. } => Some(origin),
             Op::Write { .. } => None,
@@ -81,15 +95,13 @@ impl<'t> PictureItem<'t> {
         match self.origin() {
             Some(Origin::Any) => true,
             Some(Origin::Initial) => writer.is_initial(),
-            Some(Origin::Operation(name)) => {
-                writer.is_named(name.process.as_bytes(), name.place as u64)
-            }
+            Some(Origin::Operation(name)) => writer.is_named(name.process.as_bytes(), name.place),
             None => true,
         }
     }
 
     /// Returns whether it may have its value from the other one, but for their order.
-    pub fn may_read_from(&self, writer: &PictureItem<'t>) -> bool {
+    pub(crate) fn may_read_from(&self, writer: &PictureItem<'t>) -> bool {
         self.read.is_some()
             && self.read == writer.left
             && self.location == writer.location

@@ -1,4 +1,4 @@
-//! The cycle that the last arrow closes.
+//! Ways along arrows.
 
 use crate::found_order::OrderArrow;
 use std::alloc::{AllocError, Global};
@@ -61,39 +61,72 @@ impl Reached {
     }
 }
 
-/// Marks the arrow of this number, and returns where it begins.
-fn mark(arrows: &mut Vec<OrderArrow>, number: usize) -> Option<usize> {
-    if number < arrows.len() {
-        arrows[number].is_marked = true;
-        Some(arrows[number].from)
-    } else {
-        None
+/// The first arrows, which are so many.
+pub(crate) fn first_of(arrows: &[OrderArrow], count: usize) -> &[OrderArrow] {
+    match arrows.get(..count) {
+        Some(first) => first,
+        None => arrows,
     }
 }
 
-/// Marks a shortest cycle through the last arrow; `count` is the number of boxes.
-pub(crate) fn mark_cycle(
+/// The numbers of the arrows of a shortest way from one box to another, from its end to its begin; none if there is no way.
+pub(crate) fn way_between(
     alloc: Global,
-    arrows: &mut Vec<OrderArrow>,
+    arrows: &[OrderArrow],
     count: usize,
-) -> Result<(), AllocError> {
-    let Some(last) = arrows.len().checked_sub(1) else {
-        return Ok(());
-    };
-    let start = arrows[last].to;
+    start: usize,
+    end: usize,
+) -> Result<Vec<usize>, AllocError> {
+    let mut way = Vec::new(alloc);
     let mut reached = Reached::from(alloc, start, count)?;
     for steps in 0..count {
-        reached.follow(arrows.as_slice(), steps);
+        reached.follow(arrows, steps);
     }
-    let mut next = Some(last);
+    let mut at = end;
     for _ in 0..count {
-        let Some(number) = next else {
+        if at == start {
+            break;
+        }
+        let Some(number) = reached.last_arrow(at) else {
             break;
         };
-        next = match mark(arrows, number) {
-            Some(begin) if begin != start => reached.last_arrow(begin),
-            _ => None,
-        };
+        way.push(number)?;
+        match arrows.get(number) {
+            Some(arrow) => at = arrow.from,
+            None => break,
+        }
     }
-    Ok(())
+    Ok(way)
+}
+
+/// The boxes of the cycle that is marked, each before the next, from the end of its last arrow on; none if none is marked.
+pub fn cycle_of(alloc: Global, arrows: &[OrderArrow]) -> Result<Vec<usize>, AllocError> {
+    let mut boxes = Vec::new(alloc);
+    let mut at = None;
+    for arrow in arrows {
+        if arrow.is_marked {
+            at = Some(arrow.to);
+        }
+    }
+    for _ in 0..arrows.len() {
+        let Some(number) = at else {
+            break;
+        };
+        if !boxes.is_empty() && boxes.first() == Some(&number) {
+            break;
+        }
+        boxes.push(number)?;
+        at = marked_after(arrows, number);
+    }
+    Ok(boxes)
+}
+
+/// The box to which a marked arrow leads from this one.
+fn marked_after(arrows: &[OrderArrow], number: usize) -> Option<usize> {
+    for arrow in arrows {
+        if arrow.is_marked && arrow.from == number {
+            return Some(arrow.to);
+        }
+    }
+    None
 }

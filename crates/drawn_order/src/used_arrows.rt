@@ -1,0 +1,112 @@
+//! On which arrows, and on which exclusions of sources, a contradiction rests.
+
+use crate::found_order::{ArrowKind, DerivedBy, DerivedRule, FoundOrder, WhyExcluded};
+use crate::paths::{first_of, way_between};
+use std::alloc::{AllocError, Global};
+
+/// Marks the arrow of this number as one that is used.
+fn use_arrow(found: &mut FoundOrder, number: usize) {
+    if number < found.arrows.len() {
+        found.arrows[number].is_used = true;
+    }
+}
+
+/// Marks the arrows of a shortest way between two boxes along the first arrows, which are so many.
+fn use_way(
+    alloc: Global,
+    found: &mut FoundOrder,
+    known: usize,
+    from: usize,
+    to: usize,
+) -> Result<(), AllocError> {
+    let arrows = first_of(found.arrows.as_slice(), known);
+    let way = way_between(alloc, arrows, found.lacking.len(), from, to)?;
+    for number in &way {
+        use_arrow(found, *number);
+    }
+    Ok(())
+}
+
+/// Marks the arrow to the reader from its source.
+fn use_source(found: &mut FoundOrder, reader: usize) {
+    for k in 0..found.arrows.len() {
+        if found.arrows[k].to == reader {
+            match found.arrows[k].kind {
+                ArrowKind::Source => found.arrows[k].is_used = true,
+                _ => {}
+            }
+        }
+    }
+}
+
+/// Marks what an order follows of, among the first arrows, which are so many.
+fn use_premises(
+    alloc: Global,
+    found: &mut FoundOrder,
+    known: usize,
+    by: DerivedBy,
+) -> Result<(), AllocError> {
+    use_source(found, by.reader);
+    match by.rule {
+        DerivedRule::AfterSource => use_way(alloc, found, known, by.writer, by.other),
+        DerivedRule::BeforeReader => use_way(alloc, found, known, by.other, by.reader),
+        DerivedRule::LastWrite => Ok(()),
+    }
+}
+
+/// Marks what excludes the other sources of the reader.
+fn use_exclusions(alloc: Global, found: &mut FoundOrder, reader: usize) -> Result<(), AllocError> {
+    for k in 0..found.exclusions.len() {
+        let exclusion = found.exclusions[k];
+        if exclusion.reader == reader {
+            if k < found.exclusions.len() {
+                found.exclusions[k].is_used = true;
+            }
+            let known = exclusion.known;
+            let writer = exclusion.writer;
+            match exclusion.why {
+                WhyExcluded::Late => use_way(alloc, found, known, reader, writer)?,
+                WhyExcluded::Overwritten(other) => {
+                    use_way(alloc, found, known, writer, other)?;
+                    use_way(alloc, found, known, other, reader)?;
+                }
+                WhyExcluded::Taken(other) => use_source(found, other),
+            }
+        }
+    }
+    Ok(())
+}
+
+/// Marks what the arrow of this number rests on. All of that was known before it.
+fn use_of_arrow(alloc: Global, found: &mut FoundOrder, number: usize) -> Result<(), AllocError> {
+    if number >= found.arrows.len() {
+        return Ok(());
+    }
+    let arrow = found.arrows[number];
+    if !arrow.is_used {
+        return Ok(());
+    }
+    match arrow.kind {
+        ArrowKind::Derived(by) => use_premises(alloc, found, number, by),
+        ArrowKind::Source => use_exclusions(alloc, found, arrow.to),
+        _ => Ok(()),
+    }
+}
+
+/// Marks all on which the contradiction rests, from its last arrow to its first.
+pub(crate) fn mark_used(alloc: Global, found: &mut FoundOrder) -> Result<(), AllocError> {
+    for number in 0..found.arrows.len() {
+        if found.arrows[number].is_marked {
+            use_arrow(found, number);
+        }
+    }
+    for reader in 0..found.lacking.len() {
+        if found.is_lacking(reader) {
+            use_exclusions(alloc, found, reader)?;
+        }
+    }
+    for number in (0..found.arrows.len()).rev() {
+        use_of_arrow(alloc, found, number)?;
+    }
+    Ok(())
+}

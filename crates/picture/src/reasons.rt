@@ -1,0 +1,268 @@
+//! Sentences that say why the arrows of a contradiction are there.
+
+use crate::arrows::is_shown;
+use drawn_order::{
+    ArrowKind, DerivedBy, DerivedRule, Exclusion, FoundOrder, PictureItem, WhyExcluded, cycle_of,
+};
+use note_text::{GrowingText, decimal};
+use std::alloc::{AllocError, Global};
+
+/// The most sentences below a picture.
+const MOST_SENTENCES: usize = 20;
+
+/// The most sources that a sentence excludes one by one.
+const MOST_NAMED: usize = 4;
+
+/// The sentences below a picture.
+#[derive(Drop)]
+pub(crate) struct Reasons {
+    pub lines: Vec<Vec<u8>>,
+}
+
+/// What sentences are about.
+#[derive(Clone, Copy)]
+struct Told<'p, 't> {
+    items: &'p [PictureItem<'t>],
+    found: &'p FoundOrder,
+}
+
+impl Told<'_, '_> {
+    /// Adds the name of the box, as `P.2`, `the initial value` or `the final value`.
+    fn add_name(&self, text: &mut GrowingText, number: usize) {
+        match self.items.get(number) {
+            Some(item) if item.is_initial() => text.add(&[b"the initial value"]),
+            Some(item) if item.is_final() => text.add(&[b"the final value"]),
+            Some(item) => {
+                let place = decimal(item.number.place as u64);
+                text.add(&[item.process, b".", place.as_slice()]);
+            }
+            None => {}
+        }
+    }
+
+    /// Adds the names of two boxes, with words between them and behind them.
+    fn add_names(
+        &self,
+        text: &mut GrowingText,
+        first: usize,
+        words: &[u8],
+        second: usize,
+        more: &[u8],
+    ) {
+        self.add_name(text, first);
+        text.add(&[words]);
+        self.add_name(text, second);
+        text.add(&[more]);
+    }
+
+    /// Adds the location and the value that the box reads, as `x = 1`.
+    fn add_value(&self, text: &mut GrowingText, number: usize) {
+        if let Some(item) = self.items.get(number) {
+            let value = decimal(item.read.unwrap_or(0));
+            text.add(&[item.location, b" = ", value.as_slice()]);
+        }
+    }
+
+    /// Adds why a write is not the source of its reader.
+    fn add_exclusion(&self, text: &mut GrowingText, exclusion: &Exclusion) {
+        text.add(&[b"not from "]);
+        match exclusion.why {
+            WhyExcluded::Late => {
+                self.add_name(text, exclusion.writer);
+                text.add(&[b", which comes later"]);
+            }
+            WhyExcluded::Overwritten(other) => {
+                self.add_names(text, exclusion.writer, b", which ", other, b" overwrites before it");
+            }
+            WhyExcluded::Taken(other) => {
+                self.add_names(text, exclusion.writer, b", which ", other, b" needs for itself");
+            }
+        }
+    }
+
+    /// Adds why the reader has no other source. Returns whether there was anything to say.
+    fn add_exclusions(&self, text: &mut GrowingText, reader: usize) -> bool {
+        let mut named: usize = 0;
+        let mut more: u64 = 0;
+        for exclusion in &self.found.exclusions {
+            if exclusion.reader == reader {
+                if named < MOST_NAMED {
+                    text.add(&[if named == 0 { b": " } else { b"; " }]);
+                    self.add_exclusion(text, exclusion);
+                    named = named.saturating_add(1);
+                } else {
+                    more = more.saturating_add(1);
+                }
+            }
+        }
+        let unseen = self.found.unseen_sources(reader) as u64;
+        let rest = more.saturating_add(unseen);
+        if rest > 0 {
+            let count = decimal(rest);
+            text.add(&[
+                if named == 0 { b": " } else { b"; " },
+                b"not from ",
+                count.as_slice(),
+                b" more writes of this value, which come later or are overwritten before it",
+            ]);
+        }
+        named > 0 || rest > 0
+    }
+
+    /// The sentence on the source of a reader, if there is more to say than the arrow does.
+    fn sentence_of_source(&self, alloc: Global, writer: usize, reader: usize) -> Option<GrowingText> {
+        let mut text = GrowingText::new(alloc);
+        self.add_name(&mut text, reader);
+        text.add(&[b" has "]);
+        self.add_value(&mut text, reader);
+        text.add(&[b" from "]);
+        self.add_name(&mut text, writer);
+        if self.add_exclusions(&mut text, reader) {
+            Some(text)
+        } else {
+            None
+        }
+    }
+
+    /// The sentence on a box that nothing gives its value.
+    fn sentence_of_lack(&self, alloc: Global, reader: usize) -> GrowingText {
+        let mut text = GrowingText::new(alloc);
+        text.add(&[b"Nothing gives "]);
+        self.add_name(&mut text, reader);
+        text.add(&[b" "]);
+        self.add_value(&mut text, reader);
+        if !self.add_exclusions(&mut text, reader) {
+            text.add(&[b": no operation and no init line does"]);
+        }
+        text
+    }
+
+    /// The sentence on an order that follows of a source.
+    fn sentence_of_order(&self, alloc: Global, number: u64, by: DerivedBy) -> GrowingText {
+        let mut text = GrowingText::new(alloc);
+        text.add(&[decimal(number).as_slice(), b": "]);
+        match by.rule {
+            DerivedRule::AfterSource => {
+                self.add_names(&mut text, by.reader, b" comes before ", by.other, b", since ");
+                self.add_names(&mut text, by.reader, b" reads from ", by.writer, b", and ");
+                self.add_names(&mut text, by.other, b" overwrites ", by.writer, b"");
+            }
+            DerivedRule::BeforeReader => {
+                self.add_names(&mut text, by.other, b" comes before ", by.writer, b", since ");
+                self.add_names(&mut text, by.reader, b" reads from ", by.writer, b", and ");
+                self.add_names(&mut text, by.other, b" writes there before ", by.reader, b"");
+            }
+            DerivedRule::LastWrite => {
+                self.add_names(&mut text, by.other, b" comes before ", by.writer, b", since ");
+                self.add_names(&mut text, by.reader, b" is that of ", by.writer, b"");
+            }
+        }
+        text
+    }
+
+    /// The sentence on the cycle that is marked.
+    fn sentence_of_cycle(&self, alloc: Global) -> Result<GrowingText, AllocError> {
+        let boxes = cycle_of(alloc, self.found.arrows.as_slice())?;
+        let mut text = GrowingText::new(alloc);
+        text.add(&[b"So each would have to come before the next: "]);
+        for number in &boxes {
+            self.add_name(&mut text, *number);
+            text.add(&[b", "]);
+        }
+        match boxes.first() {
+            Some(first) => self.add_name(&mut text, *first),
+            None => {}
+        }
+        Ok(text)
+    }
+
+    /// The sentence on boxes that need more sources than there are.
+    fn sentence_of_shortage(&self, alloc: Global) -> Option<GrowingText> {
+        let Some(shortage) = &self.found.shortage else {
+            return None;
+        };
+        let mut text = GrowingText::new(alloc);
+        let needing = decimal(shortage.count_needing());
+        text.add(&[needing.as_slice(), b" need "]);
+        self.add_value(&mut text, shortage.first);
+        let giving = decimal(shortage.count_giving());
+        text.add(&[b" from a source of their own, and ", giving.as_slice(), b" can be one"]);
+        Some(text)
+    }
+}
+
+impl Reasons {
+    /// Adds a sentence, if there is room for one.
+    fn add(&mut self, sentence: GrowingText) -> Result<(), AllocError> {
+        let line = sentence.into_whole()?;
+        if self.lines.len() < MOST_SENTENCES {
+            self.lines.push(line)?;
+        }
+        Ok(())
+    }
+
+    /// Adds the sentences on sources, in the order in which they are found.
+    fn add_sources(&mut self, alloc: Global, told: Told<'_, '_>) -> Result<(), AllocError> {
+        for arrow in &told.found.arrows {
+            match arrow.kind {
+                ArrowKind::Source if arrow.is_used => {
+                    if let Some(sentence) = told.sentence_of_source(alloc, arrow.from, arrow.to) {
+                        self.add(sentence)?;
+                    }
+                }
+                _ => {}
+            }
+        }
+        Ok(())
+    }
+
+    /// Adds the numbered sentences.
+    fn add_orders(&mut self, alloc: Global, told: Told<'_, '_>) -> Result<(), AllocError> {
+        let mut number: u64 = 0;
+        for arrow in &told.found.arrows {
+            match arrow.kind {
+                ArrowKind::Derived(by) if is_shown(arrow) => {
+                    number = number.saturating_add(1);
+                    self.add(told.sentence_of_order(alloc, number, by))?;
+                }
+                _ => {}
+            }
+        }
+        Ok(())
+    }
+
+    /// The sentences on what contradicts itself in the boxes.
+    pub fn of(
+        alloc: Global,
+        items: &[PictureItem<'_>],
+        found: &FoundOrder,
+    ) -> Result<Reasons, AllocError> {
+        let told = Told { items, found };
+        let mut reasons = Reasons {
+            lines: Vec::new(alloc),
+        };
+        reasons.add_sources(alloc, told)?;
+        reasons.add_orders(alloc, told)?;
+        if found.has_cycle() {
+            reasons.add(told.sentence_of_cycle(alloc)?)?;
+        }
+        for reader in 0..items.len() {
+            if found.is_lacking(reader) {
+                reasons.add(told.sentence_of_lack(alloc, reader))?;
+            }
+        }
+        if let Some(sentence) = told.sentence_of_shortage(alloc) {
+            reasons.add(sentence)?;
+        }
+        Ok(reasons)
+    }
+
+    /// The length of the longest sentence.
+    pub fn longest(&self) -> u64 {
+        let mut longest: u64 = 0;
+        for line in &self.lines {
+            longest = longest.max(line.len() as u64);
+        }
+        longest
+    }
+}

@@ -1,0 +1,248 @@
+//! The ways of arrows between boxes, which pass boxes and do not cross them.
+
+use crate::placement::{BoxEdges, Placement};
+use crate::svg_text::SvgText;
+use drawn_order::PictureItem;
+use std::alloc::{AllocError, Global};
+
+/// How far a corner is rounded.
+const CORNER: u64 = 7;
+
+/// A place of the picture.
+#[derive(Clone, Copy)]
+pub(crate) struct Place {
+    pub x: u64,
+    pub y: u64,
+}
+
+/// A way along straight lines with rounded corners.
+#[derive(Drop)]
+pub(crate) struct Route {
+    places: Vec<Place>,
+}
+
+/// How many arrows have taken the space beside each column, and below each row.
+#[derive(Drop)]
+pub(crate) struct Lanes {
+    columns: Vec<u64>,
+    rows: Vec<u64>,
+}
+
+/// The next number of the counter, which is raised.
+fn next_of(counters: &mut Vec<u64>, number: usize) -> u64 {
+    if number < counters.len() {
+        let count = counters[number];
+        counters[number] = count.saturating_add(1);
+        count
+    } else {
+        0
+    }
+}
+
+/// So many counters.
+fn counters(alloc: Global, count: usize) -> Result<Vec<u64>, AllocError> {
+    let mut counters = Vec::new(alloc);
+    for _ in 0..count {
+        counters.push(0)?;
+    }
+    Ok(counters)
+}
+
+/// The number that lies by this distance nearer to the other, and by half of the way at most.
+fn toward(from: u64, to: u64, distance: u64) -> u64 {
+    if to >= from {
+        from.saturating_add(distance.min((to - from) / 2))
+    } else {
+        from.saturating_sub(distance.min((from - to) / 2))
+    }
+}
+
+/// The place that lies near to this one on the straight line to the other.
+fn place_toward(from: Place, to: Place) -> Place {
+    Place {
+        x: toward(from.x, to.x, CORNER),
+        y: toward(from.y, to.y, CORNER),
+    }
+}
+
+impl Lanes {
+    /// No arrow yet, in a picture of so many columns and rows.
+    pub fn new(alloc: Global, placement: &Placement<'_>) -> Result<Lanes, AllocError> {
+        let rows = usize::try_from(placement.rows).unwrap_or(0);
+        Ok(Lanes {
+            columns: counters(alloc, placement.columns.len())?,
+            rows: counters(alloc, rows.saturating_add(1))?,
+        })
+    }
+
+    /// A line down, in the space to the right of the column.
+    fn line_down(&mut self, placement: &Placement<'_>, column: usize) -> u64 {
+        let count = next_of(&mut self.columns, column);
+        let shift = (count % 6).saturating_mul(8).saturating_add((count / 6) % 2 * 4);
+        placement
+            .right_of(column)
+            .saturating_add(14)
+            .saturating_add(shift)
+    }
+
+    /// A line across, in the space below the row.
+    fn line_across(&mut self, placement: &Placement<'_>, row: usize) -> u64 {
+        let count = next_of(&mut self.rows, row);
+        let shift = (count % 5).saturating_mul(6);
+        placement
+            .bottom_of_row(row as u64)
+            .saturating_add(5)
+            .saturating_add(shift)
+    }
+}
+
+/// The row below which an arrow crosses columns: the one above its end, or that of its end if it does not lead down.
+fn crossing_row(from: &PictureItem<'_>, to: &PictureItem<'_>) -> usize {
+    if to.row > from.row {
+        to.row.saturating_sub(1)
+    } else {
+        to.row
+    }
+}
+
+/// Where an arrow leaves a box, to the right or to the left.
+fn exit_of(edges: BoxEdges, goes_right: bool) -> Place {
+    Place {
+        x: if goes_right { edges.right } else { edges.left },
+        y: edges.middle().saturating_add(5),
+    }
+}
+
+/// Where an arrow that leads to the right or to the left comes to a box.
+fn entry_of(edges: BoxEdges, goes_right: bool) -> Place {
+    Place {
+        x: if goes_right { edges.left } else { edges.right },
+        y: edges.middle().saturating_sub(5),
+    }
+}
+
+impl Route {
+    /// A way that leaves at the first place and goes to a line down, along it, and to the last place.
+    fn by_one_line(alloc: Global, start: Place, x: u64, end: Place) -> Result<Route, AllocError> {
+        let mut places = Vec::new(alloc);
+        places.push(start)?;
+        places.push(Place { x, y: start.y })?;
+        places.push(Place { x, y: end.y })?;
+        places.push(end)?;
+        Ok(Route { places })
+    }
+
+    /// A way by two lines down, and one across between them.
+    fn by_three_lines(
+        alloc: Global,
+        start: Place,
+        first: u64,
+        across: u64,
+        second: u64,
+        end: Place,
+    ) -> Result<Route, AllocError> {
+        let mut places = Vec::new(alloc);
+        places.push(start)?;
+        places.push(Place {
+            x: first,
+            y: start.y,
+        })?;
+        places.push(Place {
+            x: first,
+            y: across,
+        })?;
+        places.push(Place {
+            x: second,
+            y: across,
+        })?;
+        places.push(Place {
+            x: second,
+            y: end.y,
+        })?;
+        places.push(end)?;
+        Ok(Route { places })
+    }
+
+    /// The straight way down from the one box to the other.
+    pub fn down(alloc: Global, from: BoxEdges, to: BoxEdges) -> Result<Route, AllocError> {
+        let mut places = Vec::new(alloc);
+        places.push(Place {
+            x: from.center(),
+            y: from.bottom,
+        })?;
+        places.push(Place {
+            x: to.center(),
+            y: to.top,
+        })?;
+        Ok(Route { places })
+    }
+
+    /// The way from the side of the one box to the side of the other. In the row of a schedule's operation no other box stands, so an
+    /// arrow crosses columns there.
+    pub fn beside(
+        alloc: Global,
+        placement: &Placement<'_>,
+        lanes: &mut Lanes,
+        from: &PictureItem<'_>,
+        to: &PictureItem<'_>,
+        is_schedule: bool,
+    ) -> Result<Route, AllocError> {
+        let goes_right = from.column < to.column;
+        let first = placement.edges_of(from);
+        let second = placement.edges_of(to);
+        let start = exit_of(first, goes_right || from.column == to.column);
+        let end = entry_of(second, goes_right);
+        let near_start = if goes_right || from.column == to.column {
+            from.column
+        } else {
+            placement.column_before(from.column)
+        };
+        let near_end = if goes_right {
+            placement.column_before(to.column)
+        } else {
+            to.column
+        };
+        let x = lanes.line_down(placement, near_start);
+        if near_start == near_end || is_schedule {
+            return Route::by_one_line(alloc, start, x, end);
+        }
+        let across = lanes.line_across(placement, crossing_row(from, to));
+        let other = lanes.line_down(placement, near_end);
+        Route::by_three_lines(alloc, start, x, across, other, end)
+    }
+
+    /// Adds the way to a path.
+    pub fn add_to(&self, svg: &mut SvgText) {
+        for k in 0..self.places.len() {
+            let place = self.places[k];
+            if k == 0 {
+                svg.add_numbers(&[place.x, place.y]);
+            } else if k.saturating_add(1) < self.places.len() {
+                let next = self.places[k.saturating_add(1)];
+                let before = place_toward(place, self.places[k - 1]);
+                let after = place_toward(place, next);
+                svg.add(&[b" L"]);
+                svg.add_numbers(&[before.x, before.y]);
+                svg.add(&[b" Q"]);
+                svg.add_numbers(&[place.x, place.y, after.x, after.y]);
+            } else {
+                svg.add(&[b" L"]);
+                svg.add_numbers(&[place.x, place.y]);
+            }
+        }
+    }
+
+    /// The middle of its last line but one, where words can stand.
+    pub fn label_place(&self) -> Place {
+        let count = self.places.len();
+        if count < 3 {
+            return Place { x: 0, y: 0 };
+        }
+        let first = self.places[count - 3];
+        let second = self.places[count - 2];
+        Place {
+            x: first.x.min(second.x).saturating_add(first.x.abs_diff(second.x) / 2),
+            y: first.y.min(second.y).saturating_add(first.y.abs_diff(second.y) / 2),
+        }
+    }
+}
