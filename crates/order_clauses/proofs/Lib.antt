@@ -1,0 +1,3 @@
+pub mod ClauseLemmas
+pub mod ReasonLemmas
+pub mod VariableLemmas

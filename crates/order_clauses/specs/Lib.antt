@@ -1,0 +1,6 @@
+pub mod ClauseOf
+pub mod Literals
+pub mod Numbered
+pub mod OrderVariables
+pub mod ReasonList
+pub mod Turned

@@ -1,0 +1,36 @@
+//! Orders of two operations.
+
+use writer_table::operation_number::OperationNumber;
+
+/// The first operation stands before the second.
+#[derive(Clone, Copy, Debug, PartialEq, Eq, Hash)]
+pub struct OrderPair {
+    pub first: OperationNumber,
+    pub second: OperationNumber,
+}
+
+impl OrderPair {
+    ghost use Rattle.std.specs.Prelude.{◌≡◌};
+    ghost use Rattle.order_clauses.specs.Turned.{turned};
+
+    /// The second operation stands before the first.
+    pub fn turned(self) -> OrderPair
+        ensures { result ≡ turned self }
+    {
+        OrderPair {
+            first: self.second,
+            second: self.first,
+        }
+    }
+
+    /// Returns whether the first operation comes before the second by the number of its process, and then by its place.
+    pub fn is_rising(self) -> bool {
+        self.first.process < self.second.process
+            || (self.first.process == self.second.process && self.first.place < self.second.place)
+    }
+
+    /// Returns whether both operations are of one process.
+    pub fn is_of_one_process(self) -> bool {
+        self.first.process == self.second.process
+    }
+}

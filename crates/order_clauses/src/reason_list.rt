@@ -1,0 +1,111 @@
+//! The clauses that a certificate names.
+
+ghost use Rattle.std.specs.Prelude.{◌≡◌, ◌++◌, ◌∷◌, [], List, IfOk, OnOk};
+ghost use Rattle.order_clauses.specs.ClauseOf.{IsClauseOf};
+ghost use Rattle.order_clauses.specs.OrderVariables.{IsExtended};
+ghost use Rattle.order_clauses.specs.declared.order_pair.OrderPair.{OrderPair as Order};
+ghost use Rattle.order_clauses.specs.declared.reason_list.Outcome.TheVariants.{Made};
+
+use crate::literal_places::LiteralPlaces;
+use crate::order_pair::OrderPair;
+use crate::order_variables::OrderVariables;
+use dimacs::{Clause, Lit};
+use std::alloc::{AllocError, Global};
+
+/// What came of orders that were to be made a clause.
+#[derive(Clone, Copy, Debug, PartialEq, Eq)]
+pub enum Outcome {
+    /// The clause was made.
+    Made,
+    /// One of two of the orders always stands, as program order has one so, or they are opposite.
+    AlwaysTrue,
+    /// There are more variables than can be numbered.
+    TooManyVariables,
+}
+
+/// Clauses over orders, and the variables that they are over.
+#[derive(Drop)]
+pub struct ReasonList {
+    variables: OrderVariables,
+    clauses: Vec<Clause>,
+    places: LiteralPlaces,
+}
+
+/// Appends a literal that says the order, if none among the literals does.
+fn put_order(
+    variables: &mut OrderVariables,
+    places: &mut LiteralPlaces,
+    literals: &mut Vec<Lit>,
+    order: OrderPair,
+) -> Result<Outcome, AllocError>
+    ensures extended { OnOk result (IsExtended variables.old variables.new) }
+    ensures says { IfOk result (λ outcome. outcome ≡ Made → (orders : List Order) → IsClauseOf variables.old orders literals.old.items → IsClauseOf variables.new (orders ++ order ∷ []) literals.new.items) }
+{
+    if order.is_of_one_process() {
+        return Ok(Outcome::AlwaysTrue);
+    }
+    let Some(literal) = variables.literal(order)? else {
+        return Ok(Outcome::TooManyVariables);
+    };
+    if places.has(literals.as_slice(), literal.negated()) {
+        return Ok(Outcome::AlwaysTrue);
+    }
+    places.put(literals, literal)?;
+    Ok(Outcome::Made)
+}
+
+/// Appends literals that say the orders.
+fn put_orders(
+    variables: &mut OrderVariables,
+    places: &mut LiteralPlaces,
+    literals: &mut Vec<Lit>,
+    orders: &[OrderPair],
+) -> Result<Outcome, AllocError>
+    ensures extended { OnOk result (IsExtended variables.old variables.new) }
+    ensures says { IfOk result (λ outcome. outcome ≡ Made → literals.old.items ≡ [] → IsClauseOf variables.new orders.now literals.new.items) }
+{
+    for order in orders {
+        let outcome = put_order(variables, places, literals, *order)?;
+        if outcome != Outcome::Made {
+            return Ok(outcome);
+        }
+    }
+    Ok(Outcome::Made)
+}
+
+impl ReasonList {
+    ghost use Rattle.std.specs.Prelude.{ℕ, length};
+    ghost use Rattle.trace_semantics.specs.Trace.{TraceValue};
+    ghost use Rattle.order_reasons.specs.Orders.{HoldsOfSchedules};
+    ghost use Rattle.order_clauses.specs.Numbered.{named_orders};
+    ghost use Rattle.order_clauses.specs.ReasonList.{HoldReasons};
+
+    /// No clauses yet.
+    pub fn new(alloc: Global) -> ReasonList
+        ensures { (t : TraceValue) → HoldReasons t result.variables result.clauses.items }
+    {
+        ReasonList {
+            variables: OrderVariables::new(alloc),
+            clauses: Vec::new(alloc),
+            places: LiteralPlaces::new(alloc),
+        }
+    }
+
+    /// How many clauses there are.
+    pub fn count(&self) -> usize {
+        self.clauses.len()
+    }
+
+    /// Appends the clause that one of the orders stands.
+    pub fn add(&mut self, alloc: Global, orders: &[OrderPair]) -> Result<Outcome, AllocError>
+        ensures { OnOk result ((t : TraceValue) → HoldsOfSchedules t (named_orders t orders.now) → HoldReasons t self.old.variables self.old.clauses.items → HoldReasons t self.new.variables self.new.clauses.items) }
+    {
+        let mut literals = Vec::with_capacity(alloc, orders.len())?;
+        let outcome = put_orders(&mut self.variables, &mut self.places, &mut literals, orders)?;
+        if outcome == Outcome::Made {
+            self.clauses
+                .push(Clause::from_slice(alloc, literals.as_slice())?)?;
+        }
+        Ok(outcome)
+    }
+}

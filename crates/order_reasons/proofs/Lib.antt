@@ -1,0 +1,5 @@
+pub mod CountReasons
+pub mod OrderReasons
+pub mod ScheduleModel
+pub mod SourceReasons
+pub mod WaitReasons

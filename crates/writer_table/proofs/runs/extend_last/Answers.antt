@@ -1,0 +1,16 @@
+use Rattle.std.proofs.Common.{◌≡◌, ◌<◌, ◌-◌, length, ap, sym, ◌∙◌, rules, arith}
+use Rattle.std.proofs.lemmas.List.{get_or_default}
+use Rattle.writer_table.specs.declared.runs.Run.{Run}
+use Rattle.writer_table.proofs.RunLemmas.{last_longer}
+use Rattle.writer_table.proofs.runs.extend_last.Goals as goal
+
+pub returns : goal.returns
+returns c =
+    let runs = c.args.runs.now.items in
+    let count = c.len-count.result in
+    let old = c.index_mut.result.now in
+    let long : count ≡ length runs = search rules in
+    let some = c.if-count-eq0.false in
+    let low : count - 1 < length runs = omega (arith, long, some) in
+    last_longer runs count old c.push.new.self c.args.process c.args.place c.in_ok-done.done long c.if-count-eq0.false (sym c.index_mut.ensures.value)
+    (ap (λ (r : Run). r.process) (c.index_mut.ensures.value ∙ get_or_default runs (count - 1) old c.index.result.now low ∙ sym c.index.ensures) ∙ c.if-index-process.false) c.in_ok-done.ensures

@@ -1,0 +1,5 @@
+pub mod Longer
+pub mod PlaceTable
+pub mod Runs
+pub mod WriterClasses
+pub mod Writers

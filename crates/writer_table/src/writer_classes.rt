@@ -1,0 +1,94 @@
+//! Numbers for the operations that write alike.
+
+use std::alloc::{AllocError, Global};
+use std::collections::HashMap;
+use trace_semantics::operation::Op;
+
+/// A number for each location, or for each location and value, that operations write. What has no number counts as 0.
+#[derive(Drop)]
+pub struct WriterClasses<'a> {
+    /// Whether values are told apart.
+    pub by_value: bool,
+    numbers: HashMap<(&'a [u8], u64), usize>,
+}
+
+impl<'a> WriterClasses<'a> {
+    ghost use Rattle.std.specs.Prelude.{◌≡◌, map, OnOk, IfOk, if◌then◌else◌};
+    ghost use Rattle.writer_table.specs.WriterClasses.{class_of, class_left};
+
+    /// No numbers yet.
+    pub fn new(alloc: Global, by_value: bool) -> WriterClasses<'a>
+        ensures { result.by_value ≡ by_value }
+    {
+        WriterClasses {
+            by_value,
+            numbers: HashMap::new(alloc),
+        }
+    }
+
+    /// What of the value a class depends on.
+    fn key(&self, value: u64) -> u64
+        ensures { result ≡ (if self.now.by_value then value else 0) }
+    {
+        if self.by_value { value } else { 0 }
+    }
+
+    /// The class of what leaves the value at the location.
+    pub fn class(&self, location: &[u8], value: u64) -> usize
+        ensures { result ≡ class_of self.now location.now value }
+    {
+        match self.numbers.get(&(location, self.key(value))) {
+            Some(number) => *number,
+            None => 0,
+        }
+    }
+
+    /// Gives what leaves the value at the location a number, if it has none.
+    fn add(&mut self, location: &'a [u8], value: u64) -> Result<(), AllocError>
+        ensures { OnOk result (self.new.by_value ≡ self.old.by_value) }
+    {
+        let key = (location, self.key(value));
+        if self.numbers.get(&key).is_none() {
+            let number = self.numbers.len().saturating_add(1);
+            self.numbers.insert(key, number)?;
+        }
+        Ok(())
+    }
+
+    /// Gives each of the operations that writes a number.
+    pub fn add_all(&mut self, operations: &'a [Op]) -> Result<(), AllocError>
+        ensures { OnOk result (self.new.by_value ≡ self.old.by_value) }
+    {
+        for op in operations {
+            if let Some(value) = op.written_value() {
+                self.add(op.location().as_bytes(), value)?;
+            }
+        }
+        Ok(())
+    }
+
+    /// The class of the operation, if it writes.
+    fn class_left(&self, op: &Op) -> Option<usize>
+        ensures { result ≡ class_left self.now op.now }
+    {
+        match op.written_value() {
+            Some(value) => Some(self.class(op.location().as_bytes(), value)),
+            None => None,
+        }
+    }
+
+    /// The classes of these operations, in order.
+    pub fn classes_left(
+        &self,
+        alloc: Global,
+        operations: &[Op],
+    ) -> Result<Vec<Option<usize>>, AllocError>
+        ensures { IfOk result (λ classes. classes.items ≡ map (class_left self.now) operations.now) }
+    {
+        let mut classes = Vec::with_capacity(alloc, operations.len())?;
+        for op in operations {
+            classes.push(self.class_left(op))?;
+        }
+        Ok(classes)
+    }
+}
