@@ -21,6 +21,7 @@ pub fn write_fault<W: Sink>(alloc: Global, fault: &Fault, out: &mut W) -> Result
     ensures whole { OnOk result (W.written out.new ≡ W.written out.old ++ line_of fault.now) }
     ensures front { OnErr result (AppendsFront (W.written out.old) (W.written out.new) (line_of fault.now)) }
     ensures failures { CountsSinkFailures result (W.failures out.old) (W.failures out.new) }
+    ensures same { W.path out.new ≡ W.path out.old }
 {
     if let Fault::OutOfMemory = fault {
         // This one takes no memory.
