@@ -47,6 +47,7 @@ fn write_section<W: Sink>(
     ensures well { OnOk result (W.failures sink.new ≡ W.failures sink.old) }
     ensures front { OnErr result (AppendsFront (W.written sink.old) (W.written sink.new) (section_text (record { leaf = leaf; derivation = derivation.now }))) }
     ensures failed { IfErr result (λ fault. W.failures sink.new ≡ W.failures sink.old + failures_told fault) }
+    ensures same { W.path sink.new ≡ W.path sink.old }
 {
     let begin = write_begin(alloc, leaf)?;
     let steps = write_lrat(alloc, derivation)?;
@@ -68,6 +69,7 @@ pub fn write_cert<W: Sink>(
     ensures well { OnOk result (W.failures sink.new ≡ W.failures sink.old) }
     ensures front { OnErr result (AppendsFront (W.written sink.old) (W.written sink.new) (canonical_certificate (certificate_of tree.now derivations.now))) }
     ensures failed { IfErr result (λ fault. W.failures sink.new ≡ W.failures sink.old + failures_told fault) }
+    ensures same { W.path sink.new ≡ W.path sink.old }
 {
     let front = write_front(alloc, tree)?;
     write_whole(sink, front.as_slice())?;

@@ -1,1 +1,2 @@
 pub mod HostCalls
+pub mod Streams

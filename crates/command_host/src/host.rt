@@ -24,20 +24,24 @@ pub trait Host<'p> {
     /// Hands out the file at this path, of which nothing is read yet. A file that cannot be opened fails when it is read.
     fn source(&mut self, path: &'p str) -> Self::Input
         ensures opens { calls.opens self.old path.now result self.new }
+        ensures path { Self.Input.path result ≡ path.now }
         ensures handed_out { Self.Input.handed_out result ≡ [] }
         ensures is_at_end { Self.Input.is_at_end result ≡ false }
         ensures failures { Self.Input.failures result ≡ 0 };
 
-    /// Makes the file at this path, or empties it.
+    /// Makes the file at this path, or opens the one that is there, to be written in place of what it has. That it keeps until something is
+    /// written, or the file is given back after a report.
     fn create(&mut self, path: &'p str) -> Result<Self::Output, Failed>
         ensures makes { IfOk result (λ file. calls.makes self.old path.now file self.new) }
+        ensures path { IfOk result (λ file. Self.Output.path file ≡ path.now) }
         ensures written { IfOk result (λ file. Self.Output.written file ≡ []) }
         ensures failures { IfOk result (λ file. Self.Output.failures file ≡ 0) }
         ensures failed { OnErr result (calls.fails_to_make self.old path.now self.new) };
 
-    /// Takes back a file that is written.
-    fn close(&mut self, file: Self::Output)
-        ensures { calls.closes self.old file self.new };
+    /// Takes back a file that is written: after a report, so that it has what was written to it and nothing else, or after a refusal, so that
+    /// a file to which nothing was written is as it was.
+    fn close(&mut self, file: Self::Output, is_reported: bool)
+        ensures { calls.closes self.old file is_reported self.new };
 
     /// Returns whether what is written at the first path would be the file that the second one names, also if it is still to be made.
     fn is_same_file(&mut self, first: &str, second: &str) -> bool

@@ -3,10 +3,12 @@
 
 mod device_failure;
 mod host;
+mod keeper;
 mod recorder;
 mod search_request;
 
 pub use device_failure::{DeviceCall, DeviceFailure, FailedFile, TellsFailure};
 pub use host::Host;
+pub use keeper::{Keeper, KeptText};
 pub use recorder::{Recalls, Recorder};
 pub use search_request::SearchRequest;

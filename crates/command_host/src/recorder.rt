@@ -96,6 +96,8 @@ impl<S: Sink> Sink for Recorder<S> {
 
     ghost failures = { λ s. S.failures s.sink };
 
+    ghost path = { λ s. S.path s.sink };
+
     fn write(&mut self, bytes: &[u8]) -> Result<usize, Failed> {
         match self.sink.write(bytes) {
             Ok(count) => {

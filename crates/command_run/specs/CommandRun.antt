@@ -1,11 +1,11 @@
 -- What a command does: the engine that it runs, on which files and with which options, what its standard streams take, and its exit
 -- status.
 use Rattle.std.specs.Borrow.{Bor}
-use Rattle.std.specs.Prelude.{◌≡◌, ◌||◌, ◌⊎◌, ◌≤◌, ℕ, Bool, false, true, not, List, [], ◌∷◌, Option, None, Some, Result, Ok, Err, IfSome, is_some}
+use Rattle.std.specs.Prelude.{◌≡◌, ◌||◌, ◌==◌, ◌⊎◌, ◌≤◌, ℕ, Bool, false, true, not, List, [], ◌∷◌, Option, None, Some, Result, Ok, Err, IfSome, is_ok, is_some}
 use Rattle.clap.specs.Words.{takes}
 use Rattle.clap.specs.declared.error.kind.ErrorKind.{ErrorKind}
 use Rattle.clap.specs.declared.error.kind.ErrorKind.TheVariants.{OutOfMemory as NoMemoryToRead}
-use Rattle.command_line.specs.CommandLine.{Asks, IsFaultOf, IsFaultless, vsc_app}
+use Rattle.command_line.specs.CommandLine.{Asks, IsFaultOf, IsFaultless, is_explained, vsc_app}
 use Rattle.command_line.specs.LineFault.{is_answer, text_on_memory}
 use Rattle.command_line.specs.declared.line.CommandLine.{CommandLine}
 use Rattle.command_line.specs.declared.line.Line.{Line}
@@ -30,31 +30,31 @@ use Rattle.verdict_report.specs.Runs.{SourceRun, SinkRun}
 use Rattle.verdict_report.specs.VerifyEngine.{IsRunOfCertifiedVerify, IsRunOfVerify, TellsOpen}
 use Rattle.survey_report.specs.SurveyEngine.{IsRunOfCertifiedSurvey, IsRunOfSurvey, TellsExtent}
 use Rattle.command_run.specs.declared.clash.Clash.{Clash}
-use Rattle.command_run.specs.declared.inputs.InputPaths.{InputPaths}
 use Rattle.command_host.specs.declared.search_request.SearchRequest.{SearchRequest}
 use Rattle.command_run.specs.Clashes.{ClashesBy, clash_line}
 use Rattle.command_host.specs.HostCalls.{HostCalls}
-use Rattle.command_run.specs.Inputs.{inputs_of, is_input}
+use Rattle.command_host.specs.Streams.{SinkView, SourceView}
 
 -- ---- engines on files
 
--- the file at this path was handed out to be read between the two hosts, and this is what it then did as a source
-pub record ReadsFile {H I O : Type 0} (calls : HostCalls H I O) (read : I → I → SourceRun) (from : H) (path : List ℕ) (run : SourceRun) (to : H) : Type 0 where
+-- the file at this path was handed out to be read between the two hosts, and this is what it then did as a source, and no other file
+pub record ReadsFile {H I O : Type 0} (calls : HostCalls H I O) (read : SourceView I) (from : H) (path : List ℕ) (run : SourceRun) (to : H) : Type 0 where
   pub before : I
   pub after : I
   pub opened : calls.opens from path before to
-  pub run_is : run ≡ read before after
+  pub run_is : run ≡ read.run before after
+  pub path_is : read.path after ≡ path
   pub no_byte_before : run.before ≡ []
   pub not_at_end_before : run.was_at_end ≡ false
   pub no_failure_before : run.failures_before ≡ 0
 
 -- an engine of one file, of two or of three, was run on the files at these paths, which were asked for in this order, and nothing else was
-pub record RunsOnFile {H I O : Type 0} (calls : HostCalls H I O) (read : I → I → SourceRun) (IsRun : SourceRun → SinkRun → Result Status Fault → Type 0) (from : H) (path : List ℕ) (out : SinkRun) (outcome : Result Status Fault) (to : H) : Type 0 where
+pub record RunsOnFile {H I O : Type 0} (calls : HostCalls H I O) (read : SourceView I) (IsRun : SourceRun → SinkRun → Result Status Fault → Type 0) (from : H) (path : List ℕ) (out : SinkRun) (outcome : Result Status Fault) (to : H) : Type 0 where
   pub file : SourceRun
   pub reads : ReadsFile calls read from path file to
   pub runs : IsRun file out outcome
 
-pub record RunsOnFiles {H I O : Type 0} (calls : HostCalls H I O) (read : I → I → SourceRun) (IsRun : SourceRun → SourceRun → SinkRun → Result Status Fault → Type 0) (from : H) (first_path second_path : List ℕ) (out : SinkRun) (outcome : Result Status Fault) (to : H) : Type 0 where
+pub record RunsOnFiles {H I O : Type 0} (calls : HostCalls H I O) (read : SourceView I) (IsRun : SourceRun → SourceRun → SinkRun → Result Status Fault → Type 0) (from : H) (first_path second_path : List ℕ) (out : SinkRun) (outcome : Result Status Fault) (to : H) : Type 0 where
   pub first : SourceRun
   pub between : H
   pub reads_first : ReadsFile calls read from first_path first between
@@ -62,7 +62,7 @@ pub record RunsOnFiles {H I O : Type 0} (calls : HostCalls H I O) (read : I → 
   pub reads_second : ReadsFile calls read between second_path second to
   pub runs : IsRun first second out outcome
 
-pub record RunsOnThreeFiles {H I O : Type 0} (calls : HostCalls H I O) (read : I → I → SourceRun) (IsRun : SourceRun → SourceRun → SourceRun → SinkRun → Result Status Fault → Type 0) (from : H) (first_path second_path third_path : List ℕ) (out : SinkRun) (outcome : Result Status Fault) (to : H) : Type 0 where
+pub record RunsOnThreeFiles {H I O : Type 0} (calls : HostCalls H I O) (read : SourceView I) (IsRun : SourceRun → SourceRun → SourceRun → SinkRun → Result Status Fault → Type 0) (from : H) (first_path second_path third_path : List ℕ) (out : SinkRun) (outcome : Result Status Fault) (to : H) : Type 0 where
   pub first : SourceRun
   pub after_first : H
   pub reads_first : ReadsFile calls read from first_path first after_first
@@ -74,13 +74,13 @@ pub record RunsOnThreeFiles {H I O : Type 0} (calls : HostCalls H I O) (read : I
   pub runs : IsRun first second third out outcome
 
 -- a certificate was checked for the trace itself or, if there is a path for names, for the part that these make up
-abbrev pub RunsRecheck : {H I O : Type 0} → HostCalls H I O → (I → I → SourceRun) → H → List ℕ → List ℕ → Option (Bor (List ℕ)) → SinkRun → Result Status Fault → H → Type 0
+abbrev pub RunsRecheck : {H I O : Type 0} → HostCalls H I O → SourceView I → H → List ℕ → List ℕ → Option (Bor (List ℕ)) → SinkRun → Result Status Fault → H → Type 0
 RunsRecheck calls read from trace cert None out outcome to = RunsOnFiles calls read IsRunOfRecheck from trace cert out outcome to
 RunsRecheck calls read from trace cert (Some names) out outcome to = RunsOnThreeFiles calls read IsRunOfPartRecheck from trace cert names.now out outcome to
 
 -- This search was reported to the host, and the engine that decides traces was run on the file at this path. If nothing is decided, what
 -- was taken names the cubes that a search with these options leaves open.
-pub record RunsSearch {H I O : Type 0} (calls : HostCalls H I O) (read : I → I → SourceRun) (from : H) (trace : List ℕ) (search : SearchRequest) (out : SinkRun) (outcome : Result Status Fault) (to : H) : Type 0 where
+pub record RunsSearch {H I O : Type 0} (calls : HostCalls H I O) (read : SourceView I) (from : H) (trace : List ℕ) (search : SearchRequest) (out : SinkRun) (outcome : Result Status Fault) (to : H) : Type 0 where
   pub file : SourceRun
   pub between : H
   pub reads : ReadsFile calls read from trace file between
@@ -88,31 +88,33 @@ pub record RunsSearch {H I O : Type 0} (calls : HostCalls H I O) (read : I → I
   pub runs : IsRunOfVerify file out outcome
   pub left_open : outcome ≡ Ok Unknown → TellsOpen search.options file out
 
--- the same, where the file at another path, which was made or emptied first, took the certificate
-pub record RunsWithCertificate {H I O : Type 0} (calls : HostCalls H I O) (read : I → I → SourceRun) (wrote : O → O → SinkRun) (from : H) (trace cert : List ℕ) (search : SearchRequest) (out : SinkRun) (outcome : Result Status Fault) (to : H) : Type 0 where
+-- the same, where the file at another path, which was made or opened first, took the certificate, and was given back after a report or a
+-- refusal
+pub record RunsWithCertificate {H I O : Type 0} (calls : HostCalls H I O) (read : SourceView I) (wrote : SinkView O) (from : H) (trace cert : List ℕ) (search : SearchRequest) (out : SinkRun) (outcome : Result Status Fault) (to : H) : Type 0 where
   pub before : O
   pub after : O
   pub made : H
   pub makes : calls.makes from cert before made
-  pub no_byte_before : (wrote before after).before ≡ []
-  pub no_failure_before : (wrote before after).failures_before ≡ 0
+  pub no_byte_before : (wrote.run before after).before ≡ []
+  pub no_failure_before : (wrote.run before after).failures_before ≡ 0
+  pub path_is : wrote.path after ≡ cert
   pub file : SourceRun
   pub opened : H
   pub reads : ReadsFile calls read made trace file opened
   pub searched : H
   pub searches : calls.searches opened search searched
-  pub runs : IsRunOfCertifiedVerify file (wrote before after) out outcome
+  pub runs : IsRunOfCertifiedVerify file (wrote.run before after) out outcome
   pub left_open : outcome ≡ Ok Unknown → TellsOpen search.options file out
-  pub closes : calls.closes searched after to
+  pub closes : calls.closes searched after (is_ok outcome) to
 
 -- that, or the file for the certificate could not be made: then nothing was read, and nothing written
-abbrev pub RunsCertified : {H I O : Type 0} → HostCalls H I O → (I → I → SourceRun) → (O → O → SinkRun) → H → List ℕ → List ℕ → SearchRequest → SinkRun → Result Status Fault → H → Type 0
+abbrev pub RunsCertified : {H I O : Type 0} → HostCalls H I O → SourceView I → SinkView O → H → List ℕ → List ℕ → SearchRequest → SinkRun → Result Status Fault → H → Type 0
 RunsCertified calls read wrote from trace cert search out outcome to =
     ((outcome ≡ Err Device) × TakesNothing out × calls.fails_to_make from cert to)
     ⊎ RunsWithCertificate calls read wrote from trace cert search out outcome to
 
 -- the engine that decides traces was run, with a certificate if there is a path for it
-abbrev pub RunsVerify : {H I O : Type 0} → HostCalls H I O → (I → I → SourceRun) → (O → O → SinkRun) → H → List ℕ → Option (Bor (List ℕ)) → SearchRequest → SinkRun → Result Status Fault → H → Type 0
+abbrev pub RunsVerify : {H I O : Type 0} → HostCalls H I O → SourceView I → SinkView O → H → List ℕ → Option (Bor (List ℕ)) → SearchRequest → SinkRun → Result Status Fault → H → Type 0
 RunsVerify calls read wrote from trace None search out outcome to = RunsSearch calls read from trace search out outcome to
 RunsVerify calls read wrote from trace (Some cert) search out outcome to =
     RunsCertified calls read wrote from trace cert.now search out outcome to
@@ -121,7 +123,7 @@ RunsVerify calls read wrote from trace (Some cert) search out outcome to =
 
 -- This survey was reported to the host, and the engine that decides long traces was run on the file at this path. If nothing is decided, a
 -- search of the whole trace with these options does not decide it.
-pub record RunsSurveyed {H I O : Type 0} (calls : HostCalls H I O) (read : I → I → SourceRun) (from : H) (trace : List ℕ) (search : SearchRequest) (out : SinkRun) (outcome : Result Status Fault) (to : H) : Type 0 where
+pub record RunsSurveyed {H I O : Type 0} (calls : HostCalls H I O) (read : SourceView I) (from : H) (trace : List ℕ) (search : SearchRequest) (out : SinkRun) (outcome : Result Status Fault) (to : H) : Type 0 where
   pub file : SourceRun
   pub between : H
   pub reads : ReadsFile calls read from trace file between
@@ -130,7 +132,7 @@ pub record RunsSurveyed {H I O : Type 0} (calls : HostCalls H I O) (read : I →
   pub left_open : outcome ≡ Ok Unknown → TellsExtent search.options file out
 
 -- the same, with what the sinks of the certificate, of the names and of the part did
-pub record CertifiesSurveyed {H I O : Type 0} (calls : HostCalls H I O) (read : I → I → SourceRun) (from : H) (trace : List ℕ) (search : SearchRequest) (cert names part out : SinkRun) (outcome : Result Status Fault) (to : H) : Type 0 where
+pub record CertifiesSurveyed {H I O : Type 0} (calls : HostCalls H I O) (read : SourceView I) (from : H) (trace : List ℕ) (search : SearchRequest) (cert names part out : SinkRun) (outcome : Result Status Fault) (to : H) : Type 0 where
   pub file : SourceRun
   pub between : H
   pub reads : ReadsFile calls read from trace file between
@@ -138,35 +140,36 @@ pub record CertifiesSurveyed {H I O : Type 0} (calls : HostCalls H I O) (read : 
   pub runs : IsRunOfCertifiedSurvey file cert names part out outcome
   pub left_open : outcome ≡ Ok Unknown → TellsExtent search.options file out
 
--- the file at this path was made or emptied, this was done with it, and it was given back
-pub record MakesFile {H I O : Type 0} (calls : HostCalls H I O) (wrote : O → O → SinkRun) (from : H) (path : List ℕ) (Does : H → SinkRun → H → Type 0) (to : H) : Type 0 where
+-- the file at this path was made or opened, this was done with it, and it was given back, after a report or a refusal
+pub record MakesFile {H I O : Type 0} (calls : HostCalls H I O) (wrote : SinkView O) (from : H) (path : List ℕ) (Does : H → SinkRun → H → Type 0) (outcome : Result Status Fault) (to : H) : Type 0 where
   pub before : O
   pub after : O
   pub made : H
   pub makes : calls.makes from path before made
-  pub no_byte_before : (wrote before after).before ≡ []
-  pub no_failure_before : (wrote before after).failures_before ≡ 0
+  pub no_byte_before : (wrote.run before after).before ≡ []
+  pub no_failure_before : (wrote.run before after).failures_before ≡ 0
+  pub path_is : wrote.path after ≡ path
   pub done : H
-  pub does : Does made (wrote before after) done
-  pub closes : calls.closes done after to
+  pub does : Does made (wrote.run before after) done
+  pub closes : calls.closes done after (is_ok outcome) to
 
 -- that, or it could not be made: then nothing else was done, and the other sinks took nothing; or there is no path, and this was done with
 -- a sink that keeps nothing
-abbrev pub WithFile : {H I O : Type 0} → HostCalls H I O → (O → O → SinkRun) → H → Option (Bor (List ℕ)) → (H → SinkRun → H → Type 0) → List SinkRun → Result Status Fault → H → Type 0
+abbrev pub WithFile : {H I O : Type 0} → HostCalls H I O → SinkView O → H → Option (Bor (List ℕ)) → (H → SinkRun → H → Type 0) → List SinkRun → Result Status Fault → H → Type 0
 WithFile calls wrote from (Some path) Does others outcome to =
-    ((outcome ≡ Err Device) × TakeNothing others × calls.fails_to_make from path.now to) ⊎ MakesFile calls wrote from path.now Does to
+    ((outcome ≡ Err Device) × TakeNothing others × calls.fails_to_make from path.now to) ⊎ MakesFile calls wrote from path.now Does outcome to
 WithFile calls wrote from None Does others outcome to = (nowhere : SinkRun) × (nowhere.before ≡ []) × (nowhere.failures_before ≡ 0) × Does from nowhere to
 
 -- with a file for the part; with one for the names before it; with one for the certificate before both, so all before the trace is opened
-abbrev pub TakesPart : {H I O : Type 0} → HostCalls H I O → (I → I → SourceRun) → (O → O → SinkRun) → H → List ℕ → Option (Bor (List ℕ)) → SearchRequest → (cert names out : SinkRun) → Result Status Fault → H → Type 0
+abbrev pub TakesPart : {H I O : Type 0} → HostCalls H I O → SourceView I → SinkView O → H → List ℕ → Option (Bor (List ℕ)) → SearchRequest → (cert names out : SinkRun) → Result Status Fault → H → Type 0
 TakesPart calls read wrote from trace path search cert names out outcome to =
     WithFile calls wrote from path (λ made part done. CertifiesSurveyed calls read made trace search cert names part out outcome done) (out ∷ cert ∷ names ∷ []) outcome to
 
-abbrev pub TakesNamesAndPart : {H I O : Type 0} → HostCalls H I O → (I → I → SourceRun) → (O → O → SinkRun) → H → List ℕ → (names part : Option (Bor (List ℕ))) → SearchRequest → (cert out : SinkRun) → Result Status Fault → H → Type 0
+abbrev pub TakesNamesAndPart : {H I O : Type 0} → HostCalls H I O → SourceView I → SinkView O → H → List ℕ → (names part : Option (Bor (List ℕ))) → SearchRequest → (cert out : SinkRun) → Result Status Fault → H → Type 0
 TakesNamesAndPart calls read wrote from trace path part search cert out outcome to =
     WithFile calls wrote from path (λ made names done. TakesPart calls read wrote made trace part search cert names out outcome done) (out ∷ cert ∷ []) outcome to
 
-abbrev pub TakesCore : {H I O : Type 0} → HostCalls H I O → (I → I → SourceRun) → (O → O → SinkRun) → H → List ℕ → (cert names part : Option (Bor (List ℕ))) → SearchRequest → SinkRun → Result Status Fault → H → Type 0
+abbrev pub TakesCore : {H I O : Type 0} → HostCalls H I O → SourceView I → SinkView O → H → List ℕ → (cert names part : Option (Bor (List ℕ))) → SearchRequest → SinkRun → Result Status Fault → H → Type 0
 TakesCore calls read wrote from trace path names part search out outcome to =
     WithFile calls wrote from path (λ made cert done. TakesNamesAndPart calls read wrote made trace names part search cert out outcome done) (out ∷ []) outcome to
 
@@ -175,12 +178,12 @@ abbrev pub takes_none : SurveyFiles → Bool
 takes_none files = not (is_some files.cert || (is_some files.names || is_some files.part))
 
 -- the engine that decides long traces was run, with the files that are asked for
-abbrev pub RunsSurveyIf : {H I O : Type 0} → Bool → HostCalls H I O → (I → I → SourceRun) → (O → O → SinkRun) → H → List ℕ → SurveyFiles → SearchRequest → SinkRun → Result Status Fault → H → Type 0
+abbrev pub RunsSurveyIf : {H I O : Type 0} → Bool → HostCalls H I O → SourceView I → SinkView O → H → List ℕ → SurveyFiles → SearchRequest → SinkRun → Result Status Fault → H → Type 0
 RunsSurveyIf true calls read wrote from trace files search out outcome to = RunsSurveyed calls read from trace search out outcome to
 RunsSurveyIf false calls read wrote from trace files search out outcome to =
     TakesCore calls read wrote from trace files.cert files.names files.part search out outcome to
 
-abbrev pub RunsSurvey : {H I O : Type 0} → HostCalls H I O → (I → I → SourceRun) → (O → O → SinkRun) → H → List ℕ → SurveyFiles → SearchRequest → SinkRun → Result Status Fault → H → Type 0
+abbrev pub RunsSurvey : {H I O : Type 0} → HostCalls H I O → SourceView I → SinkView O → H → List ℕ → SurveyFiles → SearchRequest → SinkRun → Result Status Fault → H → Type 0
 RunsSurvey calls read wrote from trace files search out outcome to = RunsSurveyIf (takes_none files) calls read wrote from trace files search out outcome to
 
 -- ---- a line
@@ -207,7 +210,7 @@ WritesList out outcome = (text : List ℕ) × IsRunOfWriting text Yes out outcom
 
 -- the engine that the line asks for was run on the files of its paths and with its options: what standard output took, the outcome, and
 -- the host before and after
-abbrev pub RunsLine : {H I O : Type 0} → HostCalls H I O → (I → I → SourceRun) → (O → O → SinkRun) → H → Line → SinkRun → Result Status Fault → H → Type 0
+abbrev pub RunsLine : {H I O : Type 0} → HostCalls H I O → SourceView I → SinkView O → H → Line → SinkRun → Result Status Fault → H → Type 0
 RunsLine calls read wrote from (Judge trace schedule) out outcome to = RunsOnFiles calls read IsRunOfJudge from trace.now schedule.now out outcome to
 RunsLine calls read wrote from (Cnf trace workers) out outcome to = RunsOnFile calls read IsRunOfCnf from trace.now out outcome to
 RunsLine calls read wrote from (Decode trace model) out outcome to = RunsOnFiles calls read IsRunOfDecode from trace.now model.now out outcome to
@@ -226,9 +229,9 @@ RunsLine calls read wrote from Refusals out outcome to = WritesList out outcome 
 abbrev pub Takes : SinkRun → List ℕ → Type 0
 Takes stream text = TakesWhole stream text ⊎ FailsBehindFront stream text
 
--- what standard error takes of a refusal: its line, or that there was no memory for this line
+-- what standard error takes of a refusal: its line
 abbrev pub TellsFault : SinkRun → Fault → Type 0
-TellsFault err fault = Takes err (line_of fault) ⊎ Takes err (line_of OutOfMemory)
+TellsFault err fault = Takes err (line_of fault)
 
 -- of an outcome that is no refusal it takes nothing
 abbrev pub TellsOutcome : SinkRun → Result Status Fault → Type 0
@@ -236,31 +239,11 @@ TellsOutcome err (Ok status) = TakesNothing err
 TellsOutcome err (Err fault) = TellsFault err fault
 
 -- the line was run: standard output took what the engine wrote, standard error the line of a refusal, and the status is that of the outcome
-pub record EndsRun {H I O : Type 0} (calls : HostCalls H I O) (read : I → I → SourceRun) (wrote : O → O → SinkRun) (from : H) (line : Line) (out err : SinkRun) (status : ℕ) (to : H) : Type 0 where
+pub record EndsRun {H I O : Type 0} (calls : HostCalls H I O) (read : SourceView I) (wrote : SinkView O) (from : H) (line : Line) (out err : SinkRun) (status : ℕ) (to : H) : Type 0 where
   pub outcome : Result Status Fault
   pub runs : RunsLine calls read wrote from line out outcome to
   pub tells : TellsOutcome err outcome
   pub status_is : status ≡ exit_status_of outcome
-
--- the file at this path was handed out once more, or it is standard input, which was not
-abbrev pub ReopensIf : {H I O : Type 0} → Bool → HostCalls H I O → H → List ℕ → H → Type 0
-ReopensIf true calls from path to = to ≡ from
-ReopensIf {I = I} false calls from path to = (file : I) × calls.opens from path file to
-
-abbrev pub Reopens : {H I O : Type 0} → HostCalls H I O → H → List ℕ → H → Type 0
-Reopens calls from path to = ReopensIf (is_input path) calls from path to
-
-abbrev pub ReopensGiven : {H I O : Type 0} → HostCalls H I O → H → Option (Bor (List ℕ)) → H → Type 0
-ReopensGiven calls from None to = to ≡ from
-ReopensGiven calls from (Some path) to = Reopens calls from path.now to
-
--- the files at these paths were handed out once more, and nothing else was asked of the host
-pub record ReopensAll {H I O : Type 0} (calls : HostCalls H I O) (from : H) (paths : InputPaths) (to : H) : Type 0 where
-  pub after_first : H
-  pub first : ReopensGiven calls from paths.first after_first
-  pub after_second : H
-  pub second : ReopensGiven calls after_first paths.second after_second
-  pub third : ReopensGiven calls after_second paths.third to
 
 -- the stream took some text, of which nothing is said
 abbrev pub Adds : SinkRun → Type 0
@@ -281,40 +264,41 @@ pub record BeginsWith (whole part : SinkRun) : Type 0 where
   pub same_failures : whole.failures_before ≡ part.failures_before
 
 -- The line was run as without an explanation, with the same status and the same text on standard output. Then standard error took an
--- explanation after the line of a refusal, and the files that the line reads were handed out once more.
-pub record EndsExplained {H I O : Type 0} (calls : HostCalls H I O) (read : I → I → SourceRun) (wrote : O → O → SinkRun) (from : H) (line : Line) (out err : SinkRun) (status : ℕ) (to : H) : Type 0 where
-  pub ran : H
+-- explanation after the line of a refusal, and nothing more was asked of the host.
+pub record EndsExplained {H I O : Type 0} (calls : HostCalls H I O) (read : SourceView I) (wrote : SinkView O) (from : H) (line : Line) (out err : SinkRun) (status : ℕ) (to : H) : Type 0 where
   pub told : SinkRun
   pub begins : BeginsWith err told
-  pub ends : EndsRun calls read wrote from line out told status ran
-  pub reopens : ReopensAll calls ran (inputs_of line) to
+  pub ends : EndsRun calls read wrote from line out told status to
   pub adds : Adds (after_run told err)
 
 -- the line was run, and its outcome was explained or not
-abbrev pub EndsAsked : {H I O : Type 0} → Bool → HostCalls H I O → (I → I → SourceRun) → (O → O → SinkRun) → H → Line → (out err : SinkRun) → ℕ → H → Type 0
+abbrev pub EndsAsked : {H I O : Type 0} → Bool → HostCalls H I O → SourceView I → SinkView O → H → Line → (out err : SinkRun) → ℕ → H → Type 0
 EndsAsked true calls read wrote from line out err status to = EndsExplained calls read wrote from line out err status to
 EndsAsked false calls read wrote from line out err status to = EndsRun calls read wrote from line out err status to
 
--- What a picture's file took. After an answer that says whether there is a legal schedule, status 0 or 1, the trace was handed out once more,
--- and the file took some text, of which nothing is said. After anything else nothing was asked of the host, and the file took nothing.
-abbrev pub Draws : {H I O : Type 0} → HostCalls H I O → H → Line → ℕ → SinkRun → H → Type 0
-Draws calls from line status file to =
-    ((status ≤ 1) × ReopensGiven calls from (inputs_of line).first to × Adds file) ⊎ ((2 ≤ status) × TakesNothing file × (to ≡ from))
+-- What a picture's file took. After an answer that says whether there is a legal schedule, status 0 or 1, it took some text, of which nothing
+-- is said, and after anything else nothing.
+abbrev pub Draws : ℕ → SinkRun → Type 0
+Draws status file = ((status ≤ 1) × Adds file) ⊎ ((2 ≤ status) × TakesNothing file)
 
--- The file at this path was made or emptied, and then the line was run as without a picture: with the same status, and the same texts on the
--- standard streams. Then its outcome was drawn into the file, and that was given back.
-pub record EndsWithPicture {H I O : Type 0} (calls : HostCalls H I O) (read : I → I → SourceRun) (wrote : O → O → SinkRun) (from : H) (path : List ℕ) (asked : CommandLine) (out err : SinkRun) (status : ℕ) (to : H) : Type 0 where
+-- a status of a report, and not of a refusal or a fault of the device
+abbrev pub is_reported : ℕ → Bool
+is_reported status = not (status == 2 || status == 4)
+
+-- The file at this path was made or opened, and then the line was run as without a picture: with the same status, and the same texts on the
+-- standard streams. Then its outcome was drawn into this file and no other, and it was given back, after a report or a refusal.
+pub record EndsWithPicture {H I O : Type 0} (calls : HostCalls H I O) (read : SourceView I) (wrote : SinkView O) (terminal : Bool) (from : H) (path : List ℕ) (asked : CommandLine) (out err : SinkRun) (status : ℕ) (to : H) : Type 0 where
   pub before : O
   pub after : O
   pub made : H
   pub makes : calls.makes from path before made
-  pub no_byte_before : (wrote before after).before ≡ []
-  pub no_failure_before : (wrote before after).failures_before ≡ 0
+  pub no_byte_before : (wrote.run before after).before ≡ []
+  pub no_failure_before : (wrote.run before after).failures_before ≡ 0
+  pub path_is : wrote.path after ≡ path
   pub ran : H
-  pub ends : EndsAsked asked.explains calls read wrote made asked.line out err status ran
-  pub drawn : H
-  pub draws : Draws calls ran asked.line status (wrote before after) drawn
-  pub closes : calls.closes drawn after to
+  pub ends : EndsAsked (is_explained terminal asked.explains) calls read wrote made asked.line out err status ran
+  pub draws : Draws status (wrote.run before after)
+  pub closes : calls.closes ran after (is_reported status) to
 
 -- standard error took the line of a refusal, and then an explanation
 pub record ExplainsFault (err : SinkRun) (fault : Fault) : Type 0 where
@@ -335,27 +319,29 @@ pub record EndsWithoutFile {H I O : Type 0} (calls : HostCalls H I O) (explains 
   pub reports : ReportsFault explains err Device
   pub status_is : status ≡ 4
 
--- the line was run, with a picture in a file or without one
-abbrev pub EndsDrawn : {H I O : Type 0} → Option (Bor (List ℕ)) → HostCalls H I O → (I → I → SourceRun) → (O → O → SinkRun) → H → CommandLine → (out err : SinkRun) → ℕ → H → Type 0
-EndsDrawn None calls read wrote from asked out err status to = EndsAsked asked.explains calls read wrote from asked.line out err status to
-EndsDrawn (Some path) calls read wrote from asked out err status to =
-    EndsWithoutFile calls asked.explains from path.now out err status to ⊎ EndsWithPicture calls read wrote from path.now asked out err status to
+-- the line was run, with a picture in a file or without one, and explained or not, if standard error is a terminal or if it is none
+abbrev pub EndsDrawn : {H I O : Type 0} → Option (Bor (List ℕ)) → HostCalls H I O → SourceView I → SinkView O → (terminal : Bool) → H → CommandLine → (out err : SinkRun) → ℕ → H → Type 0
+EndsDrawn None calls read wrote terminal from asked out err status to =
+    EndsAsked (is_explained terminal asked.explains) calls read wrote from asked.line out err status to
+EndsDrawn (Some path) calls read wrote terminal from asked out err status to =
+    EndsWithoutFile calls (is_explained terminal asked.explains) from path.now out err status to
+    ⊎ EndsWithPicture calls read wrote terminal from path.now asked out err status to
 
 -- the stream took this text whole, and the status is the given one, or it failed behind a prefix of it, and the status is 4
 abbrev pub Prints : SinkRun → List ℕ → ℕ → ℕ → Type 0
 Prints stream text status found = (TakesWhole stream text × (found ≡ status)) ⊎ (FailsBehindFront stream text × (found ≡ 4))
 
 -- the line was refused for a clash of its files, or it was run
-abbrev pub EndsCompared : {H I O : Type 0} → HostCalls H I O → (I → I → SourceRun) → (O → O → SinkRun) → H → CommandLine → Option Clash → (out err : SinkRun) → ℕ → H → Type 0
-EndsCompared calls read wrote from asked (Some clash) out err status to = TakesNothing out × Prints err (clash_line clash) 2 status × (to ≡ from)
-EndsCompared calls read wrote from asked None out err status to = EndsDrawn asked.picture calls read wrote from asked out err status to
+abbrev pub EndsCompared : {H I O : Type 0} → HostCalls H I O → SourceView I → SinkView O → (terminal : Bool) → H → CommandLine → Option Clash → (out err : SinkRun) → ℕ → H → Type 0
+EndsCompared calls read wrote terminal from asked (Some clash) out err status to = TakesNothing out × Prints err (clash_line clash) 2 status × (to ≡ from)
+EndsCompared calls read wrote terminal from asked None out err status to = EndsDrawn asked.picture calls read wrote terminal from asked out err status to
 
 -- what is done for a line
-pub record EndsLine {H I O : Type 0} (calls : HostCalls H I O) (read : I → I → SourceRun) (wrote : O → O → SinkRun) (from : H) (asked : CommandLine) (out err : SinkRun) (status : ℕ) (to : H) : Type 0 where
+pub record EndsLine {H I O : Type 0} (calls : HostCalls H I O) (read : SourceView I) (wrote : SinkView O) (terminal : Bool) (from : H) (asked : CommandLine) (out err : SinkRun) (status : ℕ) (to : H) : Type 0 where
   pub clash : Option Clash
   pub compared : H
   pub compares : ClashesBy calls from asked clash compared
-  pub ends : EndsCompared calls read wrote compared asked clash out err status to
+  pub ends : EndsCompared calls read wrote terminal compared asked clash out err status to
 
 -- this is the text of a fault of the command line, or what is known of it
 abbrev pub IsTextOf : ErrorKind → List ℕ → Type 0
@@ -373,11 +359,11 @@ EndsFault kind out err status =
     ⊎ (TakesNothing out × Prints err (line_of OutOfMemory) 2 status)
 
 -- the words ask for a line, which was run
-pub record RunsWords {H I O : Type 0} (calls : HostCalls H I O) (read : I → I → SourceRun) (wrote : O → O → SinkRun) (from : H) (words : List (List ℕ)) (out err : SinkRun) (status : ℕ) (to : H) : Type 0 where
+pub record RunsWords {H I O : Type 0} (calls : HostCalls H I O) (read : SourceView I) (wrote : SinkView O) (terminal : Bool) (from : H) (words : List (List ℕ)) (out err : SinkRun) (status : ℕ) (to : H) : Type 0 where
   pub asked : CommandLine
   pub asks : Asks words asked
   pub faultless : IsFaultless words
-  pub ends : EndsLine calls read wrote from asked out err status to
+  pub ends : EndsLine calls read wrote terminal from asked out err status to
 
 -- `clap` finds a fault in the words, or there was no memory to read them: nothing was asked of the host
 pub record RefusesWords {H : Type 0} (from : H) (words : List (List ℕ)) (out err : SinkRun) (status : ℕ) (to : H) : Type 0 where
@@ -387,7 +373,7 @@ pub record RefusesWords {H : Type 0} (from : H) (words : List (List ℕ)) (out e
   pub ends : EndsFault kind out err status
   pub untouched : to ≡ from
 
--- what the program does for the words of a command line
-abbrev pub EndsWords : {H I O : Type 0} → HostCalls H I O → (I → I → SourceRun) → (O → O → SinkRun) → H → List (List ℕ) → (out err : SinkRun) → ℕ → H → Type 0
-EndsWords calls read wrote from words out err status to =
-    RunsWords calls read wrote from words out err status to ⊎ RefusesWords from words out err status to
+-- what the program does for the words of a command line, if standard error is a terminal or if it is none
+abbrev pub EndsWords : {H I O : Type 0} → HostCalls H I O → SourceView I → SinkView O → (terminal : Bool) → H → List (List ℕ) → (out err : SinkRun) → ℕ → H → Type 0
+EndsWords calls read wrote terminal from words out err status to =
+    RunsWords calls read wrote terminal from words out err status to ⊎ RefusesWords from words out err status to

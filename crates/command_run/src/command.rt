@@ -1,16 +1,18 @@
 //! A command line, from its words to the exit status.
-ghost use Rattle.std.specs.Prelude.{Some};
+ghost use Rattle.std.specs.Prelude.{None, Some};
 ghost use Rattle.clap.specs.Walk.{texts};
+ghost use Rattle.command_host.specs.Streams.{sink_view, source_view};
 ghost use Rattle.command_line.specs.CommandLine.{IsWithinRanges};
 ghost use Rattle.command_run.specs.CommandRun.{EndsAsked, EndsDrawn, EndsExplained, EndsLine, EndsRun, EndsWords, ExplainsFault, ReportsFault, RunsLine, TellsOutcome};
 ghost use Rattle.command_run.specs.ExitStatus.{IsExitStatus};
 ghost use Rattle.verdict_report.specs.declared.fault.Fault.TheVariants.{Device};
-ghost use Rattle.verdict_report.specs.Runs.{source_run, sink_run};
+ghost use Rattle.verdict_report.specs.Runs.{sink_run};
 
 use crate::clash::{clash_of, print_clash};
 use crate::engine_runs::run_engine;
 use crate::explaining::{explain_outcome, explain_unmade};
-use crate::picturing::draw_outcome;
+use crate::kept_run::KeptRun;
+use crate::picturing::{draw_outcome, is_reported};
 use crate::telling::{DEVICE, tell_fault, tell_line_fault, tell_outcome};
 use command_host::{FailedFile, Host, Recalls};
 use command_line::{CommandLine, Line, read_line};
@@ -30,16 +32,16 @@ fn run_told<'p, R: Threads + Wait + Sync, G: Gate + Sync, H: Host<'p>, O: Sink, 
     line: Line<'p>,
     out: &mut O,
     err: &mut E,
-    length: &mut Option<u64>,
+    kept: &mut KeptRun,
 ) -> Result<Status, Fault>
     requires { IsWithinRanges line }
-    ensures runs { RunsLine H.calls (source_run H.Input.handed_out H.Input.is_at_end H.Input.failures)
-        (sink_run H.Output.written H.Output.failures)
+    ensures runs { RunsLine H.calls (source_view H.Input.handed_out H.Input.is_at_end H.Input.failures H.Input.path)
+        (sink_view H.Output.written H.Output.failures H.Output.path)
         host.old line.entry (sink_run O.written O.failures out.old out.new) result host.new }
     ensures tells { TellsOutcome (sink_run E.written E.failures err.old err.new) result }
 {
-    let outcome = run_engine(alloc, rt, progress, host, line, out, length);
-    tell_outcome(alloc, &outcome, err);
+    let outcome = run_engine(alloc, rt, progress, host, line, out, kept);
+    tell_outcome(&outcome, err);
     outcome
 }
 
@@ -52,18 +54,18 @@ fn run_plain<'p, R: Threads + Wait + Sync, G: Gate + Sync, H: Host<'p>, O: Sink,
     line: Line<'p>,
     out: &mut O,
     err: &mut E,
+    kept: &mut KeptRun,
 ) -> u8
     requires { IsWithinRanges line }
-    ensures ends { EndsRun H.calls (source_run H.Input.handed_out H.Input.is_at_end H.Input.failures)
-        (sink_run H.Output.written H.Output.failures)
+    ensures ends { EndsRun H.calls (source_view H.Input.handed_out H.Input.is_at_end H.Input.failures H.Input.path)
+        (sink_view H.Output.written H.Output.failures H.Output.path)
         host.old line.entry
         (sink_run O.written O.failures out.old out.new)
         (sink_run E.written E.failures err.old err.new)
         result host.new }
     ensures known { IsExitStatus result }
 {
-    let mut length = None;
-    let outcome = run_told(alloc, rt, progress, host, line, out, err, &mut length);
+    let outcome = run_told(alloc, rt, progress, host, line, out, err, kept);
     exit_status(&outcome)
 }
 
@@ -75,19 +77,27 @@ fn run_explained<
     H: Host<'p>,
     O: Sink + Recalls,
     E: Sink,
->(alloc: Global, rt: &R, progress: &G, host: &mut H, line: Line<'p>, out: &mut O, err: &mut E) -> u8
+>(
+    alloc: Global,
+    rt: &R,
+    progress: &G,
+    host: &mut H,
+    line: Line<'p>,
+    out: &mut O,
+    err: &mut E,
+    kept: &mut KeptRun,
+) -> u8
     requires { IsWithinRanges line }
-    ensures ends { EndsExplained H.calls (source_run H.Input.handed_out H.Input.is_at_end H.Input.failures)
-        (sink_run H.Output.written H.Output.failures)
+    ensures ends { EndsExplained H.calls (source_view H.Input.handed_out H.Input.is_at_end H.Input.failures H.Input.path)
+        (sink_view H.Output.written H.Output.failures H.Output.path)
         host.old line.entry
         (sink_run O.written O.failures out.old out.new)
         (sink_run E.written E.failures err.old err.new)
         result host.new }
     ensures known { IsExitStatus result }
 {
-    let mut length = None;
-    let answer = run_told(alloc, rt, progress, host, line, out, err, &mut length);
-    explain_outcome(alloc, host, line, &answer, out, length, err);
+    let answer = run_told(alloc, rt, progress, host, line, out, err, kept);
+    explain_outcome(alloc, host.failed_file(), line, &answer, out, kept, err);
     exit_status(&answer)
 }
 
@@ -97,23 +107,25 @@ fn run_asked<'p, R: Threads + Wait + Sync, G: Gate + Sync, H: Host<'p>, O: Sink 
     rt: &R,
     progress: &G,
     host: &mut H,
-    asked: CommandLine<'p>,
+    line: Line<'p>,
+    explains: bool,
     out: &mut O,
     err: &mut E,
+    kept: &mut KeptRun,
 ) -> u8
-    requires { IsWithinRanges asked.line }
-    ensures ends { EndsAsked asked.entry.explains H.calls (source_run H.Input.handed_out H.Input.is_at_end H.Input.failures)
-        (sink_run H.Output.written H.Output.failures)
-        host.old asked.entry.line
+    requires { IsWithinRanges line }
+    ensures ends { EndsAsked explains H.calls (source_view H.Input.handed_out H.Input.is_at_end H.Input.failures H.Input.path)
+        (sink_view H.Output.written H.Output.failures H.Output.path)
+        host.old line.entry
         (sink_run O.written O.failures out.old out.new)
         (sink_run E.written E.failures err.old err.new)
         result host.new }
     ensures known { IsExitStatus result }
 {
-    if asked.explains {
-        run_explained(alloc, rt, progress, host, asked.line, out, err)
+    if explains {
+        run_explained(alloc, rt, progress, host, line, out, err, kept)
     } else {
-        run_plain(alloc, rt, progress, host, asked.line, out, err)
+        run_plain(alloc, rt, progress, host, line, out, err, kept)
     }
 }
 
@@ -121,7 +133,7 @@ fn run_asked<'p, R: Threads + Wait + Sync, G: Gate + Sync, H: Host<'p>, O: Sink 
 fn explain_without_file<E: Sink>(alloc: Global, failed: Option<FailedFile<'_>>, err: &mut E)
     ensures { ExplainsFault (sink_run E.written E.failures err.old err.new) Device }
 {
-    tell_fault(alloc, &Fault::Device, err);
+    tell_fault(&Fault::Device, err);
     explain_unmade(alloc, failed, err);
 }
 
@@ -137,11 +149,11 @@ fn report_without_file<E: Sink>(
     if explains {
         explain_without_file(alloc, failed, err);
     } else {
-        tell_fault(alloc, &Fault::Device, err);
+        tell_fault(&Fault::Device, err);
     }
 }
 
-/// Runs the engine of the line, and draws a picture into the file at this path, which is made or emptied first.
+/// Runs the engine of the line, and draws a picture into the file at this path, which is made or opened first.
 fn run_with_picture<
     'p,
     R: Threads + Wait + Sync,
@@ -156,26 +168,65 @@ fn run_with_picture<
     host: &mut H,
     path: &'p str,
     asked: CommandLine<'p>,
+    is_terminal: bool,
     out: &mut O,
     err: &mut E,
 ) -> u8
     requires { IsWithinRanges asked.line }
-    ensures ends { EndsDrawn (Some path.entry) H.calls (source_run H.Input.handed_out H.Input.is_at_end H.Input.failures)
-        (sink_run H.Output.written H.Output.failures)
-        host.old asked.entry
+    ensures ends { EndsDrawn (Some path.entry) H.calls (source_view H.Input.handed_out H.Input.is_at_end H.Input.failures H.Input.path)
+        (sink_view H.Output.written H.Output.failures H.Output.path)
+        is_terminal host.old asked.entry
         (sink_run O.written O.failures out.old out.new)
         (sink_run E.written E.failures err.old err.new)
         result host.new }
     ensures known { IsExitStatus result }
 {
+    let explains = asked.explains.is_wanted(is_terminal);
     let Ok(mut file) = host.create(path) else {
-        report_without_file(alloc, host.failed_file(), asked.explains, err);
+        report_without_file(alloc, host.failed_file(), explains, err);
         return DEVICE;
     };
-    let status = run_asked(alloc, rt, progress, host, asked, out, err);
-    draw_outcome(alloc, host, asked.line, status, &mut file);
-    host.close(file);
+    let mut kept = KeptRun::new(true);
+    let status = run_asked(
+        alloc, rt, progress, host, asked.line, explains, out, err, &mut kept,
+    );
+    draw_outcome(alloc, asked.line, status, &kept, &mut file);
+    host.close(file, is_reported(status));
     status
+}
+
+/// Runs the engine of the line, and draws nothing.
+fn run_without_picture<
+    'p,
+    R: Threads + Wait + Sync,
+    G: Gate + Sync,
+    H: Host<'p>,
+    O: Sink + Recalls,
+    E: Sink,
+>(
+    alloc: Global,
+    rt: &R,
+    progress: &G,
+    host: &mut H,
+    asked: CommandLine<'p>,
+    is_terminal: bool,
+    out: &mut O,
+    err: &mut E,
+) -> u8
+    requires { IsWithinRanges asked.line }
+    ensures ends { EndsDrawn None H.calls (source_view H.Input.handed_out H.Input.is_at_end H.Input.failures H.Input.path)
+        (sink_view H.Output.written H.Output.failures H.Output.path)
+        is_terminal host.old asked.entry
+        (sink_run O.written O.failures out.old out.new)
+        (sink_run E.written E.failures err.old err.new)
+        result host.new }
+    ensures known { IsExitStatus result }
+{
+    let explains = asked.explains.is_wanted(is_terminal);
+    let mut kept = KeptRun::new(explains);
+    run_asked(
+        alloc, rt, progress, host, asked.line, explains, out, err, &mut kept,
+    )
 }
 
 /// Runs the engine of the line, with a picture or without.
@@ -185,21 +236,32 @@ fn run_drawn<'p, R: Threads + Wait + Sync, G: Gate + Sync, H: Host<'p>, O: Sink 
     progress: &G,
     host: &mut H,
     asked: CommandLine<'p>,
+    is_terminal: bool,
     out: &mut O,
     err: &mut E,
 ) -> u8
     requires { IsWithinRanges asked.line }
-    ensures ends { EndsDrawn asked.entry.picture H.calls (source_run H.Input.handed_out H.Input.is_at_end H.Input.failures)
-        (sink_run H.Output.written H.Output.failures)
-        host.old asked.entry
+    ensures ends { EndsDrawn asked.entry.picture H.calls (source_view H.Input.handed_out H.Input.is_at_end H.Input.failures H.Input.path)
+        (sink_view H.Output.written H.Output.failures H.Output.path)
+        is_terminal host.old asked.entry
         (sink_run O.written O.failures out.old out.new)
         (sink_run E.written E.failures err.old err.new)
         result host.new }
     ensures known { IsExitStatus result }
 {
     match asked.picture {
-        Some(path) => run_with_picture(alloc, rt, progress, host, path, asked, out, err),
-        None => run_asked(alloc, rt, progress, host, asked, out, err),
+        Some(path) => run_with_picture(
+            alloc,
+            rt,
+            progress,
+            host,
+            path,
+            asked,
+            is_terminal,
+            out,
+            err,
+        ),
+        None => run_without_picture(alloc, rt, progress, host, asked, is_terminal, out, err),
     }
 }
 
@@ -210,13 +272,14 @@ fn run_line<'p, R: Threads + Wait + Sync, G: Gate + Sync, H: Host<'p>, O: Sink +
     progress: &G,
     host: &mut H,
     asked: CommandLine<'p>,
+    is_terminal: bool,
     out: &mut O,
     err: &mut E,
 ) -> u8
     requires { IsWithinRanges asked.line }
-    ensures ends { EndsLine H.calls (source_run H.Input.handed_out H.Input.is_at_end H.Input.failures)
-        (sink_run H.Output.written H.Output.failures)
-        host.old asked.entry
+    ensures ends { EndsLine H.calls (source_view H.Input.handed_out H.Input.is_at_end H.Input.failures H.Input.path)
+        (sink_view H.Output.written H.Output.failures H.Output.path)
+        is_terminal host.old asked.entry
         (sink_run O.written O.failures out.old out.new)
         (sink_run E.written E.failures err.old err.new)
         result host.new }
@@ -224,7 +287,7 @@ fn run_line<'p, R: Threads + Wait + Sync, G: Gate + Sync, H: Host<'p>, O: Sink +
 {
     match clash_of(host, asked) {
         Some(clash) => print_clash(clash, err),
-        None => run_drawn(alloc, rt, progress, host, asked, out, err),
+        None => run_drawn(alloc, rt, progress, host, asked, is_terminal, out, err),
     }
 }
 
@@ -232,28 +295,30 @@ fn run_line<'p, R: Threads + Wait + Sync, G: Gate + Sync, H: Host<'p>, O: Sink +
 ///
 /// The engine that the words name is run on the files at their paths and with their options. Standard output takes what the engine
 /// writes, standard error the line of a refusal, and nothing else goes to either of them. With `--progress` the gate `progress` is
-/// called before and after each cube, and what it writes to standard error it writes by itself. With `--explain` standard error then takes
-/// an explanation, and with `--picture` a further file takes a picture after CONSISTENT or INCONSISTENT; of what these two are, nothing is
-/// said. Of words that ask for nothing, standard output takes the help or the version, or standard error what is wrong with them.
+/// called before and after each cube, and what it writes to standard error it writes by itself. With `--explain`, or if standard error is a
+/// terminal, it then takes an explanation, and with `--picture` a further file takes a picture after CONSISTENT or INCONSISTENT; of what
+/// these two are, nothing is said. Of words that ask for nothing, standard output takes the help or the version, or standard error what is
+/// wrong with them.
 pub fn run<'p, R: Threads + Wait + Sync, G: Gate + Sync, H: Host<'p>, O: Sink + Recalls, E: Sink>(
     alloc: Global,
     rt: &R,
     progress: &G,
     host: &mut H,
     words: &'p [&'p str],
+    is_terminal: bool,
     out: &mut O,
     err: &mut E,
 ) -> u8
-    ensures ends { EndsWords H.calls (source_run H.Input.handed_out H.Input.is_at_end H.Input.failures)
-        (sink_run H.Output.written H.Output.failures)
-        host.old (texts words.now)
+    ensures ends { EndsWords H.calls (source_view H.Input.handed_out H.Input.is_at_end H.Input.failures H.Input.path)
+        (sink_view H.Output.written H.Output.failures H.Output.path)
+        is_terminal host.old (texts words.now)
         (sink_run O.written O.failures out.old out.new)
         (sink_run E.written E.failures err.old err.new)
         result host.new }
     ensures known { IsExitStatus result }
 {
     match read_line(alloc, words) {
-        Ok(asked) => run_line(alloc, rt, progress, host, asked, out, err),
+        Ok(asked) => run_line(alloc, rt, progress, host, asked, is_terminal, out, err),
         Err(fault) => tell_line_fault(alloc, &fault, out, err),
     }
 }

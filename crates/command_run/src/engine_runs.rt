@@ -1,4 +1,5 @@
 //! The engine that a line names, on the files of its paths.
+ghost use Rattle.command_host.specs.Streams.{sink_view, source_view};
 ghost use Rattle.command_line.specs.CommandLine.{IsWithinRanges};
 ghost use Rattle.command_run.specs.CommandRun.{RunsCertified, RunsLine, RunsOnFile, RunsOnFiles, RunsOnThreeFiles, RunsRecheck, RunsSearch, RunsVerify};
 ghost use Rattle.part_report.specs.PartEngine.{IsRunOfPart};
@@ -8,8 +9,10 @@ ghost use Rattle.verdict_report.specs.DecodeEngine.{IsRunOfDecode};
 ghost use Rattle.verdict_report.specs.JudgeEngine.{IsRunOfJudge};
 ghost use Rattle.verdict_report.specs.LratEngine.{IsRunOfLrat};
 ghost use Rattle.verdict_report.specs.RecheckEngine.{IsRunOfRecheck};
-ghost use Rattle.verdict_report.specs.Runs.{source_run, sink_run};
+ghost use Rattle.verdict_report.specs.Runs.{sink_run};
 
+use crate::kept_run::KeptRun;
+use crate::opening::open;
 use crate::refusals::write_refusals;
 use crate::search_runs::{certify, decide, search_of, survey_of};
 use crate::survey_runs::survey_file;
@@ -30,13 +33,17 @@ fn judge_files<'p, H: Host<'p>, W: Sink>(
     trace: &'p str,
     schedule: &'p str,
     out: &mut W,
+    kept: &mut KeptRun,
 ) -> Result<Status, Fault>
-    ensures { RunsOnFiles H.calls (source_run H.Input.handed_out H.Input.is_at_end H.Input.failures) IsRunOfJudge
+    ensures { RunsOnFiles H.calls (source_view H.Input.handed_out H.Input.is_at_end H.Input.failures H.Input.path) IsRunOfJudge
         host.old trace.now schedule.now (sink_run W.written W.failures out.old out.new) result host.new }
 {
-    let mut trace = host.source(trace);
-    let mut schedule = host.source(schedule);
-    run_judge(alloc, &mut trace, &mut schedule, out)
+    let mut trace = open(alloc, host, trace, kept.keeps);
+    let mut schedule = open(alloc, host, schedule, kept.keeps);
+    let outcome = run_judge(alloc, &mut trace, &mut schedule, out);
+    kept.first = trace.into_text();
+    kept.second = schedule.into_text();
+    outcome
 }
 
 /// Writes the clause list of the trace in the file at this path to the standard output.
@@ -45,12 +52,15 @@ fn translate_file<'p, H: Host<'p>, W: Sink>(
     host: &mut H,
     trace: &'p str,
     out: &mut W,
+    kept: &mut KeptRun,
 ) -> Result<Status, Fault>
-    ensures { RunsOnFile H.calls (source_run H.Input.handed_out H.Input.is_at_end H.Input.failures) IsRunOfCnf
+    ensures { RunsOnFile H.calls (source_view H.Input.handed_out H.Input.is_at_end H.Input.failures H.Input.path) IsRunOfCnf
         host.old trace.now (sink_run W.written W.failures out.old out.new) result host.new }
 {
-    let mut trace = host.source(trace);
-    run_cnf(alloc, &mut trace, out)
+    let mut trace = open(alloc, host, trace, kept.keeps);
+    let outcome = run_cnf(alloc, &mut trace, out);
+    kept.first = trace.into_text();
+    outcome
 }
 
 /// Writes the schedule of the trace in one file by the model in the other to the standard output.
@@ -60,13 +70,17 @@ fn decode_files<'p, H: Host<'p>, W: Sink>(
     trace: &'p str,
     model: &'p str,
     out: &mut W,
+    kept: &mut KeptRun,
 ) -> Result<Status, Fault>
-    ensures { RunsOnFiles H.calls (source_run H.Input.handed_out H.Input.is_at_end H.Input.failures) IsRunOfDecode
+    ensures { RunsOnFiles H.calls (source_view H.Input.handed_out H.Input.is_at_end H.Input.failures H.Input.path) IsRunOfDecode
         host.old trace.now model.now (sink_run W.written W.failures out.old out.new) result host.new }
 {
-    let mut trace = host.source(trace);
-    let mut model = host.source(model);
-    run_decode(alloc, &mut trace, &mut model, out)
+    let mut trace = open(alloc, host, trace, kept.keeps);
+    let mut model = open(alloc, host, model, kept.keeps);
+    let outcome = run_decode(alloc, &mut trace, &mut model, out);
+    kept.first = trace.into_text();
+    kept.second = model.into_text();
+    outcome
 }
 
 /// Checks the proof in one file for the formula in the other, and writes the answer to the standard output.
@@ -76,13 +90,17 @@ fn check_files<'p, H: Host<'p>, W: Sink>(
     cnf: &'p str,
     proof: &'p str,
     out: &mut W,
+    kept: &mut KeptRun,
 ) -> Result<Status, Fault>
-    ensures { RunsOnFiles H.calls (source_run H.Input.handed_out H.Input.is_at_end H.Input.failures) IsRunOfLrat
+    ensures { RunsOnFiles H.calls (source_view H.Input.handed_out H.Input.is_at_end H.Input.failures H.Input.path) IsRunOfLrat
         host.old cnf.now proof.now (sink_run W.written W.failures out.old out.new) result host.new }
 {
-    let mut cnf = host.source(cnf);
-    let mut proof = host.source(proof);
-    run_lrat(alloc, &mut cnf, &mut proof, out)
+    let mut cnf = open(alloc, host, cnf, kept.keeps);
+    let mut proof = open(alloc, host, proof, kept.keeps);
+    let outcome = run_lrat(alloc, &mut cnf, &mut proof, out);
+    kept.first = cnf.into_text();
+    kept.second = proof.into_text();
+    outcome
 }
 
 /// Checks the certificate in one file for the trace in the other, and writes the answer to the standard output.
@@ -92,13 +110,17 @@ fn recheck_files<'p, H: Host<'p>, W: Sink>(
     trace: &'p str,
     cert: &'p str,
     out: &mut W,
+    kept: &mut KeptRun,
 ) -> Result<Status, Fault>
-    ensures { RunsOnFiles H.calls (source_run H.Input.handed_out H.Input.is_at_end H.Input.failures) IsRunOfRecheck
+    ensures { RunsOnFiles H.calls (source_view H.Input.handed_out H.Input.is_at_end H.Input.failures H.Input.path) IsRunOfRecheck
         host.old trace.now cert.now (sink_run W.written W.failures out.old out.new) result host.new }
 {
-    let mut trace = host.source(trace);
-    let mut cert = host.source(cert);
-    run_recheck(alloc, &mut trace, &mut cert, out)
+    let mut trace = open(alloc, host, trace, kept.keeps);
+    let mut cert = open(alloc, host, cert, kept.keeps);
+    let outcome = run_recheck(alloc, &mut trace, &mut cert, out);
+    kept.first = trace.into_text();
+    kept.second = cert.into_text();
+    outcome
 }
 
 /// Checks the certificate in one file for a part of the trace in another, which the operations make up that a third names, and writes the
@@ -110,14 +132,19 @@ fn recheck_part_files<'p, H: Host<'p>, W: Sink>(
     cert: &'p str,
     names: &'p str,
     out: &mut W,
+    kept: &mut KeptRun,
 ) -> Result<Status, Fault>
-    ensures { RunsOnThreeFiles H.calls (source_run H.Input.handed_out H.Input.is_at_end H.Input.failures) IsRunOfPartRecheck
+    ensures { RunsOnThreeFiles H.calls (source_view H.Input.handed_out H.Input.is_at_end H.Input.failures H.Input.path) IsRunOfPartRecheck
         host.old trace.now cert.now names.now (sink_run W.written W.failures out.old out.new) result host.new }
 {
-    let mut trace = host.source(trace);
-    let mut cert = host.source(cert);
-    let mut names = host.source(names);
-    run_part_recheck(alloc, &mut trace, &mut cert, &mut names, out)
+    let mut trace = open(alloc, host, trace, kept.keeps);
+    let mut cert = open(alloc, host, cert, kept.keeps);
+    let mut names = open(alloc, host, names, kept.keeps);
+    let outcome = run_part_recheck(alloc, &mut trace, &mut cert, &mut names, out);
+    kept.first = trace.into_text();
+    kept.second = cert.into_text();
+    kept.third = names.into_text();
+    outcome
 }
 
 /// Checks the certificate, for the trace itself or for a part of it.
@@ -128,13 +155,14 @@ fn recheck_any<'p, H: Host<'p>, W: Sink>(
     cert: &'p str,
     part: Option<&'p str>,
     out: &mut W,
+    kept: &mut KeptRun,
 ) -> Result<Status, Fault>
-    ensures { RunsRecheck H.calls (source_run H.Input.handed_out H.Input.is_at_end H.Input.failures)
+    ensures { RunsRecheck H.calls (source_view H.Input.handed_out H.Input.is_at_end H.Input.failures H.Input.path)
         host.old trace.now cert.now part.entry (sink_run W.written W.failures out.old out.new) result host.new }
 {
     match part {
-        Some(names) => recheck_part_files(alloc, host, trace, cert, names, out),
-        None => recheck_files(alloc, host, trace, cert, out),
+        Some(names) => recheck_part_files(alloc, host, trace, cert, names, out, kept),
+        None => recheck_files(alloc, host, trace, cert, out, kept),
     }
 }
 
@@ -146,13 +174,17 @@ fn part_files<'p, H: Host<'p>, W: Sink>(
     names: &'p str,
     shows_names: bool,
     out: &mut W,
+    kept: &mut KeptRun,
 ) -> Result<Status, Fault>
-    ensures { RunsOnFiles H.calls (source_run H.Input.handed_out H.Input.is_at_end H.Input.failures) (IsRunOfPart shows_names)
+    ensures { RunsOnFiles H.calls (source_view H.Input.handed_out H.Input.is_at_end H.Input.failures H.Input.path) (IsRunOfPart shows_names)
         host.old trace.now names.now (sink_run W.written W.failures out.old out.new) result host.new }
 {
-    let mut trace = host.source(trace);
-    let mut names = host.source(names);
-    run_part(alloc, &mut trace, &mut names, shows_names, out)
+    let mut trace = open(alloc, host, trace, kept.keeps);
+    let mut names = open(alloc, host, names, kept.keeps);
+    let outcome = run_part(alloc, &mut trace, &mut names, shows_names, out);
+    kept.first = trace.into_text();
+    kept.second = names.into_text();
+    outcome
 }
 
 /// Decides whether the trace in the file at this path has a legal schedule, and writes the report to the standard output.
@@ -164,16 +196,18 @@ fn decide_file<'p, R: Threads + Wait + Sync, G: Gate + Sync, H: Host<'p>, W: Sin
     trace: &'p str,
     search: &SearchRequest,
     out: &mut W,
+    kept: &mut KeptRun,
 ) -> Result<Status, Fault>
-    ensures { RunsSearch H.calls (source_run H.Input.handed_out H.Input.is_at_end H.Input.failures)
+    ensures { RunsSearch H.calls (source_view H.Input.handed_out H.Input.is_at_end H.Input.failures H.Input.path)
         host.old trace.now search.now (sink_run W.written W.failures out.old out.new) result host.new }
 {
-    let mut trace = host.source(trace);
-    decide(alloc, rt, progress, host, &mut trace, search, out)
+    let mut trace = open(alloc, host, trace, kept.keeps);
+    let outcome = decide(alloc, rt, progress, host, &mut trace, search, out);
+    kept.first = trace.into_text();
+    outcome
 }
 
-/// The same, with a certificate. Its file is made or emptied before the trace is opened, and `Device` is answered if that is not
-/// possible. How long the certificate is goes to `length`.
+/// The same, with a certificate. Its file is made or opened before the trace is opened, and `Device` is answered if that is not possible.
 fn certify_file<'p, R: Threads + Wait + Sync, G: Gate + Sync, H: Host<'p>, W: Sink>(
     alloc: Global,
     rt: &R,
@@ -183,22 +217,23 @@ fn certify_file<'p, R: Threads + Wait + Sync, G: Gate + Sync, H: Host<'p>, W: Si
     cert: &'p str,
     search: &SearchRequest,
     out: &mut W,
-    length: &mut Option<u64>,
+    kept: &mut KeptRun,
 ) -> Result<Status, Fault>
-    ensures { RunsCertified H.calls (source_run H.Input.handed_out H.Input.is_at_end H.Input.failures)
-        (sink_run H.Output.written H.Output.failures)
+    ensures { RunsCertified H.calls (source_view H.Input.handed_out H.Input.is_at_end H.Input.failures H.Input.path)
+        (sink_view H.Output.written H.Output.failures H.Output.path)
         host.old trace.now cert.now search.now (sink_run W.written W.failures out.old out.new) result host.new }
 {
     let Ok(file) = host.create(cert) else {
         return Err(Fault::Device);
     };
-    let mut trace = host.source(trace);
+    let mut trace = open(alloc, host, trace, kept.keeps);
     let mut file = Recorder::counting(alloc, file);
     let outcome = certify(
         alloc, rt, progress, host, &mut trace, search, &mut file, out,
     );
-    *length = Some(file.taken());
-    host.close(file.into_sink());
+    kept.first = trace.into_text();
+    kept.certificate_length = Some(file.taken());
+    host.close(file.into_sink(), outcome.is_ok());
     outcome
 }
 
@@ -212,19 +247,19 @@ fn verify_file<'p, R: Threads + Wait + Sync, G: Gate + Sync, H: Host<'p>, W: Sin
     cert: Option<&'p str>,
     search: &SearchRequest,
     out: &mut W,
-    length: &mut Option<u64>,
+    kept: &mut KeptRun,
 ) -> Result<Status, Fault>
-    ensures { RunsVerify H.calls (source_run H.Input.handed_out H.Input.is_at_end H.Input.failures)
-        (sink_run H.Output.written H.Output.failures)
+    ensures { RunsVerify H.calls (source_view H.Input.handed_out H.Input.is_at_end H.Input.failures H.Input.path)
+        (sink_view H.Output.written H.Output.failures H.Output.path)
         host.old trace.now cert.entry search.now (sink_run W.written W.failures out.old out.new) result host.new }
 {
     match cert {
-        Some(cert) => certify_file(alloc, rt, progress, host, trace, cert, search, out, length),
-        None => decide_file(alloc, rt, progress, host, trace, search, out),
+        Some(cert) => certify_file(alloc, rt, progress, host, trace, cert, search, out, kept),
+        None => decide_file(alloc, rt, progress, host, trace, search, out, kept),
     }
 }
 
-/// Runs the engine that the line names. How long a certificate of `verify` is goes to `length`.
+/// Runs the engine that the line names. What is kept of the run goes to `kept`.
 ///
 /// A command is added here by a function as [`judge_files`] and an arm for its line, and in `specs/CommandRun.antt` by a line of
 /// `RunsLine`.
@@ -235,24 +270,26 @@ pub(crate) fn run_engine<'p, R: Threads + Wait + Sync, G: Gate + Sync, H: Host<'
     host: &mut H,
     line: Line<'p>,
     out: &mut W,
-    length: &mut Option<u64>,
+    kept: &mut KeptRun,
 ) -> Result<Status, Fault>
     requires { IsWithinRanges line }
-    ensures { RunsLine H.calls (source_run H.Input.handed_out H.Input.is_at_end H.Input.failures)
-        (sink_run H.Output.written H.Output.failures)
+    ensures { RunsLine H.calls (source_view H.Input.handed_out H.Input.is_at_end H.Input.failures H.Input.path)
+        (sink_view H.Output.written H.Output.failures H.Output.path)
         host.old line.entry (sink_run W.written W.failures out.old out.new) result host.new }
 {
     match line {
-        Line::Judge { trace, schedule } => judge_files(alloc, host, trace, schedule, out),
-        Line::Cnf { trace, .. } => translate_file(alloc, host, trace, out),
-        Line::Decode { trace, model } => decode_files(alloc, host, trace, model, out),
-        Line::Lrat { cnf, proof } => check_files(alloc, host, cnf, proof, out),
-        Line::Recheck { trace, cert, part } => recheck_any(alloc, host, trace, cert, part, out),
+        Line::Judge { trace, schedule } => judge_files(alloc, host, trace, schedule, out, kept),
+        Line::Cnf { trace, .. } => translate_file(alloc, host, trace, out, kept),
+        Line::Decode { trace, model } => decode_files(alloc, host, trace, model, out, kept),
+        Line::Lrat { cnf, proof } => check_files(alloc, host, cnf, proof, out, kept),
+        Line::Recheck { trace, cert, part } => recheck_any(
+            alloc, host, trace, cert, part, out, kept,
+        ),
         Line::Part {
             trace,
             names,
             shows_names,
-        } => part_files(alloc, host, trace, names, shows_names, out),
+        } => part_files(alloc, host, trace, names, shows_names, out, kept),
         Line::Verify {
             trace,
             cert,
@@ -260,7 +297,7 @@ pub(crate) fn run_engine<'p, R: Threads + Wait + Sync, G: Gate + Sync, H: Host<'
             progress: tells_progress,
         } => {
             let search = search_of(numbers, tells_progress);
-            verify_file(alloc, rt, progress, host, trace, cert, &search, out, length)
+            verify_file(alloc, rt, progress, host, trace, cert, &search, out, kept)
         }
         Line::Survey {
             trace,
@@ -269,7 +306,7 @@ pub(crate) fn run_engine<'p, R: Threads + Wait + Sync, G: Gate + Sync, H: Host<'
             progress: tells_progress,
         } => {
             let search = survey_of(numbers, tells_progress);
-            survey_file(alloc, rt, progress, host, trace, files, &search, out)
+            survey_file(alloc, rt, progress, host, trace, files, &search, out, kept)
         }
         Line::Refusals => write_refusals(alloc, out),
     }

@@ -1,41 +1,29 @@
 //! The explanation of an answer or a refusal.
-ghost use Rattle.std.specs.Prelude.{false};
-ghost use Rattle.command_run.specs.CommandRun.{Adds, Reopens, ReopensAll, ReopensGiven, ReopensIf, Takes};
-ghost use Rattle.command_run.specs.Inputs.{inputs_of};
+ghost use Rattle.command_run.specs.CommandRun.{Adds, Takes};
 ghost use Rattle.verdict_report.specs.Runs.{sink_run};
 
-use crate::inputs::{InputPaths, inputs_of, is_standard_input};
-use command_host::{DeviceFailure, FailedFile, Host, Recalls, TellsFailure};
+use crate::kept_run::KeptRun;
+use command_host::{DeviceFailure, FailedFile, KeptText, Recalls};
 use command_line::{Line, SearchNumbers};
 use dimacs::{Sink, write_whole};
 use explanation::{AskedCommand, SearchEffort, explain};
 use note_text::{NamedText, Notes};
 use std::alloc::Global;
-use verdict_report::{Fault, Status, read_whole};
+use verdict_report::{Fault, Status};
 
-/// A file that was read once more: its bytes, or what failed.
+/// A text that a line reads: its bytes if they were kept, and what failed, in words.
 #[derive(Drop)]
-pub(crate) struct InputText {
-    pub bytes: Option<Vec<u8>>,
+struct InputText<'k> {
+    bytes: Option<&'k [u8]>,
     failure: Option<String>,
 }
 
-impl InputText {
-    /// Nothing is known of it.
-    fn unread() -> InputText {
-        InputText {
-            bytes: None,
-            failure: None,
-        }
-    }
-}
-
-/// The files that a line reads, each that could be read once more with its bytes.
+/// The texts that a line reads.
 #[derive(Drop)]
-struct InputTexts {
-    first: InputText,
-    second: InputText,
-    third: InputText,
+struct InputTexts<'k> {
+    first: InputText<'k>,
+    second: InputText<'k>,
+    third: InputText<'k>,
 }
 
 /// Gives what failed of what has this name, in words, if that is known and memory suffices.
@@ -46,74 +34,31 @@ fn words_of(alloc: Global, name: &str, failure: Option<DeviceFailure>) -> Option
     }
 }
 
-/// Reads the file at this path once more.
-fn read_file_again<'p, H: Host<'p>>(alloc: Global, host: &mut H, path: &'p str) -> InputText
-    ensures { ReopensIf false H.calls host.old path.now host.new }
-{
-    let mut file = host.source(path);
-    match read_whole(alloc, &mut file) {
-        Ok(bytes) => InputText {
-            bytes: Some(bytes),
-            failure: None,
-        },
-        Err(_) => InputText {
-            bytes: None,
-            failure: words_of(alloc, "", file.failure()),
-        },
-    }
-}
-
-/// Reads the file at this path once more, unless it is standard input.
-fn read_path_again<'p, H: Host<'p>>(alloc: Global, host: &mut H, path: &'p str) -> InputText
-    ensures { Reopens H.calls host.old path.now host.new }
-{
-    if is_standard_input(path) {
-        InputText::unread()
-    } else {
-        read_file_again(alloc, host, path)
-    }
-}
-
-/// Reads the file once more if there is a path.
-pub(crate) fn read_again<'p, H: Host<'p>>(
-    alloc: Global,
-    host: &mut H,
-    path: Option<&'p str>,
-) -> InputText
-    ensures { ReopensGiven H.calls host.old path.entry host.new }
-{
-    match path {
-        Some(path) => read_path_again(alloc, host, path),
-        None => InputText::unread(),
-    }
-}
-
-/// Reads all files once more.
-fn read_all_again<'p, H: Host<'p>>(
-    alloc: Global,
-    host: &mut H,
-    paths: &InputPaths<'p>,
-) -> InputTexts
-    ensures { ReopensAll H.calls host.old paths.now host.new }
-{
-    let first = read_again(alloc, host, paths.first);
-    let second = read_again(alloc, host, paths.second);
-    let third = read_again(alloc, host, paths.third);
-    InputTexts {
-        first,
-        second,
-        third,
-    }
-}
-
-/// The file of this name, with its bytes if they could be read once more.
-fn named<'t>(name: &'t str, text: &'t InputText) -> NamedText<'t> {
-    NamedText {
-        name,
-        bytes: match &text.bytes {
+/// Gives what is known of a text.
+fn input_text(alloc: Global, kept: &KeptText) -> InputText<'_> {
+    InputText {
+        bytes: match &kept.bytes {
             Some(bytes) => Some(bytes.as_slice()),
             None => None,
         },
+        failure: words_of(alloc, "", kept.failure),
+    }
+}
+
+/// Gives what is known of all texts.
+fn input_texts(alloc: Global, kept: &KeptRun) -> InputTexts<'_> {
+    InputTexts {
+        first: input_text(alloc, &kept.first),
+        second: input_text(alloc, &kept.second),
+        third: input_text(alloc, &kept.third),
+    }
+}
+
+/// The text of this name.
+fn named<'t>(name: &'t str, text: &'t InputText<'t>) -> NamedText<'t> {
+    NamedText {
+        name,
+        bytes: text.bytes,
         failure: match &text.failure {
             Some(words) => Some(words.as_bytes()),
             None => None,
@@ -155,7 +100,7 @@ fn asked_verify<'t>(
 /// Gives what was asked by `verify` or `survey`, or nothing if it was another command.
 fn asked_search<'t>(
     line: Line<'t>,
-    texts: &'t InputTexts,
+    texts: &'t InputTexts<'t>,
     report: Option<&'t [u8]>,
     length: Option<u64>,
 ) -> Option<AskedCommand<'t>> {
@@ -180,7 +125,7 @@ fn asked_search<'t>(
 /// Gives what was asked, with the files that were read for it, or nothing if none was.
 fn asked_command<'t>(
     line: Line<'t>,
-    texts: &'t InputTexts,
+    texts: &'t InputTexts<'t>,
     report: Option<&'t [u8]>,
     length: Option<u64>,
 ) -> Option<AskedCommand<'t>> {
@@ -220,7 +165,7 @@ fn asked_command<'t>(
 fn notes_of<'t>(
     alloc: Global,
     line: Line<'t>,
-    texts: &'t InputTexts,
+    texts: &'t InputTexts<'t>,
     outcome: &Result<Status, Fault>,
     report: Option<&'t [u8]>,
     length: Option<u64>,
@@ -251,32 +196,51 @@ fn write_notes<E: Sink>(notes: &[u8], err: &mut E)
     add_notes(notes, err);
 }
 
-/// Explains the outcome on standard error, by the files that the line reads, which are read once more for that, by what standard output
-/// took, and by the length of a certificate.
-pub(crate) fn explain_outcome<'p, H: Host<'p>, O: Recalls, E: Sink>(
+/// The note that a text is not explained.
+fn notes_of_lost(alloc: Global) -> Vec<u8> {
+    let mut notes = Notes::new(alloc);
+    notes.note(&[b"there was no memory to keep what was read, so this is not explained"]);
+    notes.into_taken()
+}
+
+/// The explanation of the outcome, by the texts that were kept, by what standard output took, and by the length of a certificate.
+fn notes_of_run<O: Recalls>(
     alloc: Global,
-    host: &mut H,
-    line: Line<'p>,
+    failed: Option<FailedFile<'_>>,
+    line: Line<'_>,
     outcome: &Result<Status, Fault>,
     out: &O,
-    length: Option<u64>,
-    err: &mut E,
-)
-    ensures reopens { ReopensAll H.calls host.old (inputs_of line.entry) host.new }
-    ensures notes { Adds (sink_run E.written E.failures err.old err.new) }
-{
-    let paths = inputs_of(line);
-    let texts = read_all_again(alloc, host, &paths);
-    let written = failed_writing(alloc, host.failed_file(), out.failure());
-    let notes = notes_of(
+    kept: &KeptRun,
+) -> Vec<u8> {
+    if kept.is_lost() {
+        return notes_of_lost(alloc);
+    }
+    let texts = input_texts(alloc, kept);
+    let written = failed_writing(alloc, failed, out.failure());
+    notes_of(
         alloc,
         line,
         &texts,
         outcome,
         out.recalled(),
-        length,
+        kept.certificate_length,
         &written,
-    );
+    )
+}
+
+/// Explains the outcome on standard error.
+pub(crate) fn explain_outcome<O: Recalls, E: Sink>(
+    alloc: Global,
+    failed: Option<FailedFile<'_>>,
+    line: Line<'_>,
+    outcome: &Result<Status, Fault>,
+    out: &O,
+    kept: &KeptRun,
+    err: &mut E,
+)
+    ensures { Adds (sink_run E.written E.failures err.old err.new) }
+{
+    let notes = notes_of_run(alloc, failed, line, outcome, out, kept);
     write_notes(notes.as_slice(), err);
 }
 

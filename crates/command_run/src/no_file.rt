@@ -28,6 +28,8 @@ impl Sink for NoFile {
 
     ghost failures = { λ s. s.failures.count };
 
+    ghost path = { λ _. [] };
+
     fn write(&mut self, bytes: &[u8]) -> Result<usize, Failed> {
         self.written.extend(bytes);
         Ok(bytes.len())

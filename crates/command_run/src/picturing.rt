@@ -1,11 +1,10 @@
 //! The picture of an answer.
-ghost use Rattle.command_run.specs.CommandRun.{Adds, Draws, ReopensGiven, Takes};
-ghost use Rattle.command_run.specs.Inputs.{inputs_of};
+ghost use Rattle.std.specs.Prelude.{◌≡◌};
+ghost use Rattle.command_run.specs.CommandRun.{Adds, Draws, Takes, is_reported};
 ghost use Rattle.verdict_report.specs.Runs.{sink_run};
 
-use crate::explaining::read_again;
-use crate::inputs::inputs_of;
-use command_host::Host;
+use crate::kept_run::KeptRun;
+use crate::telling::{DEVICE, REFUSED};
 use command_line::Line;
 use dimacs::{Sink, write_whole};
 use picture::draw_verdict;
@@ -45,7 +44,8 @@ fn picture_of(alloc: Global, line: Line<'_>, is_consistent: bool, bytes: &[u8]) 
 
 /// Writes the bytes, or a prefix of them if the file fails.
 fn add_picture<W: Sink>(picture: &[u8], file: &mut W)
-    ensures { Takes (sink_run W.written W.failures file.old file.new) picture.now }
+    ensures takes { Takes (sink_run W.written W.failures file.old file.new) picture.now }
+    ensures same { W.path file.new ≡ W.path file.old }
 {
     // A picture that could not be written whole changes no answer.
     let _ = write_whole(file, picture);
@@ -53,25 +53,24 @@ fn add_picture<W: Sink>(picture: &[u8], file: &mut W)
 
 /// Writes the picture, if there is one.
 fn write_picture<W: Sink>(picture: &[u8], file: &mut W)
-    ensures { Adds (sink_run W.written W.failures file.old file.new) }
+    ensures adds { Adds (sink_run W.written W.failures file.old file.new) }
+    ensures same { W.path file.new ≡ W.path file.old }
 {
     add_picture(picture, file);
 }
 
-/// Draws the answer, which says whether the trace is consistent, by the trace that the line reads, which is read once more for that.
-fn draw_answer<'p, H: Host<'p>, W: Sink>(
+/// Draws the answer, which says whether the trace is consistent, by the trace that was kept.
+fn draw_answer<W: Sink>(
     alloc: Global,
-    host: &mut H,
-    line: Line<'p>,
+    line: Line<'_>,
     is_consistent: bool,
+    kept: &KeptRun,
     file: &mut W,
 )
-    ensures reopens { ReopensGiven H.calls host.old (inputs_of line.entry).first host.new }
     ensures adds { Adds (sink_run W.written W.failures file.old file.new) }
+    ensures same { W.path file.new ≡ W.path file.old }
 {
-    let paths = inputs_of(line);
-    let trace = read_again(alloc, host, paths.first);
-    let picture = match &trace.bytes {
+    let picture = match &kept.first.bytes {
         Some(bytes) => picture_of(alloc, line, is_consistent, bytes.as_slice()),
         None => Vec::new(alloc),
     };
@@ -79,16 +78,24 @@ fn draw_answer<'p, H: Host<'p>, W: Sink>(
 }
 
 /// Draws the outcome of this status into the file, if it says whether there is a legal schedule.
-pub(crate) fn draw_outcome<'p, H: Host<'p>, W: Sink>(
+pub(crate) fn draw_outcome<W: Sink>(
     alloc: Global,
-    host: &mut H,
-    line: Line<'p>,
+    line: Line<'_>,
     status: u8,
+    kept: &KeptRun,
     file: &mut W,
 )
-    ensures { Draws H.calls host.old line.entry status (sink_run W.written W.failures file.old file.new) host.new }
+    ensures drawn { Draws status (sink_run W.written W.failures file.old file.new) }
+    ensures same { W.path file.new ≡ W.path file.old }
 {
     if status <= 1 {
-        draw_answer(alloc, host, line, status == 0, file);
+        draw_answer(alloc, line, status == 0, kept, file);
     }
+}
+
+/// Returns whether the status is one of a report, and not of a refusal or a fault of the device.
+pub(crate) fn is_reported(status: u8) -> bool
+    ensures { result ≡ is_reported status }
+{
+    !(status == REFUSED || status == DEVICE)
 }

@@ -13,7 +13,7 @@ use dimacs::Sink;
 use std::alloc::Global;
 use std::sync::Wait;
 use std::thread::Threads;
-use verdict_report::{Fault, Status, run_certified_verify, run_verify};
+use verdict_report::{Fault, Source, Status, run_certified_verify, run_verify};
 
 /// The split of a search after a survey.
 const SURVEY_SPLIT: u32 = 3;
@@ -64,23 +64,24 @@ pub(crate) fn survey_of(survey: SurveyNumbers, tells_progress: bool) -> SearchRe
 
 /// Reports the search to the host, and runs the engine that decides traces with it: with the gate `progress` if the progress is wanted, and
 /// with one that does nothing if not.
-pub(crate) fn decide<'p, R: Threads + Wait + Sync, G: Gate + Sync, H: Host<'p>, W: Sink>(
+pub(crate) fn decide<'p, R: Threads + Wait + Sync, G: Gate + Sync, H: Host<'p>, T: Source, W: Sink>(
     alloc: Global,
     rt: &R,
     progress: &G,
     host: &mut H,
-    trace: &mut H::Input,
+    trace: &mut T,
     search: &SearchRequest,
     out: &mut W,
 ) -> Result<Status, Fault>
     ensures searches { H.calls.searches host.old search.now host.new }
     ensures run { IsRunOfVerify
-        (source_run H.Input.handed_out H.Input.is_at_end H.Input.failures trace.old trace.new)
+        (source_run T.handed_out T.is_at_end T.failures trace.old trace.new)
         (sink_run W.written W.failures out.old out.new)
         result }
     ensures unknown { result ≡ Ok Unknown → TellsOpen search.now.options
-        (source_run H.Input.handed_out H.Input.is_at_end H.Input.failures trace.old trace.new)
+        (source_run T.handed_out T.is_at_end T.failures trace.old trace.new)
         (sink_run W.written W.failures out.old out.new) }
+    ensures same_trace { T.path trace.new ≡ T.path trace.old }
 {
     host.begin_search(search);
     if search.tells_progress {
@@ -91,25 +92,35 @@ pub(crate) fn decide<'p, R: Threads + Wait + Sync, G: Gate + Sync, H: Host<'p>, 
 }
 
 /// Does the same, with a certificate.
-pub(crate) fn certify<'p, R: Threads + Wait + Sync, G: Gate + Sync, H: Host<'p>, C: Sink, W: Sink>(
+pub(crate) fn certify<
+    'p,
+    R: Threads + Wait + Sync,
+    G: Gate + Sync,
+    H: Host<'p>,
+    T: Source,
+    C: Sink,
+    W: Sink,
+>(
     alloc: Global,
     rt: &R,
     progress: &G,
     host: &mut H,
-    trace: &mut H::Input,
+    trace: &mut T,
     search: &SearchRequest,
     cert: &mut C,
     out: &mut W,
 ) -> Result<Status, Fault>
     ensures searches { H.calls.searches host.old search.now host.new }
     ensures run { IsRunOfCertifiedVerify
-        (source_run H.Input.handed_out H.Input.is_at_end H.Input.failures trace.old trace.new)
+        (source_run T.handed_out T.is_at_end T.failures trace.old trace.new)
         (sink_run C.written C.failures cert.old cert.new)
         (sink_run W.written W.failures out.old out.new)
         result }
     ensures unknown { result ≡ Ok Unknown → TellsOpen search.now.options
-        (source_run H.Input.handed_out H.Input.is_at_end H.Input.failures trace.old trace.new)
+        (source_run T.handed_out T.is_at_end T.failures trace.old trace.new)
         (sink_run W.written W.failures out.old out.new) }
+    ensures same_trace { T.path trace.new ≡ T.path trace.old }
+    ensures same_cert { C.path cert.new ≡ C.path cert.old }
 {
     host.begin_search(search);
     if search.tells_progress {

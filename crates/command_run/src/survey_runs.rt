@@ -4,12 +4,15 @@
 //! has a sink of a type of its own, a file or [`NoFile`]. So there are a function with the file, one without, and one that chooses, for each of the
 //! three, and they call each other in the order in which the files are made: certificate, names, part. Then the trace is opened.
 ghost use Rattle.std.specs.Prelude.{◌≡◌, None, Ok, Some};
+ghost use Rattle.command_host.specs.Streams.{sink_view, source_view};
 ghost use Rattle.command_run.specs.CommandRun.{CertifiesSurveyed, RunsSurvey, RunsSurveyed, TakesCore, TakesNamesAndPart, TakesPart, takes_none};
 ghost use Rattle.survey_report.specs.SurveyEngine.{IsRunOfCertifiedSurvey, IsRunOfSurvey, TellsExtent};
 ghost use Rattle.verdict_report.specs.Runs.{source_run, sink_run};
 ghost use Rattle.verdict_report.specs.declared.status.Status.TheVariants.{Unknown};
 
+use crate::kept_run::KeptRun;
 use crate::no_file::NoFile;
+use crate::opening::open;
 use command_host::{Host, SearchRequest};
 use command_line::SurveyFiles;
 use cube_jobs::{Gate, OpenGate};
@@ -19,7 +22,7 @@ use std::sync::Wait;
 use std::thread::Threads;
 use survey::BySaturation;
 use survey_report::{run_certified_survey, run_survey};
-use verdict_report::{Fault, Status};
+use verdict_report::{Fault, Source, Status};
 
 /// The survey of the request.
 fn surveyor_of(search: &SearchRequest) -> BySaturation {
@@ -30,23 +33,24 @@ fn surveyor_of(search: &SearchRequest) -> BySaturation {
 
 /// Reports the survey to the host, and runs the engine that decides long traces with it: with the gate `progress` if the progress is
 /// wanted, and with one that does nothing if not.
-fn survey<'p, R: Threads + Wait + Sync, G: Gate + Sync, H: Host<'p>, W: Sink>(
+fn survey<'p, R: Threads + Wait + Sync, G: Gate + Sync, H: Host<'p>, T: Source, W: Sink>(
     alloc: Global,
     rt: &R,
     progress: &G,
     host: &mut H,
-    trace: &mut H::Input,
+    trace: &mut T,
     search: &SearchRequest,
     out: &mut W,
 ) -> Result<Status, Fault>
     ensures searches { H.calls.searches host.old search.now host.new }
     ensures run { IsRunOfSurvey
-        (source_run H.Input.handed_out H.Input.is_at_end H.Input.failures trace.old trace.new)
+        (source_run T.handed_out T.is_at_end T.failures trace.old trace.new)
         (sink_run W.written W.failures out.old out.new)
         result }
     ensures unknown { result ≡ Ok Unknown → TellsExtent search.now.options
-        (source_run H.Input.handed_out H.Input.is_at_end H.Input.failures trace.old trace.new)
+        (source_run T.handed_out T.is_at_end T.failures trace.old trace.new)
         (sink_run W.written W.failures out.old out.new) }
+    ensures same_trace { T.path trace.new ≡ T.path trace.old }
 {
     host.begin_search(search);
     let surveyor = surveyor_of(search);
@@ -63,6 +67,7 @@ fn certify<
     R: Threads + Wait + Sync,
     G: Gate + Sync,
     H: Host<'p>,
+    T: Source,
     C: Sink,
     N: Sink,
     P: Sink,
@@ -72,7 +77,7 @@ fn certify<
     rt: &R,
     progress: &G,
     host: &mut H,
-    trace: &mut H::Input,
+    trace: &mut T,
     search: &SearchRequest,
     cert: &mut C,
     names: &mut N,
@@ -81,15 +86,19 @@ fn certify<
 ) -> Result<Status, Fault>
     ensures searches { H.calls.searches host.old search.now host.new }
     ensures run { IsRunOfCertifiedSurvey
-        (source_run H.Input.handed_out H.Input.is_at_end H.Input.failures trace.old trace.new)
+        (source_run T.handed_out T.is_at_end T.failures trace.old trace.new)
         (sink_run C.written C.failures cert.old cert.new)
         (sink_run N.written N.failures names.old names.new)
         (sink_run P.written P.failures part.old part.new)
         (sink_run W.written W.failures out.old out.new)
         result }
     ensures unknown { result ≡ Ok Unknown → TellsExtent search.now.options
-        (source_run H.Input.handed_out H.Input.is_at_end H.Input.failures trace.old trace.new)
+        (source_run T.handed_out T.is_at_end T.failures trace.old trace.new)
         (sink_run W.written W.failures out.old out.new) }
+    ensures same_trace { T.path trace.new ≡ T.path trace.old }
+    ensures same_cert { C.path cert.new ≡ C.path cert.old }
+    ensures same_names { N.path names.new ≡ N.path names.old }
+    ensures same_part { P.path part.new ≡ P.path part.old }
 {
     host.begin_search(search);
     let surveyor = surveyor_of(search);
@@ -114,12 +123,15 @@ fn survey_opened<'p, R: Threads + Wait + Sync, G: Gate + Sync, H: Host<'p>, W: S
     trace: &'p str,
     search: &SearchRequest,
     out: &mut W,
+    kept: &mut KeptRun,
 ) -> Result<Status, Fault>
-    ensures { RunsSurveyed H.calls (source_run H.Input.handed_out H.Input.is_at_end H.Input.failures)
+    ensures { RunsSurveyed H.calls (source_view H.Input.handed_out H.Input.is_at_end H.Input.failures H.Input.path)
         host.old trace.now search.now (sink_run W.written W.failures out.old out.new) result host.new }
 {
-    let mut trace = host.source(trace);
-    survey(alloc, rt, progress, host, &mut trace, search, out)
+    let mut trace = open(alloc, host, trace, kept.keeps);
+    let outcome = survey(alloc, rt, progress, host, &mut trace, search, out);
+    kept.first = trace.into_text();
+    outcome
 }
 
 /// Does so with sinks for the certificate, the names and the part.
@@ -143,19 +155,25 @@ fn certify_opened<
     names: &mut N,
     part: &mut P,
     out: &mut W,
+    kept: &mut KeptRun,
 ) -> Result<Status, Fault>
-    ensures { CertifiesSurveyed H.calls (source_run H.Input.handed_out H.Input.is_at_end H.Input.failures)
+    ensures runs { CertifiesSurveyed H.calls (source_view H.Input.handed_out H.Input.is_at_end H.Input.failures H.Input.path)
         host.old trace.now search.now
         (sink_run C.written C.failures cert.old cert.new)
         (sink_run N.written N.failures names.old names.new)
         (sink_run P.written P.failures part.old part.new)
         (sink_run W.written W.failures out.old out.new)
         result host.new }
+    ensures same_cert { C.path cert.new ≡ C.path cert.old }
+    ensures same_names { N.path names.new ≡ N.path names.old }
+    ensures same_part { P.path part.new ≡ P.path part.old }
 {
-    let mut trace = host.source(trace);
-    certify(
+    let mut trace = open(alloc, host, trace, kept.keeps);
+    let outcome = certify(
         alloc, rt, progress, host, &mut trace, search, cert, names, part, out,
-    )
+    );
+    kept.first = trace.into_text();
+    outcome
 }
 
 /// Does so with two sinks, and no file for the part.
@@ -177,22 +195,25 @@ fn part_nowhere<
     cert: &mut C,
     names: &mut N,
     out: &mut W,
+    kept: &mut KeptRun,
 ) -> Result<Status, Fault>
-    ensures { TakesPart H.calls (source_run H.Input.handed_out H.Input.is_at_end H.Input.failures)
-        (sink_run H.Output.written H.Output.failures)
+    ensures runs { TakesPart H.calls (source_view H.Input.handed_out H.Input.is_at_end H.Input.failures H.Input.path)
+        (sink_view H.Output.written H.Output.failures H.Output.path)
         host.old trace.now None search.now
         (sink_run C.written C.failures cert.old cert.new)
         (sink_run N.written N.failures names.old names.new)
         (sink_run W.written W.failures out.old out.new)
         result host.new }
+    ensures same_cert { C.path cert.new ≡ C.path cert.old }
+    ensures same_names { N.path names.new ≡ N.path names.old }
 {
     let mut part = NoFile::new();
     certify_opened(
-        alloc, rt, progress, host, trace, search, cert, names, &mut part, out,
+        alloc, rt, progress, host, trace, search, cert, names, &mut part, out, kept,
     )
 }
 
-/// Does so with two sinks, and a file for the part. It is made or emptied first, and `Device` is answered if that is not possible.
+/// Does so with two sinks, and a file for the part. It is made or opened first, and `Device` is answered if that is not possible.
 fn part_in_file<
     'p,
     R: Threads + Wait + Sync,
@@ -212,22 +233,25 @@ fn part_in_file<
     cert: &mut C,
     names: &mut N,
     out: &mut W,
+    kept: &mut KeptRun,
 ) -> Result<Status, Fault>
-    ensures { TakesPart H.calls (source_run H.Input.handed_out H.Input.is_at_end H.Input.failures)
-        (sink_run H.Output.written H.Output.failures)
+    ensures runs { TakesPart H.calls (source_view H.Input.handed_out H.Input.is_at_end H.Input.failures H.Input.path)
+        (sink_view H.Output.written H.Output.failures H.Output.path)
         host.old trace.now (Some path.entry) search.now
         (sink_run C.written C.failures cert.old cert.new)
         (sink_run N.written N.failures names.old names.new)
         (sink_run W.written W.failures out.old out.new)
         result host.new }
+    ensures same_cert { C.path cert.new ≡ C.path cert.old }
+    ensures same_names { N.path names.new ≡ N.path names.old }
 {
     let Ok(mut made) = host.create(path) else {
         return Err(Fault::Device);
     };
     let outcome = certify_opened(
-        alloc, rt, progress, host, trace, search, cert, names, &mut made, out,
+        alloc, rt, progress, host, trace, search, cert, names, &mut made, out, kept,
     );
-    host.close(made);
+    host.close(made, outcome.is_ok());
     outcome
 }
 
@@ -243,20 +267,25 @@ fn with_part<'p, R: Threads + Wait + Sync, G: Gate + Sync, H: Host<'p>, C: Sink,
     cert: &mut C,
     names: &mut N,
     out: &mut W,
+    kept: &mut KeptRun,
 ) -> Result<Status, Fault>
-    ensures { TakesPart H.calls (source_run H.Input.handed_out H.Input.is_at_end H.Input.failures)
-        (sink_run H.Output.written H.Output.failures)
+    ensures runs { TakesPart H.calls (source_view H.Input.handed_out H.Input.is_at_end H.Input.failures H.Input.path)
+        (sink_view H.Output.written H.Output.failures H.Output.path)
         host.old trace.now path.entry search.now
         (sink_run C.written C.failures cert.old cert.new)
         (sink_run N.written N.failures names.old names.new)
         (sink_run W.written W.failures out.old out.new)
         result host.new }
+    ensures same_cert { C.path cert.new ≡ C.path cert.old }
+    ensures same_names { N.path names.new ≡ N.path names.old }
 {
     match path {
         Some(path) => part_in_file(
-            alloc, rt, progress, host, trace, path, search, cert, names, out,
+            alloc, rt, progress, host, trace, path, search, cert, names, out, kept,
         ),
-        None => part_nowhere(alloc, rt, progress, host, trace, search, cert, names, out),
+        None => part_nowhere(
+            alloc, rt, progress, host, trace, search, cert, names, out, kept,
+        ),
     }
 }
 
@@ -271,21 +300,23 @@ fn names_nowhere<'p, R: Threads + Wait + Sync, G: Gate + Sync, H: Host<'p>, C: S
     search: &SearchRequest,
     cert: &mut C,
     out: &mut W,
+    kept: &mut KeptRun,
 ) -> Result<Status, Fault>
-    ensures { TakesNamesAndPart H.calls (source_run H.Input.handed_out H.Input.is_at_end H.Input.failures)
-        (sink_run H.Output.written H.Output.failures)
+    ensures runs { TakesNamesAndPart H.calls (source_view H.Input.handed_out H.Input.is_at_end H.Input.failures H.Input.path)
+        (sink_view H.Output.written H.Output.failures H.Output.path)
         host.old trace.now None part.entry search.now
         (sink_run C.written C.failures cert.old cert.new)
         (sink_run W.written W.failures out.old out.new)
         result host.new }
+    ensures same_cert { C.path cert.new ≡ C.path cert.old }
 {
     let mut names = NoFile::new();
     with_part(
-        alloc, rt, progress, host, trace, part, search, cert, &mut names, out,
+        alloc, rt, progress, host, trace, part, search, cert, &mut names, out, kept,
     )
 }
 
-/// Does so with the certificate's sink, and a file for the names, which is made or emptied before that for the part.
+/// Does so with the certificate's sink, and a file for the names, which is made or opened before that for the part.
 fn names_in_file<'p, R: Threads + Wait + Sync, G: Gate + Sync, H: Host<'p>, C: Sink, W: Sink>(
     alloc: Global,
     rt: &R,
@@ -297,21 +328,23 @@ fn names_in_file<'p, R: Threads + Wait + Sync, G: Gate + Sync, H: Host<'p>, C: S
     search: &SearchRequest,
     cert: &mut C,
     out: &mut W,
+    kept: &mut KeptRun,
 ) -> Result<Status, Fault>
-    ensures { TakesNamesAndPart H.calls (source_run H.Input.handed_out H.Input.is_at_end H.Input.failures)
-        (sink_run H.Output.written H.Output.failures)
+    ensures runs { TakesNamesAndPart H.calls (source_view H.Input.handed_out H.Input.is_at_end H.Input.failures H.Input.path)
+        (sink_view H.Output.written H.Output.failures H.Output.path)
         host.old trace.now (Some path.entry) part.entry search.now
         (sink_run C.written C.failures cert.old cert.new)
         (sink_run W.written W.failures out.old out.new)
         result host.new }
+    ensures same_cert { C.path cert.new ≡ C.path cert.old }
 {
     let Ok(mut file) = host.create(path) else {
         return Err(Fault::Device);
     };
     let outcome = with_part(
-        alloc, rt, progress, host, trace, part, search, cert, &mut file, out,
+        alloc, rt, progress, host, trace, part, search, cert, &mut file, out, kept,
     );
-    host.close(file);
+    host.close(file, outcome.is_ok());
     outcome
 }
 
@@ -327,19 +360,23 @@ fn with_names<'p, R: Threads + Wait + Sync, G: Gate + Sync, H: Host<'p>, C: Sink
     search: &SearchRequest,
     cert: &mut C,
     out: &mut W,
+    kept: &mut KeptRun,
 ) -> Result<Status, Fault>
-    ensures { TakesNamesAndPart H.calls (source_run H.Input.handed_out H.Input.is_at_end H.Input.failures)
-        (sink_run H.Output.written H.Output.failures)
+    ensures runs { TakesNamesAndPart H.calls (source_view H.Input.handed_out H.Input.is_at_end H.Input.failures H.Input.path)
+        (sink_view H.Output.written H.Output.failures H.Output.path)
         host.old trace.now path.entry part.entry search.now
         (sink_run C.written C.failures cert.old cert.new)
         (sink_run W.written W.failures out.old out.new)
         result host.new }
+    ensures same_cert { C.path cert.new ≡ C.path cert.old }
 {
     match path {
         Some(path) => names_in_file(
-            alloc, rt, progress, host, trace, path, part, search, cert, out,
+            alloc, rt, progress, host, trace, path, part, search, cert, out, kept,
         ),
-        None => names_nowhere(alloc, rt, progress, host, trace, part, search, cert, out),
+        None => names_nowhere(
+            alloc, rt, progress, host, trace, part, search, cert, out, kept,
+        ),
     }
 }
 
@@ -354,20 +391,21 @@ fn cert_nowhere<'p, R: Threads + Wait + Sync, G: Gate + Sync, H: Host<'p>, W: Si
     part: Option<&'p str>,
     search: &SearchRequest,
     out: &mut W,
+    kept: &mut KeptRun,
 ) -> Result<Status, Fault>
-    ensures { TakesCore H.calls (source_run H.Input.handed_out H.Input.is_at_end H.Input.failures)
-        (sink_run H.Output.written H.Output.failures)
+    ensures { TakesCore H.calls (source_view H.Input.handed_out H.Input.is_at_end H.Input.failures H.Input.path)
+        (sink_view H.Output.written H.Output.failures H.Output.path)
         host.old trace.now None names.entry part.entry search.now
         (sink_run W.written W.failures out.old out.new)
         result host.new }
 {
     let mut cert = NoFile::new();
     with_names(
-        alloc, rt, progress, host, trace, names, part, search, &mut cert, out,
+        alloc, rt, progress, host, trace, names, part, search, &mut cert, out, kept,
     )
 }
 
-/// Does so with a file for the certificate, which is made or emptied before the others.
+/// Does so with a file for the certificate, which is made or opened before the others.
 fn cert_in_file<'p, R: Threads + Wait + Sync, G: Gate + Sync, H: Host<'p>, W: Sink>(
     alloc: Global,
     rt: &R,
@@ -379,9 +417,10 @@ fn cert_in_file<'p, R: Threads + Wait + Sync, G: Gate + Sync, H: Host<'p>, W: Si
     part: Option<&'p str>,
     search: &SearchRequest,
     out: &mut W,
+    kept: &mut KeptRun,
 ) -> Result<Status, Fault>
-    ensures { TakesCore H.calls (source_run H.Input.handed_out H.Input.is_at_end H.Input.failures)
-        (sink_run H.Output.written H.Output.failures)
+    ensures { TakesCore H.calls (source_view H.Input.handed_out H.Input.is_at_end H.Input.failures H.Input.path)
+        (sink_view H.Output.written H.Output.failures H.Output.path)
         host.old trace.now (Some path.entry) names.entry part.entry search.now
         (sink_run W.written W.failures out.old out.new)
         result host.new }
@@ -390,9 +429,9 @@ fn cert_in_file<'p, R: Threads + Wait + Sync, G: Gate + Sync, H: Host<'p>, W: Si
         return Err(Fault::Device);
     };
     let outcome = with_names(
-        alloc, rt, progress, host, trace, names, part, search, &mut file, out,
+        alloc, rt, progress, host, trace, names, part, search, &mut file, out, kept,
     );
-    host.close(file);
+    host.close(file, outcome.is_ok());
     outcome
 }
 
@@ -408,18 +447,21 @@ fn with_cert<'p, R: Threads + Wait + Sync, G: Gate + Sync, H: Host<'p>, W: Sink>
     part: Option<&'p str>,
     search: &SearchRequest,
     out: &mut W,
+    kept: &mut KeptRun,
 ) -> Result<Status, Fault>
-    ensures { TakesCore H.calls (source_run H.Input.handed_out H.Input.is_at_end H.Input.failures)
-        (sink_run H.Output.written H.Output.failures)
+    ensures { TakesCore H.calls (source_view H.Input.handed_out H.Input.is_at_end H.Input.failures H.Input.path)
+        (sink_view H.Output.written H.Output.failures H.Output.path)
         host.old trace.now path.entry names.entry part.entry search.now
         (sink_run W.written W.failures out.old out.new)
         result host.new }
 {
     match path {
         Some(path) => cert_in_file(
-            alloc, rt, progress, host, trace, path, names, part, search, out,
+            alloc, rt, progress, host, trace, path, names, part, search, out, kept,
         ),
-        None => cert_nowhere(alloc, rt, progress, host, trace, names, part, search, out),
+        None => cert_nowhere(
+            alloc, rt, progress, host, trace, names, part, search, out, kept,
+        ),
     }
 }
 
@@ -431,7 +473,7 @@ fn takes_none(files: SurveyFiles<'_>) -> bool
 }
 
 /// Decides whether the trace in the file at this path has a legal schedule, and writes what shows an INCONSISTENT to the files that are
-/// asked for. They are made or emptied before the trace is opened.
+/// asked for. They are made or opened before the trace is opened.
 pub(crate) fn survey_file<'p, R: Threads + Wait + Sync, G: Gate + Sync, H: Host<'p>, W: Sink>(
     alloc: Global,
     rt: &R,
@@ -441,15 +483,16 @@ pub(crate) fn survey_file<'p, R: Threads + Wait + Sync, G: Gate + Sync, H: Host<
     files: SurveyFiles<'p>,
     search: &SearchRequest,
     out: &mut W,
+    kept: &mut KeptRun,
 ) -> Result<Status, Fault>
-    ensures { RunsSurvey H.calls (source_run H.Input.handed_out H.Input.is_at_end H.Input.failures)
-        (sink_run H.Output.written H.Output.failures)
+    ensures { RunsSurvey H.calls (source_view H.Input.handed_out H.Input.is_at_end H.Input.failures H.Input.path)
+        (sink_view H.Output.written H.Output.failures H.Output.path)
         host.old trace.now files.entry search.now
         (sink_run W.written W.failures out.old out.new)
         result host.new }
 {
     if takes_none(files) {
-        survey_opened(alloc, rt, progress, host, trace, search, out)
+        survey_opened(alloc, rt, progress, host, trace, search, out, kept)
     } else {
         with_cert(
             alloc,
@@ -462,6 +505,7 @@ pub(crate) fn survey_file<'p, R: Threads + Wait + Sync, G: Gate + Sync, H: Host<
             files.part,
             search,
             out,
+            kept,
         )
     }
 }

@@ -6,7 +6,7 @@ ghost use Rattle.verdict_report.specs.Runs.{sink_run};
 use command_line::LineFault;
 use dimacs::{Sink, write_whole};
 use std::alloc::{AllocError, Global};
-use verdict_report::{Fault, Status, fault_line};
+use verdict_report::{Fault, Status, write_fault};
 
 /// The exit status of a command line that is refused.
 pub(crate) const REFUSED: u8 = 2;
@@ -17,23 +17,20 @@ pub(crate) const DEVICE: u8 = 4;
 /// What is printed if there is no memory.
 pub(crate) const NO_MEMORY: &[u8] = b"refused: memory\n";
 
-/// Reports the fault on standard error, or that there is no memory for its line.
-pub(crate) fn tell_fault<E: Sink>(alloc: Global, fault: &Fault, err: &mut E)
+/// Reports the fault on standard error.
+pub(crate) fn tell_fault<E: Sink>(fault: &Fault, err: &mut E)
     ensures { TellsFault (sink_run E.written E.failures err.old err.new) fault.now }
 {
     // If standard error is closed too, only the exit status says so.
-    let _ = match fault_line(alloc, fault) {
-        Ok(line) => write_whole(err, line.as_bytes()),
-        Err(_) => write_whole(err, NO_MEMORY),
-    };
+    let _ = write_fault(fault, err);
 }
 
 /// Reports a refusal on standard error, and nothing of another outcome.
-pub(crate) fn tell_outcome<E: Sink>(alloc: Global, outcome: &Result<Status, Fault>, err: &mut E)
+pub(crate) fn tell_outcome<E: Sink>(outcome: &Result<Status, Fault>, err: &mut E)
     ensures { TellsOutcome (sink_run E.written E.failures err.old err.new) outcome.now }
 {
     if let Err(fault) = outcome {
-        tell_fault(alloc, fault, err);
+        tell_fault(fault, err);
     }
 }
 

@@ -1,6 +1,6 @@
 //! The engine that makes parts of traces, from bytes to bytes.
 
-ghost use Rattle.std.specs.Prelude.{OnOk};
+ghost use Rattle.std.specs.Prelude.{◌≡◌, OnOk};
 ghost use Rattle.verdict_report.specs.Engine.{IsRunOfWriting};
 ghost use Rattle.verdict_report.specs.Runs.{source_run, sink_run};
 ghost use Rattle.part_text.specs.PartText.{part_text};
@@ -35,6 +35,9 @@ pub fn run_part<T: Source, N: Source, W: Sink>(
     ensures meaning { OnOk result (WritesPart
         (source_run T.handed_out T.is_at_end T.failures trace.old trace.new)
         (sink_run W.written W.failures out.old out.new)) }
+    ensures same_trace { T.path trace.new ≡ T.path trace.old }
+    ensures same_names { N.path names.new ≡ N.path names.old }
+    ensures same_out { W.path out.new ≡ W.path out.old }
 {
     let texts = read_two(alloc, trace, names)?;
     let part = part_of_texts(alloc, texts.0.as_slice(), texts.1.as_slice())?;
@@ -57,9 +60,10 @@ fn put_part<W: Sink>(
     shows_names: bool,
     out: &mut W,
 ) -> Result<Status, Fault>
-    ensures { IsRunOfWriting (part_text shows_names part.now) (part_status part.now)
+    ensures run { IsRunOfWriting (part_text shows_names part.now) (part_status part.now)
         (sink_run W.written W.failures out.old out.new)
         result }
+    ensures same { W.path out.new ≡ W.path out.old }
 {
     let text = write_part(alloc, part, shows_names)?;
     write_whole(out, text.as_slice())?;

@@ -1,6 +1,6 @@
 //! The engine that checks certificates of parts of traces, from bytes to bytes.
 
-ghost use Rattle.std.specs.Prelude.{OnOk};
+ghost use Rattle.std.specs.Prelude.{◌≡◌, OnOk};
 ghost use Rattle.part_report.specs.PartRecheckEngine.{IsRunOfPartRecheck, IsSaidByPart};
 ghost use Rattle.verdict_report.specs.RecheckEngine.{InputHasNoLegalSchedule};
 ghost use Rattle.verdict_report.specs.Runs.{source_run, sink_run};
@@ -36,6 +36,10 @@ pub fn run_part_recheck<T: Source, C: Source, N: Source, W: Sink>(
         (sink_run W.written W.failures out.old out.new)
         result }
     ensures sound { OnOk result (InputHasNoLegalSchedule (source_run T.handed_out T.is_at_end T.failures trace.old trace.new)) }
+    ensures same_trace { T.path trace.new ≡ T.path trace.old }
+    ensures same_cert { C.path cert.new ≡ C.path cert.old }
+    ensures same_names { N.path names.new ≡ N.path names.old }
+    ensures same_out { W.path out.new ≡ W.path out.old }
 {
     let (trace_text, cert_text, names_text) = read_three(alloc, trace, cert, names)?;
     let count = recheck_part(

@@ -1,6 +1,6 @@
 //! Reading the trace's text.
 
-ghost use Rattle.std.specs.Prelude.{[], ◌∷◌, IfOk, IfErr};
+ghost use Rattle.std.specs.Prelude.{◌≡◌, [], ◌∷◌, IfOk, IfErr};
 ghost use Rattle.verdict_report.specs.Engine.{HandOut, IsStopOfReading};
 ghost use Rattle.verdict_report.specs.Runs.{source_run};
 
@@ -14,6 +14,7 @@ pub(crate) fn read_text<S: Source>(alloc: Global, source: &mut S) -> Result<Vec<
         (text.items ∷ [])) }
     ensures stopped { IfErr result (λ fault. IsStopOfReading
         (source_run S.handed_out S.is_at_end S.failures source.old source.new ∷ []) fault) }
+    ensures same { S.path source.new ≡ S.path source.old }
 {
     read_whole(alloc, source)
 }

@@ -65,6 +65,8 @@ pub fn run_survey<R: Threads + Wait + Sync, T: Source, S: Surveyor, G: Gate + Sy
         (source_run T.handed_out T.is_at_end T.failures trace.old trace.new)
         (sink_run W.written W.failures out.old out.new)
         status }
+    ensures same_trace { T.path trace.new ≡ T.path trace.old }
+    ensures same_out { W.path out.new ≡ W.path out.old }
 {
     written_schedule_spells();
     let text = read_text(alloc, trace)?;
@@ -126,6 +128,11 @@ pub fn run_certified_survey<
         (source_run T.handed_out T.is_at_end T.failures trace.old trace.new)
         (sink_run W.written W.failures out.old out.new)
         status }
+    ensures same_trace { T.path trace.new ≡ T.path trace.old }
+    ensures same_cert { C.path cert.new ≡ C.path cert.old }
+    ensures same_names { N.path names.new ≡ N.path names.old }
+    ensures same_part { P.path part.new ≡ P.path part.old }
+    ensures same_out { W.path out.new ≡ W.path out.old }
 {
     written_schedule_spells();
     certificate_is_accepted();
@@ -177,6 +184,7 @@ fn write_names<N: Sink>(alloc: Global, surveyed: &Surveyed, names: &mut N) -> Re
     ensures well { OnOk result (N.failures names.new ≡ N.failures names.old) }
     ensures front { OnErr result (AppendsFront (N.written names.old) (N.written names.new) (core_names surveyed.now)) }
     ensures failed { IfErr result (λ fault. N.failures names.new ≡ N.failures names.old + failures_told fault) }
+    ensures same { N.path names.new ≡ N.path names.old }
 {
     let text = names_of_core(alloc, surveyed)?;
     write_whole(names, text.as_slice())?;
@@ -193,6 +201,7 @@ fn write_core_part<P: Sink>(
     ensures well { OnOk result (P.failures part.new ≡ P.failures part.old) }
     ensures front { OnErr result (AppendsFront (P.written part.old) (P.written part.new) (core_part surveyed.now)) }
     ensures failed { IfErr result (λ fault. P.failures part.new ≡ P.failures part.old + failures_told fault) }
+    ensures same { P.path part.new ≡ P.path part.old }
 {
     let text = part_of_core(alloc, surveyed)?;
     write_whole(part, text.as_slice())?;
@@ -201,9 +210,10 @@ fn write_core_part<P: Sink>(
 
 /// Writes the report, and gives the status for it.
 fn write_report<W: Sink>(alloc: Global, surveyed: &Surveyed, out: &mut W) -> Result<Status, Fault>
-    ensures { IsRunOfWriting (survey_report surveyed.now) (status_of_survey surveyed.now)
+    ensures run { IsRunOfWriting (survey_report surveyed.now) (status_of_survey surveyed.now)
         (sink_run W.written W.failures out.old out.new)
         result }
+    ensures same { W.path out.new ≡ W.path out.old }
 {
     let text = report_of_survey(alloc, surveyed)?;
     write_whole(out, text.as_slice())?;

@@ -21,6 +21,7 @@ pub fn write_survey_certificate<W: Sink>(
     ensures well { OnOk result (W.failures sink.new ≡ W.failures sink.old) }
     ensures front { OnErr result (AppendsFront (W.written sink.old) (W.written sink.new) (survey_certificate surveyed.now)) }
     ensures failed { IfErr result (λ fault. W.failures sink.new ≡ W.failures sink.old + failures_told fault) }
+    ensures same { W.path sink.new ≡ W.path sink.old }
 {
     match surveyed {
         Surveyed::Decided(decision) => write_certificate(alloc, decision, sink),

@@ -1,22 +1,49 @@
 //! A file as a sink.
-ghost use Rattle.std.specs.Prelude.{◌≡◌, ◌+◌, [], IfOk, OnErr, OnOk};
+ghost use Rattle.std.specs.Prelude.{◌≡◌, ◌+◌, [], IfOk, IsTrue, OnErr, OnOk};
 ghost use Rattle.system_host.specs.FileSink.{path_to};
 
 use crate::stream_sink::StreamSink;
 use command_host::{DeviceCall, DeviceFailure, FailedFile, TellsFailure};
 use dimacs::{Failed, FailureCount, Sink};
-use std::fs::File;
+use std::fs::{File, OpenOptions};
 use std::rt::Files;
 
-/// A file of the system that was made, or emptied, to be written.
+/// Makes the file at this path, or opens the one that is there, of which nothing is lost yet.
+fn open_to_write<R: Files<File = File>>(rt: &R, path: &str) -> Result<File, DeviceFailure> {
+    let mut options = OpenOptions::new();
+    options.write(true);
+    options.create(true);
+    // An opening that a signal interrupts is tried again within.
+    options
+        .open(rt, path)
+        .map_err(|error| DeviceFailure::of(DeviceCall::Make, &error))
+}
+
+/// Empties the file. What has no length, as a pipe or a terminal, is left as it is.
+fn empty(file: &File) -> Result<(), DeviceFailure> {
+    let has_length = match file.metadata() {
+        Ok(metadata) => metadata.is_file(),
+        Err(_) => false,
+    };
+    if has_length {
+        file.set_len(0)
+            .map_err(|error| DeviceFailure::of(DeviceCall::Write, &error))
+    } else {
+        Ok(())
+    }
+}
+
+/// A file of the system that was made, or opened, to be written. What it had before is lost with the first byte that is written to it, or if it
+/// is emptied.
 #[derive(Drop)]
 pub struct FileSink<'a> {
     path: &'a str,
     stream: StreamSink<File>,
+    is_empty: bool,
 }
 
 impl<'a> FileSink<'a> {
-    /// Makes the file at this path, or empties it. An error is a failure of the system, which is counted, and what failed.
+    /// Makes the file at this path, or opens the one that is there. An error is a failure of the system, which is counted, and what failed.
     pub fn create<R: Files<File = File>>(
         rt: &R,
         path: &'a str,
@@ -28,15 +55,38 @@ impl<'a> FileSink<'a> {
         ensures well { OnOk result (failures.new.count ≡ failures.old.count) }
         ensures failed { OnErr result (failures.new.count ≡ failures.old.count + 1) }
     {
-        // An opening that a signal interrupts is tried again within.
-        match File::create(rt, path) {
+        match open_to_write(rt, path) {
             Ok(file) => Ok(FileSink {
                 path,
                 stream: StreamSink::new(file),
+                is_empty: false,
             }),
-            Err(error) => {
+            Err(failure) => {
                 failures.rise();
-                Err(DeviceFailure::of(DeviceCall::Make, &error))
+                Err(failure)
+            }
+        }
+    }
+
+    /// Empties it, unless that was done or something was written.
+    pub fn clear(&mut self) -> Result<(), Failed>
+        ensures written { ⟦<FileSink<'a> as Sink>⟧.written self.new ≡ ⟦<FileSink<'a> as Sink>⟧.written self.old }
+        ensures well { OnOk result (⟦<FileSink<'a> as Sink>⟧.failures self.new ≡ ⟦<FileSink<'a> as Sink>⟧.failures self.old) }
+        ensures failed { OnErr result (⟦<FileSink<'a> as Sink>⟧.failures self.new ≡ ⟦<FileSink<'a> as Sink>⟧.failures self.old + 1) }
+        ensures same { path_to self.new ≡ path_to self.old }
+        ensures cleared { OnOk result (IsTrue self.new.is_empty) }
+    {
+        if self.is_empty {
+            return Ok(());
+        }
+        match empty(self.stream.stream()) {
+            Ok(()) => {
+                self.is_empty = true;
+                Ok(())
+            }
+            Err(failure) => {
+                self.stream.note_failure(failure);
+                Err(Failed)
             }
         }
     }
@@ -58,7 +108,12 @@ impl<'a> Sink for FileSink<'a> {
 
     ghost failures = { λ s. s.stream.failures.count };
 
+    ghost path = { λ s. s.path.now };
+
     fn write(&mut self, bytes: &[u8]) -> Result<usize, Failed> {
-        self.stream.write(bytes)
+        match self.clear() {
+            Ok(()) => self.stream.write(bytes),
+            Err(failed) => Err(failed),
+        }
     }
 }

@@ -107,6 +107,8 @@ impl Source for FileSource<'_> {
 
     ghost failures = { λ s. s.failures.count };
 
+    ghost path = { λ s. s.path.now };
+
     fn read(&mut self, buffer: &mut [u8]) -> Result<usize, Failed> {
         match read_path(self.rt, self.path, &mut self.file, buffer) {
             Ok(count) => {

@@ -1,5 +1,5 @@
 //! A stream of the system as a sink.
-ghost use Rattle.std.specs.Prelude.{◌≡◌, ◌<◌, ◌≤◌, [], length, IfOk};
+ghost use Rattle.std.specs.Prelude.{◌≡◌, ◌+◌, ◌<◌, ◌≤◌, [], length, IfOk};
 
 use command_host::{DeviceCall, DeviceFailure, TellsFailure};
 use dimacs::{Failed, FailureCount, Sink, Transcript};
@@ -27,6 +27,20 @@ impl<W: Write> StreamSink<W> {
             failure: None,
         }
     }
+
+    /// The stream itself.
+    pub(crate) fn stream(&self) -> &W {
+        &self.stream
+    }
+
+    /// Counts a failure of what was asked of the stream itself.
+    pub(crate) fn note_failure(&mut self, failure: DeviceFailure)
+        ensures written { self.new.written ≡ self.old.written }
+        ensures failures { self.new.failures.count ≡ self.old.failures.count + 1 }
+    {
+        self.failures.rise();
+        self.failure = Some(failure);
+    }
 }
 
 /// Writes the first bytes of the slice, at least one where there is one, and says how many. A write that a signal interrupts is tried
@@ -51,6 +65,8 @@ impl<W: Write> Sink for StreamSink<W> {
     ghost written = { λ s. s.written.bytes };
 
     ghost failures = { λ s. s.failures.count };
+
+    ghost path = { λ _. [] };
 
     fn write(&mut self, bytes: &[u8]) -> Result<usize, Failed> {
         match write_some(&mut self.stream, bytes) {

@@ -2,16 +2,17 @@
 use Rattle.std.specs.Prelude.{◌≡◌, Some, false}
 use Rattle.dimacs.specs.declared.memory_sink.MemorySink.{MemorySink}
 use Rattle.verdict_report.specs.declared.short_source.ShortSource.{ShortSource}
+use Rattle.tests_commands.specs.declared.at_path.AtPath.{AtPath}
 use Rattle.tests_commands.specs.declared.memory_host.MemoryHost.{MemoryHost}
 use Rattle.command_host.specs.HostCalls.{HostCalls}
 
 -- handing out a file changes nothing, and neither does making one before it is given back; files of two paths are two; the last search is kept
-abbrev pub memory_calls : HostCalls MemoryHost ShortSource MemorySink
+abbrev pub memory_calls : HostCalls MemoryHost (AtPath ShortSource) (AtPath MemorySink)
 memory_calls = record {
   opens = λ from path file to. to ≡ from;
   makes = λ from path file to. to ≡ from;
   fails_to_make = λ from path to. to ≡ from;
-  closes = λ from file to. to.made ≡ Some file;
+  closes = λ from file reported to. to.made ≡ Some file.stream;
   compares = λ from first second same to. (same ≡ false) × (to ≡ from);
   searches = λ from search to. to.searched ≡ Some search;
 }

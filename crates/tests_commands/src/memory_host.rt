@@ -1,6 +1,7 @@
 //! A host in memory, for tests.
 ghost use Rattle.tests_commands.specs.MemoryHost.{memory_calls};
 
+use crate::at_path::AtPath;
 use command_host::{FailedFile, Host, SearchRequest};
 use dimacs::{Failed, MemorySink};
 use std::alloc::Global;
@@ -60,30 +61,33 @@ impl<'p> MemoryHost<'p> {
 }
 
 impl<'p> Host<'p> for MemoryHost<'p> {
-    type Input = ShortSource<'p>;
+    type Input = AtPath<'p, ShortSource<'p>>;
 
-    type Output = MemorySink;
+    type Output = AtPath<'p, MemorySink>;
 
     ghost calls = { memory_calls };
 
-    fn source(&mut self, path: &'p str) -> ShortSource<'p> {
-        match self.bytes_at(path) {
+    fn source(&mut self, path: &'p str) -> AtPath<'p, ShortSource<'p>> {
+        let stream = match self.bytes_at(path) {
             Some(bytes) => ShortSource::new(bytes, self.most),
             // As a file that cannot be opened: its first read fails.
             None => ShortSource::new(b"", 1).failing_at(1),
-        }
+        };
+        AtPath { path, stream }
     }
 
-    fn create(&mut self, _path: &'p str) -> Result<MemorySink, Failed> {
+    fn create(&mut self, path: &'p str) -> Result<AtPath<'p, MemorySink>, Failed> {
         if self.can_create {
-            Ok(MemorySink::new(self.alloc))
+            let stream = MemorySink::new(self.alloc);
+            Ok(AtPath { path, stream })
         } else {
             Err(Failed)
         }
     }
 
-    fn close(&mut self, file: MemorySink) {
-        self.made = Some(file);
+    fn close(&mut self, file: AtPath<'p, MemorySink>, _is_reported: bool) {
+        let AtPath { path: _, stream } = file;
+        self.made = Some(stream);
     }
 
     fn is_same_file(&mut self, _first: &str, _second: &str) -> bool {

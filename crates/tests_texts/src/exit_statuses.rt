@@ -94,7 +94,7 @@ const FAULTS: [(Fault, u8, &str); 15] = [
 /// Asserts what is reported of a fault. The derived text is the line's, without the word before it.
 fn assert_told(rt: &impl Abort, alloc: Global, fault: Fault, status: u8, line: &str) {
     let mut error = MemorySink::new(alloc);
-    let told = write_fault(alloc, &fault, &mut error).is_ok();
+    let told = write_fault(&fault, &mut error).is_ok();
     expect(rt, told && error.as_slice() == line.as_bytes(), line.len());
     let derived = ample(rt, fault.to_string(alloc));
     let text = ample(rt, format!(in alloc; "refused: {derived}\n"));

@@ -111,7 +111,7 @@ const REFUSAL: &[u8] = b"refused: device\n";
 /// Asserts that the sink has this prefix of the line of a fault where it fails at this call.
 fn assert_front_of_refusal(rt: &impl Abort, alloc: Global, call: usize, front: &[u8]) {
     let mut error = ShortSink::new(alloc, 1).failing_at(call as u64);
-    let told = write_fault(alloc, &Fault::Device, &mut error);
+    let told = write_fault(&Fault::Device, &mut error);
     expect(rt, told.is_ok() == (call > REFUSAL.len()), call);
     expect(rt, error.as_slice() == front, call);
 }

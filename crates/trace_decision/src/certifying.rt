@@ -20,6 +20,7 @@ pub fn write_certificate<W: Sink>(
     ensures well { OnOk result (W.failures sink.new ≡ W.failures sink.old) }
     ensures front { OnErr result (AppendsFront (W.written sink.old) (W.written sink.new) (certificate_text decision.now)) }
     ensures failed { IfErr result (λ fault. W.failures sink.new ≡ W.failures sink.old + failures_told fault) }
+    ensures same { W.path sink.new ≡ W.path sink.old }
 {
     match decision {
         Decision::Inconsistent(refutation) => write_cert(

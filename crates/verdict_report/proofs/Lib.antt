@@ -3,6 +3,7 @@ mod DecodeLemmas
 pub mod EngineLemmas
 mod LegalTextLemmas
 mod MeaningLemmas
+mod PieceLemmas
 mod RecheckLemmas
 mod VerifyLemmas
 mod WrittenTextLemmas

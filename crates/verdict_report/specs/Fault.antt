@@ -116,9 +116,3 @@ exit_status_of (Ok No) = 1
 exit_status_of (Ok Unknown) = 3
 exit_status_of (Err Device) = 4
 exit_status_of (Err fault) = 2
-
--- the failures of a sink went from the old count to the new one: one more where the answer is a fault of the device, and else none
-abbrev pub CountsSinkFailures : {T : Type 0} → Result T SinkFault → ℕ → ℕ → Type 0
-CountsSinkFailures (Err SinkFailed) old new = new ≡ old + 1
-CountsSinkFailures (Err NoRoom) old new = new ≡ old
-CountsSinkFailures (Ok _) old new = new ≡ old

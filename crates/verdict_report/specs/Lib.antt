@@ -5,6 +5,7 @@ pub mod Engine
 pub mod Fault
 pub mod JudgeEngine
 pub mod LratEngine
+pub mod Pieces
 pub mod Reading
 pub mod RecheckEngine
 pub mod Runs

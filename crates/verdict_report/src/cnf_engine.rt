@@ -1,6 +1,6 @@
 //! The engine that translates a trace into clauses, from bytes to bytes.
 
-ghost use Rattle.std.specs.Prelude.{OnOk};
+ghost use Rattle.std.specs.Prelude.{◌≡◌, OnOk};
 ghost use Rattle.verdict_report.specs.CnfEngine.{IsRunOfCnf, MeansSchedulable};
 ghost use Rattle.verdict_report.specs.Runs.{source_run, sink_run};
 
@@ -33,6 +33,8 @@ pub fn run_cnf<T: Source, W: Sink>(
     ensures meaning { OnOk result (MeansSchedulable
         (source_run T.handed_out T.is_at_end T.failures trace.old trace.new)
         (sink_run W.written W.failures out.old out.new)) }
+    ensures same_trace { T.path trace.new ≡ T.path trace.old }
+    ensures same_out { W.path out.new ≡ W.path out.old }
 {
     let text = read_one(alloc, trace)?;
     let reduced = reduce_text(alloc, text.as_slice())?;

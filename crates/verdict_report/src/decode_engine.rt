@@ -1,5 +1,6 @@
 //! The engine that turns a model into a schedule, from bytes to bytes.
 
+ghost use Rattle.std.specs.Prelude.{◌≡◌};
 ghost use Rattle.reducer.specs.Reduced.{IsReduced};
 ghost use Rattle.schedule_text.specs.ScheduleWritten.{canonical_schedule};
 ghost use Rattle.verdict_report.specs.DecodeEngine.{IsDecodedFrom, IsRunOfDecode, IsSaidOfModel, written_status};
@@ -32,11 +33,14 @@ pub fn run_decode<T: Source, M: Source, W: Sink>(
     model: &mut M,
     out: &mut W,
 ) -> Result<Status, Fault>
-    ensures { IsRunOfDecode
+    ensures run { IsRunOfDecode
         (source_run T.handed_out T.is_at_end T.failures trace.old trace.new)
         (source_run M.handed_out M.is_at_end M.failures model.old model.new)
         (sink_run W.written W.failures out.old out.new)
         result }
+    ensures same_trace { T.path trace.new ≡ T.path trace.old }
+    ensures same_model { M.path model.new ≡ M.path model.old }
+    ensures same_out { W.path out.new ≡ W.path out.old }
 {
     let texts = read_two(alloc, trace, model)?;
     let schedule = decode_texts(alloc, texts.0.as_slice(), texts.1.as_slice())?;
@@ -64,9 +68,10 @@ fn decode_reduced(alloc: Global, reduced: &Reduced, model: &Assignment) -> Resul
 
 /// Writes the schedule's text.
 fn write_names<W: Sink>(alloc: Global, schedule: &Schedule, out: &mut W) -> Result<Status, Fault>
-    ensures { IsRunOfWriting (canonical_schedule schedule.now) (written_status schedule.now)
+    ensures run { IsRunOfWriting (canonical_schedule schedule.now) (written_status schedule.now)
         (sink_run W.written W.failures out.old out.new)
         result }
+    ensures same { W.path out.new ≡ W.path out.old }
 {
     let text = write_schedule(alloc, schedule)?;
     write_whole(out, text.as_slice())?;

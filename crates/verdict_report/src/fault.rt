@@ -11,7 +11,6 @@ use model_text::ModelCause;
 use reducer::reduce_fault::ReduceCause;
 use schedule_decode::decode_fault::DecodeCause;
 use schedule_text::schedule_fault::ScheduleCause;
-use std::fmt;
 use text_lines::fault::FaultCause;
 use thiserror::Error;
 use trace_part::part_fault::PartCause;
@@ -77,25 +76,6 @@ pub(crate) struct FaultLine {
     pub name: &'static str,
     /// The place, where there is one.
     pub place: Option<usize>,
-}
-
-impl fmt::Display for FaultLine {
-    ghost use Rattle.std.specs.Prelude.{Some};
-    ghost use Rattle.verdict_report.specs.Fault.{printed_parts};
-
-    ghost output = { λ told. Some (printed_parts told.area.now told.number told.name.now told.place) };
-
-    fn fmt<W: fmt::Write>(&self, f: &mut fmt::Formatter<W>) -> fmt::Result {
-        let area = self.area;
-        let name = self.name;
-        match self.number {
-            None => write!(f, "{area}"),
-            Some(number) => match self.place {
-                None => write!(f, "{area} {number} {name}"),
-                Some(place) => write!(f, "{area} {number} {name} at {place}"),
-            },
-        }
-    }
 }
 
 /// Gives what is reported of a cause at a place.

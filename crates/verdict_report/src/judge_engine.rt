@@ -1,5 +1,6 @@
 //! The engine that judges a schedule, from bytes to bytes.
 
+ghost use Rattle.std.specs.Prelude.{◌≡◌};
 ghost use Rattle.verdict_report.specs.Fault.{status_after};
 ghost use Rattle.verdict_report.specs.JudgeEngine.{IsRunOfJudge, IsSaidOfTexts, judgement_line};
 ghost use Rattle.verdict_report.specs.Engine.{IsRunOfWriting};
@@ -27,11 +28,14 @@ pub fn run_judge<T: Source, S: Source, W: Sink>(
     schedule: &mut S,
     out: &mut W,
 ) -> Result<Status, Fault>
-    ensures { IsRunOfJudge
+    ensures run { IsRunOfJudge
         (source_run T.handed_out T.is_at_end T.failures trace.old trace.new)
         (source_run S.handed_out S.is_at_end S.failures schedule.old schedule.new)
         (sink_run W.written W.failures out.old out.new)
         result }
+    ensures same_trace { T.path trace.new ≡ T.path trace.old }
+    ensures same_schedule { S.path schedule.new ≡ S.path schedule.old }
+    ensures same_out { W.path out.new ≡ W.path out.old }
 {
     let texts = read_two(alloc, trace, schedule)?;
     let judgement = judge_texts(alloc, texts.0.as_slice(), texts.1.as_slice())?;
@@ -53,9 +57,10 @@ fn write_judgement<W: Sink>(
     judgement: Judgement,
     out: &mut W,
 ) -> Result<Status, Fault>
-    ensures { IsRunOfWriting (judgement_line judgement) (status_after judgement)
+    ensures run { IsRunOfWriting (judgement_line judgement) (status_after judgement)
         (sink_run W.written W.failures out.old out.new)
         result }
+    ensures same { W.path out.new ≡ W.path out.old }
 {
     let line = format!(in alloc; "{judgement}\n")?;
     write_whole(out, line.as_bytes())?;

@@ -1,5 +1,6 @@
 //! The engine that checks LRAT proofs, from bytes to bytes.
 
+ghost use Rattle.std.specs.Prelude.{◌≡◌};
 ghost use Rattle.verdict_report.specs.LratEngine.{IsRunOfLrat, IsSaidOfProof, accepted_line, accepted_status};
 ghost use Rattle.verdict_report.specs.Engine.{IsRunOfWriting};
 ghost use Rattle.verdict_report.specs.Runs.{source_run, sink_run};
@@ -25,11 +26,14 @@ pub fn run_lrat<C: Source, P: Source, W: Sink>(
     proof: &mut P,
     out: &mut W,
 ) -> Result<Status, Fault>
-    ensures { IsRunOfLrat
+    ensures run { IsRunOfLrat
         (source_run C.handed_out C.is_at_end C.failures cnf.old cnf.new)
         (source_run P.handed_out P.is_at_end P.failures proof.old proof.new)
         (sink_run W.written W.failures out.old out.new)
         result }
+    ensures same_cnf { C.path cnf.new ≡ C.path cnf.old }
+    ensures same_proof { P.path proof.new ≡ P.path proof.old }
+    ensures same_out { W.path out.new ≡ W.path out.old }
 {
     let texts = read_two(alloc, cnf, proof)?;
     let accepted = check_texts(alloc, texts.0.as_slice(), texts.1.as_slice())?;
@@ -47,9 +51,10 @@ fn check_texts(alloc: Global, cnf_text: &[u8], proof_text: &[u8]) -> Result<Acce
 
 /// Writes that the proof is accepted. What `check` gave is not looked at: it is taken so that nothing writes this line without a check.
 fn write_accepted<W: Sink>(_accepted: Accepted, out: &mut W) -> Result<Status, Fault>
-    ensures { IsRunOfWriting (accepted_line _accepted) (accepted_status _accepted)
+    ensures run { IsRunOfWriting (accepted_line _accepted) (accepted_status _accepted)
         (sink_run W.written W.failures out.old out.new)
         result }
+    ensures same { W.path out.new ≡ W.path out.old }
 {
     write_whole(out, b"ACCEPTED\n")?;
     Ok(Status::Yes)

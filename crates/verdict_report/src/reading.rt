@@ -44,6 +44,7 @@ pub fn read_whole<S: Source>(alloc: Global, source: &mut S) -> Result<Vec<u8>, R
     ensures device { result ≡ Err ReadFault.Device →
         AppendsAtMost MAX_INPUT_BYTES (S.handed_out source.old) (S.handed_out source.new) }
     ensures failures { CountsFailures result (S.failures source.old) (S.failures source.new) }
+    ensures same { S.path source.new ≡ S.path source.old }
 {
     let Ok(mut chunk) = blank(alloc, CHUNK) else {
         return Err(ReadFault::OutOfMemory);

@@ -1,6 +1,6 @@
 //! The engine that checks certificates, from bytes to bytes.
 
-ghost use Rattle.std.specs.Prelude.{OnOk};
+ghost use Rattle.std.specs.Prelude.{◌≡◌, OnOk};
 ghost use Rattle.reducer.specs.Reduced.{IsReduced};
 ghost use Rattle.verdict_report.specs.Engine.{IsRunOfWriting};
 ghost use Rattle.verdict_report.specs.RecheckEngine.{InputHasNoLegalSchedule, IsRecheckedFor, IsRunOfRecheck, IsSaidOfCertificate, rechecked_line, rechecked_status};
@@ -37,6 +37,9 @@ pub fn run_recheck<T: Source, C: Source, W: Sink>(
         (sink_run W.written W.failures out.old out.new)
         result }
     ensures sound { OnOk result (InputHasNoLegalSchedule (source_run T.handed_out T.is_at_end T.failures trace.old trace.new)) }
+    ensures same_trace { T.path trace.new ≡ T.path trace.old }
+    ensures same_cert { C.path cert.new ≡ C.path cert.old }
+    ensures same_out { W.path out.new ≡ W.path out.old }
 {
     let (trace_text, cert_text) = read_two(alloc, trace, cert)?;
     let count = recheck_texts(alloc, trace_text.as_slice(), cert_text)?;
@@ -68,9 +71,10 @@ pub fn recheck_reduced(
 
 /// Writes that the certificate is accepted, and of how many cubes it is.
 pub fn write_count<W: Sink>(alloc: Global, count: u32, out: &mut W) -> Result<Status, Fault>
-    ensures { IsRunOfWriting (rechecked_line count) (rechecked_status count)
+    ensures run { IsRunOfWriting (rechecked_line count) (rechecked_status count)
         (sink_run W.written W.failures out.old out.new)
         result }
+    ensures same { W.path out.new ≡ W.path out.old }
 {
     let line = format!(in alloc; "ACCEPTED cubes={count}\n")?;
     write_whole(out, line.as_bytes())?;

@@ -52,6 +52,8 @@ impl Source for ShortSource<'_> {
 
     ghost failures = { λ s. s.failures.count };
 
+    ghost path = { λ _. [] };
+
     fn read(&mut self, buffer: &mut [u8]) -> Result<usize, Failed> {
         if self.calls_before_failure == 0 {
             self.calls_before_failure = u64::MAX;

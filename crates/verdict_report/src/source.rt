@@ -14,6 +14,9 @@ pub trait Source {
     /// The number of times that it has failed so far.
     ghost failures: { Self → ℕ };
 
+    /// The path at which it was asked for, from its making on; of what has none any list.
+    ghost path: { Self → List ℕ };
+
     /// Hands out the next bytes in the first places of the buffer, and says how many. No byte for a buffer that
     /// has room is the end. A source that fails hands out none.
     fn read(&mut self, buffer: &mut [u8]) -> Result<usize, Failed>
@@ -22,5 +25,6 @@ pub trait Source {
         ensures end { 0 < length buffer.old → IfOk result (λ count. is_at_end self.new ≡ (count == 0)) }
         ensures well { OnOk result (failures self.new ≡ failures self.old) }
         ensures unchanged { OnErr result (handed_out self.new ≡ handed_out self.old) }
-        ensures failed { OnErr result (failures self.new ≡ failures self.old + 1) };
+        ensures failed { OnErr result (failures self.new ≡ failures self.old + 1) }
+        ensures same { path self.new ≡ path self.old };
 }

@@ -48,6 +48,8 @@ pub fn run_verify<R: Threads + Wait + Sync, T: Source, G: Gate + Sync, W: Sink>(
     ensures unknown { result ≡ Ok Unknown → TellsOpen options.now
         (source_run T.handed_out T.is_at_end T.failures trace.old trace.new)
         (sink_run W.written W.failures out.old out.new) }
+    ensures same_trace { T.path trace.new ≡ T.path trace.old }
+    ensures same_out { W.path out.new ≡ W.path out.old }
 {
     let text = read_one(alloc, trace)?;
     let decision = decide_text(alloc, rt, text.as_slice(), options, gate)?;
@@ -82,6 +84,9 @@ pub fn run_certified_verify<R: Threads + Wait + Sync, T: Source, G: Gate + Sync,
     ensures unknown { result ≡ Ok Unknown → TellsOpen options.now
         (source_run T.handed_out T.is_at_end T.failures trace.old trace.new)
         (sink_run W.written W.failures out.old out.new) }
+    ensures same_trace { T.path trace.new ≡ T.path trace.old }
+    ensures same_cert { C.path cert.new ≡ C.path cert.old }
+    ensures same_out { W.path out.new ≡ W.path out.old }
 {
     certificate_is_accepted();
     let text = read_one(alloc, trace)?;
@@ -118,9 +123,10 @@ fn status_of(decision: &Decision) -> Status
 
 /// Writes the report, and gives the status for it.
 fn write_report<W: Sink>(alloc: Global, decision: &Decision, out: &mut W) -> Result<Status, Fault>
-    ensures { IsRunOfWriting (report decision.now) (status_of_decision decision.now)
+    ensures run { IsRunOfWriting (report decision.now) (status_of_decision decision.now)
         (sink_run W.written W.failures out.old out.new)
         result }
+    ensures same { W.path out.new ≡ W.path out.old }
 {
     let text = report_of(alloc, decision)?;
     write_whole(out, text.as_slice())?;

@@ -2,15 +2,16 @@
 #![tactic(auto)]
 
 ghost use Rattle.clap.specs.Walk.{texts};
+ghost use Rattle.command_host.specs.Streams.{sink_view, source_view};
+ghost use Rattle.command_run.specs.CommandRun.{EndsWords};
 ghost use Rattle.command_run.specs.ExitStatus.{IsExitStatus};
 ghost use Rattle.verdict_report.specs.Runs.{sink_run};
-ghost use Rattle.vsc.specs.EndsOnSystem.{EndsOnSystem};
 
-use command_host::{Recalls, Recorder};
+use command_host::{Host, Recalls, Recorder};
 use command_run::{ArgumentFault, refuse, run, words_of};
 use dimacs::Sink;
 use std::env;
-use std::io::ErrorKind;
+use std::io::{ErrorKind, IsTerminal};
 use std::process::ExitCode;
 use std::sync::Wait;
 use std::thread::Threads;
@@ -28,23 +29,36 @@ fn arguments(rt: &HostRuntime) -> Result<Vec<String>, ArgumentFault> {
     }
 }
 
-/// Does what the words ask for, with the files of the system, and gives the exit status.
-fn run_words<'x, R: Threads + Wait + Sync, O: Sink + Recalls, E: Sink>(
-    rt: &'x HostRuntime,
+/// Does what the words ask for, and gives the exit status. Nothing is known of the host here, so what is said of its files holds of those of the
+/// system, which `main` hands on.
+fn run_words<'x, R: Threads + Wait + Sync, H: Host<'x>, O: Sink + Recalls, E: Sink>(
+    rt: &HostRuntime,
     threads: &R,
+    host: &mut H,
     words: &'x [&'x str],
     out: &mut O,
     err: &mut E,
+    is_terminal: bool,
 ) -> u8
-    ensures ends { EndsOnSystem (texts words.now)
+    ensures ends { EndsWords H.calls (source_view H.Input.handed_out H.Input.is_at_end H.Input.failures H.Input.path)
+        (sink_view H.Output.written H.Output.failures H.Output.path)
+        is_terminal host.old (texts words.now)
         (sink_run O.written O.failures out.old out.new)
         (sink_run E.written E.failures err.old err.new)
-        result }
+        result host.new }
     ensures known { IsExitStatus result }
 {
     let progress = Progress::new(rt);
-    let mut host = SystemHost::new(rt);
-    run(rt.alloc(), threads, &progress, &mut host, words, out, err)
+    run(
+        rt.alloc(),
+        threads,
+        &progress,
+        host,
+        words,
+        is_terminal,
+        out,
+        err,
+    )
 }
 
 fn main(rt: HostRuntime) -> ExitCode {
@@ -58,6 +72,16 @@ fn main(rt: HostRuntime) -> ExitCode {
     let Ok(words) = words_of(rt.alloc(), &texts) else {
         return ExitCode::from(refuse(ArgumentFault::OutOfMemory, &mut err));
     };
+    let mut host = SystemHost::new(&rt);
+    let is_terminal = rt.stderr().is_terminal();
     // The runtime starts threads where `main` hands it on for that, and nowhere else.
-    ExitCode::from(run_words(&rt, &rt, words.as_slice(), &mut out, &mut err))
+    ExitCode::from(run_words(
+        &rt,
+        &rt,
+        &mut host,
+        words.as_slice(),
+        &mut out,
+        &mut err,
+        is_terminal,
+    ))
 }

@@ -34,6 +34,7 @@ loop-leaf-preserved g c =
       sent = section_taken (g.W.Sink.written c.args.sink.now) (g.W.Sink.written c.loop-leaf.sink) (g.W.Sink.written c.write_section.new.sink) (front_text c.args.tree.now)
           (take (k + 1) ds) (take k ds) x k (taken_on ds k x c.loop-leaf-test.true c.index-derivations-leaf.is) (taken ds k c.loop-leaf-test.true) c.loop-leaf.invariant.sent c.in_ok-write_section.ensures.whole;
       failures = c.in_ok-write_section.ensures.well ∙ c.loop-leaf.invariant.failures;
+      same = c.write_section.ensures.same ∙ c.loop-leaf.invariant.same;
     }
 
 pub returns-clause-whole : goal.returns-clause-whole

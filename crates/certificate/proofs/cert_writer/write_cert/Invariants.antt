@@ -7,4 +7,5 @@ abbrev pub invariant-loop-leaf : goal.invariant-loop-leaf
 invariant-loop-leaf g l = record {
   sent : g.W.Sink.written l.sink ≡ g.W.Sink.written l.fn.sink ++ (front_text l.tree ++ flat_map section_text (sections_from 0 (take l.leaf l.derivations)));
   failures : g.W.Sink.failures l.sink ≡ g.W.Sink.failures l.fn.sink;
+  same : g.W.Sink.path l.sink ≡ g.W.Sink.path l.fn.sink;
 }

@@ -4,7 +4,6 @@ use Rattle.command_run.proofs.command.run_explained.Goals as goal
 
 pub returns-clause-ends : goal.returns-clause-ends
 returns-clause-ends g c = record {
-  ran = c.run_told-answer.new.host;
   told = sink_run g.E.Sink.written g.E.Sink.failures c.args.err.now c.run_told-answer.new.err;
   begins = record { same_begin = refl; same_failures = refl };
   ends = record {
@@ -13,6 +12,5 @@ returns-clause-ends g c = record {
     tells = c.run_told-answer.ensures.tells;
     status_is = c.exit_status.ensures;
   };
-  reopens = c.explain_outcome.ensures.reopens;
-  adds = c.explain_outcome.ensures.notes;
+  adds = c.explain_outcome.ensures;
 }

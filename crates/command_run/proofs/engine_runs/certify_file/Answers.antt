@@ -1,5 +1,5 @@
 -- The recorder passes on what it takes, so the file itself took the certificate.
-use Rattle.std.proofs.Common.{◌≡◌, inr, subst, sym}
+use Rattle.std.proofs.Common.{◌∙◌, ◌≡◌, ap, inr, subst, sym}
 use Rattle.verdict_report.specs.Runs.{sink_run, source_run}
 use Rattle.verdict_report.specs.VerifyEngine.{IsRunOfCertifiedVerify}
 use Rattle.command_run.proofs.RunLemmas.{reads_file}
@@ -9,7 +9,7 @@ pub returns : goal.returns
 returns g c =
     let written = g.H.Output.Sink.written in
     let failures = g.H.Output.Sink.failures in
-    let trace = source_run g.H.Input.Source.handed_out g.H.Input.Source.is_at_end g.H.Input.Source.failures c.source-trace.result c.certify-outcome.new.trace in
+    let trace = source_run g.H.Input.Source.handed_out g.H.Input.Source.is_at_end g.H.Input.Source.failures c.open-trace.result.source c.certify-outcome.new.trace.source in
     let out = sink_run g.W.Sink.written g.W.Sink.failures c.args.out.now c.certify-outcome.new.out in
     inr (record {
       before = c.in-Ok.file;
@@ -18,9 +18,10 @@ returns g c =
       makes = c.in-Ok.ensures.makes;
       no_byte_before = c.in-Ok.ensures.written;
       no_failure_before = c.in-Ok.ensures.failures;
+      path_is = ap g.H.Output.Sink.path c.into_sink.ensures ∙ c.certify-outcome.ensures.same_cert ∙ ap g.H.Output.Sink.path c.counting-file.ensures ∙ c.in-Ok.ensures.path;
       file = trace;
-      opened = c.source-trace.new.self;
-      reads = reads_file c.source-trace.result c.certify-outcome.new.trace c.source-trace.ensures.opens c.source-trace.ensures.handed_out c.source-trace.ensures.is_at_end c.source-trace.ensures.failures;
+      opened = c.open-trace.new.host;
+      reads = reads_file c.open-trace.result.source c.certify-outcome.new.trace.source c.open-trace.ensures.opens c.open-trace.ensures.handed_out c.open-trace.ensures.is_at_end c.open-trace.ensures.failures (c.certify-outcome.ensures.same_trace ∙ c.open-trace.ensures.path);
       searched = c.certify-outcome.new.host;
       searches = c.certify-outcome.ensures.searches;
       runs =

@@ -1,13 +1,14 @@
+use Rattle.std.proofs.Common.{◌∙◌}
 use Rattle.verdict_report.specs.Runs.{source_run}
 use Rattle.command_run.proofs.RunLemmas.{reads_file}
 use Rattle.command_run.proofs.engine_runs.judge_files.Goals as goal
 
 pub returns : goal.returns
 returns g c = record {
-  first = source_run g.H.Input.Source.handed_out g.H.Input.Source.is_at_end g.H.Input.Source.failures c.source-trace.result c.run_judge.new.trace;
-  between = c.source-trace.new.self;
-  reads_first = reads_file c.source-trace.result c.run_judge.new.trace c.source-trace.ensures.opens c.source-trace.ensures.handed_out c.source-trace.ensures.is_at_end c.source-trace.ensures.failures;
-  second = source_run g.H.Input.Source.handed_out g.H.Input.Source.is_at_end g.H.Input.Source.failures c.source-schedule.result c.run_judge.new.schedule;
-  reads_second = reads_file c.source-schedule.result c.run_judge.new.schedule c.source-schedule.ensures.opens c.source-schedule.ensures.handed_out c.source-schedule.ensures.is_at_end c.source-schedule.ensures.failures;
-  runs = c.run_judge.ensures;
+  first = source_run g.H.Input.Source.handed_out g.H.Input.Source.is_at_end g.H.Input.Source.failures c.open-trace.result.source c.run_judge-outcome.new.trace.source;
+  between = c.open-trace.new.host;
+  reads_first = reads_file c.open-trace.result.source c.run_judge-outcome.new.trace.source c.open-trace.ensures.opens c.open-trace.ensures.handed_out c.open-trace.ensures.is_at_end c.open-trace.ensures.failures (c.run_judge-outcome.ensures.same_trace ∙ c.open-trace.ensures.path);
+  second = source_run g.H.Input.Source.handed_out g.H.Input.Source.is_at_end g.H.Input.Source.failures c.open-schedule.result.source c.run_judge-outcome.new.schedule.source;
+  reads_second = reads_file c.open-schedule.result.source c.run_judge-outcome.new.schedule.source c.open-schedule.ensures.opens c.open-schedule.ensures.handed_out c.open-schedule.ensures.is_at_end c.open-schedule.ensures.failures (c.run_judge-outcome.ensures.same_schedule ∙ c.open-schedule.ensures.path);
+  runs = c.run_judge-outcome.ensures.run;
 }

@@ -1,13 +1,14 @@
+use Rattle.std.proofs.Common.{◌∙◌}
 use Rattle.verdict_report.specs.Runs.{source_run}
 use Rattle.command_run.proofs.RunLemmas.{reads_file}
 use Rattle.command_run.proofs.engine_runs.recheck_files.Goals as goal
 
 pub returns : goal.returns
 returns g c = record {
-  first = source_run g.H.Input.Source.handed_out g.H.Input.Source.is_at_end g.H.Input.Source.failures c.source-trace.result c.run_recheck.new.trace;
-  between = c.source-trace.new.self;
-  reads_first = reads_file c.source-trace.result c.run_recheck.new.trace c.source-trace.ensures.opens c.source-trace.ensures.handed_out c.source-trace.ensures.is_at_end c.source-trace.ensures.failures;
-  second = source_run g.H.Input.Source.handed_out g.H.Input.Source.is_at_end g.H.Input.Source.failures c.source-cert.result c.run_recheck.new.cert;
-  reads_second = reads_file c.source-cert.result c.run_recheck.new.cert c.source-cert.ensures.opens c.source-cert.ensures.handed_out c.source-cert.ensures.is_at_end c.source-cert.ensures.failures;
-  runs = c.run_recheck.ensures.run;
+  first = source_run g.H.Input.Source.handed_out g.H.Input.Source.is_at_end g.H.Input.Source.failures c.open-trace.result.source c.run_recheck-outcome.new.trace.source;
+  between = c.open-trace.new.host;
+  reads_first = reads_file c.open-trace.result.source c.run_recheck-outcome.new.trace.source c.open-trace.ensures.opens c.open-trace.ensures.handed_out c.open-trace.ensures.is_at_end c.open-trace.ensures.failures (c.run_recheck-outcome.ensures.same_trace ∙ c.open-trace.ensures.path);
+  second = source_run g.H.Input.Source.handed_out g.H.Input.Source.is_at_end g.H.Input.Source.failures c.open-cert.result.source c.run_recheck-outcome.new.cert.source;
+  reads_second = reads_file c.open-cert.result.source c.run_recheck-outcome.new.cert.source c.open-cert.ensures.opens c.open-cert.ensures.handed_out c.open-cert.ensures.is_at_end c.open-cert.ensures.failures (c.run_recheck-outcome.ensures.same_cert ∙ c.open-cert.ensures.path);
+  runs = c.run_recheck-outcome.ensures.run;
 }

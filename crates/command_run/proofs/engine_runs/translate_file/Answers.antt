@@ -1,10 +1,11 @@
+use Rattle.std.proofs.Common.{◌∙◌}
 use Rattle.verdict_report.specs.Runs.{source_run}
 use Rattle.command_run.proofs.RunLemmas.{reads_file}
 use Rattle.command_run.proofs.engine_runs.translate_file.Goals as goal
 
 pub returns : goal.returns
 returns g c = record {
-  file = source_run g.H.Input.Source.handed_out g.H.Input.Source.is_at_end g.H.Input.Source.failures c.source-trace.result c.run_cnf.new.trace;
-  reads = reads_file c.source-trace.result c.run_cnf.new.trace c.source-trace.ensures.opens c.source-trace.ensures.handed_out c.source-trace.ensures.is_at_end c.source-trace.ensures.failures;
-  runs = c.run_cnf.ensures.run;
+  file = source_run g.H.Input.Source.handed_out g.H.Input.Source.is_at_end g.H.Input.Source.failures c.open-trace.result.source c.run_cnf-outcome.new.trace.source;
+  reads = reads_file c.open-trace.result.source c.run_cnf-outcome.new.trace.source c.open-trace.ensures.opens c.open-trace.ensures.handed_out c.open-trace.ensures.is_at_end c.open-trace.ensures.failures (c.run_cnf-outcome.ensures.same_trace ∙ c.open-trace.ensures.path);
+  runs = c.run_cnf-outcome.ensures.run;
 }

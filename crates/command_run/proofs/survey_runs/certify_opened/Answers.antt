@@ -1,13 +1,14 @@
+use Rattle.std.proofs.Common.{◌∙◌}
 use Rattle.verdict_report.specs.Runs.{source_run}
 use Rattle.command_run.proofs.RunLemmas.{reads_file}
 use Rattle.command_run.proofs.survey_runs.certify_opened.Goals as goal
 
-pub returns : goal.returns
-returns g c = record {
-  file = source_run g.H.Input.Source.handed_out g.H.Input.Source.is_at_end g.H.Input.Source.failures c.source-trace.result c.certify.new.trace;
-  between = c.source-trace.new.self;
-  reads = reads_file c.source-trace.result c.certify.new.trace c.source-trace.ensures.opens c.source-trace.ensures.handed_out c.source-trace.ensures.is_at_end c.source-trace.ensures.failures;
-  searches = c.certify.ensures.searches;
-  runs = c.certify.ensures.run;
-  left_open = c.certify.ensures.unknown;
+pub returns-clause-runs : goal.returns-clause-runs
+returns-clause-runs g c = record {
+  file = source_run g.H.Input.Source.handed_out g.H.Input.Source.is_at_end g.H.Input.Source.failures c.open-trace.result.source c.certify-outcome.new.trace.source;
+  between = c.open-trace.new.host;
+  reads = reads_file c.open-trace.result.source c.certify-outcome.new.trace.source c.open-trace.ensures.opens c.open-trace.ensures.handed_out c.open-trace.ensures.is_at_end c.open-trace.ensures.failures (c.certify-outcome.ensures.same_trace ∙ c.open-trace.ensures.path);
+  searches = c.certify-outcome.ensures.searches;
+  runs = c.certify-outcome.ensures.run;
+  left_open = c.certify-outcome.ensures.unknown;
 }

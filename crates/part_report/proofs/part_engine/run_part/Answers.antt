@@ -13,7 +13,7 @@ returns-clause-run g c =
     let first : SourceRun = source_run g.T.Source.handed_out g.T.Source.is_at_end g.T.Source.failures c.args.trace.now c.read_two.new.first in
     let second : SourceRun = source_run g.N.Source.handed_out g.N.Source.is_at_end g.N.Source.failures c.args.names.now c.read_two.new.second in
     let out : SinkRun = sink_run g.W.Sink.written g.W.Sink.failures c.args.out.now c.put_part.new.out in
-    written (of_two IsSaidOfChoice) (part_text c.args.shows_names) part_status (first ∷ second ∷ []) out (c.in_ok-texts.texts.0.items ∷ c.in_ok-texts.texts.1.items ∷ []) (search rules) c.in_ok-part.part (search rules) c.put_part.result c.put_part.ensures
+    written (of_two IsSaidOfChoice) (part_text c.args.shows_names) part_status (first ∷ second ∷ []) out (c.in_ok-texts.texts.0.items ∷ c.in_ok-texts.texts.1.items ∷ []) (search rules) c.in_ok-part.part (search rules) c.put_part.result c.put_part.ensures.run
 
 pub returns-in_err-texts-clause-run : goal.returns-in_err-texts-clause-run
 returns-in_err-texts-clause-run g c =
@@ -38,4 +38,4 @@ returns-clause-meaning g c =
     let out : SinkRun = sink_run g.W.Sink.written g.W.Sink.failures c.args.out.now c.put_part.new.out in
     let handed : HandOut (first ∷ second ∷ []) (c.in_ok-texts.texts.0.items ∷ c.in_ok-texts.texts.1.items ∷ []) = search rules in
     let made_up : MakeUp c.in_ok-texts.texts.0.items c.in_ok-texts.texts.1.items c.in_ok-part.part = search rules in
-    shown c.args.shows_names first out c.in_ok-texts.texts.0.items c.in_ok-texts.texts.1.items c.in_ok-part.part handed.0.0 made_up c.put_part.result c.put_part.ensures
+    shown c.args.shows_names first out c.in_ok-texts.texts.0.items c.in_ok-texts.texts.1.items c.in_ok-part.part handed.0.0 made_up c.put_part.result c.put_part.ensures.run

@@ -14,7 +14,7 @@ returns-clause-run g c =
     let second : SourceRun = source_run g.C.Source.handed_out g.C.Source.is_at_end g.C.Source.failures c.args.cert.now c.read_three.new.second in
     let third : SourceRun = source_run g.N.Source.handed_out g.N.Source.is_at_end g.N.Source.failures c.args.names.now c.read_three.new.third in
     let out : SinkRun = sink_run g.W.Sink.written g.W.Sink.failures c.args.out.now c.write_count.new.out in
-    written (of_three IsSaidByPart) rechecked_line rechecked_status (first ∷ second ∷ third ∷ []) out (c.in_ok-trace_text.trace_text.items ∷ c.in_ok-trace_text.cert_text.items ∷ c.in_ok-trace_text.names_text.items ∷ []) (search rules) c.in_ok-count.count (search rules) c.write_count.result c.write_count.ensures
+    written (of_three IsSaidByPart) rechecked_line rechecked_status (first ∷ second ∷ third ∷ []) out (c.in_ok-trace_text.trace_text.items ∷ c.in_ok-trace_text.cert_text.items ∷ c.in_ok-trace_text.names_text.items ∷ []) (search rules) c.in_ok-count.count (search rules) c.write_count.result c.write_count.ensures.run
 
 pub returns-in_err-trace_text-clause-run : goal.returns-in_err-trace_text-clause-run
 returns-in_err-trace_text-clause-run g c =

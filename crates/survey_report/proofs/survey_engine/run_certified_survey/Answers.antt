@@ -15,19 +15,19 @@ returns-clause-run g c =
     let part : SinkRun = sink_run g.P.Sink.written g.P.Sink.failures c.args.part.now c.write_core_part.new.part in
     let out : SinkRun = sink_run g.W.Sink.written g.W.Sink.failures c.args.out.now c.write_report.new.out in
     report_written trace cert names part out c.in_ok-text.text.items (search rules) c.args.options.now c.in_ok-surveyed.surveyed (search rules)
-    (c.in_ok-write_survey_certificate.ensures.whole, c.in_ok-write_survey_certificate.ensures.well) (c.in_ok-write_names.ensures.whole, c.in_ok-write_names.ensures.well) (c.in_ok-write_core_part.ensures.whole, c.in_ok-write_core_part.ensures.well) c.write_report.result c.write_report.ensures
+    (c.in_ok-write_survey_certificate.ensures.whole, c.in_ok-write_survey_certificate.ensures.well) (c.in_ok-write_names.ensures.whole, c.in_ok-write_names.ensures.well) (c.in_ok-write_core_part.ensures.whole, c.in_ok-write_core_part.ensures.well) c.write_report.result c.write_report.ensures.run
 
 pub returns-clause-consistent : goal.returns-clause-consistent
 returns-clause-consistent g c =
     let trace : SourceRun = source_run g.T.Source.handed_out g.T.Source.is_at_end g.T.Source.failures c.args.trace.now c.read_text.new.source in
     let out : SinkRun = sink_run g.W.Sink.written g.W.Sink.failures c.args.out.now c.write_report.new.out in
-    consistent trace c.in_ok-text.text.items (search rules) c.args.options.now out c.written_schedule_spells.ensures c.in_ok-surveyed.surveyed (search rules) c.write_report.result c.write_report.ensures
+    consistent trace c.in_ok-text.text.items (search rules) c.args.options.now out c.written_schedule_spells.ensures c.in_ok-surveyed.surveyed (search rules) c.write_report.result c.write_report.ensures.run
 
 pub returns-clause-unknown : goal.returns-clause-unknown
 returns-clause-unknown g c =
     let trace : SourceRun = source_run g.T.Source.handed_out g.T.Source.is_at_end g.T.Source.failures c.args.trace.now c.read_text.new.source in
     let out : SinkRun = sink_run g.W.Sink.written g.W.Sink.failures c.args.out.now c.write_report.new.out in
-    undecided trace c.in_ok-text.text.items (search rules) c.args.options.now out c.written_schedule_spells.ensures c.in_ok-surveyed.surveyed (search rules) c.write_report.result c.write_report.ensures
+    undecided trace c.in_ok-text.text.items (search rules) c.args.options.now out c.written_schedule_spells.ensures c.in_ok-surveyed.surveyed (search rules) c.write_report.result c.write_report.ensures.run
 
 pub returns-clause-certified : goal.returns-clause-certified
 returns-clause-certified g c =
@@ -37,7 +37,7 @@ returns-clause-certified g c =
     let part : SinkRun = sink_run g.P.Sink.written g.P.Sink.failures c.args.part.now c.write_core_part.new.part in
     let out : SinkRun = sink_run g.W.Sink.written g.W.Sink.failures c.args.out.now c.write_report.new.out in
     certified trace cert names part c.in_ok-text.text.items (search rules) c.args.options.now c.certificate_is_accepted.ensures.spelled c.certificate_is_accepted.ensures.accepted c.core_certificate_is_accepted.ensures c.core_part_spells.ensures c.core_names_spell.ensures c.core_part_is_a_trace.ensures
-    c.in_ok-surveyed.surveyed (search rules) c.in_ok-write_survey_certificate.ensures.whole c.in_ok-write_names.ensures.whole c.in_ok-write_core_part.ensures.whole out c.write_report.result c.write_report.ensures
+    c.in_ok-surveyed.surveyed (search rules) c.in_ok-write_survey_certificate.ensures.whole c.in_ok-write_names.ensures.whole c.in_ok-write_core_part.ensures.whole out c.write_report.result c.write_report.ensures.run
 
 pub returns-clause-silent : goal.returns-clause-silent
 returns-clause-silent g c =
@@ -45,7 +45,7 @@ returns-clause-silent g c =
     let names : SinkRun = sink_run g.N.Sink.written g.N.Sink.failures c.args.names.now c.write_names.new.names in
     let part : SinkRun = sink_run g.P.Sink.written g.P.Sink.failures c.args.part.now c.write_core_part.new.part in
     let out : SinkRun = sink_run g.W.Sink.written g.W.Sink.failures c.args.out.now c.write_report.new.out in
-    silent cert names part c.in_ok-surveyed.surveyed (c.in_ok-write_survey_certificate.ensures.whole, c.in_ok-write_survey_certificate.ensures.well) (c.in_ok-write_names.ensures.whole, c.in_ok-write_names.ensures.well) (c.in_ok-write_core_part.ensures.whole, c.in_ok-write_core_part.ensures.well) out c.write_report.result c.write_report.ensures
+    silent cert names part c.in_ok-surveyed.surveyed (c.in_ok-write_survey_certificate.ensures.whole, c.in_ok-write_survey_certificate.ensures.well) (c.in_ok-write_names.ensures.whole, c.in_ok-write_names.ensures.well) (c.in_ok-write_core_part.ensures.whole, c.in_ok-write_core_part.ensures.well) out c.write_report.result c.write_report.ensures.run
 
 pub returns-in_err-text-clause-run : goal.returns-in_err-text-clause-run
 returns-in_err-text-clause-run g c =
@@ -102,4 +102,4 @@ returns-clause-answered g c =
     let trace : SourceRun = source_run g.T.Source.handed_out g.T.Source.is_at_end g.T.Source.failures c.args.trace.now c.read_text.new.source in
     let out : SinkRun = sink_run g.W.Sink.written g.W.Sink.failures c.args.out.now c.write_report.new.out in
     answered (g.S.Surveyor.finds c.args.surveyor.now) trace c.in_ok-text.text.items (search rules) c.args.options.now out c.in_ok-surveyed.surveyed
-    (subst (λ (read : List ℕ). FollowsFromText c.args.options.now (g.S.Surveyor.finds c.args.surveyor.now) read c.in_ok-surveyed.surveyed) c.as_slice.ensures.value c.in_ok-surveyed.ensures.follows) c.write_report.result c.write_report.ensures
+    (subst (λ (read : List ℕ). FollowsFromText c.args.options.now (g.S.Surveyor.finds c.args.surveyor.now) read c.in_ok-surveyed.surveyed) c.as_slice.ensures.value c.in_ok-surveyed.ensures.follows) c.write_report.result c.write_report.ensures.run

@@ -12,7 +12,7 @@ pub returns-clause-run : goal.returns-clause-run
 returns-clause-run g c =
     let trace : SourceRun = source_run g.T.Source.handed_out g.T.Source.is_at_end g.T.Source.failures c.args.trace.now c.read_text.new.source in
     let out : SinkRun = sink_run g.W.Sink.written g.W.Sink.failures c.args.out.now c.write_report.new.out in
-    written (of_one IsSaidOfSurvey) survey_report status_of_survey (trace ∷ []) out (c.in_ok-text.text.items ∷ []) (search rules) c.in_ok-surveyed.surveyed (search rules) c.write_report.result c.write_report.ensures
+    written (of_one IsSaidOfSurvey) survey_report status_of_survey (trace ∷ []) out (c.in_ok-text.text.items ∷ []) (search rules) c.in_ok-surveyed.surveyed (search rules) c.write_report.result c.write_report.ensures.run
 
 pub returns-in_err-text-clause-run : goal.returns-in_err-text-clause-run
 returns-in_err-text-clause-run g c =
@@ -32,23 +32,23 @@ pub returns-clause-consistent : goal.returns-clause-consistent
 returns-clause-consistent g c =
     let trace : SourceRun = source_run g.T.Source.handed_out g.T.Source.is_at_end g.T.Source.failures c.args.trace.now c.read_text.new.source in
     let out : SinkRun = sink_run g.W.Sink.written g.W.Sink.failures c.args.out.now c.write_report.new.out in
-    consistent trace c.in_ok-text.text.items (search rules) c.args.options.now out c.written_schedule_spells.ensures c.in_ok-surveyed.surveyed (search rules) c.write_report.result c.write_report.ensures
+    consistent trace c.in_ok-text.text.items (search rules) c.args.options.now out c.written_schedule_spells.ensures c.in_ok-surveyed.surveyed (search rules) c.write_report.result c.write_report.ensures.run
 
 pub returns-clause-inconsistent : goal.returns-clause-inconsistent
 returns-clause-inconsistent g c =
     let trace : SourceRun = source_run g.T.Source.handed_out g.T.Source.is_at_end g.T.Source.failures c.args.trace.now c.read_text.new.source in
     let out : SinkRun = sink_run g.W.Sink.written g.W.Sink.failures c.args.out.now c.write_report.new.out in
-    inconsistent trace c.in_ok-text.text.items (search rules) c.args.options.now out c.written_schedule_spells.ensures c.in_ok-surveyed.surveyed (search rules) c.write_report.result c.write_report.ensures
+    inconsistent trace c.in_ok-text.text.items (search rules) c.args.options.now out c.written_schedule_spells.ensures c.in_ok-surveyed.surveyed (search rules) c.write_report.result c.write_report.ensures.run
 
 pub returns-clause-unknown : goal.returns-clause-unknown
 returns-clause-unknown g c =
     let trace : SourceRun = source_run g.T.Source.handed_out g.T.Source.is_at_end g.T.Source.failures c.args.trace.now c.read_text.new.source in
     let out : SinkRun = sink_run g.W.Sink.written g.W.Sink.failures c.args.out.now c.write_report.new.out in
-    undecided trace c.in_ok-text.text.items (search rules) c.args.options.now out c.written_schedule_spells.ensures c.in_ok-surveyed.surveyed (search rules) c.write_report.result c.write_report.ensures
+    undecided trace c.in_ok-text.text.items (search rules) c.args.options.now out c.written_schedule_spells.ensures c.in_ok-surveyed.surveyed (search rules) c.write_report.result c.write_report.ensures.run
 
 pub returns-clause-answered : goal.returns-clause-answered
 returns-clause-answered g c =
     let trace : SourceRun = source_run g.T.Source.handed_out g.T.Source.is_at_end g.T.Source.failures c.args.trace.now c.read_text.new.source in
     let out : SinkRun = sink_run g.W.Sink.written g.W.Sink.failures c.args.out.now c.write_report.new.out in
     answered (g.S.Surveyor.finds c.args.surveyor.now) trace c.in_ok-text.text.items (search rules) c.args.options.now out c.in_ok-surveyed.surveyed
-    (subst (λ (read : List ℕ). FollowsFromText c.args.options.now (g.S.Surveyor.finds c.args.surveyor.now) read c.in_ok-surveyed.surveyed) c.as_slice.ensures.value c.in_ok-surveyed.ensures.follows) c.write_report.result c.write_report.ensures
+    (subst (λ (read : List ℕ). FollowsFromText c.args.options.now (g.S.Surveyor.finds c.args.surveyor.now) read c.in_ok-surveyed.surveyed) c.as_slice.ensures.value c.in_ok-surveyed.ensures.follows) c.write_report.result c.write_report.ensures.run

@@ -7,6 +7,7 @@ invariant-loop-count g l = record {
   within_limit : vec_len l.text ≤ 268435456;
   text : g.S.Source.handed_out l.source ≡ g.S.Source.handed_out l.fn.source ++ l.text.items;
   failures : g.S.Source.failures l.source ≡ g.S.Source.failures l.fn.source;
+  same : g.S.Source.path l.source ≡ g.S.Source.path l.fn.source;
 }
 
 abbrev pub decreases-loop-count : goal.decreases-loop-count

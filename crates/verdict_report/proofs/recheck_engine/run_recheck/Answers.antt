@@ -12,7 +12,7 @@ returns-clause-run g c =
     let first : SourceRun = source_run g.T.Source.handed_out g.T.Source.is_at_end g.T.Source.failures c.args.trace.now c.read_two.new.first in
     let second : SourceRun = source_run g.C.Source.handed_out g.C.Source.is_at_end g.C.Source.failures c.args.cert.now c.read_two.new.second in
     let out : SinkRun = sink_run g.W.Sink.written g.W.Sink.failures c.args.out.now c.write_count.new.out in
-    written (of_two IsSaidOfCertificate) rechecked_line rechecked_status (first ∷ second ∷ []) out (c.in_ok-trace_text.trace_text.items ∷ c.in_ok-trace_text.cert_text.items ∷ []) (search rules) c.in_ok-count.count (search rules) c.write_count.result c.write_count.ensures
+    written (of_two IsSaidOfCertificate) rechecked_line rechecked_status (first ∷ second ∷ []) out (c.in_ok-trace_text.trace_text.items ∷ c.in_ok-trace_text.cert_text.items ∷ []) (search rules) c.in_ok-count.count (search rules) c.write_count.result c.write_count.ensures.run
 
 pub returns-in_err-trace_text-clause-run : goal.returns-in_err-trace_text-clause-run
 returns-in_err-trace_text-clause-run g c =

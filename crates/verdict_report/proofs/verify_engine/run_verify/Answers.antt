@@ -12,7 +12,7 @@ pub returns-clause-run : goal.returns-clause-run
 returns-clause-run g c =
     let trace : SourceRun = source_run g.T.Source.handed_out g.T.Source.is_at_end g.T.Source.failures c.args.trace.now c.read_one.new.source in
     let out : SinkRun = sink_run g.W.Sink.written g.W.Sink.failures c.args.out.now c.write_report.new.out in
-    written (of_one IsSaidOfTrace) report status_of_decision (trace ∷ []) out (c.in_ok-text.text.items ∷ []) (search rules) c.in_ok-decision.decision (search rules) c.write_report.result c.write_report.ensures
+    written (of_one IsSaidOfTrace) report status_of_decision (trace ∷ []) out (c.in_ok-text.text.items ∷ []) (search rules) c.in_ok-decision.decision (search rules) c.write_report.result c.write_report.ensures.run
 
 pub returns-in_err-text-clause-run : goal.returns-in_err-text-clause-run
 returns-in_err-text-clause-run g c =
@@ -32,16 +32,16 @@ pub returns-clause-consistent : goal.returns-clause-consistent
 returns-clause-consistent g c =
     let trace : SourceRun = source_run g.T.Source.handed_out g.T.Source.is_at_end g.T.Source.failures c.args.trace.now c.read_one.new.source in
     let out : SinkRun = sink_run g.W.Sink.written g.W.Sink.failures c.args.out.now c.write_report.new.out in
-    consistent c.args.options.now trace c.in_ok-text.text.items (search rules) out c.in_ok-decision.decision (search rules) c.write_report.result c.write_report.ensures
+    consistent c.args.options.now trace c.in_ok-text.text.items (search rules) out c.in_ok-decision.decision (search rules) c.write_report.result c.write_report.ensures.run
 
 pub returns-clause-inconsistent : goal.returns-clause-inconsistent
 returns-clause-inconsistent g c =
     let trace : SourceRun = source_run g.T.Source.handed_out g.T.Source.is_at_end g.T.Source.failures c.args.trace.now c.read_one.new.source in
     let out : SinkRun = sink_run g.W.Sink.written g.W.Sink.failures c.args.out.now c.write_report.new.out in
-    inconsistent c.args.options.now trace c.in_ok-text.text.items (search rules) out c.in_ok-decision.decision (search rules) c.write_report.result c.write_report.ensures
+    inconsistent c.args.options.now trace c.in_ok-text.text.items (search rules) out c.in_ok-decision.decision (search rules) c.write_report.result c.write_report.ensures.run
 
 pub returns-clause-unknown : goal.returns-clause-unknown
 returns-clause-unknown g c =
     let trace : SourceRun = source_run g.T.Source.handed_out g.T.Source.is_at_end g.T.Source.failures c.args.trace.now c.read_one.new.source in
     let out : SinkRun = sink_run g.W.Sink.written g.W.Sink.failures c.args.out.now c.write_report.new.out in
-    unknown c.args.options.now trace c.in_ok-text.text.items (search rules) out c.in_ok-decision.decision (search rules) c.write_report.result c.write_report.ensures
+    unknown c.args.options.now trace c.in_ok-text.text.items (search rules) out c.in_ok-decision.decision (search rules) c.write_report.result c.write_report.ensures.run
