@@ -78,7 +78,7 @@ fn make_runs<R: Threads + Sync>(
         rt,
         runs,
         |_place: usize, run: &mut LineRun|
-            ensures { IsTrue run.new.is_whole → lines_in run.new ≡ flat_map clause_line (flat_map (blocks.transitivity_from (operation_count layout.now)) (neighbours_in run.old)) }
+            ensures { IsTrue run.new.is_whole → lines_in run.new ≡ flat_map clause_line (flat_map (blocks.transitivity_from (operation_count layout.entry.now)) (neighbours_in run.old)) }
         {
             run.make(layout, table);
         },
@@ -114,6 +114,33 @@ fn new_runs(alloc: Global, workers: u32) -> Result<Vec<LineRun>, AllocError>
     Ok(runs)
 }
 
+/// Writes the clauses of transitivity, round by round: the runs are made side by side, and then sent in their order.
+fn put_rounds<R: Threads + Sync, W: Sink>(
+    rt: &R,
+    layout: &Layout,
+    runs: &mut [LineRun],
+    writer: &mut CnfWriter,
+    sink: &mut W,
+) -> Result<(), SinkFault>
+    requires { 0 < length runs.old }
+    ensures sent { OnOk result (IsSent (W.written sink.old) (W.written sink.new) writer.new (writer.old ++ flat_map clause_line (blocks.transitivity (operation_count layout.now)))) }
+    ensures well { OnOk result (W.failures sink.new ≡ W.failures sink.old) }
+    ensures front { OnErr result (AppendsFront (W.written sink.old) (W.written sink.new) (writer.old ++ flat_map clause_line (blocks.transitivity (operation_count layout.now)))) }
+    ensures failed { IfErr result (λ fault. W.failures sink.new ≡ W.failures sink.old + failures_told fault) }
+    ensures same { W.path sink.new ≡ W.path sink.old }
+{
+    layout.recall_limits();
+    let operations = layout.operations();
+    let mut first = 0;
+    while first < operations {
+        let end = share_operations(operations, first, runs);
+        make_runs(rt, layout, writer.table(), runs)?;
+        put_runs(runs, writer, sink)?;
+        first = end;
+    }
+    Ok(())
+}
+
 /// Writes the clauses of transitivity. There is never more than one run of lines for each worker, and which runs there are changes no byte.
 /// If memory runs out or the sink fails, the sink has taken a prefix.
 pub(crate) fn put_transitivity_in_threads<R: Threads + Sync, W: Sink>(
@@ -131,15 +158,6 @@ pub(crate) fn put_transitivity_in_threads<R: Threads + Sync, W: Sink>(
     ensures failed { IfErr result (λ fault. W.failures sink.new ≡ W.failures sink.old + failures_told fault) }
     ensures same { W.path sink.new ≡ W.path sink.old }
 {
-    layout.recall_limits();
-    let operations = layout.operations();
     let mut runs = new_runs(alloc, workers)?;
-    let mut first = 0;
-    while first < operations {
-        let end = share_operations(operations, first, runs.as_mut_slice());
-        make_runs(rt, layout, writer.table(), runs.as_mut_slice())?;
-        put_runs(runs.as_slice(), writer, sink)?;
-        first = end;
-    }
-    Ok(())
+    put_rounds(rt, layout, runs.as_mut_slice(), writer, sink)
 }

@@ -63,6 +63,9 @@ pub(crate) fn append_of_neighbours(
 ) -> Result<(), AllocError>
     ensures { OnOk result (lines.new ≡ lines.old ++ flat_map clause_line (flat_map (blocks.transitivity_from (operation_count layout.now)) (range_with_len first (end - first)))) }
 {
+    if end <= first {
+        return Ok(());
+    }
     for i in first..end {
         append_from(layout, table, i, lines)?;
     }

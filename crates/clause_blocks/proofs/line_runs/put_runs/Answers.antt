@@ -1,4 +1,4 @@
-use Rattle.std.proofs.Common.{rules, ◌≡◌, ◌∙◌, ◌<◌, ◌++◌, length, take, refl, subst}
+use Rattle.std.proofs.Common.{rules, ◌+◌, ◌∙◌, ◌<◌, ◌++◌, length, refl, subst}
 use Rattle.dimacs.specs.Sink.{AppendsFront, IsSent}
 use Rattle.dimacs.proofs.ChunkLemmas.{line_sent, lines_part, sent_on, on_err}
 use Rattle.clause_blocks.specs.LineRuns.{lines_in}

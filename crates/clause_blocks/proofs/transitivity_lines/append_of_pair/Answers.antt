@@ -1,4 +1,4 @@
-use Rattle.std.proofs.Common.{◌≡◌, ◌+◌, ◌++◌, ◌∙◌, refl, sym, ap}
+use Rattle.std.proofs.Common.{◌≡◌, ◌+◌, ◌++◌, ◌∙◌, refl, sym}
 use Rattle.std.specs.List.{flat_map}
 use Rattle.dimacs.specs.CnfText.{clause_line}
 use Rattle.trace_semantics.specs.Trace.{operation_count}
