@@ -15,7 +15,7 @@ NO_THREAD = (2, b"refused: search 3 NoThread\n")
 DEVICE = (4, b"refused: device\n")
 
 # What each file that a command writes has before a run, and what stands for their paths in a command, in the order in which these files are
-# emptied and written: a certificate, the names of a core, and its part; and a picture, which is written after the report.
+# opened and written: a certificate, the names of a core, and its part; and a picture, which is written after the report.
 EARLIER = b"what stood here before\n"
 WRITTEN = ("CERT", "NAMES", "PART", "PICTURE")
 
@@ -77,6 +77,13 @@ class Row:
         """The paths of the files that the command writes, in the order in which it writes them."""
         return [os.path.join(folder, word) for word in WRITTEN if word in self.command.split()]
 
+    def left_by_refusal(self, opened):
+        """What the files that the command writes hold after a refusal, if nothing was written and so many of them were opened: a certificate of
+        `verify` was emptied then, and all others are as they were."""
+        words = [word for word in WRITTEN if word in self.command.split()]
+        empties = [self.command.startswith("verify") and word == "CERT" and number < opened for number, word in enumerate(words)]
+        return tuple(b"" if is_emptied else EARLIER for is_emptied in empties)
+
     def words(self, program, folder):
         """The command line, with the texts as files in the folder."""
         paths = {word: os.path.join(folder, word) for word in WRITTEN}
@@ -130,8 +137,9 @@ class Row:
         return len(self.cubes) > 1 and "--workers 1" not in self.command
 
     def is_beginning(self, files, out):
-        """Whether the files and the report are a prefix of all that is written, the files first, one after the other."""
-        wanted, found = [*self.written, self.printed], [*files, out]
+        """Whether the files and the report are a prefix of all that is written, the files first, one after the other. A file to which nothing was
+        written may hold what it held before."""
+        wanted, found = [*self.written, self.printed], [*(b"" if content == EARLIER else content for content in files), out]
         whole = list(itertools.takewhile(lambda pair: pair[0] == pair[1], zip(wanted, found)))
         left = found[len(whole):]
         return not left or (wanted[len(whole)].startswith(left[0]) and not any(left[1:]))

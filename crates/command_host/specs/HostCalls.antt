@@ -7,8 +7,8 @@ use Rattle.command_host.specs.declared.search_request.SearchRequest.{SearchReque
 pub record HostCalls (H Input Output : Type 0) : Type 1 where
   -- the file at this path was handed out to be read
   pub opens : H → List ℕ → Input → H → Type 0
-  -- the file at this path was made, or opened if there was one, and handed out to be written
-  pub makes : H → List ℕ → Output → H → Type 0
+  -- the file at this path was made, or opened if there was one, and handed out to be written; if this is true, it was emptied
+  pub makes : H → List ℕ → Bool → Output → H → Type 0
   -- that was tried, and failed
   pub fails_to_make : H → List ℕ → H → Type 0
   -- the file was given back, after a report or, if this is false, after a refusal

@@ -88,13 +88,13 @@ pub record RunsSearch {H I O : Type 0} (calls : HostCalls H I O) (read : SourceV
   pub runs : IsRunOfVerify file out outcome
   pub left_open : outcome ≡ Ok Unknown → TellsOpen search.options file out
 
--- the same, where the file at another path, which was made or opened first, took the certificate, and was given back after a report or a
+-- the same, where the file at another path, which was made or emptied first, took the certificate, and was given back after a report or a
 -- refusal
 pub record RunsWithCertificate {H I O : Type 0} (calls : HostCalls H I O) (read : SourceView I) (wrote : SinkView O) (from : H) (trace cert : List ℕ) (search : SearchRequest) (out : SinkRun) (outcome : Result Status Fault) (to : H) : Type 0 where
   pub before : O
   pub after : O
   pub made : H
-  pub makes : calls.makes from cert before made
+  pub makes : calls.makes from cert true before made
   pub no_byte_before : (wrote.run before after).before ≡ []
   pub no_failure_before : (wrote.run before after).failures_before ≡ 0
   pub path_is : wrote.path after ≡ cert
@@ -145,7 +145,7 @@ pub record MakesFile {H I O : Type 0} (calls : HostCalls H I O) (wrote : SinkVie
   pub before : O
   pub after : O
   pub made : H
-  pub makes : calls.makes from path before made
+  pub makes : calls.makes from path false before made
   pub no_byte_before : (wrote.run before after).before ≡ []
   pub no_failure_before : (wrote.run before after).failures_before ≡ 0
   pub path_is : wrote.path after ≡ path
@@ -291,7 +291,7 @@ pub record EndsWithPicture {H I O : Type 0} (calls : HostCalls H I O) (read : So
   pub before : O
   pub after : O
   pub made : H
-  pub makes : calls.makes from path before made
+  pub makes : calls.makes from path false before made
   pub no_byte_before : (wrote.run before after).before ≡ []
   pub no_failure_before : (wrote.run before after).failures_before ≡ 0
   pub path_is : wrote.path after ≡ path

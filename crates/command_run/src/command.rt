@@ -182,7 +182,7 @@ fn run_with_picture<
     ensures known { IsExitStatus result }
 {
     let explains = asked.explains.is_wanted(is_terminal);
-    let Ok(mut file) = host.create(path) else {
+    let Ok(mut file) = host.create(path, false) else {
         report_without_file(alloc, host.failed_file(), explains, err);
         return DEVICE;
     };

@@ -212,7 +212,7 @@ fn decide_file<'p, R: Threads + Wait + Sync, G: Gate + Sync, H: Host<'p>, W: Sin
     outcome
 }
 
-/// The same, with a certificate. Its file is made or opened before the trace is opened, and `Device` is answered if that is not possible.
+/// The same, with a certificate. Its file is made or emptied before the trace is opened, and `Device` is answered if that is not possible.
 fn certify_file<'p, R: Threads + Wait + Sync, G: Gate + Sync, H: Host<'p>, W: Sink>(
     alloc: Global,
     rt: &R,
@@ -228,7 +228,7 @@ fn certify_file<'p, R: Threads + Wait + Sync, G: Gate + Sync, H: Host<'p>, W: Si
         (sink_view H.Output.written H.Output.failures H.Output.path)
         host.old trace.now cert.now search.now (sink_run W.written W.failures out.old out.new) result host.new }
 {
-    let Ok(file) = host.create(cert) else {
+    let Ok(file) = host.create(cert, true) else {
         return Err(Fault::Device);
     };
     let mut trace = open(alloc, host, trace, kept.keeps);

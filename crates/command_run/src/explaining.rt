@@ -111,6 +111,7 @@ fn asked_search<'t>(
         }
         Line::Survey { trace, .. } => Some(AskedCommand::Survey {
             trace: named(trace, &texts.first),
+            report,
         }),
         Line::Judge { .. }
         | Line::Cnf { .. }

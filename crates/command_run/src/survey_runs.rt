@@ -245,7 +245,7 @@ fn part_in_file<
     ensures same_cert { C.path cert.new ≡ C.path cert.old }
     ensures same_names { N.path names.new ≡ N.path names.old }
 {
-    let Ok(mut made) = host.create(path) else {
+    let Ok(mut made) = host.create(path, false) else {
         return Err(Fault::Device);
     };
     let outcome = certify_opened(
@@ -338,7 +338,7 @@ fn names_in_file<'p, R: Threads + Wait + Sync, G: Gate + Sync, H: Host<'p>, C: S
         result host.new }
     ensures same_cert { C.path cert.new ≡ C.path cert.old }
 {
-    let Ok(mut file) = host.create(path) else {
+    let Ok(mut file) = host.create(path, false) else {
         return Err(Fault::Device);
     };
     let outcome = with_part(
@@ -425,7 +425,7 @@ fn cert_in_file<'p, R: Threads + Wait + Sync, G: Gate + Sync, H: Host<'p>, W: Si
         (sink_run W.written W.failures out.old out.new)
         result host.new }
 {
-    let Ok(mut file) = host.create(path) else {
+    let Ok(mut file) = host.create(path, false) else {
         return Err(Fault::Device);
     };
     let outcome = with_names(

@@ -8,11 +8,16 @@ use dimacs::{Failed, FailureCount, Sink};
 use std::fs::{File, OpenOptions};
 use std::rt::Files;
 
-/// Makes the file at this path, or opens the one that is there, of which nothing is lost yet.
-fn open_to_write<R: Files<File = File>>(rt: &R, path: &str) -> Result<File, DeviceFailure> {
+/// Makes the file at this path, or opens the one that is there, which is emptied or keeps what it has.
+fn open_to_write<R: Files<File = File>>(
+    rt: &R,
+    path: &str,
+    is_emptied: bool,
+) -> Result<File, DeviceFailure> {
     let mut options = OpenOptions::new();
     options.write(true);
     options.create(true);
+    options.truncate(is_emptied);
     // An opening that a signal interrupts is tried again within.
     options
         .open(rt, path)
@@ -43,10 +48,12 @@ pub struct FileSink<'a> {
 }
 
 impl<'a> FileSink<'a> {
-    /// Makes the file at this path, or opens the one that is there. An error is a failure of the system, which is counted, and what failed.
+    /// Makes the file at this path, or opens the one that is there, which is emptied at once or later. An error is a failure of the system,
+    /// which is counted, and what failed.
     pub fn create<R: Files<File = File>>(
         rt: &R,
         path: &'a str,
+        is_emptied: bool,
         failures: &mut FailureCount,
     ) -> Result<FileSink<'a>, DeviceFailure>
         ensures path { IfOk result (λ sink. path_to sink ≡ path.now) }
@@ -55,11 +62,11 @@ impl<'a> FileSink<'a> {
         ensures well { OnOk result (failures.new.count ≡ failures.old.count) }
         ensures failed { OnErr result (failures.new.count ≡ failures.old.count + 1) }
     {
-        match open_to_write(rt, path) {
+        match open_to_write(rt, path, is_emptied) {
             Ok(file) => Ok(FileSink {
                 path,
                 stream: StreamSink::new(file),
-                is_empty: false,
+                is_empty: is_emptied,
             }),
             Err(failure) => {
                 failures.rise();

@@ -68,8 +68,8 @@ impl<'a> Host<'a> for SystemHost<'a> {
         FileSource::new(self.rt, path)
     }
 
-    fn create(&mut self, path: &'a str) -> Result<FileSink<'a>, Failed> {
-        match FileSink::create(self.rt, path, &mut self.failures) {
+    fn create(&mut self, path: &'a str, is_emptied: bool) -> Result<FileSink<'a>, Failed> {
+        match FileSink::create(self.rt, path, is_emptied, &mut self.failures) {
             Ok(file) => Ok(file),
             Err(failure) => {
                 self.failed = Some(FailedFile { path, failure });

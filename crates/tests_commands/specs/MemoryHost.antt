@@ -10,7 +10,7 @@ use Rattle.command_host.specs.HostCalls.{HostCalls}
 abbrev pub memory_calls : HostCalls MemoryHost (AtPath ShortSource) (AtPath MemorySink)
 memory_calls = record {
   opens = λ from path file to. to ≡ from;
-  makes = λ from path file to. to ≡ from;
+  makes = λ from path emptied file to. to ≡ from;
   fails_to_make = λ from path to. to ≡ from;
   closes = λ from file reported to. to.made ≡ Some file.stream;
   compares = λ from first second same to. (same ≡ false) × (to ≡ from);

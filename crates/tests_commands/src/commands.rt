@@ -254,7 +254,9 @@ fn assert_prints<R: Threads + Wait + Abort + Sync>(
     let mut host = MemoryHost::new(alloc, &FILES, 1);
     let mut out = ShortSink::new(alloc, 100);
     let mut err = ShortSink::new(alloc, 100);
-    let status = run(alloc, rt, &OpenGate, &mut host, words, false, &mut out, &mut err);
+    let status = run(
+        alloc, rt, &OpenGate, &mut host, words, false, &mut out, &mut err,
+    );
     assert!(rt; status == if is_answer { 0 } else { 2 });
     assert!(rt; out.as_slice().is_empty() != is_answer);
     assert!(rt; err.as_slice().is_empty() == is_answer);
@@ -273,7 +275,9 @@ fn assert_certifies<R: Threads + Wait + Abort + Sync>(alloc: Global, rt: &R, wor
     let mut host = MemoryHost::new(alloc, &FILES, 100);
     let mut out = ShortSink::new(alloc, 100);
     let mut err = ShortSink::new(alloc, 100);
-    let status = run(alloc, rt, &OpenGate, &mut host, words, false, &mut out, &mut err);
+    let status = run(
+        alloc, rt, &OpenGate, &mut host, words, false, &mut out, &mut err,
+    );
     assert!(rt; status == 1);
     assert!(rt; err.as_slice().is_empty());
     let Some(search) = host.searched() else {
@@ -319,7 +323,9 @@ fn assert_not_made<R: Threads + Wait + Abort + Sync>(alloc: Global, rt: &R, word
     let mut host = MemoryHost::new(alloc, &FILES, 100).read_only();
     let mut out = ShortSink::new(alloc, 100);
     let mut err = ShortSink::new(alloc, 100);
-    let status = run(alloc, rt, &OpenGate, &mut host, words, false, &mut out, &mut err);
+    let status = run(
+        alloc, rt, &OpenGate, &mut host, words, false, &mut out, &mut err,
+    );
     assert!(rt; status == 4);
     assert!(rt; out.as_slice().is_empty());
     assert!(rt; err.as_slice() == "refused: device\n".as_bytes());
@@ -350,7 +356,9 @@ fn assert_surveys<R: Threads + Wait + Abort + Sync>(
     let mut host = MemoryHost::new(alloc, &FILES, 100);
     let mut out = ShortSink::new(alloc, 100);
     let mut err = ShortSink::new(alloc, 100);
-    let status = run(alloc, rt, &OpenGate, &mut host, words, false, &mut out, &mut err);
+    let status = run(
+        alloc, rt, &OpenGate, &mut host, words, false, &mut out, &mut err,
+    );
     assert!(rt; status == 1);
     assert!(rt;
         out.as_slice()

@@ -76,7 +76,11 @@ impl<'p> Host<'p> for MemoryHost<'p> {
         AtPath { path, stream }
     }
 
-    fn create(&mut self, path: &'p str) -> Result<AtPath<'p, MemorySink>, Failed> {
+    fn create(
+        &mut self,
+        path: &'p str,
+        _is_emptied: bool,
+    ) -> Result<AtPath<'p, MemorySink>, Failed> {
         if self.can_create {
             let stream = MemorySink::new(self.alloc);
             Ok(AtPath { path, stream })

@@ -14,6 +14,6 @@ front_of_pieces old between new pieces k d below sent front =
     let rest : List (Bor (List ℕ)) = drop (suc k) pieces in
     let piece : Bor (List ℕ) = get_or pieces k d in
     let parts : joined pieces ≡ joined (take k pieces) ++ (piece.now ++ joined rest) =
-        ap joined (split_at pieces k d below) ∙ flat_map-append (λ (p : Bor (List ℕ)). p.now) (take k pieces) (piece ∷ rest) in
+    ap joined (split_at pieces k d below) ∙ flat_map-append (λ (p : Bor (List ℕ)). p.now) (take k pieces) (piece ∷ rest) in
     subst (λ (text : List ℕ). AppendsFront old new text) (sym parts)
     (front-after old between new (joined (take k pieces)) (piece.now ++ joined rest) sent (front-append between new piece.now (joined rest) front))
