@@ -57,7 +57,7 @@ fn put_first_writer(
 }
 
 /// Returns whether the initial value is one that the box may have read.
-fn may_read_initial(items: &[PictureItem<'_>], reader: &PictureItem<'_>) -> bool {
+fn may_read_initial<'t>(items: &[PictureItem<'t>], reader: &PictureItem<'t>) -> bool {
     for item in items {
         if item.is_initial() && reader.may_read_from(item) {
             return true;

@@ -1,6 +1,8 @@
 //! On which arrows, and on which exclusions of sources, a contradiction rests.
 
-use crate::found_order::{ArrowKind, DerivedBy, DerivedRule, FoundOrder, WhyExcluded};
+use crate::found_order::{
+    ArrowKind, DerivedBy, DerivedRule, Exclusion, FoundOrder, WhyExcluded,
+};
 use crate::paths::{first_of, way_between};
 use std::alloc::{AllocError, Global};
 
@@ -54,24 +56,43 @@ fn use_premises(
     }
 }
 
+/// Marks the exclusion of this number, if it is one of a source of the reader, and returns it.
+fn use_exclusion(found: &mut FoundOrder, number: usize, reader: usize) -> Option<Exclusion> {
+    if number < found.exclusions.len() && found.exclusions[number].reader == reader {
+        found.exclusions[number].is_used = true;
+        Some(found.exclusions[number])
+    } else {
+        None
+    }
+}
+
+/// Marks what excludes a source.
+fn use_why(
+    alloc: Global,
+    found: &mut FoundOrder,
+    exclusion: Exclusion,
+) -> Result<(), AllocError> {
+    let known = exclusion.known;
+    let reader = exclusion.reader;
+    let writer = exclusion.writer;
+    match exclusion.why {
+        WhyExcluded::Late => use_way(alloc, found, known, reader, writer),
+        WhyExcluded::Overwritten(other) => {
+            use_way(alloc, found, known, writer, other)?;
+            use_way(alloc, found, known, other, reader)
+        }
+        WhyExcluded::Taken(other) => {
+            use_source(found, other);
+            Ok(())
+        }
+    }
+}
+
 /// Marks what excludes the other sources of the reader.
 fn use_exclusions(alloc: Global, found: &mut FoundOrder, reader: usize) -> Result<(), AllocError> {
     for k in 0..found.exclusions.len() {
-        let exclusion = found.exclusions[k];
-        if exclusion.reader == reader {
-            if k < found.exclusions.len() {
-                found.exclusions[k].is_used = true;
-            }
-            let known = exclusion.known;
-            let writer = exclusion.writer;
-            match exclusion.why {
-                WhyExcluded::Late => use_way(alloc, found, known, reader, writer)?,
-                WhyExcluded::Overwritten(other) => {
-                    use_way(alloc, found, known, writer, other)?;
-                    use_way(alloc, found, known, other, reader)?;
-                }
-                WhyExcluded::Taken(other) => use_source(found, other),
-            }
+        if let Some(exclusion) = use_exclusion(found, k, reader) {
+            use_why(alloc, found, exclusion)?;
         }
     }
     Ok(())

@@ -61,21 +61,23 @@ impl Content<'_, '_> {
         } else if self.shows_why() {
             draw_title(
                 svg,
-                &[b"No legal schedule: ", count, operations(drawn), b", and why no order explains them"],
+                &[b"No legal schedule: ", count, operations(drawn), b" that no order explains"],
             );
         } else {
-            draw_title(svg, &[b"No legal schedule: ", count, operations(drawn)]);
+            draw_title(svg, &[b"No legal schedule of ", count, operations(drawn)]);
         }
     }
 
     /// Draws what stands below the title.
     fn draw_note(&self, svg: &mut SvgText) {
-        let all = decimal(count_all(self.trace));
+        let count = count_all(self.trace);
+        let all = decimal(count);
         let all = all.as_slice();
+        let words = operations(count);
         let what: &[u8] = if self.shows_why() {
             b""
         } else {
-            b"; what contradicts itself here was not found"
+            b"; what contradicts itself here is not found"
         };
         match self.subject {
             PictureSubject::InOrder => draw_note(
@@ -83,9 +85,9 @@ impl Content<'_, '_> {
                 &[b"from top to bottom; each box has the position, the name, and the operation"],
             ),
             PictureSubject::Core => {
-                draw_note(svg, &[b"of ", all, b" operations of the trace, as a survey found them", what])
+                draw_note(svg, &[b"of ", all, words, b" of the trace, as a survey found them", what])
             }
-            PictureSubject::TooFew => draw_note(svg, &[b"of ", all, b" operations of the trace"]),
+            PictureSubject::TooFew => draw_note(svg, &[b"of ", all, words, b" of the trace"]),
             PictureSubject::Whole => draw_note(svg, &[b"the whole trace", what]),
         }
     }
@@ -146,9 +148,9 @@ impl Content<'_, '_> {
             .right
             .saturating_add(MARGIN * 3)
             .max(LEAST_WIDTH)
-            .max(reasons.longest().saturating_mul(13) / 2 + MARGIN * 2);
+            .max((reasons.longest().saturating_mul(13) / 2).saturating_add(MARGIN * 2));
         let mut svg = SvgText::new(alloc);
-        begin_document(&mut svg, width, height.saturating_add(16));
+        begin_document(&mut svg, width, height.saturating_add(20));
         self.draw_title(&mut svg, count_operations(self.items));
         self.draw_note(&mut svg);
         if is_schedule {
@@ -156,7 +158,7 @@ impl Content<'_, '_> {
         }
         self.draw_body(alloc, &mut svg, &placement)?;
         draw_legend(&mut svg, &entries, legend);
-        draw_reasons(&mut svg, &reasons, words.saturating_add(4));
+        draw_reasons(&mut svg, &reasons, words.saturating_add(12));
         svg.add(&[b"</svg>\n"]);
         svg.into_bytes()
     }

@@ -55,6 +55,13 @@ impl Told<'_, '_> {
         text.add(&[more]);
     }
 
+    /// Adds the location of the box.
+    fn add_location(&self, text: &mut GrowingText, number: usize) {
+        if let Some(item) = self.items.get(number) {
+            text.add(&[item.location]);
+        }
+    }
+
     /// Adds the location and the value that the box reads, as `x = 1`.
     fn add_value(&self, text: &mut GrowingText, number: usize) {
         if let Some(item) = self.items.get(number) {
@@ -137,6 +144,16 @@ impl Told<'_, '_> {
         text
     }
 
+    /// Adds that the reader has its value from the writer.
+    fn add_reading(&self, text: &mut GrowingText, reader: usize, writer: usize) {
+        self.add_name(text, reader);
+        text.add(&[b" reads "]);
+        self.add_location(text, reader);
+        text.add(&[b" from "]);
+        self.add_name(text, writer);
+        text.add(&[b", and "]);
+    }
+
     /// The sentence on an order that follows of a source.
     fn sentence_of_order(&self, alloc: Global, number: u64, by: DerivedBy) -> GrowingText {
         let mut text = GrowingText::new(alloc);
@@ -144,17 +161,17 @@ impl Told<'_, '_> {
         match by.rule {
             DerivedRule::AfterSource => {
                 self.add_names(&mut text, by.reader, b" comes before ", by.other, b", since ");
-                self.add_names(&mut text, by.reader, b" reads from ", by.writer, b", and ");
+                self.add_reading(&mut text, by.reader, by.writer);
                 self.add_names(&mut text, by.other, b" overwrites ", by.writer, b"");
             }
             DerivedRule::BeforeReader => {
                 self.add_names(&mut text, by.other, b" comes before ", by.writer, b", since ");
-                self.add_names(&mut text, by.reader, b" reads from ", by.writer, b", and ");
-                self.add_names(&mut text, by.other, b" writes there before ", by.reader, b"");
+                self.add_reading(&mut text, by.reader, by.writer);
+                self.add_names(&mut text, by.other, b" writes it before ", by.reader, b"");
             }
             DerivedRule::LastWrite => {
-                self.add_names(&mut text, by.other, b" comes before ", by.writer, b", since ");
-                self.add_names(&mut text, by.reader, b" is that of ", by.writer, b"");
+                self.add_names(&mut text, by.other, b" comes before ", by.writer, b", which leaves the final value of ");
+                self.add_location(&mut text, by.reader);
             }
         }
         text

@@ -78,7 +78,7 @@ impl Lanes {
     /// A line down, in the space to the right of the column.
     fn line_down(&mut self, placement: &Placement<'_>, column: usize) -> u64 {
         let count = next_of(&mut self.columns, column);
-        let shift = (count % 6).saturating_mul(8).saturating_add((count / 6) % 2 * 4);
+        let shift = (count % 6).saturating_mul(9).saturating_add((count / 6) % 2 * 4);
         placement
             .right_of(column)
             .saturating_add(14)
@@ -88,7 +88,7 @@ impl Lanes {
     /// A line across, in the space below the row.
     fn line_across(&mut self, placement: &Placement<'_>, row: usize) -> u64 {
         let count = next_of(&mut self.rows, row);
-        let shift = (count % 5).saturating_mul(6);
+        let shift = (count % 4).saturating_mul(8);
         placement
             .bottom_of_row(row as u64)
             .saturating_add(5)
@@ -232,14 +232,15 @@ impl Route {
         }
     }
 
-    /// The middle of its last line but one, where words can stand.
+    /// The middle of its third line, or of its second one if it has no more, where words can stand.
     pub fn label_place(&self) -> Place {
         let count = self.places.len();
         if count < 3 {
             return Place { x: 0, y: 0 };
         }
-        let first = self.places[count - 3];
-        let second = self.places[count - 2];
+        let begin = if count > 4 { 2 } else { 1 };
+        let first = self.places[begin];
+        let second = self.places[begin + 1];
         Place {
             x: first.x.min(second.x).saturating_add(first.x.abs_diff(second.x) / 2),
             y: first.y.min(second.y).saturating_add(first.y.abs_diff(second.y) / 2),
