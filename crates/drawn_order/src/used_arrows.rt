@@ -1,14 +1,19 @@
 //! On which arrows, and on which exclusions of sources, a contradiction rests.
 
-use crate::found_order::{
-    ArrowKind, DerivedBy, DerivedRule, Exclusion, FoundOrder, WhyExcluded,
-};
+use crate::found_order::{ArrowKind, DerivedBy, DerivedRule, Exclusion, FoundOrder, WhyExcluded};
 use crate::paths::{first_of, way_between};
 use std::alloc::{AllocError, Global};
 
 /// Marks the arrow of this number as one that is used.
 fn use_arrow(found: &mut FoundOrder, number: usize) {
     if number < found.arrows.len() {
+        found.arrows[number].is_used = true;
+    }
+}
+
+/// Marks the arrow of this number as one that is used, if it is of the cycle.
+fn use_if_marked(found: &mut FoundOrder, number: usize) {
+    if number < found.arrows.len() && found.arrows[number].is_marked {
         found.arrows[number].is_used = true;
     }
 }
@@ -67,11 +72,7 @@ fn use_exclusion(found: &mut FoundOrder, number: usize, reader: usize) -> Option
 }
 
 /// Marks what excludes a source.
-fn use_why(
-    alloc: Global,
-    found: &mut FoundOrder,
-    exclusion: Exclusion,
-) -> Result<(), AllocError> {
+fn use_why(alloc: Global, found: &mut FoundOrder, exclusion: Exclusion) -> Result<(), AllocError> {
     let known = exclusion.known;
     let reader = exclusion.reader;
     let writer = exclusion.writer;
@@ -117,9 +118,7 @@ fn use_of_arrow(alloc: Global, found: &mut FoundOrder, number: usize) -> Result<
 /// Marks all on which the contradiction rests, from its last arrow to its first.
 pub(crate) fn mark_used(alloc: Global, found: &mut FoundOrder) -> Result<(), AllocError> {
     for number in 0..found.arrows.len() {
-        if found.arrows[number].is_marked {
-            use_arrow(found, number);
-        }
+        use_if_marked(found, number);
     }
     for reader in 0..found.lacking.len() {
         if found.is_lacking(reader) {

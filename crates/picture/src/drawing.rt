@@ -41,7 +41,11 @@ fn draw_note(svg: &mut SvgText, words: &[&[u8]]) {
 
 /// One operation, or so many operations.
 fn operations(count: u64) -> &'static [u8] {
-    if count == 1 { b" operation" } else { b" operations" }
+    if count == 1 {
+        b" operation"
+    } else {
+        b" operations"
+    }
 }
 
 impl Content<'_, '_> {
@@ -61,7 +65,12 @@ impl Content<'_, '_> {
         } else if self.shows_why() {
             draw_title(
                 svg,
-                &[b"No legal schedule: ", count, operations(drawn), b" that no order explains"],
+                &[
+                    b"No legal schedule: ",
+                    count,
+                    operations(drawn),
+                    b" that no order explains",
+                ],
             );
         } else {
             draw_title(svg, &[b"No legal schedule of ", count, operations(drawn)]);
@@ -85,7 +94,16 @@ impl Content<'_, '_> {
                 &[b"from top to bottom; each box has the position, the name, and the operation"],
             ),
             PictureSubject::Core => {
-                draw_note(svg, &[b"of ", all, words, b" of the trace, as a survey found them", what])
+                draw_note(
+                    svg,
+                    &[
+                        b"of ",
+                        all,
+                        words,
+                        b" of the trace, as a survey found them",
+                        what,
+                    ],
+                )
             }
             PictureSubject::TooFew => draw_note(svg, &[b"of ", all, words, b" of the trace"]),
             PictureSubject::Whole => draw_note(svg, &[b"the whole trace", what]),

@@ -9,6 +9,7 @@ use std::alloc::{AllocError, Global};
 
 /// The size of such a picture.
 const WIDTH: u64 = 640;
+
 const HEIGHT: u64 = 72;
 
 /// Why nothing is drawn.

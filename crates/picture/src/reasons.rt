@@ -79,10 +79,22 @@ impl Told<'_, '_> {
                 text.add(&[b", which comes later"]);
             }
             WhyExcluded::Overwritten(other) => {
-                self.add_names(text, exclusion.writer, b", which ", other, b" overwrites before it");
+                self.add_names(
+                    text,
+                    exclusion.writer,
+                    b", which ",
+                    other,
+                    b" overwrites before it",
+                );
             }
             WhyExcluded::Taken(other) => {
-                self.add_names(text, exclusion.writer, b", which ", other, b" needs for itself");
+                self.add_names(
+                    text,
+                    exclusion.writer,
+                    b", which ",
+                    other,
+                    b" needs for itself",
+                );
             }
         }
     }
@@ -117,7 +129,12 @@ impl Told<'_, '_> {
     }
 
     /// The sentence on the source of a reader, if there is more to say than the arrow does.
-    fn sentence_of_source(&self, alloc: Global, writer: usize, reader: usize) -> Option<GrowingText> {
+    fn sentence_of_source(
+        &self,
+        alloc: Global,
+        writer: usize,
+        reader: usize,
+    ) -> Option<GrowingText> {
         let mut text = GrowingText::new(alloc);
         self.add_name(&mut text, reader);
         text.add(&[b" has "]);
@@ -160,17 +177,35 @@ impl Told<'_, '_> {
         text.add(&[decimal(number).as_slice(), b": "]);
         match by.rule {
             DerivedRule::AfterSource => {
-                self.add_names(&mut text, by.reader, b" comes before ", by.other, b", since ");
+                self.add_names(
+                    &mut text,
+                    by.reader,
+                    b" comes before ",
+                    by.other,
+                    b", since ",
+                );
                 self.add_reading(&mut text, by.reader, by.writer);
                 self.add_names(&mut text, by.other, b" overwrites ", by.writer, b"");
             }
             DerivedRule::BeforeReader => {
-                self.add_names(&mut text, by.other, b" comes before ", by.writer, b", since ");
+                self.add_names(
+                    &mut text,
+                    by.other,
+                    b" comes before ",
+                    by.writer,
+                    b", since ",
+                );
                 self.add_reading(&mut text, by.reader, by.writer);
                 self.add_names(&mut text, by.other, b" writes it before ", by.reader, b"");
             }
             DerivedRule::LastWrite => {
-                self.add_names(&mut text, by.other, b" comes before ", by.writer, b", which leaves the final value of ");
+                self.add_names(
+                    &mut text,
+                    by.other,
+                    b" comes before ",
+                    by.writer,
+                    b", which leaves the final value of ",
+                );
                 self.add_location(&mut text, by.reader);
             }
         }
@@ -203,7 +238,11 @@ impl Told<'_, '_> {
         text.add(&[needing.as_slice(), b" need "]);
         self.add_value(&mut text, shortage.first);
         let giving = decimal(shortage.count_giving());
-        text.add(&[b" from a source of their own, and ", giving.as_slice(), b" can be one"]);
+        text.add(&[
+            b" from a source of their own, and ",
+            giving.as_slice(),
+            b" can be one",
+        ]);
         Some(text)
     }
 }

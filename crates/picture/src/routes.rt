@@ -78,7 +78,9 @@ impl Lanes {
     /// A line down, in the space to the right of the column.
     fn line_down(&mut self, placement: &Placement<'_>, column: usize) -> u64 {
         let count = next_of(&mut self.columns, column);
-        let shift = (count % 6).saturating_mul(9).saturating_add((count / 6) % 2 * 4);
+        let shift = (count % 6)
+            .saturating_mul(9)
+            .saturating_add((count / 6) % 2 * 4);
         placement
             .right_of(column)
             .saturating_add(14)
@@ -242,8 +244,14 @@ impl Route {
         let first = self.places[begin];
         let second = self.places[begin + 1];
         Place {
-            x: first.x.min(second.x).saturating_add(first.x.abs_diff(second.x) / 2),
-            y: first.y.min(second.y).saturating_add(first.y.abs_diff(second.y) / 2),
+            x: first
+                .x
+                .min(second.x)
+                .saturating_add(first.x.abs_diff(second.x) / 2),
+            y: first
+                .y
+                .min(second.y)
+                .saturating_add(first.y.abs_diff(second.y) / 2),
         }
     }
 }
