@@ -66,7 +66,7 @@ fn may_read_initial<'t>(items: &[PictureItem<'t>], reader: &PictureItem<'t>) -> 
     false
 }
 
-/// Puts beside the others what shows why the boxes have no source but those that are drawn, as far as that is little.
+/// Puts beside the others what shows why a box has no source but those that are drawn, if these are few.
 pub(crate) fn put_all_beside(
     alloc: Global,
     part: PartTrace<'_>,

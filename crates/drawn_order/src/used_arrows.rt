@@ -18,7 +18,7 @@ fn use_if_marked(found: &mut FoundOrder, number: usize) {
     }
 }
 
-/// Marks the arrows of a shortest way between two boxes along the first arrows, which are so many.
+/// Marks the arrows of a shortest way between two boxes along the first `known` arrows.
 fn use_way(
     alloc: Global,
     found: &mut FoundOrder,
@@ -46,7 +46,7 @@ fn use_source(found: &mut FoundOrder, reader: usize) {
     }
 }
 
-/// Marks what an order follows of, among the first arrows, which are so many.
+/// Marks what an order follows from, among the first `known` arrows.
 fn use_premises(
     alloc: Global,
     found: &mut FoundOrder,

@@ -4,7 +4,7 @@ use crate::arrows::ArrowPage;
 use crate::boxes::{draw_boxes, draw_titles};
 use crate::legend::{LEGEND_STEP, LegendEntries, draw_legend};
 use crate::placement::{MARGIN, Placement};
-use crate::reasons::Reasons;
+use crate::reasons::ReasonLines;
 use crate::routes::Lanes;
 use crate::style::begin_document;
 use crate::subject::{PictureSubject, count_all};
@@ -39,7 +39,7 @@ fn draw_note(svg: &mut SvgText, words: &[&[u8]]) {
     svg.line_of_text(b"note", MARGIN, 54, words);
 }
 
-/// One operation, or so many operations.
+/// The word for this number of operations.
 fn operations(count: u64) -> &'static [u8] {
     if count == 1 {
         b" operation"
@@ -157,7 +157,7 @@ impl Content<'_, '_> {
         let is_schedule = self.subject.is_in_order();
         let placement = Placement::of(alloc, self.items, self.trace, is_schedule)?;
         let entries = LegendEntries::of(self.items, self.found, is_schedule);
-        let reasons = Reasons::of(alloc, self.items, self.found)?;
+        let reasons = ReasonLines::of(alloc, self.items, self.found)?;
         let legend = placement.bottom().saturating_add(20);
         let words = legend.saturating_add(entries.count().saturating_mul(LEGEND_STEP));
         let sentences = reasons.lines.len() as u64;
@@ -183,7 +183,7 @@ impl Content<'_, '_> {
 }
 
 /// Draws the sentences from this height on.
-fn draw_reasons(svg: &mut SvgText, reasons: &Reasons, y: u64) {
+fn draw_reasons(svg: &mut SvgText, reasons: &ReasonLines, y: u64) {
     let mut y = y;
     for line in &reasons.lines {
         svg.line_of_text(b"reason", MARGIN, y, &[line.as_slice()]);

@@ -6,6 +6,7 @@ use drawn_order::{
 };
 use note_text::{GrowingText, decimal};
 use std::alloc::{AllocError, Global};
+use trace_semantics::operation::{Op, Origin};
 
 /// The most sentences below a picture.
 const MOST_SENTENCES: usize = 20;
@@ -15,7 +16,7 @@ const MOST_NAMED: usize = 4;
 
 /// The sentences below a picture.
 #[derive(Drop)]
-pub(crate) struct Reasons {
+pub(crate) struct ReasonLines {
     pub lines: Vec<Vec<u8>>,
 }
 
@@ -24,6 +25,19 @@ pub(crate) struct Reasons {
 struct Told<'p, 't> {
     items: &'p [PictureItem<'t>],
     found: &'p FoundOrder,
+}
+
+/// The mark that stands before a reason, after this number of others.
+fn mark_before(others: usize) -> &'static [u8] {
+    if others == 0 { b": " } else { b"; " }
+}
+
+/// Returns whether something is said of where a read has its value from.
+fn is_said(origin: &Origin) -> bool {
+    match origin {
+        Origin::Any => false,
+        _ => true,
+    }
 }
 
 impl Told<'_, '_> {
@@ -106,7 +120,7 @@ impl Told<'_, '_> {
         for exclusion in &self.found.exclusions {
             if exclusion.reader == reader {
                 if named < MOST_NAMED {
-                    text.add(&[if named == 0 { b": " } else { b"; " }]);
+                    text.add(&[mark_before(named)]);
                     self.add_exclusion(text, exclusion);
                     named = named.saturating_add(1);
                 } else {
@@ -119,10 +133,10 @@ impl Told<'_, '_> {
         if rest > 0 {
             let count = decimal(rest);
             text.add(&[
-                if named == 0 { b": " } else { b"; " },
+                mark_before(named),
                 b"not from ",
                 count.as_slice(),
-                b" more writes of this value, which come later or are overwritten before it",
+                b" more writes of this value, which come later, are overwritten or are needed by others",
             ]);
         }
         named > 0 || rest > 0
@@ -148,6 +162,18 @@ impl Told<'_, '_> {
         }
     }
 
+    /// Returns whether the line of the box names its source.
+    fn names_source(&self, number: usize) -> bool {
+        match self.items.get(number) {
+            Some(item) => match item.op {
+                Some(Op::Read { origin, .. }) => is_said(origin),
+                Some(Op::Update { origin, .. }) => is_said(origin),
+                _ => false,
+            },
+            None => false,
+        }
+    }
+
     /// The sentence on a box that nothing gives its value.
     fn sentence_of_lack(&self, alloc: Global, reader: usize) -> GrowingText {
         let mut text = GrowingText::new(alloc);
@@ -155,8 +181,12 @@ impl Told<'_, '_> {
         self.add_name(&mut text, reader);
         text.add(&[b" "]);
         self.add_value(&mut text, reader);
-        if !self.add_exclusions(&mut text, reader) {
-            text.add(&[b": no operation and no init line does"]);
+        let has_reasons = self.add_exclusions(&mut text, reader);
+        match (has_reasons, self.names_source(reader)) {
+            (true, true) => text.add(&[b"; its line names no other source"]),
+            (true, false) => {}
+            (false, true) => text.add(&[b": its line names a source that does not leave this"]),
+            (false, false) => text.add(&[b": no operation and no init line does"]),
         }
         text
     }
@@ -247,7 +277,7 @@ impl Told<'_, '_> {
     }
 }
 
-impl Reasons {
+impl ReasonLines {
     /// Adds a sentence, if there is room for one.
     fn add(&mut self, sentence: GrowingText) -> Result<(), AllocError> {
         let line = sentence.into_whole()?;
@@ -292,9 +322,9 @@ impl Reasons {
         alloc: Global,
         items: &[PictureItem<'_>],
         found: &FoundOrder,
-    ) -> Result<Reasons, AllocError> {
+    ) -> Result<ReasonLines, AllocError> {
         let told = Told { items, found };
-        let mut reasons = Reasons {
+        let mut reasons = ReasonLines {
             lines: Vec::new(alloc),
         };
         reasons.add_sources(alloc, told)?;
