@@ -96,3 +96,29 @@ def has_schedule(trace):
         return False
 
     return goes_on(dict.fromkeys(names, 0), {})
+
+
+def schedules(trace, most):
+    """Legal schedules, each as a list of names: all of them, or the first that are found if they are more than `most`."""
+    waits_for = collections.defaultdict(list)
+    for one, other in trace.before:
+        waits_for[other].append(one)
+    count, found = sum(map(len, trace.processes.values())), []
+
+    def go_on(order, places, memory):
+        if len(found) >= most:
+            return
+        if len(order) == count:
+            if ends_right(trace, memory):
+                found.append(list(order))
+            return
+        for process, operations in trace.processes.items():
+            following = (process, places[process] + 1)
+            if following[1] > len(operations) or any(places[one] < place for one, place in waits_for[following]):
+                continue
+            left = step(trace, following, memory)
+            if left is not None:
+                go_on([*order, following], {**places, process: following[1]}, left)
+
+    go_on([], dict.fromkeys(trace.processes, 0), {})
+    return found

@@ -1,4 +1,5 @@
 -- The clause list: its families, their variables, and how many clauses there are.
+pub mod FamilyLemmas
 pub mod FewLemmas
 pub mod FinalLemmas
 pub mod FormulaLemmas

@@ -3,6 +3,7 @@ pub mod Cycles
 pub mod Clauses
 pub mod Examples
 pub mod FinalClauses
+pub mod LineRuns
 pub mod ModelOrder
 pub mod Pieces
 pub mod Ranges

@@ -1,5 +1,5 @@
 -- What a trace's clause list keeps, and what is given of a piece.
-use Rattle.std.specs.Prelude.{◌≡◌, ℕ, ◌+◌, ℤ, List, [], length, map, slice_index_or}
+use Rattle.std.specs.Prelude.{◌≡◌, ℕ, ◌+◌, ◌-◌, ℤ, List, [], length, map, slice_index_or}
 use Rattle.std.specs.List.{flat_map, range_with_len}
 use Rattle.trace_semantics.specs.Trace.{TraceValue, operation_count}
 use Rattle.clause_blocks.specs.declared.pieces.Piece.{Piece}
@@ -22,6 +22,10 @@ pub record AreStored (t : TraceValue) (order reads finals pairs : List (List ℤ
 -- how many clauses there are in the pieces below this number
 abbrev pub clauses_before : TraceValue → ℕ → ℕ
 clauses_before t k = length (flat_map (λ m. slice_index_or (pieces t) m []) (range_with_len 0 k))
+
+-- the clauses of the pieces from one number up to the one before another
+abbrev pub clauses_between : TraceValue → ℕ → ℕ → List (List ℤ)
+clauses_between t first end = flat_map (λ m. slice_index_or (pieces t) m []) (range_with_len first (end - first))
 
 -- where each piece begins, and for how many operations there is a table of transitivity
 pub record AreTables (t : TraceValue) (starts : List ℕ) (tabled : ℕ) : Type 0 where

@@ -113,6 +113,22 @@ impl TraceClauses {
         self.pieces.count()
     }
 
+    /// Returns the number of the first piece of transitivity.
+    pub(crate) fn piece_of_transitivity(&self) -> usize
+        ensures number { result ≡ 1 }
+        ensures within { result < length (list.pieces self.now) }
+    {
+        self.pieces.piece_of_transitivity()
+    }
+
+    /// Returns the number of the piece of what is read.
+    pub(crate) fn piece_of_reads(&self) -> usize
+        ensures number { result ≡ operation_count self.now + 1 }
+        ensures within { result < length (list.pieces self.now) }
+    {
+        self.pieces.piece_of_reads()
+    }
+
     /// The piece under this number, counted from 0. It is fixed by the trace alone, so pieces may be read in any order.
     pub fn piece(&self, k: usize) -> Piece<'_>
         requires { k < length (list.pieces self.now) }

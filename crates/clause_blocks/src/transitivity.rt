@@ -87,6 +87,7 @@ fn put_of_pair<W: Sink>(
     ensures well { OnOk result (W.failures sink.new ≡ W.failures sink.old) }
     ensures front { OnErr result (AppendsFront (W.written sink.old) (W.written sink.new) (writer.old ++ flat_map clause_line (flat_map (no_cycle (operation_count layout.now) i j) (numbers_above (operation_count layout.now) j)))) }
     ensures failed { OnErr result (W.failures sink.new ≡ W.failures sink.old + 1) }
+    ensures same { W.path sink.new ≡ W.path sink.old }
 {
     let ij = layout.order_lit(i, j);
     for k in j + 1..layout.operations() {
@@ -108,6 +109,7 @@ pub(crate) fn put_transitivity_from<W: Sink>(
     ensures well { OnOk result (W.failures sink.new ≡ W.failures sink.old) }
     ensures front { OnErr result (AppendsFront (W.written sink.old) (W.written sink.new) (writer.old ++ flat_map clause_line (blocks.transitivity_from (operation_count layout.now) i))) }
     ensures failed { OnErr result (W.failures sink.new ≡ W.failures sink.old + 1) }
+    ensures same { W.path sink.new ≡ W.path sink.old }
 {
     layout.recall_limits();
     let operations = layout.operations();

@@ -38,7 +38,7 @@ pub fn new_cnf_command<'a>(alloc: Global) -> Result<Command<'a>, AllocError>
     ensures local { IfOk result (λ c. (out-Command c).has_globals ≡ false) }
 {
     let trace = trace_argument(alloc);
-    let workers = workers_argument(alloc, "Taken as by verify, 1 to 8, and has no effect");
+    let workers = workers_argument(alloc, "How many threads may make the text, 1 to 8");
     command_of_two(alloc, "cnf", ABOUT, AFTER_HELP, trace, workers)
 }
 

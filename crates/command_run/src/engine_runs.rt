@@ -1,4 +1,5 @@
 //! The engine that a line names, on the files of its paths.
+ghost use Rattle.std.specs.Prelude.{◌≤◌};
 ghost use Rattle.command_host.specs.Streams.{sink_view, source_view};
 ghost use Rattle.command_line.specs.CommandLine.{IsWithinRanges};
 ghost use Rattle.command_run.specs.CommandRun.{RunsCertified, RunsLine, RunsOnFile, RunsOnFiles, RunsOnThreeFiles, RunsRecheck, RunsSearch, RunsVerify};
@@ -47,18 +48,22 @@ fn judge_files<'p, H: Host<'p>, W: Sink>(
 }
 
 /// Writes the clause list of the trace in the file at this path to the standard output.
-fn translate_file<'p, H: Host<'p>, W: Sink>(
+fn translate_file<'p, R: Threads + Sync, H: Host<'p>, W: Sink>(
     alloc: Global,
+    rt: &R,
     host: &mut H,
     trace: &'p str,
+    workers: u32,
     out: &mut W,
     kept: &mut KeptRun,
 ) -> Result<Status, Fault>
+    requires some { 1 ≤ workers }
+    requires few { workers ≤ 8 }
     ensures { RunsOnFile H.calls (source_view H.Input.handed_out H.Input.is_at_end H.Input.failures H.Input.path) IsRunOfCnf
         host.old trace.now (sink_run W.written W.failures out.old out.new) result host.new }
 {
     let mut trace = open(alloc, host, trace, kept.keeps);
-    let outcome = run_cnf(alloc, &mut trace, out);
+    let outcome = run_cnf(alloc, rt, &mut trace, workers, out);
     kept.first = trace.into_text();
     outcome
 }
@@ -279,7 +284,9 @@ pub(crate) fn run_engine<'p, R: Threads + Wait + Sync, G: Gate + Sync, H: Host<'
 {
     match line {
         Line::Judge { trace, schedule } => judge_files(alloc, host, trace, schedule, out, kept),
-        Line::Cnf { trace, .. } => translate_file(alloc, host, trace, out, kept),
+        Line::Cnf { trace, workers } => translate_file(
+            alloc, rt, host, trace, workers, out, kept,
+        ),
         Line::Decode { trace, model } => decode_files(alloc, host, trace, model, out, kept),
         Line::Lrat { cnf, proof } => check_files(alloc, host, cnf, proof, out, kept),
         Line::Recheck { trace, cert, part } => recheck_any(

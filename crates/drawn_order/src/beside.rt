@@ -57,7 +57,7 @@ fn put_first_writer(
 }
 
 /// Returns whether the initial value is one that the box may have read.
-fn may_read_initial(items: &[PictureItem<'_>], reader: &PictureItem<'_>) -> bool {
+fn may_read_initial<'t>(items: &[PictureItem<'t>], reader: &PictureItem<'t>) -> bool {
     for item in items {
         if item.is_initial() && reader.may_read_from(item) {
             return true;
@@ -66,7 +66,7 @@ fn may_read_initial(items: &[PictureItem<'_>], reader: &PictureItem<'_>) -> bool
     false
 }
 
-/// Puts beside the others what shows why the boxes have no source but those that are drawn, as far as that is little.
+/// Puts beside the others what shows why a box has no source but those that are drawn, if these are few.
 pub(crate) fn put_all_beside(
     alloc: Global,
     part: PartTrace<'_>,

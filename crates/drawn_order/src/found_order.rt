@@ -231,7 +231,7 @@ impl FoundOrder {
         }
     }
 
-    /// How many sources of the box that are not drawn the known order excludes.
+    /// The number of sources of the box that are not drawn and that the known order excludes.
     pub fn unseen_sources(&self, reader: usize) -> usize {
         if reader < self.unseen.len() {
             self.unseen[reader]

@@ -1,6 +1,6 @@
 //! The boxes of a picture.
 
-use crate::choice::{DrawnChoice, number_at, number_of};
+use crate::choice::{DrawnChoice, is_same, number_at, number_of};
 use crate::item::{ItemKind, PictureItem};
 use forced_order::numbered::OperationNumber;
 use std::alloc::{AllocError, Global};
@@ -150,13 +150,7 @@ fn add_finals<'t>(
     for entry in trace.final_values() {
         let location = entry.0.as_bytes();
         if is_used(items.as_slice(), location) {
-            items.push(value_item(
-                ItemKind::Final,
-                location,
-                entry.1,
-                column,
-                row,
-            ))?;
+            items.push(value_item(ItemKind::Final, location, entry.1, column, row))?;
             row = after(row);
         }
     }
@@ -181,18 +175,19 @@ pub fn items_of_choice<'t>(
     Ok(items)
 }
 
+/// Gives the box of this place in the list the row, if it is of this operation.
+fn put_in_row<'t>(items: &mut Vec<PictureItem<'t>>, k: usize, number: OperationNumber, row: usize) {
+    if k < items.len() && items[k].is_operation() && is_same(items[k].number, number) {
+        items[k].row = row;
+    }
+}
+
 /// Gives each operation the row of its place in the schedule.
-fn place_by_schedule(items: &mut Vec<PictureItem<'_>>, trace: &Trace, names: &[OpName]) {
+fn place_by_schedule<'t>(items: &mut Vec<PictureItem<'t>>, trace: &Trace, names: &[OpName]) {
     for row in 0..names.len() {
         if let Some(number) = number_of(trace, &names[row]) {
             for k in 0..items.len() {
-                let item = &items[k];
-                if item.is_operation()
-                    && item.number.process == number.process
-                    && item.number.place == number.place
-                {
-                    items[k].row = row;
-                }
+                put_in_row(items, k, number, row);
             }
         }
     }

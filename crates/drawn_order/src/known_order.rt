@@ -45,7 +45,7 @@ impl<'t> PartTrace<'t> {
         }
     }
 
-    /// The last write of the process at the location among its first operations, which are so many.
+    /// The last write of the process at the location among its first `count` operations.
     fn last_writer(
         &self,
         process: usize,

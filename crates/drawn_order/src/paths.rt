@@ -61,7 +61,7 @@ impl Reached {
     }
 }
 
-/// The first arrows, which are so many.
+/// The first `count` arrows.
 pub(crate) fn first_of(arrows: &[OrderArrow], count: usize) -> &[OrderArrow] {
     match arrows.get(..count) {
         Some(first) => first,

@@ -121,7 +121,7 @@ impl<'t> DrawnPart<'t> {
         None
     }
 
-    /// Why the reader cannot have its value from the writer, if the order says so.
+    /// Returns why the reader cannot have its value from the writer, if the order says so.
     pub(crate) fn why_excluded(
         &self,
         found: &FoundOrder,

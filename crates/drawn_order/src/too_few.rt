@@ -7,12 +7,12 @@ use trace_semantics::trace::Trace;
 
 /// A value at a location.
 #[derive(Clone, Copy)]
-struct PlacedValue<'t> {
+struct NeededValue<'t> {
     location: &'t [u8],
     value: u64,
 }
 
-impl PlacedValue<'_> {
+impl NeededValue<'_> {
     /// Returns whether these are the value and its location.
     fn is(&self, location: &[u8], value: Option<u64>) -> bool {
         value == Some(self.value) && self.location == location
@@ -30,7 +30,7 @@ impl PlacedValue<'_> {
 }
 
 /// Returns whether more operations need a source of this value than there are sources. A final value needs one too.
-fn is_short(trace: &Trace, placed: PlacedValue<'_>) -> bool {
+fn is_short(trace: &Trace, placed: NeededValue<'_>) -> bool {
     let mut needed: u64 = 0;
     let mut given: u64 = 0;
     for entry in trace.initial() {
@@ -60,7 +60,7 @@ fn is_short(trace: &Trace, placed: PlacedValue<'_>) -> bool {
 fn choice_of(
     alloc: Global,
     trace: &Trace,
-    placed: PlacedValue<'_>,
+    placed: NeededValue<'_>,
 ) -> Result<DrawnChoice, AllocError> {
     let mut choice = DrawnChoice::none(alloc);
     let processes = trace.processes();
@@ -83,7 +83,7 @@ pub fn too_few_sources(alloc: Global, trace: &Trace) -> Result<Option<DrawnChoic
     for process in trace.processes() {
         for op in process.operations.as_slice() {
             if let (Some(value), Some(_)) = (op.value_read(), op.written_value()) {
-                let placed = PlacedValue {
+                let placed = NeededValue {
                     location: op.location().as_bytes(),
                     value,
                 };

@@ -1,6 +1,6 @@
 //! On which arrows, and on which exclusions of sources, a contradiction rests.
 
-use crate::found_order::{ArrowKind, DerivedBy, DerivedRule, FoundOrder, WhyExcluded};
+use crate::found_order::{ArrowKind, DerivedBy, DerivedRule, Exclusion, FoundOrder, WhyExcluded};
 use crate::paths::{first_of, way_between};
 use std::alloc::{AllocError, Global};
 
@@ -11,7 +11,14 @@ fn use_arrow(found: &mut FoundOrder, number: usize) {
     }
 }
 
-/// Marks the arrows of a shortest way between two boxes along the first arrows, which are so many.
+/// Marks the arrow of this number as one that is used, if it is of the cycle.
+fn use_if_marked(found: &mut FoundOrder, number: usize) {
+    if number < found.arrows.len() && found.arrows[number].is_marked {
+        found.arrows[number].is_used = true;
+    }
+}
+
+/// Marks the arrows of a shortest way between two boxes along the first `known` arrows.
 fn use_way(
     alloc: Global,
     found: &mut FoundOrder,
@@ -39,7 +46,7 @@ fn use_source(found: &mut FoundOrder, reader: usize) {
     }
 }
 
-/// Marks what an order follows of, among the first arrows, which are so many.
+/// Marks what an order follows from, among the first `known` arrows.
 fn use_premises(
     alloc: Global,
     found: &mut FoundOrder,
@@ -54,24 +61,39 @@ fn use_premises(
     }
 }
 
+/// Marks the exclusion of this number, if it is one of a source of the reader, and returns it.
+fn use_exclusion(found: &mut FoundOrder, number: usize, reader: usize) -> Option<Exclusion> {
+    if number < found.exclusions.len() && found.exclusions[number].reader == reader {
+        found.exclusions[number].is_used = true;
+        Some(found.exclusions[number])
+    } else {
+        None
+    }
+}
+
+/// Marks what excludes a source.
+fn use_why(alloc: Global, found: &mut FoundOrder, exclusion: Exclusion) -> Result<(), AllocError> {
+    let known = exclusion.known;
+    let reader = exclusion.reader;
+    let writer = exclusion.writer;
+    match exclusion.why {
+        WhyExcluded::Late => use_way(alloc, found, known, reader, writer),
+        WhyExcluded::Overwritten(other) => {
+            use_way(alloc, found, known, writer, other)?;
+            use_way(alloc, found, known, other, reader)
+        }
+        WhyExcluded::Taken(other) => {
+            use_source(found, other);
+            Ok(())
+        }
+    }
+}
+
 /// Marks what excludes the other sources of the reader.
 fn use_exclusions(alloc: Global, found: &mut FoundOrder, reader: usize) -> Result<(), AllocError> {
     for k in 0..found.exclusions.len() {
-        let exclusion = found.exclusions[k];
-        if exclusion.reader == reader {
-            if k < found.exclusions.len() {
-                found.exclusions[k].is_used = true;
-            }
-            let known = exclusion.known;
-            let writer = exclusion.writer;
-            match exclusion.why {
-                WhyExcluded::Late => use_way(alloc, found, known, reader, writer)?,
-                WhyExcluded::Overwritten(other) => {
-                    use_way(alloc, found, known, writer, other)?;
-                    use_way(alloc, found, known, other, reader)?;
-                }
-                WhyExcluded::Taken(other) => use_source(found, other),
-            }
+        if let Some(exclusion) = use_exclusion(found, k, reader) {
+            use_why(alloc, found, exclusion)?;
         }
     }
     Ok(())
@@ -96,9 +118,7 @@ fn use_of_arrow(alloc: Global, found: &mut FoundOrder, number: usize) -> Result<
 /// Marks all on which the contradiction rests, from its last arrow to its first.
 pub(crate) fn mark_used(alloc: Global, found: &mut FoundOrder) -> Result<(), AllocError> {
     for number in 0..found.arrows.len() {
-        if found.arrows[number].is_marked {
-            use_arrow(found, number);
-        }
+        use_if_marked(found, number);
     }
     for reader in 0..found.lacking.len() {
         if found.is_lacking(reader) {

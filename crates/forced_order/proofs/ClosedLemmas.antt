@@ -1,21 +1,18 @@
 -- Rows that no step raises say all that is forced.
-use Rattle.std.proofs.Common.{◌≡◌, ℕ, zero, suc, ◌+◌, ◌-◌, ◌<◌, ◌≤◌, List, [], ◌∷◌, length, get_or, true, false, refl, ap, sym, ◌∙◌, subst, arith, inl, inr}
+use Rattle.std.proofs.Common.{◌≡◌, ℕ, zero, suc, ◌+◌, ◌-◌, ◌<◌, ◌≤◌, List, [], ◌∷◌, length, refl, ap, sym, ◌∙◌, subst, arith, inl, inr}
 use Rattle.std.specs.Prelude.{IsSome, Some}
 use Rattle.std.specs.List.{Contains, slice_get}
-use Rattle.std.proofs.lemmas.Bool.{cases_lt, cases_order, leb-true, le-leb, false_from_ne_true}
-use Rattle.std.proofs.lemmas.Option.{slice_get_read, slice_get_within, get_or_from_slice_get}
+use Rattle.std.proofs.lemmas.Bool.{le-leb}
+use Rattle.std.proofs.lemmas.Option.{slice_get_read, slice_get_within}
 use Rattle.trace_semantics.specs.declared.operation.OpName.{OpName}
 use Rattle.trace_semantics.specs.declared.trace.Process.{Process}
 use Rattle.trace_semantics.specs.PairOrder.{order_of}
 use Rattle.trace_semantics.specs.Trace.{TraceValue, IsTrace, operation_at}
 use Rattle.trace_semantics.proofs.ElementLemmas.{to_map}
-use Rattle.trace_semantics.proofs.NameLemmas.{known_named, named_known}
-use Rattle.forced_order.specs.declared.numbered.OperationNumber.{OperationNumber}
-use Rattle.forced_order.specs.Closed.{AreClosed, IsCircle, HasNoCircle}
+use Rattle.forced_order.specs.Closed.{AreClosed}
 use Rattle.forced_order.specs.Forced.{AreForced, numbered_pair, numbered_pairs}
-use Rattle.forced_order.specs.Order.{IsInProgramOrder, IsStep, IsPath, IsForced, IsCyclic, IsForcedOrder}
+use Rattle.forced_order.specs.Order.{IsInProgramOrder, IsStep, IsPath, IsForced, IsForcedOrder}
 use Rattle.forced_order.specs.Rows.{OrderValue, last_before, numbered, ordered_by}
-use Rattle.forced_order.proofs.ForcedLemmas.{forced_lower}
 use Rattle.forced_order.proofs.RowLemmas.{placed, path_known, one_process, sound}
 
 -- from each place to the next, so from each to each after it
@@ -94,47 +91,8 @@ module _ (t : TraceValue) (ok : IsTrace t) (order : OrderValue) where
     complete : (m n : OpName) → IsForced t m n → Stands m n
     complete m n f = path_stands m f.0 n f.1
 
-    pub forced_order : AreForced t order → HasNoCircle t.processes order → IsForcedOrder t (ordered_by t order)
-    forced_order forced none = record {
+    pub forced_order : AreForced t order → IsForcedOrder t (ordered_by t order)
+    forced_order forced = record {
       within = sound t ok order forced;
-      whole = λ _ m n f. le-leb m.place (last_before order (numbered t.processes n) (order_of t.processes m.process)) (complete m n f);
-      silent = λ cyclic m n h k. (let x = cyclic.0 in
-          let at = placed t x (path_known t ok x cyclic.1.0 x cyclic.1.1) in
-          let low = none (order_of t.processes x.process) at.process at.at x.place at.least at.most in
-          let high = complete x x cyclic.1 in
-          absurd (omega (arith, low, high)));
+      whole = λ m n f. le-leb m.place (last_before order (numbered t.processes n) (order_of t.processes m.process)) (complete m n f);
     }
-
-  -- an operation that stands before itself by rows that are forced
-  pub circle_forced : AreForced t order → IsCircle t.processes order → IsCyclic t
-  circle_forced forced c =
-      let n : OperationNumber = record { process = c.process; place = c.place } in
-      let l = last_before order n c.process in
-      let before = c.before in
-      let least = c.least in
-      elim (forced n c.process) [
-        | inl none ↦ absurd (omega (arith, before, least, none))
-        | inr f ↦ (let same_first = one_process t c.process f.first c.called f.first_at c.listed in
-            let same_second = one_process t c.process f.second c.called f.second_at c.listed in
-            let last : OpName = record { process = c.called.name; place = l } in
-            let here : OpName = record { process = c.called.name; place = c.place } in
-            let one : IsForced t last (record { process = f.second.name; place = c.place }) = subst (λ (p : Process). IsForced t (record { process = p.name; place = l }) (record { process = f.second.name; place = c.place })) same_first f.forced in
-            let two : IsForced t last here = subst (λ (p : Process). IsForced t last (record { process = p.name; place = c.place })) same_second one in
-            let listed : Contains t.processes c.called = (c.process, slice_get_within t.processes c.process c.called c.listed, get_or_from_slice_get t.processes c.process c.called c.called c.listed) in
-            let known : IsSome (operation_at t here) = named_known t ok here (record { process = c.called; listed = listed; called = refl; least = least; most = c.most }) in
-            (here, forced_lower t here last here known (path_known t ok last two.0 here two.1) refl before two))
-      ]
-
-  -- rows of nothing, if the forced order is cyclic
-  pub no_order : ((n : OperationNumber) (q : ℕ) → last_before order n q ≡ 0) → IsCyclic t → IsForcedOrder t (ordered_by t order)
-  no_order zero_all cyclic = record {
-    within = λ m n h k ordered. absurd (never m n h ordered);
-    whole = λ not_cyclic. absurd (not_cyclic cyclic);
-    silent = λ _ m n h k. false_from_ne_true (ordered_by t order m n) (never m n h);
-  }
-    where
-      never : (m n : OpName) → IsSome (operation_at t m) → ordered_by t order m n ≡ true → ⊥
-      never m n h ordered =
-          let high = leb-true m.place (last_before order (numbered t.processes n) (order_of t.processes m.process)) ordered in
-          let none = zero_all (numbered t.processes n) (order_of t.processes m.process) in
-          omega (arith, (known_named t m h).least, high, none)

@@ -1,12 +1,12 @@
 -- Every legal schedule keeps the forced order.
-use Rattle.std.proofs.Common.{◌≡◌, ◌≤◌, Bool, true, false, List, [], ◌∷◌, ◌++◌, ap, sym, ◌∙◌, subst, arith, inl, inr}
+use Rattle.std.proofs.Common.{◌≡◌, ◌≤◌, Bool, List, [], ◌∷◌, ◌++◌, ap, sym, subst, arith, inl, inr}
 use Rattle.std.specs.Prelude.{IsSome}
 use Rattle.std.proofs.lemmas.Bool.{cases_order}
 use Rattle.text_lines.proofs.BoolLemmas.{same_truth}
 use Rattle.trace_semantics.specs.declared.operation.OpName.{OpName}
 use Rattle.trace_semantics.specs.Interleaving.{StandsBefore, IsInterleaving}
 use Rattle.trace_semantics.specs.Trace.{TraceValue, operation_at}
-use Rattle.forced_order.specs.Order.{Agree, IsClosedForward, IsCyclic, IsForcedOrder, IsInProgramOrder, IsStep, IsPath, IsForced}
+use Rattle.forced_order.specs.Order.{Agree, IsClosedForward, IsForcedOrder, IsInProgramOrder, IsStep, IsPath, IsForced}
 use Rattle.restriction.proofs.StandLemmas.{stands_over, stands_either}
 
 module _ (t : TraceValue) (names : List OpName) (given : IsInterleaving t names) where
@@ -45,16 +45,8 @@ forced_lower t l m n first second same low h =
       | inr (inr above) ↦ absurd (omega (arith, low, above))
     ]
 
--- what is said of operations by a forced order: it is not cyclic
-not_cyclic : (t : TraceValue) (ordered : OpName → OpName → Bool) → IsForcedOrder t ordered → (m n : OpName) → IsSome (operation_at t m) → IsSome (operation_at t n) → ordered m n ≡ true → IsCyclic t → ⊥
-not_cyclic t ordered given m n h k e cyclic = let clash : true ≡ false = sym e ∙ given.silent cyclic m n h k in cc
-
-said_by : (t : TraceValue) (first second : OpName → OpName → Bool) → IsForcedOrder t first → IsForcedOrder t second → (m n : OpName) → IsSome (operation_at t m) → IsSome (operation_at t n) → first m n ≡ true → second m n ≡ true
-said_by t first second given other m n h k e = other.whole (not_cyclic t first given m n h k e) m n (given.within m n h k e)
-
 pub orders_agree : (t : TraceValue) (first second : OpName → OpName → Bool) → IsForcedOrder t first → IsForcedOrder t second → Agree t first second
-orders_agree t first second given other m n h k = same_truth (first m n) (second m n) (said_by t first second given other m n h k) (said_by t second first other given m n h k)
+orders_agree t first second given other m n h k = same_truth (first m n) (second m n) (λ e. other.whole m n (given.within m n h k e)) (λ e. given.whole m n (other.within m n h k e))
 
 pub forced_forward : (t : TraceValue) (ordered : OpName → OpName → Bool) → IsForcedOrder t ordered → IsClosedForward t ordered
-forced_forward t ordered given x m n h into e =
-    given.whole (not_cyclic t ordered given x m h into.first e) x n (forced_over t x m n (given.within x m h into.first e) ([], inl into))
+forced_forward t ordered given x m n h into e = given.whole x n (forced_over t x m n (given.within x m h into.first e) ([], inl into))

@@ -42,9 +42,14 @@ module _ (t : TraceValue) where
   pub pass_as : (r : Bool) (old new : OrderValue) (P R : OrderValue → Type 0) → (P new → R new) → IsPass t r old new P → IsPass t r old new R
   pass_as r old new P R weaker pass = record { forced = pass.forced; rise = pass.rise; closed = λ e rows. weaker (pass.closed e rows) }
 
-pub falls_behind : (a : Bool) (old mid new : OrderValue) → IsRise a old mid → IsRise true mid new → room new < room old
-falls_behind true old mid new first second = falls true true old mid new first second refl
-falls_behind false old mid new first second = falls false true old mid new first second refl
+or_middle : (a b c : Bool) → b ≡ true → (a || b || c) ≡ true
+or_middle true b c e = refl
+or_middle false true c e = refl
+or_middle false false c e = absurd (cc)
+
+-- of three rises the second raised some place
+pub falls_between : (a b c : Bool) (old mid later new : OrderValue) → IsRise a old mid → IsRise b mid later → IsRise c later new → b ≡ true → room new < room old
+falls_between a b c old mid later new first second third e = (rise_joined (a || b) c old later new (rise_joined a b old mid later first second) third).less (or_middle a b c e)
 
 pub rows_stay : (processes : List Process) (rose : Bool) (old new : OrderValue) → IsRise rose old new → HasRows processes old → HasRows processes new
 rows_stay processes rose old new rise rows = λ j k p at l. rise.rows (record { process = j; place = k }) (rows j k p at l)

@@ -28,21 +28,3 @@ ArePairsClosed pairs order = (j : ℕ) (pair : OperationNumber × OperationNumbe
 pub record AreClosed (t : TraceValue) (order : OrderValue) : Type 0 where
   pub program : AreProcessesClosed t.processes order
   pub pairs : ArePairsClosed (numbered_pairs t) order
-
--- an operation that stands before itself
-pub record IsCircle (processes : List Process) (order : OrderValue) : Type 0 where
-  pub process : ℕ
-  pub place : ℕ
-  pub called : Process
-  pub listed : slice_get processes process ≡ Some called
-  pub least : 1 ≤ place
-  pub most : place ≤ length called.operations
-  pub before : place ≤ last_before order (record { process = process; place = place }) process
-
--- of a process with this number of operations none stands before itself
-abbrev pub IsForward : OrderValue → ℕ → ℕ → Type 0
-IsForward order process count = (k : ℕ) → 1 ≤ k → k ≤ count → last_before order (record { process = process; place = k }) process < k
-
--- no operation stands before itself
-abbrev pub HasNoCircle : List Process → OrderValue → Type 0
-HasNoCircle processes order = (j : ℕ) (p : Process) → slice_get processes j ≡ Some p → IsForward order j (length p.operations)

@@ -1,5 +1,5 @@
 -- Orders that every legal schedule of a trace keeps.
-use Rattle.std.specs.Prelude.{◌≡◌, ◌⊎◌, ◌<◌, true, false, Bool, List, [], ◌∷◌, IsSome}
+use Rattle.std.specs.Prelude.{◌≡◌, ◌⊎◌, ◌<◌, true, Bool, List, [], ◌∷◌, IsSome}
 use Rattle.std.specs.List.{Contains}
 use Rattle.trace_semantics.specs.declared.operation.OpName.{OpName}
 use Rattle.trace_semantics.specs.Interleaving.{StandsBefore}
@@ -22,7 +22,8 @@ abbrev pub IsPath : TraceValue → OpName → List OpName → OpName → Type 0
 IsPath t m [] n = IsStep t m n
 IsPath t m (x ∷ between) n = IsStep t m x × IsPath t x between n
 
--- the forced order: the least transitive relation that contains program order and the before pairs
+-- the forced order: the least transitive relation that contains program order and the before pairs; if these lead in a circle, it puts each
+-- operation of the circle before itself
 abbrev pub IsForced : TraceValue → OpName → OpName → Type 0
 IsForced t m n = (between : List OpName) × IsPath t m between n
 
@@ -38,15 +39,10 @@ IsObeyed t ordered = (names : List OpName) → IsLegal t names → Obeys t names
 abbrev pub IsWithinForced : TraceValue → (OpName → OpName → Bool) → Type 0
 IsWithinForced t ordered = (m n : OpName) → IsSome (operation_at t m) → IsSome (operation_at t n) → ordered m n ≡ true → IsForced t m n
 
--- some operation is forced to stand before itself, since program order and before pairs lead in a circle
-abbrev pub IsCyclic : TraceValue → Type 0
-IsCyclic t = (n : OpName) × IsForced t n n
-
--- the order is the forced one: it says no more, and no less; but if the forced order is cyclic, it says nothing of the operations of the trace
+-- the order is the forced one: it says no more, and no less
 pub record IsForcedOrder (t : TraceValue) (ordered : OpName → OpName → Bool) : Type 0 where
   pub within : IsWithinForced t ordered
-  pub whole : (IsCyclic t → ⊥) → (m n : OpName) → IsForced t m n → ordered m n ≡ true
-  pub silent : IsCyclic t → (m n : OpName) → IsSome (operation_at t m) → IsSome (operation_at t n) → ordered m n ≡ false
+  pub whole : (m n : OpName) → IsForced t m n → ordered m n ≡ true
 
 -- the orders say the same of the operations of the trace
 abbrev pub Agree : TraceValue → (OpName → OpName → Bool) → (OpName → OpName → Bool) → Type 0

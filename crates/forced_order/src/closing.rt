@@ -1,16 +1,15 @@
 //! The rows of a trace, raised until they say all that is forced.
 
-ghost use Rattle.std.specs.Prelude.{◌≡◌, ◌+◌, true, false, length, map, IfOk};
+ghost use Rattle.std.specs.Prelude.{◌≡◌, ◌+◌, length, map, IfOk};
 ghost use Rattle.trace_semantics.specs.declared.trace.Process.{Process as Listed};
 ghost use Rattle.trace_semantics.specs.Trace.{IsTrace};
 ghost use Rattle.forced_order.specs.Forced.{AreForced, numbered_pairs};
-ghost use Rattle.forced_order.specs.Order.{IsCyclic, IsForcedOrder};
+ghost use Rattle.forced_order.specs.Order.{IsForcedOrder};
 ghost use Rattle.forced_order.specs.Rows.{HasRows, ordered_by};
 
-use crate::circle::has_circle;
 use crate::numbered::OperationNumber;
 use crate::pairs::pairs_of;
-use crate::raising::{raise_all, raise_walked};
+use crate::raising::{raise_all, raise_along, raise_back};
 use crate::rows::OrderRows;
 use crate::walk::{OrderStep, steps_of};
 use std::alloc::{AllocError, Global};
@@ -29,33 +28,29 @@ fn row_counts(alloc: Global, trace: &Trace) -> Result<Vec<usize>, AllocError>
     Ok(counts)
 }
 
-/// Raises rows until they say all that is forced, and returns true; or false if an operation stands before itself. Along the steps of
-/// a walk once is enough, unless pairs are cyclic.
+/// Raises rows until no step raises any, when they say all that is forced. Once along a walk is enough unless pairs are cyclic.
 fn close(
     rows: &mut OrderRows,
     trace: &Trace,
     pairs: &[(OperationNumber, OperationNumber)],
     steps: &[OrderStep],
-) -> bool
+)
     requires trace { IsTrace trace.now }
     requires pairs { pairs.now ≡ numbered_pairs trace.now }
     requires rows { HasRows trace.now.processes rows.old }
     requires forced { AreForced trace.now rows.old }
-    ensures closed { result ≡ true → IsForcedOrder trace.now (ordered_by trace.now rows.new) }
-    ensures circle { result ≡ false → IsCyclic trace.now }
+    ensures { IsForcedOrder trace.now (ordered_by trace.now rows.new) }
 {
     loop {
-        raise_walked(rows, trace, pairs, steps);
-        if has_circle(rows, trace) {
-            return false;
-        }
+        raise_along(rows, trace, pairs, steps);
         if !raise_all(rows, trace, pairs) {
-            return true;
+            return;
         }
+        raise_back(rows, trace, pairs, steps);
     }
 }
 
-/// Returns the rows of a trace that say all that is forced, or none if that is cyclic.
+/// Returns the rows of a trace, which say all that is forced.
 pub fn rows_of(alloc: Global, trace: &Trace) -> Result<OrderRows, AllocError>
     ensures { IfOk result (λ rows. IsForcedOrder trace.now (ordered_by trace.now rows)) }
 {
@@ -65,9 +60,6 @@ pub fn rows_of(alloc: Global, trace: &Trace) -> Result<OrderRows, AllocError>
     let pairs = numbers.as_slice();
     let steps = steps_of(alloc, counts.as_slice(), pairs)?;
     let mut rows = OrderRows::zeros(alloc, counts.as_slice())?;
-    if close(&mut rows, trace, pairs, steps.as_slice()) {
-        Ok(rows)
-    } else {
-        Ok(OrderRows::none(alloc))
-    }
+    close(&mut rows, trace, pairs, steps.as_slice());
+    Ok(rows)
 }

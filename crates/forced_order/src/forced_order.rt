@@ -26,7 +26,7 @@ impl ForcedOrder {
     ghost use Rattle.forced_order.specs.Order.{IsForcedOrder};
     ghost use Rattle.forced_order.specs.Rows.{last_before, stands_by, ordered_by};
 
-    /// Returns the forced order of a trace; if that is cyclic, as before pairs may be, the order that says nothing.
+    /// Returns the forced order of a trace.
     pub fn of_trace(alloc: Global, trace: &Trace) -> Result<ForcedOrder, AllocError>
         ensures { IfOk result (λ order. IsForcedOrder trace.now (ordered_by trace.now order)) }
     {

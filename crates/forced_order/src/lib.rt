@@ -1,7 +1,6 @@
 //! The order that program order and the before pairs of a trace force on its operations.
 #![tactic(auto)]
 
-mod circle;
 mod closing;
 pub mod forced_order;
 pub mod laws;

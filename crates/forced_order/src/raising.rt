@@ -1,6 +1,6 @@
 //! Raises the rows of a trace along the steps of its forced order.
 
-ghost use Rattle.std.specs.Prelude.{◌≡◌, ◌≤◌, ◌<◌, ◌+◌, Some, length};
+ghost use Rattle.std.specs.Prelude.{◌≡◌, ◌≤◌, ◌<◌, ◌+◌, Some, IsSome, length};
 ghost use Rattle.std.specs.List.{slice_get};
 ghost use Rattle.trace_semantics.specs.declared.trace.Process.{Process as Listed};
 ghost use Rattle.trace_semantics.specs.Trace.{IsTrace};
@@ -8,11 +8,23 @@ ghost use Rattle.forced_order.specs.Closed.{AreClosed, AreProcessesClosed, ArePa
 ghost use Rattle.forced_order.specs.Forced.{numbered_pairs};
 ghost use Rattle.forced_order.specs.Raised.{IsPass};
 
-use crate::circle::count_of;
 use crate::numbered::OperationNumber;
 use crate::rows::{OrderRows, either};
 use crate::walk::OrderStep;
 use trace_semantics::trace::Trace;
+
+/// Returns the number of operations of the process under this number; 0 if there is no such process.
+fn count_of(trace: &Trace, k: usize) -> usize
+    requires trace { IsTrace trace.now }
+    ensures count { (p : Listed) → slice_get trace.now.processes k ≡ Some p → result ≡ length p.operations }
+    ensures found { 1 ≤ result → IsSome (slice_get trace.now.processes k) }
+    ensures few { result ≤ 4096 }
+{
+    match trace.processes().get(k) {
+        Some(process) => process.operations.as_slice().len(),
+        None => 0,
+    }
+}
 
 /// Raises the row of the operation after this one in its process.
 fn raise_next(rows: &mut OrderRows, trace: &Trace, n: OperationNumber) -> bool
@@ -68,7 +80,7 @@ fn raise_step(
 }
 
 /// Raises rows along the steps of a walk, and returns whether one was lower.
-pub fn raise_walked(
+pub fn raise_along(
     rows: &mut OrderRows,
     trace: &Trace,
     pairs: &[(OperationNumber, OperationNumber)],
@@ -81,6 +93,26 @@ pub fn raise_walked(
     let mut rose = false;
     for step in steps {
         let more = raise_step(rows, trace, pairs, *step);
+        rose = either(rose, more);
+    }
+    rose
+}
+
+/// Raises rows along the steps of a walk from the last to the first, and returns whether one was lower. Steps that go back in the walk, as
+/// some do if pairs are cyclic, are each taken before those that follow on them.
+pub fn raise_back(
+    rows: &mut OrderRows,
+    trace: &Trace,
+    pairs: &[(OperationNumber, OperationNumber)],
+    steps: &[OrderStep],
+) -> bool
+    requires trace { IsTrace trace.now }
+    requires pairs { pairs.now ≡ numbered_pairs trace.now }
+    ensures { IsPass trace.now result rows.old rows.new (λ order. Unit {0}) }
+{
+    let mut rose = false;
+    for k in 0..steps.len() {
+        let more = raise_step(rows, trace, pairs, steps[steps.len() - 1 - k]);
         rose = either(rose, more);
     }
     rose

@@ -159,15 +159,6 @@ impl OrderRows {
     ghost use Rattle.forced_order.specs.Rows.{HasRow, last_before};
     ghost use Rattle.forced_order.specs.declared.numbered.OperationNumber.{OperationNumber as Named};
 
-    /// Returns rows of no process.
-    pub fn none(alloc: Global) -> OrderRows
-        ensures { (n : Named) (q : ℕ) → last_before result n q ≡ 0 }
-    {
-        OrderRows {
-            processes: Vec::new(alloc),
-        }
-    }
-
     /// Returns rows of zeros: for each process the number that is given.
     pub fn zeros(alloc: Global, counts: &[usize]) -> Result<OrderRows, AllocError>
         ensures zero { IfOk result (λ rows. (n : Named) (q : ℕ) → last_before rows n q ≡ 0) }

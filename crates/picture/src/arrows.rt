@@ -207,9 +207,10 @@ impl ArrowPage<'_, '_> {
         items: &[PictureItem<'_>],
         exclusion: &Exclusion,
     ) -> Result<(), AllocError> {
-        if let (Some(first), Some(second)) =
-            (items.get(exclusion.writer), items.get(exclusion.reader))
-        {
+        if let (Some(first), Some(second)) = (
+            items.get(exclusion.writer),
+            items.get(exclusion.reader),
+        ) {
             let route = self.route(alloc, ArrowKind::Source, first, second)?;
             draw_route(self.svg, EXCLUDED, &route);
             draw_cross(self.svg, &route);

@@ -4,7 +4,7 @@ use crate::arrows::ArrowPage;
 use crate::boxes::{draw_boxes, draw_titles};
 use crate::legend::{LEGEND_STEP, LegendEntries, draw_legend};
 use crate::placement::{MARGIN, Placement};
-use crate::reasons::Reasons;
+use crate::reasons::ReasonLines;
 use crate::routes::Lanes;
 use crate::style::begin_document;
 use crate::subject::{PictureSubject, count_all};
@@ -39,9 +39,13 @@ fn draw_note(svg: &mut SvgText, words: &[&[u8]]) {
     svg.line_of_text(b"note", MARGIN, 54, words);
 }
 
-/// One operation, or so many operations.
+/// The word for this number of operations.
 fn operations(count: u64) -> &'static [u8] {
-    if count == 1 { b" operation" } else { b" operations" }
+    if count == 1 {
+        b" operation"
+    } else {
+        b" operations"
+    }
 }
 
 impl Content<'_, '_> {
@@ -61,21 +65,28 @@ impl Content<'_, '_> {
         } else if self.shows_why() {
             draw_title(
                 svg,
-                &[b"No legal schedule: ", count, operations(drawn), b", and why no order explains them"],
+                &[
+                    b"No legal schedule: ",
+                    count,
+                    operations(drawn),
+                    b" that no order explains",
+                ],
             );
         } else {
-            draw_title(svg, &[b"No legal schedule: ", count, operations(drawn)]);
+            draw_title(svg, &[b"No legal schedule of ", count, operations(drawn)]);
         }
     }
 
     /// Draws what stands below the title.
     fn draw_note(&self, svg: &mut SvgText) {
-        let all = decimal(count_all(self.trace));
+        let count = count_all(self.trace);
+        let all = decimal(count);
         let all = all.as_slice();
+        let words = operations(count);
         let what: &[u8] = if self.shows_why() {
             b""
         } else {
-            b"; what contradicts itself here was not found"
+            b"; what contradicts itself here is not found"
         };
         match self.subject {
             PictureSubject::InOrder => draw_note(
@@ -83,9 +94,18 @@ impl Content<'_, '_> {
                 &[b"from top to bottom; each box has the position, the name, and the operation"],
             ),
             PictureSubject::Core => {
-                draw_note(svg, &[b"of ", all, b" operations of the trace, as a survey found them", what])
+                draw_note(
+                    svg,
+                    &[
+                        b"of ",
+                        all,
+                        words,
+                        b" of the trace, as a survey found them",
+                        what,
+                    ],
+                )
             }
-            PictureSubject::TooFew => draw_note(svg, &[b"of ", all, b" operations of the trace"]),
+            PictureSubject::TooFew => draw_note(svg, &[b"of ", all, words, b" of the trace"]),
             PictureSubject::Whole => draw_note(svg, &[b"the whole trace", what]),
         }
     }
@@ -137,7 +157,7 @@ impl Content<'_, '_> {
         let is_schedule = self.subject.is_in_order();
         let placement = Placement::of(alloc, self.items, self.trace, is_schedule)?;
         let entries = LegendEntries::of(self.items, self.found, is_schedule);
-        let reasons = Reasons::of(alloc, self.items, self.found)?;
+        let reasons = ReasonLines::of(alloc, self.items, self.found)?;
         let legend = placement.bottom().saturating_add(20);
         let words = legend.saturating_add(entries.count().saturating_mul(LEGEND_STEP));
         let sentences = reasons.lines.len() as u64;
@@ -146,9 +166,9 @@ impl Content<'_, '_> {
             .right
             .saturating_add(MARGIN * 3)
             .max(LEAST_WIDTH)
-            .max(reasons.longest().saturating_mul(13) / 2 + MARGIN * 2);
+            .max((reasons.longest().saturating_mul(13) / 2).saturating_add(MARGIN * 2));
         let mut svg = SvgText::new(alloc);
-        begin_document(&mut svg, width, height.saturating_add(16));
+        begin_document(&mut svg, width, height.saturating_add(20));
         self.draw_title(&mut svg, count_operations(self.items));
         self.draw_note(&mut svg);
         if is_schedule {
@@ -156,14 +176,14 @@ impl Content<'_, '_> {
         }
         self.draw_body(alloc, &mut svg, &placement)?;
         draw_legend(&mut svg, &entries, legend);
-        draw_reasons(&mut svg, &reasons, words.saturating_add(4));
+        draw_reasons(&mut svg, &reasons, words.saturating_add(12));
         svg.add(&[b"</svg>\n"]);
         svg.into_bytes()
     }
 }
 
 /// Draws the sentences from this height on.
-fn draw_reasons(svg: &mut SvgText, reasons: &Reasons, y: u64) {
+fn draw_reasons(svg: &mut SvgText, reasons: &ReasonLines, y: u64) {
     let mut y = y;
     for line in &reasons.lines {
         svg.line_of_text(b"reason", MARGIN, y, &[line.as_slice()]);

@@ -197,7 +197,7 @@ pub(crate) fn draw_legend(svg: &mut SvgText, entries: &LegendEntries, y: u64) {
         line.sample(svg, b"giving", b"can be such a source");
     }
     if entries.beside {
-        let words = b"dashed: drawn beside the others, since it excludes a source";
+        let words = b"dashed: drawn beside the others, for what a read cannot have its value from";
         line.sample(svg, b"beside", words);
     }
 }

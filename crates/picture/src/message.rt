@@ -9,6 +9,7 @@ use std::alloc::{AllocError, Global};
 
 /// The size of such a picture.
 const WIDTH: u64 = 640;
+
 const HEIGHT: u64 = 72;
 
 /// Why nothing is drawn.
@@ -18,7 +19,7 @@ pub(crate) enum NothingDrawn {
     LongSchedule(u64),
     /// There is a legal schedule, and the survey for the picture found none.
     NoSchedule,
-    /// So many operations contradict each other, which are too many.
+    /// This number of operations contradict each other, which are too many.
     LargeCore(u64),
     /// There is no legal schedule, and the survey for the picture found no few operations without one.
     NoCore,

@@ -147,7 +147,7 @@ impl<'t> Placement<'t> {
         }
     }
 
-    /// Where the column of this number ends.
+    /// The right end of the column of this number.
     pub fn right_of(&self, column: usize) -> u64 {
         match self.columns.get(column) {
             Some(column) => column.left.saturating_add(column.width),

@@ -6,6 +6,7 @@ use drawn_order::{
 };
 use note_text::{GrowingText, decimal};
 use std::alloc::{AllocError, Global};
+use trace_semantics::operation::{Op, Origin};
 
 /// The most sentences below a picture.
 const MOST_SENTENCES: usize = 20;
@@ -15,7 +16,7 @@ const MOST_NAMED: usize = 4;
 
 /// The sentences below a picture.
 #[derive(Drop)]
-pub(crate) struct Reasons {
+pub(crate) struct ReasonLines {
     pub lines: Vec<Vec<u8>>,
 }
 
@@ -24,6 +25,19 @@ pub(crate) struct Reasons {
 struct Told<'p, 't> {
     items: &'p [PictureItem<'t>],
     found: &'p FoundOrder,
+}
+
+/// The mark that stands before a reason, after this number of others.
+fn mark_before(others: usize) -> &'static [u8] {
+    if others == 0 { b": " } else { b"; " }
+}
+
+/// Returns whether something is said of where a read has its value from.
+fn is_said(origin: &Origin) -> bool {
+    match origin {
+        Origin::Any => false,
+        _ => true,
+    }
 }
 
 impl Told<'_, '_> {
@@ -55,6 +69,13 @@ impl Told<'_, '_> {
         text.add(&[more]);
     }
 
+    /// Adds the location of the box.
+    fn add_location(&self, text: &mut GrowingText, number: usize) {
+        if let Some(item) = self.items.get(number) {
+            text.add(&[item.location]);
+        }
+    }
+
     /// Adds the location and the value that the box reads, as `x = 1`.
     fn add_value(&self, text: &mut GrowingText, number: usize) {
         if let Some(item) = self.items.get(number) {
@@ -72,10 +93,22 @@ impl Told<'_, '_> {
                 text.add(&[b", which comes later"]);
             }
             WhyExcluded::Overwritten(other) => {
-                self.add_names(text, exclusion.writer, b", which ", other, b" overwrites before it");
+                self.add_names(
+                    text,
+                    exclusion.writer,
+                    b", which ",
+                    other,
+                    b" overwrites before it",
+                );
             }
             WhyExcluded::Taken(other) => {
-                self.add_names(text, exclusion.writer, b", which ", other, b" needs for itself");
+                self.add_names(
+                    text,
+                    exclusion.writer,
+                    b", which ",
+                    other,
+                    b" needs for itself",
+                );
             }
         }
     }
@@ -87,7 +120,7 @@ impl Told<'_, '_> {
         for exclusion in &self.found.exclusions {
             if exclusion.reader == reader {
                 if named < MOST_NAMED {
-                    text.add(&[if named == 0 { b": " } else { b"; " }]);
+                    text.add(&[mark_before(named)]);
                     self.add_exclusion(text, exclusion);
                     named = named.saturating_add(1);
                 } else {
@@ -100,17 +133,22 @@ impl Told<'_, '_> {
         if rest > 0 {
             let count = decimal(rest);
             text.add(&[
-                if named == 0 { b": " } else { b"; " },
+                mark_before(named),
                 b"not from ",
                 count.as_slice(),
-                b" more writes of this value, which come later or are overwritten before it",
+                b" more writes of this value, which come later, are overwritten or are needed by others",
             ]);
         }
         named > 0 || rest > 0
     }
 
     /// The sentence on the source of a reader, if there is more to say than the arrow does.
-    fn sentence_of_source(&self, alloc: Global, writer: usize, reader: usize) -> Option<GrowingText> {
+    fn sentence_of_source(
+        &self,
+        alloc: Global,
+        writer: usize,
+        reader: usize,
+    ) -> Option<GrowingText> {
         let mut text = GrowingText::new(alloc);
         self.add_name(&mut text, reader);
         text.add(&[b" has "]);
@@ -124,6 +162,18 @@ impl Told<'_, '_> {
         }
     }
 
+    /// Returns whether the line of the box names its source.
+    fn names_source(&self, number: usize) -> bool {
+        match self.items.get(number) {
+            Some(item) => match item.op {
+                Some(Op::Read { origin, .. }) => is_said(origin),
+                Some(Op::Update { origin, .. }) => is_said(origin),
+                _ => false,
+            },
+            None => false,
+        }
+    }
+
     /// The sentence on a box that nothing gives its value.
     fn sentence_of_lack(&self, alloc: Global, reader: usize) -> GrowingText {
         let mut text = GrowingText::new(alloc);
@@ -131,10 +181,24 @@ impl Told<'_, '_> {
         self.add_name(&mut text, reader);
         text.add(&[b" "]);
         self.add_value(&mut text, reader);
-        if !self.add_exclusions(&mut text, reader) {
-            text.add(&[b": no operation and no init line does"]);
+        let has_reasons = self.add_exclusions(&mut text, reader);
+        match (has_reasons, self.names_source(reader)) {
+            (true, true) => text.add(&[b"; its line names no other source"]),
+            (true, false) => {}
+            (false, true) => text.add(&[b": its line names a source that does not leave this"]),
+            (false, false) => text.add(&[b": no operation and no init line does"]),
         }
         text
+    }
+
+    /// Adds that the reader has its value from the writer.
+    fn add_reading(&self, text: &mut GrowingText, reader: usize, writer: usize) {
+        self.add_name(text, reader);
+        text.add(&[b" reads "]);
+        self.add_location(text, reader);
+        text.add(&[b" from "]);
+        self.add_name(text, writer);
+        text.add(&[b", and "]);
     }
 
     /// The sentence on an order that follows of a source.
@@ -143,18 +207,36 @@ impl Told<'_, '_> {
         text.add(&[decimal(number).as_slice(), b": "]);
         match by.rule {
             DerivedRule::AfterSource => {
-                self.add_names(&mut text, by.reader, b" comes before ", by.other, b", since ");
-                self.add_names(&mut text, by.reader, b" reads from ", by.writer, b", and ");
+                self.add_names(
+                    &mut text,
+                    by.reader,
+                    b" comes before ",
+                    by.other,
+                    b", since ",
+                );
+                self.add_reading(&mut text, by.reader, by.writer);
                 self.add_names(&mut text, by.other, b" overwrites ", by.writer, b"");
             }
             DerivedRule::BeforeReader => {
-                self.add_names(&mut text, by.other, b" comes before ", by.writer, b", since ");
-                self.add_names(&mut text, by.reader, b" reads from ", by.writer, b", and ");
-                self.add_names(&mut text, by.other, b" writes there before ", by.reader, b"");
+                self.add_names(
+                    &mut text,
+                    by.other,
+                    b" comes before ",
+                    by.writer,
+                    b", since ",
+                );
+                self.add_reading(&mut text, by.reader, by.writer);
+                self.add_names(&mut text, by.other, b" writes it before ", by.reader, b"");
             }
             DerivedRule::LastWrite => {
-                self.add_names(&mut text, by.other, b" comes before ", by.writer, b", since ");
-                self.add_names(&mut text, by.reader, b" is that of ", by.writer, b"");
+                self.add_names(
+                    &mut text,
+                    by.other,
+                    b" comes before ",
+                    by.writer,
+                    b", which leaves the final value of ",
+                );
+                self.add_location(&mut text, by.reader);
             }
         }
         text
@@ -186,12 +268,16 @@ impl Told<'_, '_> {
         text.add(&[needing.as_slice(), b" need "]);
         self.add_value(&mut text, shortage.first);
         let giving = decimal(shortage.count_giving());
-        text.add(&[b" from a source of their own, and ", giving.as_slice(), b" can be one"]);
+        text.add(&[
+            b" from a source of their own, and ",
+            giving.as_slice(),
+            b" can be one",
+        ]);
         Some(text)
     }
 }
 
-impl Reasons {
+impl ReasonLines {
     /// Adds a sentence, if there is room for one.
     fn add(&mut self, sentence: GrowingText) -> Result<(), AllocError> {
         let line = sentence.into_whole()?;
@@ -236,9 +322,9 @@ impl Reasons {
         alloc: Global,
         items: &[PictureItem<'_>],
         found: &FoundOrder,
-    ) -> Result<Reasons, AllocError> {
+    ) -> Result<ReasonLines, AllocError> {
         let told = Told { items, found };
-        let mut reasons = Reasons {
+        let mut reasons = ReasonLines {
             lines: Vec::new(alloc),
         };
         reasons.add_sources(alloc, told)?;

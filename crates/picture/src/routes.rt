@@ -8,9 +8,9 @@ use std::alloc::{AllocError, Global};
 /// How far a corner is rounded.
 const CORNER: u64 = 7;
 
-/// A place of the picture.
+/// A point of the picture, in pixels.
 #[derive(Clone, Copy)]
-pub(crate) struct Place {
+pub(crate) struct RoutePoint {
     pub x: u64,
     pub y: u64,
 }
@@ -18,7 +18,7 @@ pub(crate) struct Place {
 /// A way along straight lines with rounded corners.
 #[derive(Drop)]
 pub(crate) struct Route {
-    places: Vec<Place>,
+    places: Vec<RoutePoint>,
 }
 
 /// How many arrows have taken the space beside each column, and below each row.
@@ -39,7 +39,7 @@ fn next_of(counters: &mut Vec<u64>, number: usize) -> u64 {
     }
 }
 
-/// So many counters.
+/// This number of counters.
 fn counters(alloc: Global, count: usize) -> Result<Vec<u64>, AllocError> {
     let mut counters = Vec::new(alloc);
     for _ in 0..count {
@@ -48,7 +48,7 @@ fn counters(alloc: Global, count: usize) -> Result<Vec<u64>, AllocError> {
     Ok(counters)
 }
 
-/// The number that lies by this distance nearer to the other, and by half of the way at most.
+/// The number that lies nearer to the other, by this distance or by half of the way if that is less.
 fn toward(from: u64, to: u64, distance: u64) -> u64 {
     if to >= from {
         from.saturating_add(distance.min((to - from) / 2))
@@ -58,15 +58,15 @@ fn toward(from: u64, to: u64, distance: u64) -> u64 {
 }
 
 /// The place that lies near to this one on the straight line to the other.
-fn place_toward(from: Place, to: Place) -> Place {
-    Place {
+fn place_toward(from: RoutePoint, to: RoutePoint) -> RoutePoint {
+    RoutePoint {
         x: toward(from.x, to.x, CORNER),
         y: toward(from.y, to.y, CORNER),
     }
 }
 
 impl Lanes {
-    /// No arrow yet, in a picture of so many columns and rows.
+    /// No arrow yet, in a picture of these columns and rows.
     pub fn new(alloc: Global, placement: &Placement<'_>) -> Result<Lanes, AllocError> {
         let rows = usize::try_from(placement.rows).unwrap_or(0);
         Ok(Lanes {
@@ -78,7 +78,9 @@ impl Lanes {
     /// A line down, in the space to the right of the column.
     fn line_down(&mut self, placement: &Placement<'_>, column: usize) -> u64 {
         let count = next_of(&mut self.columns, column);
-        let shift = (count % 6).saturating_mul(8).saturating_add((count / 6) % 2 * 4);
+        let shift = (count % 6)
+            .saturating_mul(9)
+            .saturating_add((count / 6) % 2 * 4);
         placement
             .right_of(column)
             .saturating_add(14)
@@ -88,7 +90,7 @@ impl Lanes {
     /// A line across, in the space below the row.
     fn line_across(&mut self, placement: &Placement<'_>, row: usize) -> u64 {
         let count = next_of(&mut self.rows, row);
-        let shift = (count % 5).saturating_mul(6);
+        let shift = (count % 4).saturating_mul(8);
         placement
             .bottom_of_row(row as u64)
             .saturating_add(5)
@@ -105,17 +107,17 @@ fn crossing_row(from: &PictureItem<'_>, to: &PictureItem<'_>) -> usize {
     }
 }
 
-/// Where an arrow leaves a box, to the right or to the left.
-fn exit_of(edges: BoxEdges, goes_right: bool) -> Place {
-    Place {
+/// The point at which an arrow leaves a box, to the right or to the left.
+fn exit_of(edges: BoxEdges, goes_right: bool) -> RoutePoint {
+    RoutePoint {
         x: if goes_right { edges.right } else { edges.left },
         y: edges.middle().saturating_add(5),
     }
 }
 
-/// Where an arrow that leads to the right or to the left comes to a box.
-fn entry_of(edges: BoxEdges, goes_right: bool) -> Place {
-    Place {
+/// The point at which an arrow that leads to the right or to the left comes to a box.
+fn entry_of(edges: BoxEdges, goes_right: bool) -> RoutePoint {
+    RoutePoint {
         x: if goes_right { edges.left } else { edges.right },
         y: edges.middle().saturating_sub(5),
     }
@@ -123,11 +125,16 @@ fn entry_of(edges: BoxEdges, goes_right: bool) -> Place {
 
 impl Route {
     /// A way that leaves at the first place and goes to a line down, along it, and to the last place.
-    fn by_one_line(alloc: Global, start: Place, x: u64, end: Place) -> Result<Route, AllocError> {
+    fn by_one_line(
+        alloc: Global,
+        start: RoutePoint,
+        x: u64,
+        end: RoutePoint,
+    ) -> Result<Route, AllocError> {
         let mut places = Vec::new(alloc);
         places.push(start)?;
-        places.push(Place { x, y: start.y })?;
-        places.push(Place { x, y: end.y })?;
+        places.push(RoutePoint { x, y: start.y })?;
+        places.push(RoutePoint { x, y: end.y })?;
         places.push(end)?;
         Ok(Route { places })
     }
@@ -135,27 +142,27 @@ impl Route {
     /// A way by two lines down, and one across between them.
     fn by_three_lines(
         alloc: Global,
-        start: Place,
+        start: RoutePoint,
         first: u64,
         across: u64,
         second: u64,
-        end: Place,
+        end: RoutePoint,
     ) -> Result<Route, AllocError> {
         let mut places = Vec::new(alloc);
         places.push(start)?;
-        places.push(Place {
+        places.push(RoutePoint {
             x: first,
             y: start.y,
         })?;
-        places.push(Place {
+        places.push(RoutePoint {
             x: first,
             y: across,
         })?;
-        places.push(Place {
+        places.push(RoutePoint {
             x: second,
             y: across,
         })?;
-        places.push(Place {
+        places.push(RoutePoint {
             x: second,
             y: end.y,
         })?;
@@ -166,11 +173,11 @@ impl Route {
     /// The straight way down from the one box to the other.
     pub fn down(alloc: Global, from: BoxEdges, to: BoxEdges) -> Result<Route, AllocError> {
         let mut places = Vec::new(alloc);
-        places.push(Place {
+        places.push(RoutePoint {
             x: from.center(),
             y: from.bottom,
         })?;
-        places.push(Place {
+        places.push(RoutePoint {
             x: to.center(),
             y: to.top,
         })?;
@@ -232,17 +239,24 @@ impl Route {
         }
     }
 
-    /// The middle of its last line but one, where words can stand.
-    pub fn label_place(&self) -> Place {
+    /// The middle of its third line, or of its second one if it has no more, where words can stand.
+    pub fn label_place(&self) -> RoutePoint {
         let count = self.places.len();
         if count < 3 {
-            return Place { x: 0, y: 0 };
+            return RoutePoint { x: 0, y: 0 };
         }
-        let first = self.places[count - 3];
-        let second = self.places[count - 2];
-        Place {
-            x: first.x.min(second.x).saturating_add(first.x.abs_diff(second.x) / 2),
-            y: first.y.min(second.y).saturating_add(first.y.abs_diff(second.y) / 2),
+        let begin = if count > 4 { 2 } else { 1 };
+        let first = self.places[begin];
+        let second = self.places[begin + 1];
+        RoutePoint {
+            x: first
+                .x
+                .min(second.x)
+                .saturating_add(first.x.abs_diff(second.x) / 2),
+            y: first
+                .y
+                .min(second.y)
+                .saturating_add(first.y.abs_diff(second.y) / 2),
         }
     }
 }

@@ -23,7 +23,7 @@ rect.lacking { fill: #fff1d6; stroke: #c25700; stroke-width: 2 }
 rect.giving { fill: #e3f0fb; stroke: #2f74c0; stroke-width: 2 }
 rect.number { stroke: none }
 path { fill: none; stroke-width: 1.4 }
-path.halo { stroke: #f3b4b0; stroke-width: 7 }
+path.halo { stroke: #f3b4b0; stroke-width: 6 }
 path.grey { stroke: #9a9a9a }
 path.blue { stroke: #2f74c0 }
 path.violet { stroke: #7a3fa0 }

@@ -5,6 +5,7 @@ use crate::traces_of_texts::HAND_OFF;
 use dimacs::{MemorySink, ShortSink};
 use std::alloc::Global;
 use std::process::Abort;
+use std::thread::Threads;
 use verdict_report::{Fault, ShortSource, Status, run_cnf, run_decode, run_lrat};
 
 /// The text of the clause list of the hand-off.
@@ -27,10 +28,10 @@ fn failing_at(text: &str, call: usize) -> ShortSource<'_> {
 }
 
 /// Asserts what becomes of the clause list of the hand-off where the sink fails at this call.
-fn assert_writes(rt: &impl Abort, alloc: Global, call: usize, front: &[u8]) {
+fn assert_writes<R: Threads + Sync + Abort>(rt: &R, alloc: Global, call: usize, front: &[u8]) {
     let mut source = ShortSource::new(HAND_OFF.as_bytes(), 1);
     let mut sink = ShortSink::new(alloc, 1).failing_at(call as u64);
-    let outcome = run_cnf(alloc, &mut source, &mut sink);
+    let outcome = run_cnf(alloc, rt, &mut source, 1, &mut sink);
     expect(rt, outcome.is_ok() == (call > CNF.len()), call);
     expect(
         rt,
@@ -41,10 +42,10 @@ fn assert_writes(rt: &impl Abort, alloc: Global, call: usize, front: &[u8]) {
 }
 
 /// Asserts that nothing is written of the hand-off where the source fails at this call.
-fn assert_translates_nothing(rt: &impl Abort, alloc: Global, call: usize) {
+fn assert_translates_nothing<R: Threads + Sync + Abort>(rt: &R, alloc: Global, call: usize) {
     let mut source = failing_at(HAND_OFF, call);
     let mut output = MemorySink::new(alloc);
-    let outcome = run_cnf(alloc, &mut source, &mut output);
+    let outcome = run_cnf(alloc, rt, &mut source, 1, &mut output);
     expect(rt, outcome == Err(Fault::Device), call);
     expect(rt, output.as_slice().is_empty(), call);
 }

@@ -8,7 +8,7 @@ use Rattle.trace_semantics.specs.declared.operation.Op.{Op}
 use Rattle.trace_semantics.specs.declared.trace.Process.{Process}
 use Rattle.trace_semantics.specs.Judgement.{has_come}
 use Rattle.trace_semantics.specs.Trace.{TraceValue, at_place}
-use Rattle.forced_order.specs.Order.{IsWithinForced}
+use Rattle.forced_order.specs.Order.{IsForcedOrder}
 use Rattle.restriction.specs.Left.{is_left, names_of}
 use Rattle.part_law.specs.Part.{stays, part}
 use Rattle.trace_part.specs.Choice.{IsChoice}
@@ -22,11 +22,11 @@ pub record PartValue : Type 0 where
 abbrev pub left_places : (OpName → Option Op) → Process → List ℕ
 left_places stays p = map (λ (n : OpName). n.place) (filter (is_left stays) (names_of p))
 
--- p is the part of t that these operations make up, by an order that says no more than the forced one
+-- p is the part of t that these operations make up, by the forced order of t
 pub record IsPart (t : TraceValue) (names : List OpName) (p : PartValue) : Type 0 where
   pub choice : IsChoice t names
   pub ordered : OpName → OpName → Bool
-  pub within : IsWithinForced t ordered
+  pub forced : IsForcedOrder t ordered
   pub trace_is : p.trace ≡ part t ordered (has_come names)
   pub places_are : p.places ≡ map (left_places (stays t ordered (has_come names))) t.processes
 

@@ -17,6 +17,11 @@ pub fn unschedulable_where_its_part_is()
     ensures { (t : TraceValue) (names : List OpName) (p : PartValue) → IsTrace t → IsPart t names p → HasNoSchedule p.trace → HasNoSchedule t }
 {}
 
+/// The names of some operations of a trace make up one part of it, in whatever order they are listed.
+pub fn part_is_one()
+    ensures { (t : TraceValue) (names others : List OpName) (p q : PartValue) → IsTrace t → ((n : OpName) → has_come names n ≡ has_come others n) → IsPart t names p → IsPart t others q → p ≡ q }
+{}
+
 /// Each operation of a part is what remains of the chosen operation of the trace that its name in the whole names.
 pub fn part_is_of_the_chosen()
     ensures { (t : TraceValue) (names : List OpName) (p : PartValue) (x : OpName) → IsTrace t → (given : IsPart t names p) → IsSome (operation_at p.trace x) →

@@ -3,8 +3,6 @@
 ghost use Rattle.std.specs.Prelude.{◌≡◌, map, IfOk, IfErr};
 ghost use Rattle.text_lines.specs.Fault.{IsRefusal};
 ghost use Rattle.text_lines.specs.FirstFault.{IsFirstFault};
-ghost use Rattle.forced_order.specs.Order.{IsClosedForward};
-ghost use Rattle.forced_order.specs.Rows.{ordered_by, IsSoundOrder};
 ghost use Rattle.part_law.specs.Part as value;
 ghost use Rattle.trace_part.specs.Choice.{fault_of_choice};
 ghost use Rattle.trace_part.specs.Selections.{IsSelection, ordered_in, chosen_in, stays_in};
@@ -88,20 +86,14 @@ fn selected_part<'a>(alloc: Global, selection: &Selection<'a>) -> Result<TracePa
     Ok(TracePart { trace, left })
 }
 
-/// Returns the part of the trace that these operations make up, by an order that says no more than the forced one. Each name must be
-/// that of an operation of the trace, and none may stand twice; their order does not matter.
-pub fn part_by(
-    alloc: Global,
-    trace: &Trace,
-    order: ForcedOrder,
-    names: &[OpName],
-) -> Result<TracePart, PartFault>
-    requires sound { IsSoundOrder trace.now order }
-    requires forward { IsClosedForward trace.now (ordered_by trace.now order) }
+/// Returns the part of the trace that these operations make up, by its forced order. Each name must be that of an operation of the
+/// trace, and none may stand twice; their order does not matter.
+pub fn part_of(alloc: Global, trace: &Trace, names: &[OpName]) -> Result<TracePart, PartFault>
     ensures part { IfOk result (IsPart trace.now names.now) }
     ensures refused { IfErr result (IsRefusal (λ cause place. IsFirstFault (fault_of_choice trace.now) names.now place cause)) }
 {
     trace.recall_invariant();
+    let order = ForcedOrder::of_trace(alloc, trace)?;
     let set = chosen_ops(alloc, trace, names)?;
     let writers = writer_table(alloc, trace, &set)?;
     let selection = Selection {
@@ -111,14 +103,4 @@ pub fn part_by(
         writers,
     };
     Ok(selected_part(alloc, &selection)?)
-}
-
-/// Returns the part of the trace that these operations make up, by its forced order. Each name must be that of an operation of the
-/// trace, and none may stand twice; their order does not matter.
-pub fn part_of(alloc: Global, trace: &Trace, names: &[OpName]) -> Result<TracePart, PartFault>
-    ensures part { IfOk result (IsPart trace.now names.now) }
-    ensures refused { IfErr result (IsRefusal (λ cause place. IsFirstFault (fault_of_choice trace.now) names.now place cause)) }
-{
-    let order = ForcedOrder::of_trace(alloc, trace)?;
-    part_by(alloc, trace, order, names)
 }

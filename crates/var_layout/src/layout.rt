@@ -20,7 +20,7 @@ use crate::choice_variables::{OpVariables, op_tables};
 use crate::final_variables::{FinalTable, final_tables};
 use crate::numbering::Numbering;
 use crate::order_literal::order_lit;
-use crate::split_variables::push_first_splits;
+use crate::split_variables::{all_splits, push_first_splits};
 use dimacs::{Assignment, Lit};
 use reducer::reduced::Reduced;
 use std::alloc::{AllocError, Global};
@@ -257,8 +257,14 @@ impl Layout {
         self.count
     }
 
-    /// The first of the split variables, at most `most`: the order variables of operations in conflict, of different
-    /// processes. Only the rows of pairs that these need are read.
+    /// The split variables, in order: the order variables of operations in conflict, of different processes.
+    pub fn splits(&self, alloc: Global) -> Result<Vec<u32>, AllocError>
+        ensures { IfOk result (λ variables. variables.items ≡ split.splits self.now) }
+    {
+        all_splits(alloc, self)
+    }
+
+    /// The first of the split variables, at most `most`. Only the rows of pairs that these need are read.
     pub fn first_splits(&self, alloc: Global, most: usize) -> Result<Vec<u32>, AllocError>
         ensures { IfOk result (λ variables. variables.items ≡ take most (split.splits self.now)) }
     {

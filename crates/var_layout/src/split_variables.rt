@@ -1,6 +1,6 @@
 //! The order variables of operations in conflict.
 
-ghost use Rattle.std.specs.Prelude.{◌≡◌, ◌<◌, ◌++◌, ◌==◌, ◌&&◌, ◌||◌, [], map, take, not, OnOk};
+ghost use Rattle.std.specs.Prelude.{◌≡◌, ◌<◌, ◌++◌, ◌==◌, ◌&&◌, ◌||◌, [], map, take, not, IfOk, OnOk};
 ghost use Rattle.std.specs.List.{list_any};
 ghost use Rattle.trace_semantics.specs.Trace.{operation_count};
 ghost use Rattle.var_layout.specs.Numbers.{in_one_process, other_writers};
@@ -9,7 +9,7 @@ ghost use Rattle.var_layout.specs.Split as split;
 
 use crate::layout::Layout;
 use crate::order_literal::order_var;
-use std::alloc::AllocError;
+use std::alloc::{AllocError, Global};
 
 /// Returns whether operation j writes where operation i works.
 fn is_written_by(layout: &Layout, i: usize, j: usize) -> bool
@@ -56,4 +56,15 @@ pub(crate) fn push_first_splits(
         push_splits(variables, layout, i)?;
     }
     Ok(())
+}
+
+/// The variables of all pairs in conflict.
+pub(crate) fn all_splits(alloc: Global, layout: &Layout) -> Result<Vec<u32>, AllocError>
+    ensures { IfOk result (λ variables. variables.items ≡ split.splits layout.now) }
+{
+    let mut variables = Vec::new(alloc);
+    for i in 0..layout.operations() {
+        push_splits(&mut variables, layout, i)?;
+    }
+    Ok(variables)
 }

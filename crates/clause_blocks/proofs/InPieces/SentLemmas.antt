@@ -12,7 +12,7 @@ use Rattle.dimacs.proofs.ChunkLemmas.{sent_more, sent_on, sent_last}
 use Rattle.dimacs.proofs.SinkLemmas.{front-append}
 
 -- the lines of two lists of clauses
-both_lines : (head : List ℕ) (first second : List (List ℤ)) → (head ++ flat_map clause_line first) ++ flat_map clause_line second ≡ head ++ flat_map clause_line (first ++ second)
+pub both_lines : (head : List ℕ) (first second : List (List ℤ)) → (head ++ flat_map clause_line first) ++ flat_map clause_line second ≡ head ++ flat_map clause_line (first ++ second)
 both_lines head first second = append_assoc head (flat_map clause_line first) (flat_map clause_line second) ∙ ap (λ lines. head ++ lines) (sym (flat_map-append clause_line first second))
 
 -- the clauses of the first list were sent, and those of the second one after them

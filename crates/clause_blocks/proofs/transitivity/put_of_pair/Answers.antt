@@ -14,6 +14,7 @@ loop-k-init g c =
     record {
       sent = range_begun c.args.writer.now (no_cycle n c.args.i c.args.j) (c.args.j + 1) (g.W.Sink.written c.args.sink.now) (c.args.j + 1) refl;
       failures = refl;
+      same = refl;
     }
 
 pub returns-in_err-put_agreement-clause-front : goal.returns-in_err-put_agreement-clause-front
@@ -35,4 +36,5 @@ loop-k-preserved g c =
       sent = range_sent c.args.writer.now (no_cycle n c.args.i c.args.j) (c.args.j + 1) c.loop-k.k _ _ _ c.loop-k.writer c.put_agreement.new.self c.loop-k.auto.k c.loop-k.invariant.sent
           (subst (λ clauses. IsSent (g.W.Sink.written c.loop-k.sink) (g.W.Sink.written c.put_agreement.new.sink) c.put_agreement.new.self (c.loop-k.writer ++ flat_map clause_line clauses)) same c.in_ok-put_agreement.ensures.sent);
       failures = c.in_ok-put_agreement.ensures.well ∙ c.loop-k.invariant.failures;
+      same = c.put_agreement.ensures.same ∙ c.loop-k.invariant.same;
     }

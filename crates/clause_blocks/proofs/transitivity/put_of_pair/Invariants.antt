@@ -9,4 +9,5 @@ abbrev pub invariant-loop-k : goal.invariant-loop-k
 invariant-loop-k g l = record {
   sent : IsSent (g.W.Sink.written l.fn.sink) (g.W.Sink.written l.sink) l.writer (lines_to l.fn.writer (no_cycle (operation_count l.layout) l.i l.j) (l.j + 1) l.k);
   failures : g.W.Sink.failures l.sink ≡ g.W.Sink.failures l.fn.sink;
+  same : g.W.Sink.path l.sink ≡ g.W.Sink.path l.fn.sink;
 }

@@ -10,6 +10,7 @@ loop-j-init g c =
     record {
       sent = range_begun c.args.writer.now (of_pair n c.args.i) (c.args.i + 1) (g.W.Sink.written c.args.sink.now) (c.args.i + 1) refl;
       failures = refl;
+      same = refl;
     }
 
 pub returns-in_err-put_of_pair-clause-front : goal.returns-in_err-put_of_pair-clause-front
@@ -25,4 +26,5 @@ loop-j-preserved g c =
     record {
       sent = range_sent c.args.writer.now (of_pair n c.args.i) (c.args.i + 1) c.loop-j.j _ _ _ c.loop-j.writer c.put_of_pair.new.writer c.loop-j.auto.j c.loop-j.invariant.sent c.in_ok-put_of_pair.ensures.sent;
       failures = c.in_ok-put_of_pair.ensures.well ∙ c.loop-j.invariant.failures;
+      same = c.put_of_pair.ensures.same ∙ c.loop-j.invariant.same;
     }

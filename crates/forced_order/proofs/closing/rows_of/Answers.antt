@@ -4,7 +4,6 @@ use Rattle.std.specs.List.{slice_get}
 use Rattle.std.specs.Option.{option_map}
 use Rattle.std.proofs.lemmas.Option.{slice_get-map}
 use Rattle.trace_semantics.specs.declared.trace.Process.{Process}
-use Rattle.forced_order.proofs.ClosedLemmas.{no_order}
 use Rattle.forced_order.proofs.closing.rows_of.Goals as goal
 
 pub close-requires-clause-rows : goal.close-requires-clause-rows
@@ -13,6 +12,3 @@ close-requires-clause-rows c = λ j k p at most.
     let counted : slice_get c.as_slice-2.result.now j ≡ Some (length p.operations + 1) =
     ap (λ (l : List ℕ). slice_get l j) counts ∙ slice_get-map (λ (q : Process). length q.operations + 1) c.args.trace.now.processes j ∙ ap (option_map (λ (q : Process). length q.operations + 1)) at in
     c.in_ok-rows.ensures.rows j k (length p.operations + 1) counted (omega (arith, most)))
-
-pub returns : goal.returns
-returns c = no_order c.args.trace.now c.recall_invariant.ensures c.none.result c.none.ensures (c.close.ensures.circle c.if-close.false)

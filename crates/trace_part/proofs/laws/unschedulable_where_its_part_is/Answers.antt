@@ -11,4 +11,4 @@ pub returns : goal.returns
 returns c t names p ok given none s legal =
     none (restricted (stays t given.ordered (has_come names)) s)
     (subst (λ q. IsLegal q (restricted (stays t given.ordered (has_come names)) s)) (sym given.trace_is)
-    (restriction_legal t ok given.ordered (has_come names) s legal (λ m n known there h. forced_before t s m n legal.interleaving (given.within m n known there h))))
+    (restriction_legal t ok given.ordered (has_come names) s legal (λ m n known there h. forced_before t s m n legal.interleaving (given.forced.within m n known there h))))

@@ -1,6 +1,6 @@
 use Rattle.forced_order.specs.Rows.{OrderValue}
 use Rattle.forced_order.proofs.RiseLemmas.{no_pass, pass_joined}
-use Rattle.forced_order.proofs.raising.raise_walked.Goals as goal
+use Rattle.forced_order.proofs.raising.raise_along.Goals as goal
 
 pub loop-step-init : goal.loop-step-init
 loop-step-init c = no_pass c.args.trace.now c.args.rows.now (λ o. Unit {0}) tt

@@ -1,0 +1,11 @@
+use Rattle.forced_order.specs.Rows.{OrderValue}
+use Rattle.forced_order.proofs.RiseLemmas.{no_pass, pass_joined}
+use Rattle.forced_order.proofs.raising.raise_back.Goals as goal
+
+pub loop-k-init : goal.loop-k-init
+loop-k-init c = no_pass c.args.trace.now c.args.rows.now (λ o. Unit {0}) tt
+
+pub loop-k-preserved : goal.loop-k-preserved
+loop-k-preserved c =
+    let any : OrderValue → Type 0 = λ o. Unit {0} in
+    pass_joined c.args.trace.now c.either-rose.result c.loop-k.rose c.raise_step-more.result c.args.rows.now c.loop-k.rows c.raise_step-more.new.rows any any any c.either-rose.ensures (λ u v. tt) c.loop-k.invariant c.raise_step-more.ensures
