@@ -1,29 +1,58 @@
-//! The law of what is written of a core.
+//! The laws of certificates that were written: they are accepted.
 //!
 //! A law's body is empty, or calls other laws: what it says is proved in the folder of its name in `proofs/laws`, or needs no
 //! answer. Who calls it has what it says in proofs; the call does nothing when run.
 
 ghost use Rattle.std.specs.Prelude.{ℕ, List, Result};
-ghost use Rattle.core_recheck.specs.CoreRecheck.{IsAcceptedUnlessAnother};
+ghost use Rattle.core_recheck.specs.CoreRecheck.{IsAcceptedOf};
 ghost use Rattle.cube_jobs.specs.Options.{OptionsValue};
+ghost use Rattle.cube_tree.specs.CubeTree.{leaves};
 ghost use Rattle.part_report.specs.PartRecheckEngine.{IsSaidByPart};
 ghost use Rattle.survey_verdict.specs.declared.surveyed.RefutedCore.{RefutedCore};
-ghost use Rattle.survey_verdict.specs.declared.surveyed.Surveyed.TheVariants.{Refuted};
+ghost use Rattle.survey_verdict.specs.declared.surveyed.Surveyed.TheVariants.{Decided, Refuted};
 ghost use Rattle.survey_verdict.specs.Surveyed.{IsSurveyed, core_names, survey_certificate};
+ghost use Rattle.trace_decision.specs.declared.decision.Decision.TheVariants.{Inconsistent};
+ghost use Rattle.trace_decision.specs.declared.refutation.Refutation.{Refutation};
+ghost use Rattle.trace_decision.specs.Decision.{IsDecided, certificate_text};
 ghost use Rattle.trace_semantics.specs.Trace.{TraceValue, IsTrace};
 ghost use Rattle.trace_text.specs.TraceText.{SpellsTrace};
+ghost use Rattle.verdict_report.specs.Admitted.{Admits};
 ghost use Rattle.verdict_report.specs.declared.fault.Fault.{Fault};
+ghost use Rattle.verdict_report.specs.RecheckEngine.{IsSaidOfCertificate};
 
-use survey_verdict::laws::{core_certificate_is_accepted, core_names_spell};
+use survey_verdict::laws::core_names_spell;
+use trace_decision::laws::certificate_is_accepted;
+use trace_part::laws::part_is_one;
 
-/// The certificate and the names that are written of a core are accepted with the text of the trace. They are refused only as memory runs
-/// out, or if the part that is made of them is another trace than the part of which the survey has the refutation.
+/// The certificate that is written of a trace without a legal schedule is accepted with the text of the trace, unless memory runs out.
+pub fn certificate_is_rechecked()
+    ensures { (options : OptionsValue) (t : TraceValue) (refutation : Refutation) (trace_text : List ℕ) (result : Result ℕ Fault) →
+        Admits trace_text t → IsDecided options t (Inconsistent refutation) →
+        IsSaidOfCertificate trace_text (certificate_text (Inconsistent refutation)) result →
+        IsAcceptedOf (leaves refutation.tree) result }
+{
+    certificate_is_accepted();
+}
+
+/// So is the one that is written with the help of a survey if it is of the whole trace.
+pub fn whole_certificate_is_rechecked()
+    ensures { (options : OptionsValue) (t : TraceValue) (refutation : Refutation) (trace_text : List ℕ) (result : Result ℕ Fault) →
+        IsTrace t → SpellsTrace trace_text t → IsSurveyed options t (Decided (Inconsistent refutation)) →
+        IsSaidOfCertificate trace_text (survey_certificate (Decided (Inconsistent refutation))) result →
+        IsAcceptedOf (leaves refutation.tree) result }
+{
+    certificate_is_rechecked();
+}
+
+/// The certificate and the names that are written of a core are accepted with the text of the trace, unless memory runs out. For the part
+/// that the names make up is the one of which the survey has the refutation.
 pub fn core_is_rechecked()
     ensures { (options : OptionsValue) (t : TraceValue) (core : RefutedCore) (trace_text : List ℕ) (result : Result ℕ Fault) →
         IsTrace t → SpellsTrace trace_text t → IsSurveyed options t (Refuted core) →
         IsSaidByPart trace_text (survey_certificate (Refuted core)) (core_names (Refuted core)) result →
-        IsAcceptedUnlessAnother trace_text (core_names (Refuted core)) core.part.trace result }
+        IsAcceptedOf (leaves core.refutation.tree) result }
 {
-    core_certificate_is_accepted();
+    certificate_is_accepted();
     core_names_spell();
+    part_is_one();
 }

@@ -1,4 +1,4 @@
-//! What is written of a core is accepted where a certificate of a part is checked.
+//! Certificates that were written are accepted where they are checked again.
 #![tactic(auto)]
 
 pub mod laws;

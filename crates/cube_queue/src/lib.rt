@@ -23,6 +23,7 @@ mod working;
 pub use cube_jobs::{
     BadOption, Gate, Job, OpenGate, Options, Outcome, SearchCause, SearchFault, Settled,
 };
+pub use dealing::laws::every_run;
 pub use dealing::{Event, EventCause, GivenOutcome, Machine};
 pub use job_board::{Account, Board, CollectorSeat, DealerSeat, WorkerSeat};
 pub use searching::search;

@@ -1,5 +1,5 @@
 -- Orders that agree on the operations of a trace make one part of it.
-use Rattle.std.proofs.Common.{◌≡◌, ℕ, List, [], ◌∷◌, map, take, Bool, true, false, cond, not, ◌&&◌, ◌||◌, refl, ap, ◌∙◌, subst}
+use Rattle.std.proofs.Common.{◌≡◌, ℕ, List, [], ◌∷◌, map, take, Bool, cond, not, ◌&&◌, ◌||◌, refl, ap, ◌∙◌, subst}
 use Rattle.std.specs.Prelude.{Option, Some, None, IsSome, is_some}
 use Rattle.std.specs.List.{Contains, filter, list_all, list_any}
 use Rattle.std.specs.Option.{option_and_then}
@@ -34,11 +34,11 @@ module _ (t : TraceValue) (ok : IsTrace t) (first second : OpName → OpName →
 
   overwritten : (location : List ℕ) (w n : OpName) → IsSome (operation_at t w) → IsSome (operation_at t n) → is_overwritten t first location w n ≡ is_overwritten t second location w n
   overwritten location w n h k = any_by (λ x. first w x && first x n) (λ x. second w x && second x n) (writers_of t location)
-    (λ x c i. agree w x h (writer_known location x c) i && agree x n (writer_known location x c) k i)
+      (λ x c i. agree w x h (writer_known location x c) i && agree x n (writer_known location x c) k i)
 
   same_sources : (n : OpName) (location : List ℕ) (d : ℕ) → IsSome (operation_at t n) → sources t first n location d ≡ sources t second n location d
   same_sources n location d k = filter_by (may_be_source t first n location d) (may_be_source t second n location d) (writers_of t location)
-    (λ w c i. is_held (value_left_at t location w) d && (not (same_op w n) && (not (agree n w k (writer_known location w c) i) && not (overwritten location w n (writer_known location w c) k i))))
+      (λ w c i. is_held (value_left_at t location w) d && (not (same_op w n) && (not (agree n w k (writer_known location w c) i) && not (overwritten location w n (writer_known location w c) k i))))
 
   keeps : (n : OpName) (location : List ℕ) (d : ℕ) (origin : Origin) → IsSome (operation_at t n) → keeps_read t first chosen n location d origin ≡ keeps_read t second chosen n location d origin
   keeps n location d Any k = ap (list_all chosen) (same_sources n location d k)
@@ -63,7 +63,7 @@ module _ (t : TraceValue) (ok : IsTrace t) (first second : OpName → OpName →
 
   same_last : (location : List ℕ) (d : ℕ) → last_writers t first location d ≡ last_writers t second location d
   same_last location d = filter_by (may_be_last t first location d) (may_be_last t second location d) (writers_of t location)
-    (λ w c i. is_held (value_left_at t location w) d && not (any_by (first w) (second w) (writers_of t location) (λ x b. agree w x (writer_known location w c) (writer_known location x b)) i))
+      (λ w c i. is_held (value_left_at t location w) d && not (any_by (first w) (second w) (writers_of t location) (λ x b. agree w x (writer_known location w c) (writer_known location x b)) i))
 
   same_final : (entry : List ℕ × ℕ) → stays_final t first chosen entry ≡ stays_final t second chosen entry
   same_final entry = ap (λ l. list_all chosen l && (list_any chosen (writers_of t entry.0) || (length (writers_of t entry.0) == 0))) (same_last entry.0 entry.1)
@@ -77,7 +77,7 @@ module _ (t : TraceValue) (ok : IsTrace t) (first second : OpName → OpName →
 
     same_told : (pair : OpName × OpName) → IsSome (operation_at t pair.0) → IsSome (operation_at t pair.1) → is_told t first left pair ≡ is_told t second left pair
     same_told pair h k = λ i. agree pair.0 pair.1 h k i && (not (bytes_eq pair.0.process pair.1.process)
-      && not (any_by (is_nearer first pair) (is_nearer second pair) (left_names t left) (λ x c. same_nearer pair x h k (name_known x c)) i))
+        && not (any_by (is_nearer first pair) (is_nearer second pair) (left_names t left) (λ x c. same_nearer pair x h k (name_known x c)) i))
 
     pair_known : (pair : OpName × OpName) → Contains (left_pairs t left) pair → IsSome (operation_at t pair.0) × IsSome (operation_at t pair.1)
     pair_known pair c =

@@ -125,7 +125,8 @@ module _ (trace : SourceRun) (text : List ℕ) (handed : HandOut (trace ∷ []) 
     spelled = given.spelled;
     extent = extent;
     whole = whole;
-    left_open = given.decided;
+    placed = given.decided.1;
+    left_open = given.decided.0;
   }
 
   has_none : (surveyed : Surveyed) → IsSurveyedFrom options text surveyed → No ≡ status_of_survey surveyed → InputHasNoLegalSchedule trace
@@ -202,6 +203,7 @@ module _ (trace : SourceRun) (cert names part : SinkRun) (text : List ℕ) (hand
         accepted = accepted options given.value refutation given.decided.0;
       };
       none_legal = given.decided.0.1;
+      few_left = given.decided.2;
       unrefuted = given.decided.1;
     },
     told ∙ append-nil names.before,

@@ -79,8 +79,8 @@ abbrev pub IsRunOfCertifiedSurvey : SourceRun → SinkRun → SinkRun → SinkRu
 IsRunOfCertifiedSurvey trace cert names part out =
     IsRunOfEngine InPieces (of_one IsSaidOfSurvey) texts_with_core status_of_survey (trace ∷ []) (cert ∷ names ∷ part ∷ out ∷ [])
 
--- the source handed out the text of a trace, and the sink took the line that says how far the survey came; a search of the whole trace with
--- these options need not decide it
+-- the source handed out the text of a trace, and the sink took the line that says how far the survey came, by which no more operations were
+-- placed than the trace has; a search of the whole trace with these options need not decide it, as it need not decide any trace
 pub record TellsExtent (options : OptionsValue) (trace : SourceRun) (out : SinkRun) : Type 0 where
   pub text : List ℕ
   pub handed : HandsOut trace text
@@ -89,6 +89,7 @@ pub record TellsExtent (options : OptionsValue) (trace : SourceRun) (out : SinkR
   pub spelled : SpellsTrace text value
   pub extent : Extent
   pub whole : out.now ≡ out.before ++ extent_line extent
+  pub placed : extent.placed ≤ operation_count value
   pub left_open : IsLeftOpen options value
 
 -- The source handed out the text of a trace, and the sink took the report of what is decided of it. That follows from something that a
@@ -127,7 +128,8 @@ pub record CertifiesCore (trace : SourceRun) (cert names_sink part_sink : SinkRu
   pub none_legal : HasNoSchedule value
 
 -- The source handed out the text of a trace that has no legal schedule, and the sink took the text of a certificate, which is accepted for
--- the clauses of what is kept of the whole trace. A search with these options need not refute the part that all operations make up.
+-- the clauses of what is kept of the whole trace, at most 160 operations. A search with these options need not refute the part that all
+-- operations make up, as it need not refute any trace.
 pub record CertifiesWhole (options : OptionsValue) (trace : SourceRun) (cert : SinkRun) : Type 0 where
   pub text : List ℕ
   pub handed : HandsOut trace text
@@ -138,6 +140,7 @@ pub record CertifiesWhole (options : OptionsValue) (trace : SourceRun) (cert : S
   pub whole : cert.now ≡ cert.before ++ written
   pub certified : IsCertificateFor value written
   pub none_legal : HasNoSchedule value
+  pub few_left : operation_count (kept_trace value) ≤ 160
   pub unrefuted : IsUnrefutedChoice options value (operation_names value)
 
 -- the certificate is that of a core's part, whose names and text were taken, or that of the whole trace, and no name and no part was taken

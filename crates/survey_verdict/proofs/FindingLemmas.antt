@@ -1,7 +1,8 @@
 -- What follows from what a surveyor finds.
-use Rattle.std.proofs.Common.{◌≡◌, ℕ, List, ap, subst, sym, ◌∙◌}
+use Rattle.std.proofs.Common.{◌≡◌, ◌≤◌, ℕ, List, ap, subst, sym, ◌∙◌}
 use Rattle.std.specs.Prelude.{◌↔◌, Option, Some, None}
 use Rattle.cube_jobs.specs.Options.{OptionsValue}
+use Rattle.reducer.specs.Reduction.{kept_trace}
 use Rattle.surveyor.specs.declared.Extent.{Extent}
 use Rattle.survey_verdict.specs.declared.surveyed.RefutedCore.{RefutedCore}
 use Rattle.survey_verdict.specs.declared.surveyed.Surveyed.TheVariants.{Decided, Refuted}
@@ -17,7 +18,7 @@ use Rattle.trace_semantics.specs.declared.judgement.Judgement.TheVariants.{Legal
 use Rattle.trace_semantics.specs.declared.operation.OpName.{OpName}
 use Rattle.trace_semantics.specs.Judgement.{IsJudgement}
 use Rattle.trace_semantics.specs.Legal.{IsLegal}
-use Rattle.trace_semantics.specs.Trace.{TraceValue, IsTrace, operation_names}
+use Rattle.trace_semantics.specs.Trace.{TraceValue, IsTrace, operation_count, operation_names}
 
 -- a schedule with a fault is not legal
 pub not_legal : ((t : TraceValue) (names : List OpName) → IsTrace t → IsJudgement t names Legal ↔ IsLegal t names) →
@@ -38,7 +39,7 @@ module _ (options : OptionsValue) (t : TraceValue) (all : List OpName) (all_are 
       let here : IsRefutedChoice options t (operation_names t) (Some core) = subst (λ (f : Option RefutedCore). IsRefutedChoice options t (operation_names t) f) is of_all in
       (here.1, here.0)
 
-  pub all_unrefuted : (refutation : Refutation) → IsDecided options t (Inconsistent refutation) → found ≡ None → (extent : Extent) → IsDecidedWhole options t extent (Decided (Inconsistent refutation))
-  all_unrefuted refutation decided is extent =
+  pub all_unrefuted : (refutation : Refutation) → IsDecided options t (Inconsistent refutation) → operation_count (kept_trace t) ≤ 160 → found ≡ None → (extent : Extent) → IsDecidedWhole options t extent (Decided (Inconsistent refutation))
+  all_unrefuted refutation decided few is extent =
       let here : IsRefutedChoice options t (operation_names t) None = subst (λ (f : Option RefutedCore). IsRefutedChoice options t (operation_names t) f) is of_all in
-      ((decided, here), tt)
+      ((decided, here, few), tt)

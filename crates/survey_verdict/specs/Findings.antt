@@ -1,5 +1,5 @@
 -- What follows from what a surveyor finds.
-use Rattle.std.specs.Prelude.{◌≡◌, ◌⊎◌, ⊤, List, Option, Some, None}
+use Rattle.std.specs.Prelude.{◌≡◌, ◌⊎◌, ⊤, min, List, Option, Some, None}
 use Rattle.cube_jobs.specs.Options.{OptionsValue}
 use Rattle.surveyor.specs.declared.Extent.{Extent}
 use Rattle.surveyor.specs.declared.Finding.{Finding}
@@ -11,7 +11,7 @@ use Rattle.survey_verdict.specs.Surveyed.{IsSurveyed, IsUnrefutedChoice, core_of
 use Rattle.trace_decision.specs.declared.decision.Decision.TheVariants.{Consistent}
 use Rattle.trace_semantics.specs.declared.operation.OpName.{OpName}
 use Rattle.trace_semantics.specs.Legal.{IsLegal}
-use Rattle.trace_semantics.specs.Trace.{TraceValue, operation_names}
+use Rattle.trace_semantics.specs.Trace.{TraceValue, operation_count, operation_names}
 
 -- these names, if they are a legal schedule of the trace
 abbrev pub IsJudged : TraceValue → List OpName → Option (List OpName) → Type 0
@@ -30,7 +30,8 @@ IsAsFound t (Schedule names) surveyed = surveyed ≡ Decided (Consistent names.i
 IsAsFound t (Core names) surveyed = HasCore (core_of t names.items) surveyed
 IsAsFound t Nothing surveyed = ⊥
 
--- what was found shows nothing: the schedule is not legal, or a search with these options need not refute the part of the core
+-- what was found shows nothing: the schedule is not legal, or a search with these options need not refute the part of the core, which is true
+-- of each core
 abbrev pub ShowsNothing : OptionsValue → TraceValue → Finding → Type 0
 ShowsNothing options t (Schedule names) = IsLegal t names.items → ⊥
 ShowsNothing options t (Core names) = IsUnrefutedChoice options t (core_of t names.items)
@@ -52,10 +53,14 @@ IsOfWhole t extent (Undecided told) = told ≡ extent
 abbrev pub IsDecidedWhole : OptionsValue → TraceValue → Extent → Surveyed → Type 0
 IsDecidedWhole options t extent surveyed = IsSurveyed options t surveyed × IsOfWhole t extent surveyed
 
--- what is decided is what was found, if that can be shown, and else what a search of the whole trace decides
+-- the numbers of a survey, of which no more operations are said to be placed than the trace has
+abbrev pub extent_within : TraceValue → Extent → Extent
+extent_within t extent = record { placed = min extent.placed (operation_count t); undecided = extent.undecided; steps = extent.steps }
+
+-- what is decided is what was found, or else, if that shows nothing, what a search of the whole trace decides
 abbrev pub FollowsFrom : OptionsValue → TraceValue → Overview → Surveyed → Type 0
 FollowsFrom options t overview surveyed =
-    IsAsFound t overview.finding surveyed ⊎ (ShowsNothing options t overview.finding × IsOfWhole t overview.extent surveyed)
+    IsAsFound t overview.finding surveyed ⊎ (ShowsNothing options t overview.finding × IsOfWhole t (extent_within t overview.extent) surveyed)
 
 -- what is decided follows from something that is found so
 abbrev pub FollowsFromSome : OptionsValue → TraceValue → (Overview → Type 0) → Surveyed → Type 0

@@ -37,7 +37,8 @@ IsReducedIfSmall t (Some reduced) = IsReduced reduced × (reduced.whole ≡ t)
 IsReducedIfSmall t None = IsTooLong t
 
 -- A search with these options need not refute the trace: more operations are left of it than a search takes, or it has a legal schedule, or
--- such a search can leave cubes open. No search is bound to find what there is.
+-- such a search can leave cubes open. No search is bound to find what there is, so this is true of each trace, and says only what code that
+-- shows it has asked for.
 abbrev pub IsNotRefuted : OptionsValue → TraceValue → Type 0
 IsNotRefuted options t = IsTooLong t ⊎ (((schedule : List OpName) × IsLegal t schedule) ⊎ ((cubes : List (List ℤ)) × IsDecided options t (Unknown cubes)))
 
@@ -79,19 +80,21 @@ abbrev pub IsRefutedChoice : OptionsValue → TraceValue → List OpName → Opt
 IsRefutedChoice options t names (Some core) = (core.names ≡ names) × IsRefutedCore options t core
 IsRefutedChoice options t names None = IsUnrefutedChoice options t names
 
--- a search of the whole trace need not decide it: too many operations are left, or a search with these options can leave cubes open
+-- a search of the whole trace need not decide it: too many operations are left, or a search with these options can leave cubes open; this is
+-- true of each trace too
 abbrev pub IsLeftOpen : OptionsValue → TraceValue → Type 0
 IsLeftOpen options t = IsTooLong t ⊎ ((cubes : List (List ℤ)) × IsDecided options t (Unknown cubes))
 
 -- What is decided is so: it is a legal schedule of the whole trace; or the part of the core is refuted by a search with these options, and the
--- trace has no legal schedule; or such a search refutes the whole trace, and need not refute the part of all its operations; or nothing is said,
--- and a search of the whole trace need not say more.
+-- trace has no legal schedule; or such a search refutes the whole trace, of which no more than 160 operations are left, and need not refute the
+-- part of all its operations; or nothing is said, a search of the whole trace need not say more, and no more operations are said to be placed
+-- than it has.
 abbrev pub IsSurveyed : OptionsValue → TraceValue → Surveyed → Type 0
 IsSurveyed options t (Decided (Consistent schedule)) = IsLegal t schedule
-IsSurveyed options t (Decided (Inconsistent refutation)) = IsDecided options t (Inconsistent refutation) × IsUnrefutedChoice options t (operation_names t)
+IsSurveyed options t (Decided (Inconsistent refutation)) = IsDecided options t (Inconsistent refutation) × IsUnrefutedChoice options t (operation_names t) × (operation_count (kept_trace t) ≤ 160)
 IsSurveyed options t (Decided (Unknown cubes)) = ⊥
 IsSurveyed options t (Refuted core) = IsRefutedCore options t core
-IsSurveyed options t (Undecided extent) = IsLeftOpen options t
+IsSurveyed options t (Undecided extent) = IsLeftOpen options t × (extent.placed ≤ operation_count t)
 
 -- the line of a core of this many operations, of which a tree of this many cubes is refuted
 abbrev pub core_line : ℕ → ℕ → List ℕ

@@ -1,6 +1,7 @@
 //! From what a survey finds to what is decided.
-ghost use Rattle.std.specs.Prelude.{◌≡◌, IfOk};
+ghost use Rattle.std.specs.Prelude.{◌≡◌, ◌≤◌, IfOk};
 ghost use Rattle.cube_jobs.specs.Options.{OptionsValue};
+ghost use Rattle.reducer.specs.Reduction.{kept_trace};
 ghost use Rattle.survey_verdict.specs.Findings.{FollowsFrom, FollowsFromSome, IsDecidedWhole, IsJudged, IsShownBy};
 ghost use Rattle.survey_verdict.specs.Surveyed.{IsDecidedIfShort, IsReducedIfSmall, IsRefutedChoice, IsRefutedIfShort, IsSurveyed, core_of, refutation_in};
 ghost use Rattle.surveyor.specs.declared.Extent.{Extent as Reached};
@@ -8,8 +9,10 @@ ghost use Rattle.surveyor.specs.declared.Finding.TheVariants.{Core as CoreFound,
 ghost use Rattle.trace_decision.specs.Decision.{IsDecided};
 ghost use Rattle.trace_decision.specs.declared.decision.Decision.TheVariants.{Inconsistent};
 ghost use Rattle.trace_part.specs.TraceParts.{IsPart};
+ghost use Rattle.trace_semantics.specs.Trace.{operation_count};
 
 use crate::core_names::{all_names, names_among};
+use crate::extent::within_trace;
 use crate::surveyed::{RefutedCore, Surveyed};
 use cube_jobs::{Gate, Options, SearchFault};
 use reducer::reduced::{Reduced, reduce};
@@ -150,7 +153,8 @@ fn core_of_all<R: Threads + Wait + Sync, G: Gate + Sync>(
     options: &Options,
     gate: &G,
 ) -> Result<Surveyed, SearchFault>
-    requires { IsDecided options.now trace.now (Inconsistent refutation) }
+    requires decided { IsDecided options.now trace.now (Inconsistent refutation) }
+    requires few { operation_count (kept_trace trace.now) ≤ 160 }
     ensures { (extent : Reached) → IfOk result (IsDecidedWhole options.now trace.now extent) }
 {
     let names = all_names(alloc, trace)?;
@@ -171,7 +175,9 @@ fn said_of_whole<R: Threads + Wait + Sync, G: Gate + Sync>(
     options: &Options,
     gate: &G,
 ) -> Result<Surveyed, SearchFault>
-    requires { IsDecided options.now trace.now decision }
+    requires decided { IsDecided options.now trace.now decision }
+    requires few { operation_count (kept_trace trace.now) ≤ 160 }
+    requires placed { extent.placed ≤ operation_count trace.now }
     ensures { IfOk result (IsDecidedWhole options.now trace.now extent) }
 {
     match decision {
@@ -192,6 +198,7 @@ fn decided_whole<R: Threads + Wait + Sync, G: Gate + Sync>(
     options: &Options,
     gate: &G,
 ) -> Result<Surveyed, SearchFault>
+    requires { extent.placed ≤ operation_count trace.now }
     ensures { IfOk result (IsDecidedWhole options.now trace.now extent) }
 {
     let decided = decided_if_short(alloc, rt, trace, options, gate)?;
@@ -271,14 +278,17 @@ fn decide_by_overview<R: Threads + Wait + Sync, G: Gate + Sync>(
     let shown = shown(alloc, rt, trace, finding, options, gate)?;
     match shown {
         Some(surveyed) => Ok(surveyed),
-        None => decided_whole(alloc, rt, trace, extent, options, gate),
+        None => {
+            let told = within_trace(trace, extent);
+            decided_whole(alloc, rt, trace, told, options, gate)
+        }
     }
 }
 
 /// Decides whether the trace has a legal schedule by what the survey finds, or else by the search of the whole, if few enough operations
 /// are left of that. A legal schedule that the surveyor finds is the answer. A core of its is the answer if the search refutes its part,
 /// and what that search decides of the whole does not stay undecided; but no search is bound to decide anything, so the clauses say only
-/// that one with these options can leave it open.
+/// that one with these options can leave it open, which is true of each trace.
 pub fn decide_by_survey<R: Threads + Wait + Sync, S: Surveyor, G: Gate + Sync>(
     alloc: Global,
     rt: &R,

@@ -5,6 +5,7 @@
 mod certifying;
 mod core_names;
 mod deciding;
+mod extent;
 pub mod laws;
 mod reporting;
 mod surveyed;

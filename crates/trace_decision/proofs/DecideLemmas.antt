@@ -32,6 +32,7 @@ use Rattle.result_ledger.proofs.SlotLemmas.{cube_at}
 use Rattle.trace_decision.specs.declared.decision.Decision.TheVariants.{Inconsistent as IsInconsistent, Unknown as IsUnknown}
 use Rattle.trace_decision.specs.Decision.{AreCubesLeftOpen, AreCubesOf, AreLeftOpen, HoldModels, IsDecided}
 use Rattle.trace_decision.specs.Rounds.{HaveEnded}
+use Rattle.trace_decision.proofs.InCubeLemmas.{holds_schedules}
 
 -- a legal schedule of what is kept becomes one of the whole trace
 pub expanded_legal : (r : ReducedValue) → IsReduced r → (kept schedule : List OpName) → IsLegal r.kept kept → schedule ≡ expansion r.whole kept → IsLegal r.whole schedule
@@ -104,4 +105,5 @@ module _ (r : ReducedValue) (ok : IsReduced r) (f : FormulaValue) (f_is : f ≡ 
   unknown is_tree verdict listed is ended h cubes are = (
     holds_models listed cubes (subst (λ (v : Verdict). IsVerdict f.clauses slots v) is h) are,
     left_open is_tree verdict ended cubes (open_leaves slots verdict listed is cubes are),
+    holds_schedules r.whole ok.is_trace cubes (holds_models listed cubes (subst (λ (v : Verdict). IsVerdict f.clauses slots v) is h) are),
   )

@@ -1,3 +1,4 @@
 pub mod DecideLemmas
 pub mod GrownLemmas
+pub mod InCubeLemmas
 pub mod RoundLemmas

@@ -22,6 +22,7 @@ use Rattle.trace_decision.specs.declared.decided.Decided.{Decided}
 use Rattle.trace_decision.specs.declared.decision.Decision.{Decision}
 use Rattle.trace_decision.specs.declared.decision.Decision.TheVariants.{Consistent, Inconsistent, Unknown}
 use Rattle.trace_decision.specs.declared.refutation.Refutation.{Refutation}
+use Rattle.trace_decision.specs.InCube.{HoldSchedules}
 use Rattle.trace_decision.specs.Rounds.{HaveEnded}
 
 -- it is a tree and, for the cube of each of its leaves, in their order, a derivation that can be written as LRAT and is accepted
@@ -55,12 +56,12 @@ pub record AreLeftOpen (t : TraceValue) (options : OptionsValue) (cubes : List (
   pub open_are : AreCubesLeftOpen slots verdict cubes
 
 -- What is decided by a search with these options is so: the schedule is a legal one of the whole trace; or each cube of the tree is
--- refuted, and the trace has no legal schedule; or the cubes are those that the search leaves open, and all models of the clauses are in
--- them.
+-- refuted, and the trace has no legal schedule; or the cubes are those that the search leaves open, all models of the clauses are in them,
+-- and each legal schedule of the whole trace is.
 abbrev pub IsDecided : OptionsValue → TraceValue → Decision → Type 0
 IsDecided options value (Consistent names) = IsLegal value names
 IsDecided options value (Inconsistent refutation) = IsRefutation (clauses_of (kept_trace value)) refutation × HasNoSchedule value
-IsDecided options value (Unknown cubes) = HoldModels (clauses_of (kept_trace value)) cubes × AreLeftOpen (kept_trace value) options cubes
+IsDecided options value (Unknown cubes) = HoldModels (clauses_of (kept_trace value)) cubes × AreLeftOpen (kept_trace value) options cubes × HoldSchedules value cubes
 
 -- where nothing is decided, the cubes are those that this verdict leaves open
 abbrev pub NamesOpen : Decided → Decision → Type 0

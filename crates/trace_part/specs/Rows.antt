@@ -1,5 +1,5 @@
 -- Rows of numbers: of each operation and each process, the last place there that is known to stand before it.
-use Rattle.std.specs.Prelude.{◌≡◌, ◌&&◌, ◌||◌, not, nat_le, nat_lt, ◌==◌, IsSome, Some, ℕ, Bool, List, length, map, Option, if◌then◌else◌}
+use Rattle.std.specs.Prelude.{◌≡◌, ◌&&◌, ◌||◌, not, nat_le, nat_lt, ◌==◌, IsSome, Some, ℕ, Bool, List, length, map, Option}
 use Rattle.std.specs.List.{list_any, filter, filter_map, flat_map}
 use Rattle.std.specs.Option.{option_and_then, option_map}
 use Rattle.trace_semantics.specs.declared.operation.Op.{Op}

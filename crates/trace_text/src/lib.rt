@@ -15,3 +15,7 @@ pub mod trace_laws;
 pub mod trace_reader;
 pub mod trace_writer;
 pub mod version;
+
+pub use trace_semantics::operation::{Op, OpName};
+pub use trace_semantics::schedule::Schedule;
+pub use trace_semantics::trace::Trace;

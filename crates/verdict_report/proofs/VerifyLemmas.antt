@@ -87,6 +87,7 @@ module _ (options : OptionsValue) (trace : SourceRun) (text : List ℕ) (handed 
     whole = whole;
     left_open = decided.decided.1;
     models = decided.decided.0;
+    schedules = decided.decided.2;
   }
 
   module _ (decision : Decision) (decided : IsDecidedFrom options text decision) (result : Result Status Fault) (w : IsRunOfWriting (report decision) (status_of_decision decision) out result) where

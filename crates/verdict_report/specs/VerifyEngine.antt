@@ -15,6 +15,7 @@ use Rattle.trace_text.specs.TraceFault.{HasTraceFault}
 use Rattle.trace_text.specs.TraceText.{SpellsTrace}
 use Rattle.trace_decision.specs.declared.decision.Decision.{Decision}
 use Rattle.trace_decision.specs.declared.decision.Decision.TheVariants.{Consistent, Inconsistent, Unknown as NotDecided}
+use Rattle.trace_decision.specs.InCube.{HoldSchedules}
 use Rattle.trace_decision.specs.Decision.{AreLeftOpen, HoldModels, IsDecided, certificate_text, report}
 use Rattle.verdict_report.specs.declared.fault.Fault.{Fault}
 use Rattle.verdict_report.specs.declared.fault.Fault.TheVariants.{OutOfMemory, Trace, Reduce, Search}
@@ -75,8 +76,8 @@ pub record ReportsLegalSchedule (trace : SourceRun) (out : SinkRun) : Type 0 whe
   pub told : SpellsSchedule schedule names
   pub legal : IsLegal value names
 
--- the source handed out the text of a trace, and the sink took the report of the cubes that a search with these options leaves open; all
--- models of the clauses of what is kept of the trace are in them
+-- the source handed out the text of a trace, and the sink took the report of the cubes that a search with these options leaves open; each
+-- legal schedule of the trace, restricted to the operations that are kept, is in one of them, and so are all models of the clauses
 pub record TellsOpen (options : OptionsValue) (trace : SourceRun) (out : SinkRun) : Type 0 where
   pub text : List ℕ
   pub handed : HandsOut trace text
@@ -86,6 +87,7 @@ pub record TellsOpen (options : OptionsValue) (trace : SourceRun) (out : SinkRun
   pub whole : out.now ≡ out.before ++ report (NotDecided cubes)
   pub left_open : AreLeftOpen (kept_trace value) options cubes
   pub models : HoldModels (clauses_of (kept_trace value)) cubes
+  pub schedules : HoldSchedules value cubes
 
 -- the source handed out the text of a trace that has no legal schedule, and the sink took that of a certificate, which is accepted for
 -- the clauses of what is kept of the trace

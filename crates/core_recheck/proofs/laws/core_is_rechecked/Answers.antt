@@ -1,8 +1,9 @@
-use Rattle.std.proofs.Common.{◌≡◌, ℕ, ◌≤◌, List, inl, inr, subst, sym, ◌∙◌, arith}
+use Rattle.std.proofs.Common.{◌≡◌, ℕ, ◌≤◌, List, inl, inr, ap, subst, sym, ◌∙◌, arith}
 use Rattle.std.specs.Prelude.{Result, Ok, Err}
 use Rattle.text_lines.specs.FirstFault.{IsFirstFault}
 use Rattle.text_lines.proofs.FaultLemmas.{none_is_some}
 use Rattle.trace_semantics.specs.declared.operation.OpName.{OpName}
+use Rattle.trace_semantics.specs.Judgement.{has_come}
 use Rattle.trace_semantics.specs.Trace.{TraceValue, IsTrace, operation_count}
 use Rattle.trace_text.specs.TraceText.{SpellsTrace}
 use Rattle.trace_text.proofs.OneTraceLemmas.{one_spelled as one_trace}
@@ -12,38 +13,52 @@ use Rattle.schedule_text.proofs.ScheduleTextLemmas.{one_spelled as one_schedule,
 use Rattle.reducer.specs.Reduction.{kept_trace}
 use Rattle.reducer.specs.declared.reduce_fault.ReduceCause.TheVariants.{StillTooLarge}
 use Rattle.trace_part.specs.Choice.{fault_of_choice}
-use Rattle.trace_part.specs.TraceParts.{PartValue}
+use Rattle.trace_part.specs.TraceParts.{PartValue, IsPart}
 use Rattle.trace_part.specs.declared.part_fault.PartCause.{PartCause}
 use Rattle.clause_blocks.specs.Clauses.{clauses_of}
 use Rattle.certificate.specs.CertText.{SpellsCertificate}
-use Rattle.certificate.specs.Rechecked.{HasRecheckFault}
+use Rattle.certificate.specs.Rechecked.{IsRechecked, HasRecheckFault}
 use Rattle.certificate.specs.declared.cert_fault.CertCause.{CertCause}
 use Rattle.certificate.specs.declared.certificate.Certificate.{Certificate}
 use Rattle.certificate.proofs.RefusalLemmas.{never_both as never_refused}
 use Rattle.certificate.proofs.CertificateText.TextLawLemmas.{one_spelled as one_certificate, never_both as cert_never_faulty}
 use Rattle.cube_jobs.specs.Options.{OptionsValue}
+use Rattle.cube_tree.specs.CubeTree.{leaves}
 use Rattle.survey_verdict.specs.declared.surveyed.RefutedCore.{RefutedCore}
 use Rattle.survey_verdict.specs.declared.surveyed.Surveyed.TheVariants.{Refuted}
-use Rattle.survey_verdict.specs.Surveyed.{IsCertificateFor, IsRefutedCore, core_names, survey_certificate}
+use Rattle.survey_verdict.specs.Surveyed.{IsRefutedCore, core_names, survey_certificate}
+use Rattle.trace_decision.specs.Decision.{certificate_in}
 use Rattle.verdict_report.specs.declared.fault.Fault.{Fault}
 use Rattle.verdict_report.specs.declared.fault.Fault.TheVariants.{OutOfMemory, Device, InputTooLong, Trace, Schedule, Part, Model, Cnf, Lrat, Reduce, Decode, Check, Cert, Search}
-use Rattle.part_report.specs.PartEngine.{HasFaultyChoice}
-use Rattle.part_report.specs.PartRecheckEngine.{IsSaidByPart}
-use Rattle.core_recheck.specs.CoreRecheck.{IsAcceptedUnlessAnother}
+use Rattle.part_report.specs.PartEngine.{HasFaultyChoice, MakeUp}
+use Rattle.part_report.specs.PartRecheckEngine.{AreNotRecheckedByPart, IsSaidByPart}
+use Rattle.core_recheck.specs.CoreRecheck.{IsAcceptedOf}
 use Rattle.core_recheck.proofs.laws.core_is_rechecked.Goals as goal
 
 -- What is written of a core is accepted.
 
 module _ (options : OptionsValue) (t : TraceValue) (core : RefutedCore) (trace_text : List ℕ) (ok : IsTrace t) (spelled : SpellsTrace trace_text t) (given : IsRefutedCore options t core)
-    (certified : IsCertificateFor core.part.trace (survey_certificate (Refuted core))) (listed : SpellsSchedule (core_names (Refuted core)) core.names) where
-  -- the certificate is not refused for the same part
-  same_part : (certificate : Certificate) → SpellsCertificate (survey_certificate (Refuted core)) certificate → (made : PartValue) → made.trace ≡ core.part.trace →
-      (cause : CertCause) (leaf : ℕ) → HasRecheckFault (clauses_of (kept_trace made.trace)) certificate cause leaf → ⊥
-  same_part certificate read made same cause leaf refused =
-      let one : certificate ≡ certified.certificate = one_certificate (survey_certificate (Refuted core)) certificate certified.certificate read certified.spelled in
-      let here : HasRecheckFault (clauses_of (kept_trace core.part.trace)) certificate cause leaf = subst (λ (w : TraceValue). HasRecheckFault (clauses_of (kept_trace w)) certificate cause leaf) same refused in
-      let there : HasRecheckFault (clauses_of (kept_trace core.part.trace)) certified.certificate cause leaf = subst (λ (d : Certificate). HasRecheckFault (clauses_of (kept_trace core.part.trace)) d cause leaf) one here in
-      never_refused (clauses_of (kept_trace core.part.trace)) certified.certificate certified.count cause leaf certified.accepted there
+    (written : SpellsCertificate (survey_certificate (Refuted core)) (certificate_in core.refutation))
+    (accepted : IsRechecked (clauses_of (kept_trace core.part.trace)) (certificate_in core.refutation) (leaves core.refutation.tree))
+    (listed : SpellsSchedule (core_names (Refuted core)) core.names)
+    (one_part : (t : TraceValue) (names others : List OpName) (p q : PartValue) → IsTrace t → ((n : OpName) → has_come names n ≡ has_come others n) → IsPart t names p → IsPart t others q → p ≡ q) where
+  -- the part that is made is that of the core
+  same_part : (made : PartValue) → MakeUp trace_text (core_names (Refuted core)) made → made.trace ≡ core.part.trace
+  same_part made up =
+      let value_is : up.value ≡ t = one_trace trace_text up.value t up.is_trace ok up.spelled spelled in
+      let names_are : up.names ≡ core.names = one_schedule (core_names (Refuted core)) up.names core.names up.listed listed in
+      let here : IsPart t up.names made = subst (λ (v : TraceValue). IsPart v up.names made) value_is up.is_part in
+      ap (λ (p : PartValue). p.trace) (one_part t up.names core.names made core.part ok (λ n. ap (λ (l : List OpName). has_come l n) names_are) here given.is_part)
+
+  one : (certificate : Certificate) → SpellsCertificate (survey_certificate (Refuted core)) certificate → certificate ≡ certificate_in core.refutation
+  one certificate read = one_certificate (survey_certificate (Refuted core)) certificate (certificate_in core.refutation) read written
+
+  -- the certificate is not refused for it
+  not_refused : (cause : CertCause) (leaf : ℕ) → AreNotRecheckedByPart trace_text (survey_certificate (Refuted core)) (core_names (Refuted core)) cause leaf → ⊥
+  not_refused cause leaf f =
+      let here : HasRecheckFault (clauses_of (kept_trace core.part.trace)) f.certificate cause leaf = subst (λ (w : TraceValue). HasRecheckFault (clauses_of (kept_trace w)) f.certificate cause leaf) (same_part f.made f.made_up) f.refused in
+      let there : HasRecheckFault (clauses_of (kept_trace core.part.trace)) (certificate_in core.refutation) cause leaf = subst (λ (d : Certificate). HasRecheckFault (clauses_of (kept_trace core.part.trace)) d cause leaf) (one f.certificate f.spelled) here in
+      never_refused (clauses_of (kept_trace core.part.trace)) (certificate_in core.refutation) (leaves core.refutation.tree) cause leaf accepted there
 
   -- the names are a choice
   well_chosen : (cause : PartCause) (line : ℕ) → HasFaultyChoice trace_text (core_names (Refuted core)) cause line → ⊥
@@ -54,23 +69,17 @@ module _ (options : OptionsValue) (t : TraceValue) (core : RefutedCore) (trace_t
       let first : IsFirstFault (fault_of_choice t) core.names f.faulty.place cause = subst (λ (n : List OpName). IsFirstFault (fault_of_choice t) n f.faulty.place cause) names_are here in
       none_is_some cause (sym (given.is_part.choice first.before first.item first.after first.parts) ∙ first.faulty)
 
-  rechecked : (result : Result ℕ Fault) → IsSaidByPart trace_text (survey_certificate (Refuted core)) (core_names (Refuted core)) result → IsAcceptedUnlessAnother trace_text (core_names (Refuted core)) core.part.trace result
-  rechecked (Ok count) said = tt
+  rechecked : (result : Result ℕ Fault) → IsSaidByPart trace_text (survey_certificate (Refuted core)) (core_names (Refuted core)) result → IsAcceptedOf (leaves core.refutation.tree) result
+  rechecked (Ok count) said = said.rechecked.counted ∙ ap (λ (c : Certificate). leaves c.tree) (one said.certificate said.spelled) ∙ sym accepted.counted
   rechecked (Err OutOfMemory) said = tt
   rechecked (Err (Trace cause line)) said = absurd (trace_never_faulty trace_text t cause line ok spelled said)
   rechecked (Err (Schedule cause line)) said = absurd (schedule_never_faulty (core_names (Refuted core)) core.names cause line listed said.1.faulty)
   rechecked (Err (Part cause line)) said = absurd (well_chosen cause line said.1)
-  rechecked (Err (Cert cause place)) (inl f) = absurd (cert_never_faulty (survey_certificate (Refuted core)) certified.certificate cause place certified.spelled f.faulty)
-  rechecked (Err (Cert cause place)) (inr f) = record {
-    made = f.made;
-    made_up = f.made_up;
-    another = λ same. same_part f.certificate f.spelled f.made same cause place f.refused;
-  }
-  rechecked (Err (Reduce StillTooLarge left)) f = record {
-    made = f.made;
-    made_up = f.made_up;
-    another = λ same. (let few : operation_count (kept_trace f.made.trace) ≤ 160 = subst (λ (w : TraceValue). operation_count (kept_trace w) ≤ 160) (sym same) given.few_left in omega (arith, few, f.refused.0, f.refused.1));
-  }
+  rechecked (Err (Cert cause place)) (inl f) = absurd (cert_never_faulty (survey_certificate (Refuted core)) (certificate_in core.refutation) cause place written f.faulty)
+  rechecked (Err (Cert cause place)) (inr f) = absurd (not_refused cause place f)
+  rechecked (Err (Reduce StillTooLarge left)) f =
+      let few : operation_count (kept_trace f.made.trace) ≤ 160 = subst (λ (w : TraceValue). operation_count (kept_trace w) ≤ 160) (sym (same_part f.made f.made_up)) given.few_left in
+      absurd (omega (arith, few, f.refused.0, f.refused.1))
   rechecked (Err Device) said = absurd said
   rechecked (Err InputTooLong) said = absurd said
   rechecked (Err (Model cause line)) said = absurd said
@@ -82,4 +91,5 @@ module _ (options : OptionsValue) (t : TraceValue) (core : RefutedCore) (trace_t
 
 pub returns : goal.returns
 returns c options t core trace_text result ok spelled given said =
-    rechecked options t core trace_text ok spelled given (c.core_certificate_is_accepted.ensures options t core given) (c.core_names_spell.ensures options t core ok given) result said
+    rechecked options t core trace_text ok spelled given (c.certificate_is_accepted.ensures.spelled options core.part.trace core.refutation given.refuted) (c.certificate_is_accepted.ensures.accepted options core.part.trace core.refutation given.refuted)
+    (c.core_names_spell.ensures options t core ok given) c.part_is_one.ensures result said

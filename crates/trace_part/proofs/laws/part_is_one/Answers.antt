@@ -1,4 +1,4 @@
-use Rattle.std.proofs.Common.{◌≡◌, Bool, List, map, ap, sym, ◌∙◌}
+use Rattle.std.proofs.Common.{◌≡◌, Bool, map, ap, sym, ◌∙◌}
 use Rattle.std.specs.Prelude.{Option}
 use Rattle.trace_semantics.specs.declared.operation.Op.{Op}
 use Rattle.trace_semantics.specs.declared.operation.OpName.{OpName}

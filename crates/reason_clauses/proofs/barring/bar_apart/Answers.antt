@@ -1,0 +1,8 @@
+use Rattle.reason_clauses.proofs.NumberedLemmas.{grows_over, parts}
+use Rattle.reason_clauses.proofs.barring.bar_apart.Goals as goal
+
+pub returns-clause-grows : goal.returns-clause-grows
+returns-clause-grows c = grows_over c.args.orders.now.items c.push_order.new.orders.items c.push_order-2.new.orders.items c.in_ok-push_order.ensures.grows c.in_ok-push_order-2.ensures.grows
+
+pub returns-clause-apart : goal.returns-clause-apart
+returns-clause-apart c = parts c.push_order.new.orders.items c.push_order-2.new.orders.items c.args.reader c.args.bound c.args.between c.in_ok-push_order.ensures.says c.in_ok-push_order-2.ensures.grows c.in_ok-push_order-2.ensures.says

@@ -1,0 +1,163 @@
+//! What bars sources of a reading operation.
+
+ghost use Rattle.std.specs.Prelude.{◌≤◌, ⊤, OnOk};
+ghost use Rattle.reason_clauses.specs.Numbered.{Grows, MakesHidden, MakesApart, BarsPlaces, IsGivenWitness, IsGivenFront, IsInHidden, IsFrom, IsInMain, AreTaken};
+ghost use Rattle.reason_clauses.specs.Mains.{IsGivenMain};
+
+use crate::cause::{ReasonCause, Refusal};
+use crate::lookups::are_same;
+use crate::orders::push_order;
+use crate::stretches::Stretches;
+use order_clauses::order_pair::OrderPair;
+use std::alloc::AllocError;
+use writer_table::operation_number::OperationNumber;
+
+/// Appends that the witness stands before the bound, or after the reader.
+pub fn bar_hidden(
+    orders: &mut Vec<OrderPair>,
+    reader: OperationNumber,
+    witness: OperationNumber,
+    bound: OperationNumber,
+) -> Result<(), AllocError>
+    ensures grows { OnOk result (Grows orders.old.items orders.new.items) }
+    ensures hidden { OnOk result (MakesHidden orders.new.items reader witness bound) }
+{
+    push_order(orders, witness, bound)?;
+    push_order(orders, reader, witness)?;
+    Ok(())
+}
+
+/// Appends that the bound stands before the operation between, or that one before the reader.
+pub fn bar_apart(
+    orders: &mut Vec<OrderPair>,
+    reader: OperationNumber,
+    bound: OperationNumber,
+    between: OperationNumber,
+) -> Result<(), AllocError>
+    ensures grows { OnOk result (Grows orders.old.items orders.new.items) }
+    ensures apart { OnOk result (MakesApart orders.new.items reader bound between) }
+{
+    push_order(orders, bound, between)?;
+    push_order(orders, between, reader)?;
+    Ok(())
+}
+
+/// How the sources are barred that are in no other stretch.
+#[derive(Clone, Copy, Debug, PartialEq, Eq)]
+pub enum MainPiece {
+    /// They stand before the reader.
+    Plain,
+    /// A witness stands before the last of them, or after the reader.
+    Witness(OperationNumber),
+    /// An operation stands after the first of them, or before the reader.
+    Between(OperationNumber),
+}
+
+/// Bars what is up to this place by the witness, unless that is this place.
+fn bar_up_to(
+    orders: &mut Vec<OrderPair>,
+    reader: OperationNumber,
+    process: u32,
+    place: u32,
+    witness: OperationNumber,
+) -> Result<(), Refusal>
+    ensures grows { OnOk result (Grows orders.old.items orders.new.items) }
+    ensures bars { OnOk result (BarsPlaces orders.new.items reader process (λ t location d. IsGivenWitness t location d reader witness) (λ n p. (p ≤ place) × (place ≤ n))) }
+{
+    let bound = OperationNumber { process, place };
+    if are_same(witness, bound) {
+        return Err(Refusal::For(ReasonCause::HidesItself));
+    }
+    bar_hidden(orders, reader, witness, bound)?;
+    Ok(())
+}
+
+/// Bars what is up to the last hidden place. Fails where there is one and no witness.
+fn bar_front(
+    orders: &mut Vec<OrderPair>,
+    reader: OperationNumber,
+    process: u32,
+    s: Stretches,
+    witness: Option<OperationNumber>,
+) -> Result<(), Refusal>
+    ensures grows { OnOk result (Grows orders.old.items orders.new.items) }
+    ensures bars { OnOk result (BarsPlaces orders.new.items reader process (λ t location d. IsGivenFront t location d reader witness) (IsInHidden s)) }
+{
+    if s.hidden == 0 {
+        return Ok(());
+    }
+    let Some(x) = witness else {
+        return Err(Refusal::For(ReasonCause::NoPiece));
+    };
+    bar_up_to(orders, reader, process, s.hidden, x)?;
+    Ok(())
+}
+
+/// Bars what is from this place on.
+fn bar_from(
+    orders: &mut Vec<OrderPair>,
+    reader: OperationNumber,
+    process: u32,
+    place: u32,
+) -> Result<(), AllocError>
+    ensures grows { OnOk result (Grows orders.old.items orders.new.items) }
+    ensures bars { OnOk result (BarsPlaces orders.new.items reader process (λ t location d. ⊤) (IsFrom place)) }
+{
+    if place == 0 {
+        return Ok(());
+    }
+    push_order(orders, OperationNumber { process, place }, reader)?;
+    Ok(())
+}
+
+/// Bars the main stretch.
+fn bar_main(
+    orders: &mut Vec<OrderPair>,
+    reader: OperationNumber,
+    process: u32,
+    s: Stretches,
+    main: MainPiece,
+) -> Result<(), Refusal>
+    ensures grows { OnOk result (Grows orders.old.items orders.new.items) }
+    ensures bars { OnOk result (BarsPlaces orders.new.items reader process (λ t location d. IsGivenMain t location d reader main) (IsInMain s)) }
+{
+    if s.first == 0 {
+        return Ok(());
+    }
+    match main {
+        MainPiece::Plain => {
+            bar_from(orders, reader, process, s.first)?;
+            Ok(())
+        }
+        MainPiece::Witness(x) => {
+            bar_up_to(orders, reader, process, s.last, x)?;
+            Ok(())
+        }
+        MainPiece::Between(u) => {
+            let bound = OperationNumber {
+                process,
+                place: s.first,
+            };
+            bar_apart(orders, reader, bound, u)?;
+            Ok(())
+        }
+    }
+}
+
+/// Bars all stretches of a process. Fails where a witness is wanted, or hides itself.
+pub fn bar_process(
+    orders: &mut Vec<OrderPair>,
+    reader: OperationNumber,
+    process: u32,
+    s: Stretches,
+    witness: Option<OperationNumber>,
+    main: MainPiece,
+) -> Result<(), Refusal>
+    ensures grows { OnOk result (Grows orders.old.items orders.new.items) }
+    ensures bars { OnOk result (BarsPlaces orders.new.items reader process (λ t location d. IsGivenFront t location d reader witness × IsGivenMain t location d reader main) (AreTaken s)) }
+{
+    bar_front(orders, reader, process, s, witness)?;
+    bar_from(orders, reader, process, s.later)?;
+    bar_main(orders, reader, process, s, main)?;
+    Ok(())
+}

@@ -1,0 +1,74 @@
+//! Why a line of a certificate makes no clause.
+
+use text_lines::fault::FaultCause;
+use text_lines::plain_fault::PlainFault;
+
+/// What is wrong with a line of reasons.
+#[derive(Clone, Copy, Debug, PartialEq, Eq)]
+pub enum ReasonCause {
+    /// The trace has no such operation.
+    NoOperation,
+    /// The operation reads nothing.
+    NoReader,
+    /// The operation neither writes the location nor reads another value there, or it is the reader itself.
+    NoWitness,
+    /// The witness is the source that it is to hide.
+    HidesItself,
+    /// A piece wants a witness, and none is given.
+    NoPiece,
+    /// The reader may read the initial value, and no piece takes it.
+    InitialLeft,
+    /// A cycle is too short, or has a step from an operation to itself.
+    BadCycle,
+    /// The trace does not put the first operation before the second.
+    NoPair,
+    /// There are enough sources.
+    EnoughSources,
+    /// The clause always holds.
+    AlwaysTrue,
+    /// There are more variables than can be numbered.
+    TooManyVariables,
+}
+
+/// Why a line makes no clause: a cause, or that memory ran out.
+pub type Refusal = PlainFault<ReasonCause>;
+
+impl FaultCause for ReasonCause {
+    ghost use Rattle.reason_clauses.specs.Cause.{cause_number, cause_name};
+
+    ghost number_of = { cause_number };
+
+    ghost name_of = { cause_name };
+
+    fn number(&self) -> u8 {
+        match self {
+            ReasonCause::NoOperation => 2,
+            ReasonCause::NoReader => 3,
+            ReasonCause::NoWitness => 4,
+            ReasonCause::HidesItself => 5,
+            ReasonCause::NoPiece => 6,
+            ReasonCause::InitialLeft => 7,
+            ReasonCause::BadCycle => 8,
+            ReasonCause::NoPair => 9,
+            ReasonCause::EnoughSources => 10,
+            ReasonCause::AlwaysTrue => 11,
+            ReasonCause::TooManyVariables => 12,
+        }
+    }
+
+    fn name(&self) -> &'static str {
+        match self {
+            ReasonCause::NoOperation => "NoOperation",
+            ReasonCause::NoReader => "NoReader",
+            ReasonCause::NoWitness => "NoWitness",
+            ReasonCause::HidesItself => "HidesItself",
+            ReasonCause::NoPiece => "NoPiece",
+            ReasonCause::InitialLeft => "InitialLeft",
+            ReasonCause::BadCycle => "BadCycle",
+            ReasonCause::NoPair => "NoPair",
+            ReasonCause::EnoughSources => "EnoughSources",
+            ReasonCause::AlwaysTrue => "AlwaysTrue",
+            ReasonCause::TooManyVariables => "TooManyVariables",
+        }
+    }
+}

@@ -1,0 +1,75 @@
+//! The clause that operations do not stand in a cycle.
+
+ghost use Rattle.std.specs.Prelude.{◌≡◌, ◌<◌, ◌+◌, OnOk, length, slice_index_or};
+ghost use Rattle.order_reasons.specs.Orders.{HoldsOfSchedules};
+ghost use Rattle.order_clauses.specs.Numbered.{named_orders};
+ghost use Rattle.order_clauses.specs.OrderVariables.{nowhere};
+ghost use Rattle.reason_clauses.specs.Numbered.{Grows};
+ghost use Rattle.reason_clauses.specs.Cycle.{IsTurned};
+
+use crate::cause::{ReasonCause, Refusal};
+use crate::lookups::{are_same, operation_of};
+use crate::orders::push_order;
+use order_clauses::order_pair::OrderPair;
+use trace_semantics::trace::Trace;
+use writer_table::operation_number::OperationNumber;
+
+/// Appends that the step from one operation to another is turned round.
+fn push_turned(
+    trace: &Trace,
+    from: OperationNumber,
+    to: OperationNumber,
+    orders: &mut Vec<OrderPair>,
+) -> Result<(), Refusal>
+    ensures grows { OnOk result (Grows orders.old.items orders.new.items) }
+    ensures turned { OnOk result (IsTurned trace.now orders.new.items from to) }
+{
+    trace.recall_invariant();
+    if are_same(from, to) {
+        return Err(Refusal::For(ReasonCause::BadCycle));
+    }
+    let _op = operation_of(trace, from)?;
+    push_order(orders, to, from)?;
+    Ok(())
+}
+
+/// The operation at this place.
+fn at(operations: &[OperationNumber], place: usize) -> OperationNumber
+    requires { place < length operations.now }
+    ensures { result ≡ slice_index_or operations.now place nowhere }
+{
+    operations[place]
+}
+
+/// The operation after the one at this place; after the last comes the first.
+fn next_of(operations: &[OperationNumber], place: usize) -> OperationNumber
+    requires { place < length operations.now }
+    ensures { result ≡ slice_index_or operations.now (place + 1) (slice_index_or operations.now 0 nowhere) }
+{
+    if place + 1 < operations.len() {
+        operations[place + 1]
+    } else {
+        operations[0]
+    }
+}
+
+/// Appends the orders of which one stands, since the operations do not stand in a cycle: each step, also that from the last to the
+/// first, is turned round.
+pub fn cycle_clause(
+    trace: &Trace,
+    operations: &[OperationNumber],
+    orders: &mut Vec<OrderPair>,
+) -> Result<(), Refusal>
+    ensures { OnOk result (HoldsOfSchedules trace.now (named_orders trace.now orders.new.items)) }
+{
+    let count = operations.len();
+    if count == 0 {
+        return Err(Refusal::For(ReasonCause::BadCycle));
+    }
+    for place in 0..operations.len() {
+        let from = at(operations, place);
+        let to = next_of(operations, place);
+        push_turned(trace, from, to, orders)?;
+    }
+    Ok(())
+}

@@ -1,0 +1,10 @@
+//! Makers of clauses over orders: each makes of a trace and a line of a certificate a clause that holds in each legal schedule.
+#![tactic(auto)]
+
+pub mod barring;
+pub mod cause;
+pub mod cycle;
+mod lookups;
+mod orders;
+pub mod pair;
+pub mod stretches;

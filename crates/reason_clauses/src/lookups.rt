@@ -1,0 +1,115 @@
+//! Operations of a trace by their numbers, and what they say of a value.
+
+ghost use Rattle.std.specs.Prelude.{◌≡◌, true, IfSome, OnOk, IfOk};
+ghost use Rattle.order_clauses.specs.Numbered.{IsKnown};
+ghost use Rattle.reason_clauses.specs.Numbered.{IsGivenWitness, IsGivenFront};
+ghost use Rattle.reason_clauses.specs.Makers.{IsNumberOf, DoesHide};
+
+use crate::cause::{ReasonCause, Refusal};
+use trace_semantics::operation::Op;
+use trace_semantics::trace::Trace;
+use writer_table::operation_number::OperationNumber;
+
+/// Returns the operation of these numbers.
+pub fn find_operation(trace: &Trace, n: OperationNumber) -> Option<&Op>
+    ensures { IfSome result (λ op. IsNumberOf trace.now n op.now) }
+{
+    trace.recall_invariant();
+    let processes = trace.processes();
+    let q = n.process as usize;
+    if q >= processes.len() || n.place == 0 {
+        return None;
+    }
+    let operations = processes[q].operations.as_slice();
+    let k = (n.place - 1) as usize;
+    if k >= operations.len() {
+        return None;
+    }
+    Some(&operations[k])
+}
+
+/// Returns the operation of these numbers, which has to be one.
+pub fn operation_of(trace: &Trace, n: OperationNumber) -> Result<&Op, Refusal>
+    ensures { IfOk result (λ op. IsNumberOf trace.now n op.now) }
+{
+    match find_operation(trace, n) {
+        Some(op) => Ok(op),
+        None => Err(Refusal::For(ReasonCause::NoOperation)),
+    }
+}
+
+/// Returns whether both are one operation.
+pub fn are_same(first: OperationNumber, second: OperationNumber) -> bool
+    ensures { first ≡ second → result ≡ true }
+{
+    first.process == second.process && first.place == second.place
+}
+
+/// Returns whether the operation writes the location, or reads another value there.
+fn hides(op: &Op, location: &[u8], value: u64) -> bool
+    ensures { result ≡ true → DoesHide location.now value op.now }
+{
+    if op.location().as_bytes() != location {
+        return false;
+    }
+    if op.written_value().is_some() {
+        return true;
+    }
+    match op.value_read() {
+        Some(read) => read != value,
+        None => false,
+    }
+}
+
+/// Returns whether the operation is a witness against the value.
+fn is_witness(
+    trace: &Trace,
+    reader: OperationNumber,
+    witness: OperationNumber,
+    location: &[u8],
+    value: u64,
+) -> bool
+    ensures { result ≡ true → IsKnown trace.now reader → IsGivenWitness trace.now location.now value reader witness }
+{
+    trace.recall_invariant();
+    if are_same(witness, reader) {
+        return false;
+    }
+    let Some(op) = find_operation(trace, witness) else {
+        return false;
+    };
+    hides(op, location, value)
+}
+
+/// Refuses an operation that is no witness against the value.
+pub fn want_witness(
+    trace: &Trace,
+    reader: OperationNumber,
+    witness: OperationNumber,
+    location: &[u8],
+    value: u64,
+) -> Result<(), Refusal>
+    ensures { OnOk result (IsKnown trace.now reader → IsGivenWitness trace.now location.now value reader witness) }
+{
+    if is_witness(trace, reader, witness, location, value) {
+        Ok(())
+    } else {
+        Err(Refusal::For(ReasonCause::NoWitness))
+    }
+}
+
+/// The same, if an operation is given.
+pub fn want_front(
+    trace: &Trace,
+    reader: OperationNumber,
+    witness: Option<OperationNumber>,
+    location: &[u8],
+    value: u64,
+) -> Result<(), Refusal>
+    ensures { OnOk result (IsKnown trace.now reader → IsGivenFront trace.now location.now value reader witness) }
+{
+    match witness {
+        Some(x) => want_witness(trace, reader, x, location, value),
+        None => Ok(()),
+    }
+}

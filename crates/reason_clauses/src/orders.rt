@@ -1,0 +1,24 @@
+//! Orders that a clause says.
+
+ghost use Rattle.std.specs.Prelude.{OnOk};
+ghost use Rattle.reason_clauses.specs.Numbered.{Grows, MakesSay};
+
+use order_clauses::order_pair::OrderPair;
+use std::alloc::AllocError;
+use writer_table::operation_number::OperationNumber;
+
+/// Appends that the first operation stands before the second, unless program order has it otherwise.
+pub fn push_order(
+    orders: &mut Vec<OrderPair>,
+    first: OperationNumber,
+    second: OperationNumber,
+) -> Result<(), AllocError>
+    ensures grows { OnOk result (Grows orders.old.items orders.new.items) }
+    ensures says { OnOk result (MakesSay orders.new.items first second) }
+{
+    if first.process == second.process && second.place <= first.place {
+        return Ok(());
+    }
+    orders.push(OrderPair { first, second })?;
+    Ok(())
+}

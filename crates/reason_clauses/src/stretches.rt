@@ -1,0 +1,83 @@
+//! The sources of one process, in three stretches.
+
+ghost use Rattle.std.specs.Prelude.{◌≡◌, ◌≤◌, ◌<◌, ℕ, length, slice_index};
+ghost use Rattle.std.specs.List.{All, Contains};
+ghost use Rattle.reason_clauses.specs.Numbered.{IsTaken, AreUpTo};
+ghost use Rattle.std.specs.List.Sorted.{IsNonDecreasing};
+
+use writer_table::rising_places::RisingPlaces;
+
+/// Places in a process, 0 for none: the last one up to the bound, the first one from the limit on, and the first and the last of the others.
+#[derive(Clone, Copy, Debug, PartialEq, Eq)]
+pub struct Stretches {
+    pub hidden: u32,
+    pub later: u32,
+    pub first: u32,
+    pub last: u32,
+}
+
+/// The place at k, if low is below high, and else 0.
+fn place_if(places: &[u32], low: usize, high: usize, k: usize) -> u32
+    requires inside { low < high → k < length places.now }
+    ensures there { low < high → result ≡ slice_index places.now k }
+    ensures none { high ≤ low → result ≡ 0 }
+{
+    if low < high { places[k] } else { 0 }
+}
+
+/// The stretches of rising places, if so many are up to the bound, and so many before the limit.
+fn cut(places: &[u32], hidden: usize, before: usize) -> Stretches
+    requires rising { IsNonDecreasing places.now }
+    requires hidden { hidden ≤ length places.now }
+    requires before { before ≤ length places.now }
+    ensures taken { All (λ p. 1 ≤ p) places.now → (p : ℕ) → Contains places.now p → IsTaken result p }
+    ensures most { (n : ℕ) → All (λ p. p ≤ n) places.now → AreUpTo result n }
+{
+    let start = if hidden < before { before } else { hidden };
+    let up_to = place_if(places, 0, hidden, hidden.saturating_sub(1));
+    let first = place_if(places, hidden, before, hidden);
+    let last = place_if(places, hidden, before, before.saturating_sub(1));
+    let later = place_if(places, start, places.len(), start);
+    Stretches {
+        hidden: up_to,
+        later,
+        first,
+        last,
+    }
+}
+
+/// Returns the stretches of the places. A limit of 0 is none.
+pub fn stretches_of(places: &RisingPlaces, bound: u32, limit: u32) -> Stretches
+    ensures taken { All (λ p. 1 ≤ p) places.now → (p : ℕ) → Contains places.now p → IsTaken result p }
+    ensures most { (n : ℕ) → All (λ p. p ≤ n) places.now → AreUpTo result n }
+{
+    let hidden = places.count_to(bound);
+    let before = if limit == 0 {
+        places.as_slice().len()
+    } else {
+        places.count_to(limit - 1)
+    };
+    cut(places.as_slice(), hidden, before)
+}
+
+/// Returns the stretches of one place. A limit of 0 is none.
+pub fn stretches_of_one(place: u32, bound: u32, limit: u32) -> Stretches
+    ensures taken { 1 ≤ place → IsTaken result place }
+    ensures most { AreUpTo result place }
+{
+    let mut s = Stretches {
+        hidden: 0,
+        later: 0,
+        first: 0,
+        last: 0,
+    };
+    if place <= bound {
+        s.hidden = place;
+    } else if limit != 0 && limit <= place {
+        s.later = place;
+    } else {
+        s.first = place;
+        s.last = place;
+    }
+    s
+}
