@@ -8,6 +8,8 @@ import os
 import re
 
 WORD = r"[A-Za-zℕℤ_][A-Za-z0-9_'ℕℤ]*"
+# Crates of containers: clauses see a value of theirs as the list of its elements, so nothing of them has to be believed.
+CONTAINERS = ("short_lists",)
 CONSTRUCTORS = ("zero", "suc", "pos", "negsuc", "true", "false", "tt")
 
 
@@ -29,6 +31,11 @@ class Item:
         self.file, self.name, self.kind = file, name, kind
         self.comment, self.signature, self.body = comment, signature, body
         self.model = []
+
+    def first(self, count):
+        """The first equations of the definition."""
+        starts = [at for at, line in enumerate(self.body) if not line.startswith((" ", "}"))] + [len(self.body)]
+        return Item(self.file, self.name, self.kind, self.comment, self.signature, self.body[:starts[count]])
 
     def is_seen_by_its_model(self):
         """Whether clauses see no field of the type, but what its model says."""
@@ -57,10 +64,10 @@ class Contract:
         if not self.clauses:
             raise NotFound(f"{name} of {file} has no clause")
 
-    def traits(self):
-        """The traits of those type parameters of which a clause names what they show."""
+    def traits(self, clauses):
+        """The traits of those type parameters of which one of these clauses names what they show."""
         bounds = dict(re.findall(r"[<,]\s*(\w): ([^,<>]+)", self.head))
-        named = set(re.findall(r"\b([A-Z])\.\w", "".join(text for _, text in self.clauses)))
+        named = set(re.findall(r"\b([A-Z])\.\w", "".join(clauses)))
         return [trait.strip() for letter in sorted(named) for trait in bounds[letter].split("+")]
 
 
@@ -151,7 +158,8 @@ class Source:
         starts = [at for at, line in enumerate(self.lines) if re.match(rf"pub fn {name}\b", line)]
         if len(starts) != 1:
             raise NotFound(f"{self.path} has no public function {name}")
-        return Contract(self.path, name, self.lines[starts[0]:self.lines.index("{", starts[0])])
+        end = next(at for at in range(starts[0], len(self.lines)) if self.lines[at] in ("{", "{}"))
+        return Contract(self.path, name, self.lines[starts[0]:end])
 
 
 def binders(text):
@@ -287,7 +295,8 @@ class Crates:
         shown = set(re.findall(r"\.(\w+)", "\n".join(item.model_lines())))
         fields = (re.match(r"\s+(?:pub(?:\(crate\))? )?(\w+): (.*)", line) for line in item.body)
         types = (word for field in fields if field and field[1] in shown for word in re.findall(r"\b[A-Z]\w+", field[2]))
-        return list(filter(None, (self.rust_type(source, word) for word in types)))
+        found = filter(None, (self.rust_type(source, word) for word in types))
+        return [it for it in found if it.file.split("/")[0] not in CONTAINERS]
 
     def of_rust(self, source, item):
         """What a type, a trait or a constant speaks of."""
@@ -321,9 +330,10 @@ class Crates:
         """What a clause of a contract speaks of, and the traits of what it names."""
         return self.named(self.source(contract.file), text, binders(text))
 
-    def of_traits(self, contract):
+    def of_traits(self, contract, clauses):
+        """The traits, of these crates, of what some clauses of a contract name."""
         source = self.source(contract.file)
-        return list(filter(None, (self.rust_type(source, trait) for trait in contract.traits() if trait in source.uses)))
+        return list(filter(None, (self.rust_type(source, trait) for trait in contract.traits(clauses) if trait in source.uses)))
 
     def reached(self, roots, already):
         """All definitions that these reach, those already known left out: each after what it speaks of, as far as that is possible."""
