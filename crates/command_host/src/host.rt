@@ -29,8 +29,8 @@ pub trait Host<'p> {
         ensures is_at_end { Self.Input.is_at_end result ≡ false }
         ensures failures { Self.Input.failures result ≡ 0 };
 
-    /// Makes the file at this path, or opens the one that is there, to be written in place of what it has. That is lost at once if the file is to
-    /// be emptied, and else when something is written, or when the file is given back after a report.
+    /// Makes the file at this path, or opens the one that is there, to be written in place of what it has. That is lost at once with
+    /// `is_emptied`, and else when something is written, or when the file is given back after a report.
     fn create(&mut self, path: &'p str, is_emptied: bool) -> Result<Self::Output, Failed>
         ensures makes { IfOk result (λ file. calls.makes self.old path.now is_emptied file self.new) }
         ensures path { IfOk result (λ file. Self.Output.path file ≡ path.now) }

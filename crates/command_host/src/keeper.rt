@@ -63,7 +63,7 @@ impl Copied {
         }
     }
 
-    /// What is known of the text, if this failed of its source.
+    /// Gives what is known of the text, if this failed of its source.
     fn into_text(self, failure: Option<DeviceFailure>) -> KeptText {
         let Copied {
             bytes,
@@ -104,7 +104,7 @@ impl<S: Source> Keeper<S> {
 }
 
 impl<S: Source + TellsFailure + Drop> Keeper<S> {
-    /// What is known of the text. Explanations and pictures alone ask, so nothing is promised of the answer.
+    /// Gives what is known of the text. Explanations and pictures alone ask, so nothing is promised of the answer.
     pub fn into_text(self) -> KeptText {
         let failure = self.source.failure();
         self.copied.into_text(failure)

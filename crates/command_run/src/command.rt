@@ -2,7 +2,7 @@
 ghost use Rattle.std.specs.Prelude.{None, Some};
 ghost use Rattle.clap.specs.Walk.{texts};
 ghost use Rattle.command_host.specs.Streams.{sink_view, source_view};
-ghost use Rattle.command_line.specs.CommandLine.{IsWithinRanges};
+ghost use Rattle.command_line.specs.CommandLine.{IsWithinRanges, is_explained};
 ghost use Rattle.command_run.specs.CommandRun.{EndsAsked, EndsDrawn, EndsExplained, EndsLine, EndsRun, EndsWords, ExplainsFault, ReportsFault, RunsLine, TellsOutcome};
 ghost use Rattle.command_run.specs.ExitStatus.{IsExitStatus};
 ghost use Rattle.verdict_report.specs.declared.fault.Fault.TheVariants.{Device};
@@ -15,7 +15,7 @@ use crate::kept_run::KeptRun;
 use crate::picturing::{draw_outcome, is_reported};
 use crate::telling::{DEVICE, tell_fault, tell_line_fault, tell_outcome};
 use command_host::{FailedFile, Host, Recalls};
-use command_line::{CommandLine, Line, read_line};
+use command_line::{CommandLine, Explains, Line, read_line};
 use cube_jobs::Gate;
 use dimacs::Sink;
 use std::alloc::Global;
@@ -101,20 +101,21 @@ fn run_explained<
     exit_status(&answer)
 }
 
-/// Runs the engine of the line, with an explanation or without.
+/// Runs the engine of the line, with an explanation or without, if standard error is a terminal or if it is none.
 fn run_asked<'p, R: Threads + Wait + Sync, G: Gate + Sync, H: Host<'p>, O: Sink + Recalls, E: Sink>(
     alloc: Global,
     rt: &R,
     progress: &G,
     host: &mut H,
     line: Line<'p>,
-    explains: bool,
+    explains: Explains,
+    is_terminal: bool,
     out: &mut O,
     err: &mut E,
     kept: &mut KeptRun,
 ) -> u8
     requires { IsWithinRanges line }
-    ensures ends { EndsAsked explains H.calls (source_view H.Input.handed_out H.Input.is_at_end H.Input.failures H.Input.path)
+    ensures ends { EndsAsked (is_explained is_terminal explains) H.calls (source_view H.Input.handed_out H.Input.is_at_end H.Input.failures H.Input.path)
         (sink_view H.Output.written H.Output.failures H.Output.path)
         host.old line.entry
         (sink_run O.written O.failures out.old out.new)
@@ -122,7 +123,7 @@ fn run_asked<'p, R: Threads + Wait + Sync, G: Gate + Sync, H: Host<'p>, O: Sink 
         result host.new }
     ensures known { IsExitStatus result }
 {
-    if explains {
+    if explains.is_wanted(is_terminal) {
         run_explained(alloc, rt, progress, host, line, out, err, kept)
     } else {
         run_plain(alloc, rt, progress, host, line, out, err, kept)
@@ -141,12 +142,13 @@ fn explain_without_file<E: Sink>(alloc: Global, failed: Option<FailedFile<'_>>, 
 fn report_without_file<E: Sink>(
     alloc: Global,
     failed: Option<FailedFile<'_>>,
-    explains: bool,
+    explains: Explains,
+    is_terminal: bool,
     err: &mut E,
 )
-    ensures { ReportsFault explains (sink_run E.written E.failures err.old err.new) Device }
+    ensures { ReportsFault (is_explained is_terminal explains) (sink_run E.written E.failures err.old err.new) Device }
 {
-    if explains {
+    if explains.is_wanted(is_terminal) {
         explain_without_file(alloc, failed, err);
     } else {
         tell_fault(&Fault::Device, err);
@@ -181,14 +183,22 @@ fn run_with_picture<
         result host.new }
     ensures known { IsExitStatus result }
 {
-    let explains = asked.explains.is_wanted(is_terminal);
     let Ok(mut file) = host.create(path, false) else {
-        report_without_file(alloc, host.failed_file(), explains, err);
+        report_without_file(alloc, host.failed_file(), asked.explains, is_terminal, err);
         return DEVICE;
     };
     let mut kept = KeptRun::new(true);
     let status = run_asked(
-        alloc, rt, progress, host, asked.line, explains, out, err, &mut kept,
+        alloc,
+        rt,
+        progress,
+        host,
+        asked.line,
+        asked.explains,
+        is_terminal,
+        out,
+        err,
+        &mut kept,
     );
     draw_outcome(alloc, asked.line, status, &kept, &mut file);
     host.close(file, is_reported(status));
@@ -222,10 +232,18 @@ fn run_without_picture<
         result host.new }
     ensures known { IsExitStatus result }
 {
-    let explains = asked.explains.is_wanted(is_terminal);
-    let mut kept = KeptRun::new(explains);
+    let mut kept = KeptRun::new(asked.explains.is_wanted(is_terminal));
     run_asked(
-        alloc, rt, progress, host, asked.line, explains, out, err, &mut kept,
+        alloc,
+        rt,
+        progress,
+        host,
+        asked.line,
+        asked.explains,
+        is_terminal,
+        out,
+        err,
+        &mut kept,
     )
 }
 

@@ -284,9 +284,7 @@ pub(crate) fn run_engine<'p, R: Threads + Wait + Sync, G: Gate + Sync, H: Host<'
 {
     match line {
         Line::Judge { trace, schedule } => judge_files(alloc, host, trace, schedule, out, kept),
-        Line::Cnf { trace, workers } => translate_file(
-            alloc, rt, host, trace, workers, out, kept,
-        ),
+        Line::Cnf { trace, workers } => translate_file(alloc, rt, host, trace, workers, out, kept),
         Line::Decode { trace, model } => decode_files(alloc, host, trace, model, out, kept),
         Line::Lrat { cnf, proof } => check_files(alloc, host, cnf, proof, out, kept),
         Line::Recheck { trace, cert, part } => recheck_any(

@@ -3,15 +3,15 @@ use Rattle.std.specs.Prelude.{ℕ, ◌<◌, List, [], map, length, slice_index_o
 use Rattle.trace_semantics.specs.declared.operation.OpName.{OpName}
 use Rattle.trace_semantics.specs.declared.trace.Process.{Process}
 use Rattle.trace_semantics.specs.Trace.{TraceValue, operation_at}
-use Rattle.writer_table.specs.declared.operation_number.OperationNumber.{OperationNumber}
+use Rattle.writer_table.specs.declared.operation_place.OperationPlace.{OperationPlace}
 use Rattle.order_clauses.specs.declared.order_pair.OrderPair.{OrderPair}
 
 -- the name of an operation by numbers
-abbrev pub named : TraceValue → OperationNumber → OpName
+abbrev pub named : TraceValue → OperationPlace → OpName
 named t n = record { process = slice_index_or (map (λ (p : Process). p.name) t.processes) n.process []; place = n.place }
 
 -- the numbers are of an operation of the trace
-abbrev pub IsKnown : TraceValue → OperationNumber → Type 0
+abbrev pub IsKnown : TraceValue → OperationPlace → Type 0
 IsKnown t n = (n.process < length t.processes) × IsSome (operation_at t (named t n))
 
 -- an order by names

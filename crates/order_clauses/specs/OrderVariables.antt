@@ -1,12 +1,12 @@
 -- What variables and literals say of orders, if the variables are numbered from 1 and each has a pair of operations.
 use Rattle.std.specs.Prelude.{◌≡◌, ◌-◌, ℕ, suc, ℤ, pos, negsuc, List, ◌++◌, map, slice_index_or}
 use Rattle.std.specs.List.{Contains}
-use Rattle.writer_table.specs.declared.operation_number.OperationNumber.{OperationNumber}
+use Rattle.writer_table.specs.declared.operation_place.OperationPlace.{OperationPlace}
 use Rattle.order_clauses.specs.declared.order_pair.OrderPair.{OrderPair}
 use Rattle.order_clauses.specs.Turned.{turned}
 
 -- operations of no trace: places are counted from 1
-abbrev pub nowhere : OperationNumber
+abbrev pub nowhere : OperationPlace
 nowhere = record { process = 0; place = 0 }
 
 -- the pair of a variable

@@ -1,12 +1,12 @@
 //! Orders of two operations.
 
-use writer_table::operation_number::OperationNumber;
+use writer_table::operation_place::OperationPlace;
 
 /// The first operation stands before the second.
 #[derive(Clone, Copy, Debug, PartialEq, Eq, Hash)]
 pub struct OrderPair {
-    pub first: OperationNumber,
-    pub second: OperationNumber,
+    pub first: OperationPlace,
+    pub second: OperationPlace,
 }
 
 impl OrderPair {

@@ -4,7 +4,7 @@ ghost use Rattle.std.specs.Prelude.{◌≡◌, ◌++◌, ◌∷◌, [], List, If
 ghost use Rattle.order_clauses.specs.ClauseOf.{IsClauseOf};
 ghost use Rattle.order_clauses.specs.OrderVariables.{IsExtended};
 ghost use Rattle.order_clauses.specs.declared.order_pair.OrderPair.{OrderPair as Order};
-ghost use Rattle.order_clauses.specs.declared.reason_list.Outcome.TheVariants.{Made};
+ghost use Rattle.order_clauses.specs.declared.reason_list.ClauseOutcome.TheVariants.{Made};
 
 use crate::literal_places::LiteralPlaces;
 use crate::order_pair::OrderPair;
@@ -14,7 +14,7 @@ use std::alloc::{AllocError, Global};
 
 /// What came of orders that were to be made a clause.
 #[derive(Clone, Copy, Debug, PartialEq, Eq)]
-pub enum Outcome {
+pub enum ClauseOutcome {
     /// The clause was made.
     Made,
     /// One of two of the orders always stands, as program order has one so, or they are opposite.
@@ -37,21 +37,21 @@ fn put_order(
     places: &mut LiteralPlaces,
     literals: &mut Vec<Lit>,
     order: OrderPair,
-) -> Result<Outcome, AllocError>
+) -> Result<ClauseOutcome, AllocError>
     ensures extended { OnOk result (IsExtended variables.old variables.new) }
     ensures says { IfOk result (λ outcome. outcome ≡ Made → (orders : List Order) → IsClauseOf variables.old orders literals.old.items → IsClauseOf variables.new (orders ++ order ∷ []) literals.new.items) }
 {
     if order.is_of_one_process() {
-        return Ok(Outcome::AlwaysTrue);
+        return Ok(ClauseOutcome::AlwaysTrue);
     }
     let Some(literal) = variables.literal(order)? else {
-        return Ok(Outcome::TooManyVariables);
+        return Ok(ClauseOutcome::TooManyVariables);
     };
     if places.has(literals.as_slice(), literal.negated()) {
-        return Ok(Outcome::AlwaysTrue);
+        return Ok(ClauseOutcome::AlwaysTrue);
     }
     places.put(literals, literal)?;
-    Ok(Outcome::Made)
+    Ok(ClauseOutcome::Made)
 }
 
 /// Appends literals that say the orders.
@@ -60,17 +60,17 @@ fn put_orders(
     places: &mut LiteralPlaces,
     literals: &mut Vec<Lit>,
     orders: &[OrderPair],
-) -> Result<Outcome, AllocError>
+) -> Result<ClauseOutcome, AllocError>
     ensures extended { OnOk result (IsExtended variables.old variables.new) }
     ensures says { IfOk result (λ outcome. outcome ≡ Made → literals.old.items ≡ [] → IsClauseOf variables.new orders.now literals.new.items) }
 {
     for order in orders {
         let outcome = put_order(variables, places, literals, *order)?;
-        if outcome != Outcome::Made {
+        if outcome != ClauseOutcome::Made {
             return Ok(outcome);
         }
     }
-    Ok(Outcome::Made)
+    Ok(ClauseOutcome::Made)
 }
 
 impl ReasonList {
@@ -91,18 +91,18 @@ impl ReasonList {
         }
     }
 
-    /// How many clauses there are.
+    /// The number of clauses.
     pub fn count(&self) -> usize {
         self.clauses.len()
     }
 
     /// Appends the clause that one of the orders stands.
-    pub fn add(&mut self, alloc: Global, orders: &[OrderPair]) -> Result<Outcome, AllocError>
+    pub fn add(&mut self, alloc: Global, orders: &[OrderPair]) -> Result<ClauseOutcome, AllocError>
         ensures { OnOk result ((t : TraceValue) → HoldsOfSchedules t (named_orders t orders.now) → HoldReasons t self.old.variables self.old.clauses.items → HoldReasons t self.new.variables self.new.clauses.items) }
     {
         let mut literals = Vec::with_capacity(alloc, orders.len())?;
         let outcome = put_orders(&mut self.variables, &mut self.places, &mut literals, orders)?;
-        if outcome == Outcome::Made {
+        if outcome == ClauseOutcome::Made {
             self.clauses
                 .push(Clause::from_slice(alloc, literals.as_slice())?)?;
         }

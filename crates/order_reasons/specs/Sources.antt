@@ -73,7 +73,7 @@ pub record BarsLastWriters (t : TraceValue) (clause : List (OpName × OpName)) (
   pub writes : IsSome (value_left_at t location writer)
   pub writers : (w : OpName) (e : ℕ) → value_left_at t location w ≡ Some e → ((d : ℕ) → value_of t.final_values location ≡ Some d → d ≡ e) → IsLastBarred t clause location w ⊎ kept (LeftBy w)
 
--- the clause bars each last writer of the location; or nobody writes there, and the final value is not the initial one
+-- the clause bars each last writer of the location; or no operation writes there, and the final value is not the initial one
 abbrev pub IsLastClause : TraceValue → List (OpName × OpName) → List ℕ → Type 0
 IsLastClause t clause location = BarsLastWriters t clause location (λ s. ⊥)
 

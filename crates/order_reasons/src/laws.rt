@@ -35,7 +35,7 @@ pub fn last_is_barred()
     ensures { (t : TraceValue) (clause : List (OpName × OpName)) (location : List ℕ) → IsLastClause t clause location → HoldsOfSchedules t clause }
 {}
 
-/// If nobody writes a location, and its final value is not its initial one, there is no legal schedule.
+/// If no operation writes a location, and its final value is not its initial one, there is no legal schedule.
 pub fn lost_final_has_no_schedule()
     ensures { (t : TraceValue) (location : List ℕ) → IsLostFinal t location → HasNoSchedule t }
 {}

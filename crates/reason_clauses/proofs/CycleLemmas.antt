@@ -3,7 +3,7 @@ use Rattle.std.proofs.Common.{◌≡◌, ◌<◌, ◌+◌, ℕ, zero, suc, List,
 use Rattle.std.proofs.lemmas.Bool.{cases_order}
 use Rattle.trace_semantics.specs.declared.operation.OpName.{OpName}
 use Rattle.trace_semantics.specs.Trace.{TraceValue, IsTrace}
-use Rattle.writer_table.specs.declared.operation_number.OperationNumber.{OperationNumber}
+use Rattle.writer_table.specs.declared.operation_place.OperationPlace.{OperationPlace}
 use Rattle.order_clauses.specs.declared.order_pair.OrderPair.{OrderPair}
 use Rattle.order_clauses.specs.Numbered.{named, named_orders, IsKnown}
 use Rattle.order_clauses.specs.OrderVariables.{nowhere}
@@ -14,10 +14,10 @@ use Rattle.reason_clauses.specs.Cycle.{IsTurned}
 use Rattle.reason_clauses.specs.Numbered.{AreIn, Grows, MakesSay}
 use Rattle.reason_clauses.proofs.NumberLemmas.{numbers_apart}
 
-pub turned_more : (t : TraceValue) (old new : List OrderPair) (u v : OperationNumber) → Grows old new → IsTurned t old u v → IsTurned t new u v
+pub turned_more : (t : TraceValue) (old new : List OrderPair) (u v : OperationPlace) → Grows old new → IsTurned t old u v → IsTurned t new u v
 turned_more t old new u v grows h = record { known = h.known; other = h.other; says = λ clause all known. h.says clause (grows t clause all) known }
 
-pub is_turned : (t : TraceValue) → IsTrace t → (new : List OrderPair) (u v : OperationNumber) → (u ≡ v → ⊥) → IsKnown t u → MakesSay new v u → IsTurned t new u v
+pub is_turned : (t : TraceValue) → IsTrace t → (new : List OrderPair) (u v : OperationPlace) → (u ≡ v → ⊥) → IsKnown t u → MakesSay new v u → IsTurned t new u v
 is_turned t ok new u v other known says = record {
   known = known;
   other = λ v_known same. other (numbers_apart t ok u v known v_known same);
@@ -25,10 +25,10 @@ is_turned t ok new u v other known says = record {
 }
 
 -- of these operations the first n steps are turned round, the last of all leading to the first
-abbrev pub AreTurned : TraceValue → List OrderPair → List OperationNumber → ℕ → Type 0
+abbrev pub AreTurned : TraceValue → List OrderPair → List OperationPlace → ℕ → Type 0
 AreTurned t new ops n = (j : ℕ) → j < n → IsTurned t new (get_or ops j nowhere) (get_or ops (j + 1) (get_or ops 0 nowhere))
 
-pub turned_next : (t : TraceValue) (old new : List OrderPair) (ops : List OperationNumber) (n : ℕ) → Grows old new → AreTurned t old ops n → IsTurned t new (get_or ops n nowhere) (get_or ops (n + 1) (get_or ops 0 nowhere)) → AreTurned t new ops (n + 1)
+pub turned_next : (t : TraceValue) (old new : List OrderPair) (ops : List OperationPlace) (n : ℕ) → Grows old new → AreTurned t old ops n → IsTurned t new (get_or ops n nowhere) (get_or ops (n + 1) (get_or ops 0 nowhere)) → AreTurned t new ops (n + 1)
 turned_next t old new ops n grows so at j less =
     elim (cases_order j n) [
       | inl e ↦ subst (λ i. IsTurned t new (get_or ops i nowhere) (get_or ops (i + 1) (get_or ops 0 nowhere))) (sym e) at
@@ -36,18 +36,18 @@ turned_next t old new ops n grows so at j less =
       | inr (inr high) ↦ absurd (omega (arith, less, high))
     ]
 
-module _ (t : TraceValue) (new : List OrderPair) (first : OperationNumber) (known : IsKnown t first) where
+module _ (t : TraceValue) (new : List OrderPair) (first : OperationPlace) (known : IsKnown t first) where
   abbrev clause : List (OpName × OpName)
   clause = named_orders t new
 
-  steps : (u : OperationNumber) (rest : List OperationNumber) → ((j : ℕ) → j < suc (length rest) → IsTurned t new (get_or (u ∷ rest) j nowhere) (get_or (u ∷ rest) (suc j) first)) → TurnsSteps t clause (named t first) (named t u) (map (named t) rest)
+  steps : (u : OperationPlace) (rest : List OperationPlace) → ((j : ℕ) → j < suc (length rest) → IsTurned t new (get_or (u ∷ rest) j nowhere) (get_or (u ∷ rest) (suc j) first)) → TurnsSteps t clause (named t first) (named t u) (map (named t) rest)
   steps u [] h = let at = h 0 (omega arith) in (at.other known, at.known.1, at.says clause (λ p c. c) known)
   steps u (v ∷ rest) h =
       let at = h 0 (omega arith) in
       let next = h 1 (omega arith) in
       (at.other next.known, at.known.1, at.says clause (λ p c. c) next.known, steps v rest (λ j low. h (suc j) (omega (arith, low))))
 
-pub turned_holds : (t : TraceValue) (new : List OrderPair) (ops : List OperationNumber) → (length ops ≡ 0 → ⊥) → AreTurned t new ops (length ops) → HoldsOfSchedules t (named_orders t new)
+pub turned_holds : (t : TraceValue) (new : List OrderPair) (ops : List OperationPlace) → (length ops ≡ 0 → ⊥) → AreTurned t new ops (length ops) → HoldsOfSchedules t (named_orders t new)
 turned_holds t new [] some so names legal = absurd (some refl)
 turned_holds t new (u ∷ rest) some so names legal =
     cycle_holds t names legal.interleaving (named_orders t new) (named t u) (map (named t) rest)

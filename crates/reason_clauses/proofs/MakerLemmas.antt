@@ -9,7 +9,7 @@ use Rattle.trace_semantics.specs.declared.operation.Op.{Op}
 use Rattle.trace_semantics.specs.declared.operation.OpName.{OpName}
 use Rattle.trace_semantics.specs.declared.trace.Process.{Process}
 use Rattle.trace_semantics.specs.Trace.{TraceValue, IsTrace, operation_at, value_of}
-use Rattle.writer_table.specs.declared.operation_number.OperationNumber.{OperationNumber}
+use Rattle.writer_table.specs.declared.operation_place.OperationPlace.{OperationPlace}
 use Rattle.restriction.specs.Restriction.{left_by}
 use Rattle.reason_clauses.specs.declared.barring.MainPiece.{MainPiece}
 use Rattle.order_clauses.specs.declared.order_pair.OrderPair.{OrderPair}
@@ -36,8 +36,8 @@ use Rattle.std.specs.Prelude.{⊤, IfSome}
 use Rattle.std.proofs.lemmas.Option.{same_Some}
 use Rattle.order_reasons.proofs.SourceReasons.{sources_barred}
 
-pub number_of_operation : (t : TraceValue) → IsTrace t → (n : OperationNumber) (p : Process) (op : Op) → n.process < length t.processes → get_or t.processes n.process p ≡ p → 1 ≤ n.place → slice_get p.operations (n.place - 1) ≡ Some op → IsNumberOf t n op
-number_of_operation t ok n p op low at some here = (low, ap (λ (x : OperationNumber). operation_at t (named t x)) same ∙ numbered_operation t ok n.process (n.place - 1) p op low at here)
+pub number_of_operation : (t : TraceValue) → IsTrace t → (n : OperationPlace) (p : Process) (op : Op) → n.process < length t.processes → get_or t.processes n.process p ≡ p → 1 ≤ n.place → slice_get p.operations (n.place - 1) ≡ Some op → IsNumberOf t n op
+number_of_operation t ok n p op low at some here = (low, ap (λ (x : OperationPlace). operation_at t (named t x)) same ∙ numbered_operation t ok n.process (n.place - 1) p op low at here)
   where
     place : n.place ≡ n.place - 1 + 1
     place = omega (arith, some)
@@ -45,17 +45,17 @@ number_of_operation t ok n p op low at some here = (low, ap (λ (x : OperationNu
     same : n ≡ at_number n.process (n.place - 1 + 1)
     same = λ i. record { process = n.process; place = place i }
 
-pub number_known : (t : TraceValue) (n : OperationNumber) (op : Op) → IsNumberOf t n op → IsKnown t n
+pub number_known : (t : TraceValue) (n : OperationPlace) (op : Op) → IsNumberOf t n op → IsKnown t n
 number_known t n op h = (h.0, ap is_some h.1)
 
-pub hides_there : (t : TraceValue) (n : OperationNumber) (op : Op) (location : List ℕ) (d : ℕ) → IsNumberOf t n op → DoesHide location d op → IsWitness t location d (named t n)
+pub hides_there : (t : TraceValue) (n : OperationPlace) (op : Op) (location : List ℕ) (d : ℕ) → IsNumberOf t n op → DoesHide location d op → IsWitness t location d (named t n)
 hides_there t n op location d h (inl writes) = inl (ap (λ o. is_some (option_and_then (left_by location) o)) h.1 ∙ writes)
 hides_there t n op location d h (inr (e, reads, other)) = inr (e, ap (option_and_then (read_by location)) h.1 ∙ reads, other)
 
-pub given_witness : (t : TraceValue) → IsTrace t → (r x : OperationNumber) (op : Op) (location : List ℕ) (d : ℕ) → IsNumberOf t x op → DoesHide location d op → (x ≡ r → ⊥) → IsKnown t r → IsGivenWitness t location d r x
+pub given_witness : (t : TraceValue) → IsTrace t → (r x : OperationPlace) (op : Op) (location : List ℕ) (d : ℕ) → IsNumberOf t x op → DoesHide location d op → (x ≡ r → ⊥) → IsKnown t r → IsGivenWitness t location d r x
 given_witness t ok r x op location d h hides other known = (number_known t x op h, hides_there t x op location d h hides, λ same. other (numbers_apart t ok x r (number_known t x op h) known same))
 
-pub bars_at : (t : TraceValue) → IsTrace t → (new : List OrderPair) (r : OperationNumber) (location : List ℕ) (d q : ℕ) (s : Stretches) (p : Process) (front : Option OperationNumber) (main : MainPiece) → q < length t.processes → get_or t.processes q p ≡ p →
+pub bars_at : (t : TraceValue) → IsTrace t → (new : List OrderPair) (r : OperationPlace) (location : List ℕ) (d q : ℕ) (s : Stretches) (p : Process) (front : Option OperationPlace) (main : MainPiece) → q < length t.processes → get_or t.processes q p ≡ p →
     BarsPlaces new r q (λ u l v. IsGivenFront u l v r front × IsGivenMain u l v r main) (AreTaken s) →
     ((k : ℕ) → option_and_then (left_by location) (slice_get p.operations k) ≡ Some d → IsTaken s (k + 1)) → AreUpTo s (length p.operations) → (IsKnown t r → IsGivenFront t location d r front) → IsBarredAt t new r location d main q
 bars_at t ok new r location d q s p front main low at bars taken most given clause all known main_given other within other_at j leaves =
@@ -83,10 +83,10 @@ bars_at t ok new r location d q s p front main low at bars taken most given clau
         let op = op_there p.operations (k - 1) (omega (arith, least, highest)) in
         number_known t (at_number q k) op.0 (number_of_operation t ok (at_number q k) p op.0 low at least op.1)
 
-pub below_more : (t : TraceValue) (old new : List OrderPair) (r : OperationNumber) (location : List ℕ) (d : ℕ) (main : MainPiece) (n : ℕ) → Grows old new → AreBarredBelow t old r location d main n → AreBarredBelow t new r location d main n
+pub below_more : (t : TraceValue) (old new : List OrderPair) (r : OperationPlace) (location : List ℕ) (d : ℕ) (main : MainPiece) (n : ℕ) → Grows old new → AreBarredBelow t old r location d main n → AreBarredBelow t new r location d main n
 below_more t old new r location d main n grows so q low clause all = so q low clause (grows t clause all)
 
-pub below_next : (t : TraceValue) (old new : List OrderPair) (r : OperationNumber) (location : List ℕ) (d : ℕ) (main : MainPiece) (n : ℕ) → Grows old new → AreBarredBelow t old r location d main n → IsBarredAt t new r location d main n → AreBarredBelow t new r location d main (n + 1)
+pub below_next : (t : TraceValue) (old new : List OrderPair) (r : OperationPlace) (location : List ℕ) (d : ℕ) (main : MainPiece) (n : ℕ) → Grows old new → AreBarredBelow t old r location d main n → IsBarredAt t new r location d main n → AreBarredBelow t new r location d main (n + 1)
 below_next t old new r location d main n grows so at q low =
     elim (cases_order q n) [
       | inl e ↦ subst (λ k. IsBarredAt t new r location d main k) (sym e) at
@@ -94,13 +94,13 @@ below_next t old new r location d main n grows so at q low =
       | inr (inr h) ↦ absurd (omega (arith, low, h))
     ]
 
-pub start_barred : (t : TraceValue) (new : List OrderPair) (r x : OperationNumber) (location : List ℕ) (d : ℕ) → (IsKnown t r → IsGivenWitness t location d r x) → MakesSay new r x → IsStartBarred t new r location d
+pub start_barred : (t : TraceValue) (new : List OrderPair) (r x : OperationPlace) (location : List ℕ) (d : ℕ) → (IsKnown t r → IsGivenWitness t location d r x) → MakesSay new r x → IsStartBarred t new r location d
 start_barred t new r x location d given says clause all known held =
     let g = given known in
     record { witness = named t x; witnesses = g.1; other = g.2; says = says t clause all known g.0 }
 
 -- the pairs that bar all sources are a clause that holds
-pub makes_source_clause : (t : TraceValue) → (r : OperationNumber) (op : Op) (d : ℕ) (mid new : List OrderPair) (main : MainPiece) → IsNumberOf t r op → value_read op ≡ Some d → (IsKnown t r → IsGivenMain t (location_of op) d r main) →
+pub makes_source_clause : (t : TraceValue) → (r : OperationPlace) (op : Op) (d : ℕ) (mid new : List OrderPair) (main : MainPiece) → IsNumberOf t r op → value_read op ≡ Some d → (IsKnown t r → IsGivenMain t (location_of op) d r main) →
     AreBarredBelow t mid r (location_of op) d main (length t.processes) → Grows mid new → IsStartBarred t new r (location_of op) d → HoldsOfSchedules t (named_orders t new)
 makes_source_clause t r op d mid new main number reads given below grows start names legal =
     elim (sources_barred t names legal (named_orders t new) (named t r) (λ s. ⊥) bars) [
@@ -129,13 +129,13 @@ makes_source_clause t r op d mid new main number reads given below grows start n
       initial = λ held allowed. inl (start (named_orders t new) whole known held);
     }
 
-pub makes_at : (t : TraceValue) → (r : OperationNumber) (op : Op) (d : ℕ) (location : List ℕ) (mid new : List OrderPair) (main : MainPiece) → location ≡ location_of op → IsNumberOf t r op → value_read op ≡ Some d → (IsKnown t r → IsGivenMain t location d r main) →
+pub makes_at : (t : TraceValue) → (r : OperationPlace) (op : Op) (d : ℕ) (location : List ℕ) (mid new : List OrderPair) (main : MainPiece) → location ≡ location_of op → IsNumberOf t r op → value_read op ≡ Some d → (IsKnown t r → IsGivenMain t location d r main) →
     AreBarredBelow t mid r location d main (length t.processes) → Grows mid new → IsStartBarred t new r location d → HoldsOfSchedules t (named_orders t new)
 makes_at t r op d location mid new main e number reads given below grows start =
     makes_source_clause t r op d mid new main number reads (subst (λ l. IsKnown t r → IsGivenMain t l d r main) e given) (subst (λ l. AreBarredBelow t mid r l d main (length t.processes)) e below) grows (subst (λ l. IsStartBarred t new r l d) e start)
 
 -- an operation that leaves the value is barred, if a stretch takes its place
-pub place_barred : (t : TraceValue) → IsTrace t → (new : List OrderPair) (r : OperationNumber) (location : List ℕ) (d q last : ℕ) (s : Stretches) (front : Option OperationNumber) (main : MainPiece) (op : Op) → IsNumberOf t (at_number q last) op →
+pub place_barred : (t : TraceValue) → IsTrace t → (new : List OrderPair) (r : OperationPlace) (location : List ℕ) (d q last : ℕ) (s : Stretches) (front : Option OperationPlace) (main : MainPiece) (op : Op) → IsNumberOf t (at_number q last) op →
     BarsPlaces new r q (λ u l v. IsGivenFront u l v r front × IsGivenMain u l v r main) (AreTaken s) → (1 ≤ last → AreUpTo s last × IsTaken s last) → (IsKnown t r → IsGivenFront t location d r front) → IsPlaceBarred t new r location d main (at_number q last)
 place_barred t ok new r location d q last s front main op number bars taken given clause all known main_given leaves =
     let at = known_named t (named t (at_number q last)) (ap is_some number.1) in
@@ -143,19 +143,19 @@ place_barred t ok new r location d q last s front main op number bars taken give
     let so = taken least in
     bars t clause location d last (numbers_apart t ok) all known (λ k low high. (number.0, earlier_known t ok (named t (at_number q k)) (named t (at_number q last)) (ap is_some number.1) refl low high)) (given known, main_given) last least (omega arith) so
 
-pub left_there : (t : TraceValue) (n : OperationNumber) (op : Op) (location : List ℕ) (d : ℕ) → IsNumberOf t n op → is_held (left_by location op) d ≡ false → value_left_at t location (named t n) ≡ Some d → ⊥
+pub left_there : (t : TraceValue) (n : OperationPlace) (op : Op) (location : List ℕ) (d : ℕ) → IsNumberOf t n op → is_held (left_by location op) d ≡ false → value_left_at t location (named t n) ≡ Some d → ⊥
 left_there t n op location d h other leaves =
     let clash : true ≡ false = sym (same_held (left_by location op) d (sym (ap (option_and_then (left_by location)) h.1) ∙ leaves)) ∙ other in cc
 
 -- the reader's place is one of its process
-reader_most : (t : TraceValue) → IsTrace t → (r : OperationNumber) (p : Process) → r.process < length t.processes → get_or t.processes r.process p ≡ p → 1 ≤ r.place → IsKnown t r → r.place ≤ length p.operations
+reader_most : (t : TraceValue) → IsTrace t → (r : OperationPlace) (p : Process) → r.process < length t.processes → get_or t.processes r.process p ≡ p → 1 ≤ r.place → IsKnown t r → r.place ≤ length p.operations
 reader_most t ok r p low at some known =
     let n = known_named t (named t r) known.1 in
     let same : n.process ≡ p = same_from_key (λ (x : Process). x.name) t.processes ok.distinct n.process p n.listed (r.process, low, at) (n.called ∙ name_at t.processes r.process p low at) in
     subst (λ (x : Process). r.place ≤ length x.operations) same n.most
 
 -- the last writer before the reader in its own process is a witness
-own_given : (t : TraceValue) → IsTrace t → (r : OperationNumber) (location : List ℕ) (d last k : ℕ) (p : Process) → r.process < length t.processes → get_or t.processes r.process p ≡ p → IsKnown t r → last ≡ k + 1 → k < length p.operations → last < r.place → WritesAt p.operations location k →
+own_given : (t : TraceValue) → IsTrace t → (r : OperationPlace) (location : List ℕ) (d last k : ℕ) (p : Process) → r.process < length t.processes → get_or t.processes r.process p ≡ p → IsKnown t r → last ≡ k + 1 → k < length p.operations → last < r.place → WritesAt p.operations location k →
     IsGivenWitness t location d r (at_number r.process last)
 own_given t ok r location d last k p low at known e l b w =
     subst (λ i. IsGivenWitness t location d r (at_number r.process i)) (sym e) (
@@ -171,8 +171,8 @@ own_given t ok r location d last k p low at known e l b w =
     known_there = numbered_operation t ok r.process k p (get_or p.operations k blank) low at (slice_get-get_or p.operations k blank l)
 
 -- all of the reader's own process is barred
-pub own_barred : (t : TraceValue) → IsTrace t → (mid new : List OrderPair) (r : OperationNumber) (location : List ℕ) (d last : ℕ) (p : Process) (front : Option OperationNumber) (main : MainPiece) → r.process < length t.processes → get_or t.processes r.process p ≡ p →
-    IsOwnLast p.operations location r.place last → ((x : OperationNumber) → front ≡ Some x → (1 ≤ last) × (x ≡ at_number r.process last)) →
+pub own_barred : (t : TraceValue) → IsTrace t → (mid new : List OrderPair) (r : OperationPlace) (location : List ℕ) (d last : ℕ) (p : Process) (front : Option OperationPlace) (main : MainPiece) → r.process < length t.processes → get_or t.processes r.process p ≡ p →
+    IsOwnLast p.operations location r.place last → ((x : OperationPlace) → front ≡ Some x → (1 ≤ last) × (x ≡ at_number r.process last)) →
     BarsPlaces mid r r.process (λ u l v. IsGivenFront u l v r front × ⊤) (AreTaken (others_of last r.place)) → Grows mid new → (1 ≤ last → IsPlaceBarred t new r location d main (at_number r.process last)) → 1 ≤ r.place → IsBarredAt t new r location d main r.process
 own_barred t ok mid new r location d last p front main low at own witness bars grows place some clause all known main_given other within other_at j leaves =
     elim (cases_order (j + 1) last) [
@@ -232,15 +232,15 @@ own_barred t ok mid new r location d last p front main low at own witness bars g
         bars t clause location d (length p.operations) (numbers_apart t ok) (grows t clause all) known places (given, tt) (j + 1) (omega arith) (omega (arith, inside))
         ((let most = lasts own.0 in omega (arith, most), at_most, omega arith, omega arith), taken)
 
-pub at_some : (o : Option OperationNumber) (P : OperationNumber → Type 0) → IfSome o P → (x : OperationNumber) → o ≡ Some x → P x
+pub at_some : (o : Option OperationPlace) (P : OperationPlace → Type 0) → IfSome o P → (x : OperationPlace) → o ≡ Some x → P x
 at_some None P h x e = absurd (cc)
 at_some (Some y) P h x e = subst P (same_Some y x e) h
 
-pub own_all : (t : TraceValue) → IsTrace t → (mid new : List OrderPair) (r : OperationNumber) (location : List ℕ) (d last : ℕ) (p : Process) (front : Option OperationNumber) (main : MainPiece) → r.process < length t.processes → get_or t.processes r.process p ≡ p →
+pub own_all : (t : TraceValue) → IsTrace t → (mid new : List OrderPair) (r : OperationPlace) (location : List ℕ) (d last : ℕ) (p : Process) (front : Option OperationPlace) (main : MainPiece) → r.process < length t.processes → get_or t.processes r.process p ≡ p →
     IsOwnLast p.operations location r.place last → IfSome front (λ x. (1 ≤ last) × (x ≡ at_number r.process last)) →
     BarsPlaces mid r r.process (λ u l v. IsGivenFront u l v r front × ⊤) (AreTaken (others_of last r.place)) → Grows mid new → (1 ≤ last → IsPlaceBarred t new r location d main (at_number r.process last)) → IsBarredAt t new r location d main r.process
 own_all t ok mid new r location d last p front main low at own witness bars grows place clause all known =
     own_barred t ok mid new r location d last p front main low at own (at_some front (λ x. (1 ≤ last) × (x ≡ at_number r.process last)) witness) bars grows place (known_named t (named t r) known.1).least clause all known
 
-pub start_other : (t : TraceValue) (new : List OrderPair) (r : OperationNumber) (location : List ℕ) (d : ℕ) → is_held (value_of t.initial location) d ≡ false → IsStartBarred t new r location d
+pub start_other : (t : TraceValue) (new : List OrderPair) (r : OperationPlace) (location : List ℕ) (d : ℕ) → is_held (value_of t.initial location) d ≡ false → IsStartBarred t new r location d
 start_other t new r location d other clause all known held = absurd (let clash : true ≡ false = sym (same_held (value_of t.initial location) d held) ∙ other in cc)

@@ -1,4 +1,4 @@
--- Each operation of a trace has its numbers, and names tell numbers apart.
+-- Each operation of a trace has its numbers, and different numbers have different names.
 use Rattle.std.proofs.Common.{◌≡◌, ◌<◌, ◌+◌, ℕ, zero, suc, List, [], ◌∷◌, map, length, slice_index_or, get_or, true, ap, sym, ◌∙◌, arith, inl, inr}
 use Rattle.std.specs.Prelude.{Some}
 use Rattle.std.specs.List.{Contains, slice_get}
@@ -73,7 +73,7 @@ numbered_operation t ok q k p op low at here =
 nobody : Process
 nobody = record { name = []; operations = [] }
 
--- names of operations tell numbers apart
+-- different numbers have different names
 pub numbers_apart : (t : TraceValue) → IsTrace t → AreApart t
 numbers_apart t ok m n first second same =
     elim (cases_order m.process n.process) [

@@ -4,7 +4,7 @@ use Rattle.std.specs.List.{Contains}
 use Rattle.trace_semantics.specs.declared.operation.OpName.{OpName}
 use Rattle.trace_semantics.specs.declared.trace.Process.{Process}
 use Rattle.trace_semantics.specs.Trace.{TraceValue, operation_at}
-use Rattle.writer_table.specs.declared.operation_number.OperationNumber.{OperationNumber}
+use Rattle.writer_table.specs.declared.operation_place.OperationPlace.{OperationPlace}
 use Rattle.order_clauses.specs.declared.order_pair.OrderPair.{OrderPair}
 use Rattle.reason_clauses.specs.declared.stretches.Stretches.{Stretches}
 use Rattle.order_clauses.specs.Numbered.{named, IsKnown, named_orders}
@@ -20,16 +20,16 @@ abbrev pub Grows : List OrderPair → List OrderPair → Type 0
 Grows old new = (t : TraceValue) (clause : List (OpName × OpName)) → AreIn t new clause → AreIn t old clause
 
 -- each clause that has the new pairs says that m stands before n
-abbrev pub MakesSay : List OrderPair → OperationNumber → OperationNumber → Type 0
+abbrev pub MakesSay : List OrderPair → OperationPlace → OperationPlace → Type 0
 MakesSay new m n = (t : TraceValue) (clause : List (OpName × OpName)) → AreIn t new clause → IsKnown t m → IsKnown t n → Says t clause (named t m) (named t n)
 
 -- each clause that has the new pairs bars as a source of r what is up to the bound, if the witness is one
-abbrev pub MakesHidden : List OrderPair → OperationNumber → OperationNumber → OperationNumber → Type 0
+abbrev pub MakesHidden : List OrderPair → OperationPlace → OperationPlace → OperationPlace → Type 0
 MakesHidden new r x c = (t : TraceValue) (clause : List (OpName × OpName)) (location : List ℕ) (d : ℕ) (w : OpName) → AreIn t new clause → IsKnown t r → IsKnown t x → IsKnown t c →
     IsWitness t location d (named t x) → (named t x ≡ named t r → ⊥) → (named t x ≡ named t c → ⊥) → IsUpTo t w (named t c) → IsBarred t clause location d (named t r) w
 
 -- each clause that has the new pairs bars what c is up to, as c does not stand before u or u not before r
-abbrev pub MakesApart : List OrderPair → OperationNumber → OperationNumber → OperationNumber → Type 0
+abbrev pub MakesApart : List OrderPair → OperationPlace → OperationPlace → OperationPlace → Type 0
 MakesApart new r c u = (t : TraceValue) (clause : List (OpName × OpName)) (location : List ℕ) (d : ℕ) (w : OpName) → AreIn t new clause → IsKnown t r → IsKnown t c → IsKnown t u → IsUpTo t (named t c) w → IsBarred t clause location d (named t r) w
 
 -- the place is in one of the stretches: up to the last hidden one, from the first later one on, or within the main one
@@ -41,7 +41,7 @@ abbrev pub AreUpTo : Stretches → ℕ → Type 0
 AreUpTo s n = (s.hidden ≤ n) × (s.later ≤ n) × (s.first ≤ n) × (s.last ≤ n)
 
 -- the operation at a place of a process, by numbers
-abbrev pub at_number : ℕ → ℕ → OperationNumber
+abbrev pub at_number : ℕ → ℕ → OperationPlace
 at_number process place = record { process = process; place = place }
 
 -- of the places up to n of a process, these are in the stretch
@@ -57,18 +57,18 @@ IsInMain s n p = (1 ≤ s.first) × (s.first ≤ p) × (p ≤ s.last) × (s.last
 abbrev pub AreTaken : Stretches → ℕ → ℕ → Type 0
 AreTaken s n p = AreUpTo s n × IsTaken s p
 
--- the names of operations tell them apart
+-- different operations have different names
 abbrev pub AreApart : TraceValue → Type 0
-AreApart t = (m n : OperationNumber) → IsKnown t m → IsKnown t n → named t m ≡ named t n → m ≡ n
+AreApart t = (m n : OperationPlace) → IsKnown t m → IsKnown t n → named t m ≡ named t n → m ≡ n
 
 -- x is a witness against d at the location, and another operation than r
-abbrev pub IsGivenWitness : TraceValue → List ℕ → ℕ → OperationNumber → OperationNumber → Type 0
+abbrev pub IsGivenWitness : TraceValue → List ℕ → ℕ → OperationPlace → OperationPlace → Type 0
 IsGivenWitness t location d r x = IsKnown t x × IsWitness t location d (named t x) × (named t x ≡ named t r → ⊥)
 
-abbrev pub IsGivenFront : TraceValue → List ℕ → ℕ → OperationNumber → Option OperationNumber → Type 0
-IsGivenFront t location d r witness = (x : OperationNumber) → witness ≡ Some x → IsGivenWitness t location d r x
+abbrev pub IsGivenFront : TraceValue → List ℕ → ℕ → OperationPlace → Option OperationPlace → Type 0
+IsGivenFront t location d r witness = (x : OperationPlace) → witness ≡ Some x → IsGivenWitness t location d r x
 
 -- each clause that has the new pairs bars the operations of a process at the taken places as sources of r
-abbrev pub BarsPlaces : List OrderPair → OperationNumber → ℕ → (TraceValue → List ℕ → ℕ → Type 0) → (ℕ → ℕ → Type 0) → Type 0
+abbrev pub BarsPlaces : List OrderPair → OperationPlace → ℕ → (TraceValue → List ℕ → ℕ → Type 0) → (ℕ → ℕ → Type 0) → Type 0
 BarsPlaces new r process given taken = (t : TraceValue) (clause : List (OpName × OpName)) (location : List ℕ) (d n : ℕ) → AreApart t → AreIn t new clause → IsKnown t r → ((k : ℕ) → 1 ≤ k → k ≤ n → IsKnown t (at_number process k)) →
     given t location d → (p : ℕ) → 1 ≤ p → p ≤ n → taken n p → IsBarred t clause location d (named t r) (named t (at_number process p))

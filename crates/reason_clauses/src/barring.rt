@@ -4,20 +4,20 @@ ghost use Rattle.std.specs.Prelude.{◌≤◌, ⊤, OnOk};
 ghost use Rattle.reason_clauses.specs.Numbered.{Grows, MakesHidden, MakesApart, BarsPlaces, IsGivenWitness, IsGivenFront, IsInHidden, IsFrom, IsInMain, AreTaken};
 ghost use Rattle.reason_clauses.specs.Mains.{IsGivenMain};
 
-use crate::cause::{ReasonCause, Refusal};
+use crate::cause::{ReasonCause, ReasonRefusal};
 use crate::lookups::are_same;
 use crate::orders::push_order;
 use crate::stretches::Stretches;
 use order_clauses::order_pair::OrderPair;
 use std::alloc::AllocError;
-use writer_table::operation_number::OperationNumber;
+use writer_table::operation_place::OperationPlace;
 
 /// Appends that the witness stands before the bound, or after the reader.
 pub fn bar_hidden(
     orders: &mut Vec<OrderPair>,
-    reader: OperationNumber,
-    witness: OperationNumber,
-    bound: OperationNumber,
+    reader: OperationPlace,
+    witness: OperationPlace,
+    bound: OperationPlace,
 ) -> Result<(), AllocError>
     ensures grows { OnOk result (Grows orders.old.items orders.new.items) }
     ensures hidden { OnOk result (MakesHidden orders.new.items reader witness bound) }
@@ -30,9 +30,9 @@ pub fn bar_hidden(
 /// Appends that the bound stands before the operation between, or that one before the reader.
 pub fn bar_apart(
     orders: &mut Vec<OrderPair>,
-    reader: OperationNumber,
-    bound: OperationNumber,
-    between: OperationNumber,
+    reader: OperationPlace,
+    bound: OperationPlace,
+    between: OperationPlace,
 ) -> Result<(), AllocError>
     ensures grows { OnOk result (Grows orders.old.items orders.new.items) }
     ensures apart { OnOk result (MakesApart orders.new.items reader bound between) }
@@ -48,25 +48,25 @@ pub enum MainPiece {
     /// They stand before the reader.
     Plain,
     /// A witness stands before the last of them, or after the reader.
-    Witness(OperationNumber),
+    Witness(OperationPlace),
     /// An operation stands after the first of them, or before the reader.
-    Between(OperationNumber),
+    Between(OperationPlace),
 }
 
 /// Bars what is up to this place by the witness, unless that is this place.
 fn bar_up_to(
     orders: &mut Vec<OrderPair>,
-    reader: OperationNumber,
+    reader: OperationPlace,
     process: u32,
     place: u32,
-    witness: OperationNumber,
-) -> Result<(), Refusal>
+    witness: OperationPlace,
+) -> Result<(), ReasonRefusal>
     ensures grows { OnOk result (Grows orders.old.items orders.new.items) }
     ensures bars { OnOk result (BarsPlaces orders.new.items reader process (λ t location d. IsGivenWitness t location d reader witness) (λ n p. (p ≤ place) × (place ≤ n))) }
 {
-    let bound = OperationNumber { process, place };
+    let bound = OperationPlace { process, place };
     if are_same(witness, bound) {
-        return Err(Refusal::For(ReasonCause::HidesItself));
+        return Err(ReasonRefusal::For(ReasonCause::HidesItself));
     }
     bar_hidden(orders, reader, witness, bound)?;
     Ok(())
@@ -75,11 +75,11 @@ fn bar_up_to(
 /// Bars what is up to the last hidden place. Fails where there is one and no witness.
 fn bar_front(
     orders: &mut Vec<OrderPair>,
-    reader: OperationNumber,
+    reader: OperationPlace,
     process: u32,
     s: Stretches,
-    witness: Option<OperationNumber>,
-) -> Result<(), Refusal>
+    witness: Option<OperationPlace>,
+) -> Result<(), ReasonRefusal>
     ensures grows { OnOk result (Grows orders.old.items orders.new.items) }
     ensures bars { OnOk result (BarsPlaces orders.new.items reader process (λ t location d. IsGivenFront t location d reader witness) (IsInHidden s)) }
 {
@@ -87,7 +87,7 @@ fn bar_front(
         return Ok(());
     }
     let Some(x) = witness else {
-        return Err(Refusal::For(ReasonCause::NoPiece));
+        return Err(ReasonRefusal::For(ReasonCause::NoPiece));
     };
     bar_up_to(orders, reader, process, s.hidden, x)?;
     Ok(())
@@ -96,7 +96,7 @@ fn bar_front(
 /// Bars what is from this place on.
 fn bar_from(
     orders: &mut Vec<OrderPair>,
-    reader: OperationNumber,
+    reader: OperationPlace,
     process: u32,
     place: u32,
 ) -> Result<(), AllocError>
@@ -106,18 +106,18 @@ fn bar_from(
     if place == 0 {
         return Ok(());
     }
-    push_order(orders, OperationNumber { process, place }, reader)?;
+    push_order(orders, OperationPlace { process, place }, reader)?;
     Ok(())
 }
 
 /// Bars the main stretch.
 fn bar_main(
     orders: &mut Vec<OrderPair>,
-    reader: OperationNumber,
+    reader: OperationPlace,
     process: u32,
     s: Stretches,
     main: MainPiece,
-) -> Result<(), Refusal>
+) -> Result<(), ReasonRefusal>
     ensures grows { OnOk result (Grows orders.old.items orders.new.items) }
     ensures bars { OnOk result (BarsPlaces orders.new.items reader process (λ t location d. IsGivenMain t location d reader main) (IsInMain s)) }
 {
@@ -134,7 +134,7 @@ fn bar_main(
             Ok(())
         }
         MainPiece::Between(u) => {
-            let bound = OperationNumber {
+            let bound = OperationPlace {
                 process,
                 place: s.first,
             };
@@ -147,12 +147,12 @@ fn bar_main(
 /// Bars all stretches of a process. Fails where a witness is wanted, or hides itself.
 pub fn bar_process(
     orders: &mut Vec<OrderPair>,
-    reader: OperationNumber,
+    reader: OperationPlace,
     process: u32,
     s: Stretches,
-    witness: Option<OperationNumber>,
+    witness: Option<OperationPlace>,
     main: MainPiece,
-) -> Result<(), Refusal>
+) -> Result<(), ReasonRefusal>
     ensures grows { OnOk result (Grows orders.old.items orders.new.items) }
     ensures bars { OnOk result (BarsPlaces orders.new.items reader process (λ t location d. IsGivenFront t location d reader witness × IsGivenMain t location d reader main) (AreTaken s)) }
 {

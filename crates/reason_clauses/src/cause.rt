@@ -31,7 +31,7 @@ pub enum ReasonCause {
 }
 
 /// Why a line makes no clause: a cause, or that memory ran out.
-pub type Refusal = PlainFault<ReasonCause>;
+pub type ReasonRefusal = PlainFault<ReasonCause>;
 
 impl FaultCause for ReasonCause {
     ghost use Rattle.reason_clauses.specs.Cause.{cause_number, cause_name};

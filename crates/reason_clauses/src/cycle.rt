@@ -7,26 +7,26 @@ ghost use Rattle.order_clauses.specs.OrderVariables.{nowhere};
 ghost use Rattle.reason_clauses.specs.Numbered.{Grows};
 ghost use Rattle.reason_clauses.specs.Cycle.{IsTurned};
 
-use crate::cause::{ReasonCause, Refusal};
+use crate::cause::{ReasonCause, ReasonRefusal};
 use crate::lookups::{are_same, operation_of};
 use crate::orders::push_order;
 use order_clauses::order_pair::OrderPair;
 use trace_semantics::trace::Trace;
-use writer_table::operation_number::OperationNumber;
+use writer_table::operation_place::OperationPlace;
 
 /// Appends that the step from one operation to another is turned round.
 fn push_turned(
     trace: &Trace,
-    from: OperationNumber,
-    to: OperationNumber,
+    from: OperationPlace,
+    to: OperationPlace,
     orders: &mut Vec<OrderPair>,
-) -> Result<(), Refusal>
+) -> Result<(), ReasonRefusal>
     ensures grows { OnOk result (Grows orders.old.items orders.new.items) }
     ensures turned { OnOk result (IsTurned trace.now orders.new.items from to) }
 {
     trace.recall_invariant();
     if are_same(from, to) {
-        return Err(Refusal::For(ReasonCause::BadCycle));
+        return Err(ReasonRefusal::For(ReasonCause::BadCycle));
     }
     let _op = operation_of(trace, from)?;
     push_order(orders, to, from)?;
@@ -34,7 +34,7 @@ fn push_turned(
 }
 
 /// The operation at this place.
-fn at(operations: &[OperationNumber], place: usize) -> OperationNumber
+fn at(operations: &[OperationPlace], place: usize) -> OperationPlace
     requires { place < length operations.now }
     ensures { result ≡ slice_index_or operations.now place nowhere }
 {
@@ -42,7 +42,7 @@ fn at(operations: &[OperationNumber], place: usize) -> OperationNumber
 }
 
 /// The operation after the one at this place; after the last comes the first.
-fn next_of(operations: &[OperationNumber], place: usize) -> OperationNumber
+fn next_of(operations: &[OperationPlace], place: usize) -> OperationPlace
     requires { place < length operations.now }
     ensures { result ≡ slice_index_or operations.now (place + 1) (slice_index_or operations.now 0 nowhere) }
 {
@@ -57,14 +57,14 @@ fn next_of(operations: &[OperationNumber], place: usize) -> OperationNumber
 /// first, is turned round.
 pub fn cycle_clause(
     trace: &Trace,
-    operations: &[OperationNumber],
+    operations: &[OperationPlace],
     orders: &mut Vec<OrderPair>,
-) -> Result<(), Refusal>
+) -> Result<(), ReasonRefusal>
     ensures { OnOk result (HoldsOfSchedules trace.now (named_orders trace.now orders.new.items)) }
 {
     let count = operations.len();
     if count == 0 {
-        return Err(Refusal::For(ReasonCause::BadCycle));
+        return Err(ReasonRefusal::For(ReasonCause::BadCycle));
     }
     for place in 0..operations.len() {
         let from = at(operations, place);

@@ -5,13 +5,13 @@ ghost use Rattle.order_clauses.specs.Numbered.{IsKnown};
 ghost use Rattle.reason_clauses.specs.Numbered.{IsGivenWitness, IsGivenFront};
 ghost use Rattle.reason_clauses.specs.Makers.{IsNumberOf, DoesHide};
 
-use crate::cause::{ReasonCause, Refusal};
+use crate::cause::{ReasonCause, ReasonRefusal};
 use trace_semantics::operation::Op;
 use trace_semantics::trace::Trace;
-use writer_table::operation_number::OperationNumber;
+use writer_table::operation_place::OperationPlace;
 
 /// Returns the operation of these numbers.
-pub fn find_operation(trace: &Trace, n: OperationNumber) -> Option<&Op>
+pub fn find_operation(trace: &Trace, n: OperationPlace) -> Option<&Op>
     ensures { IfSome result (λ op. IsNumberOf trace.now n op.now) }
 {
     trace.recall_invariant();
@@ -29,17 +29,17 @@ pub fn find_operation(trace: &Trace, n: OperationNumber) -> Option<&Op>
 }
 
 /// Returns the operation of these numbers, which has to be one.
-pub fn operation_of(trace: &Trace, n: OperationNumber) -> Result<&Op, Refusal>
+pub fn operation_of(trace: &Trace, n: OperationPlace) -> Result<&Op, ReasonRefusal>
     ensures { IfOk result (λ op. IsNumberOf trace.now n op.now) }
 {
     match find_operation(trace, n) {
         Some(op) => Ok(op),
-        None => Err(Refusal::For(ReasonCause::NoOperation)),
+        None => Err(ReasonRefusal::For(ReasonCause::NoOperation)),
     }
 }
 
 /// Returns whether both are one operation.
-pub fn are_same(first: OperationNumber, second: OperationNumber) -> bool
+pub fn are_same(first: OperationPlace, second: OperationPlace) -> bool
     ensures { first ≡ second → result ≡ true }
 {
     first.process == second.process && first.place == second.place
@@ -64,8 +64,8 @@ fn hides(op: &Op, location: &[u8], value: u64) -> bool
 /// Returns whether the operation is a witness against the value.
 fn is_witness(
     trace: &Trace,
-    reader: OperationNumber,
-    witness: OperationNumber,
+    reader: OperationPlace,
+    witness: OperationPlace,
     location: &[u8],
     value: u64,
 ) -> bool
@@ -84,28 +84,28 @@ fn is_witness(
 /// Refuses an operation that is no witness against the value.
 pub fn want_witness(
     trace: &Trace,
-    reader: OperationNumber,
-    witness: OperationNumber,
+    reader: OperationPlace,
+    witness: OperationPlace,
     location: &[u8],
     value: u64,
-) -> Result<(), Refusal>
+) -> Result<(), ReasonRefusal>
     ensures { OnOk result (IsKnown trace.now reader → IsGivenWitness trace.now location.now value reader witness) }
 {
     if is_witness(trace, reader, witness, location, value) {
         Ok(())
     } else {
-        Err(Refusal::For(ReasonCause::NoWitness))
+        Err(ReasonRefusal::For(ReasonCause::NoWitness))
     }
 }
 
 /// The same, if an operation is given.
 pub fn want_front(
     trace: &Trace,
-    reader: OperationNumber,
-    witness: Option<OperationNumber>,
+    reader: OperationPlace,
+    witness: Option<OperationPlace>,
     location: &[u8],
     value: u64,
-) -> Result<(), Refusal>
+) -> Result<(), ReasonRefusal>
     ensures { OnOk result (IsKnown trace.now reader → IsGivenFront trace.now location.now value reader witness) }
 {
     match witness {

@@ -5,13 +5,13 @@ ghost use Rattle.reason_clauses.specs.Numbered.{Grows, MakesSay};
 
 use order_clauses::order_pair::OrderPair;
 use std::alloc::AllocError;
-use writer_table::operation_number::OperationNumber;
+use writer_table::operation_place::OperationPlace;
 
 /// Appends that the first operation stands before the second, unless program order has it otherwise.
 pub fn push_order(
     orders: &mut Vec<OrderPair>,
-    first: OperationNumber,
-    second: OperationNumber,
+    first: OperationPlace,
+    second: OperationPlace,
 ) -> Result<(), AllocError>
     ensures grows { OnOk result (Grows orders.old.items orders.new.items) }
     ensures says { OnOk result (MakesSay orders.new.items first second) }

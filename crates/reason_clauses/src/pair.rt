@@ -5,14 +5,14 @@ ghost use Rattle.std.specs.Str.{bytes_eq};
 ghost use Rattle.order_reasons.specs.Orders.{HoldsOfSchedules};
 ghost use Rattle.order_clauses.specs.Numbered.{named, named_orders};
 
-use crate::cause::{ReasonCause, Refusal};
+use crate::cause::{ReasonCause, ReasonRefusal};
 use crate::lookups::operation_of;
 use crate::orders::push_order;
 use order_clauses::order_pair::OrderPair;
 use trace_semantics::name::Name;
 use trace_semantics::operation::OpName;
 use trace_semantics::trace::{Process, Trace};
-use writer_table::operation_number::OperationNumber;
+use writer_table::operation_place::OperationPlace;
 
 /// Returns whether this is the name of the process.
 fn is_called(process: &Process, name: &Name) -> bool
@@ -22,7 +22,7 @@ fn is_called(process: &Process, name: &Name) -> bool
 }
 
 /// Returns whether the name is that of the operation.
-fn is_named(trace: &Trace, n: OperationNumber, name: &OpName) -> bool
+fn is_named(trace: &Trace, n: OperationPlace, name: &OpName) -> bool
     ensures { result ≡ true → named trace.now n ≡ name.now }
 {
     let processes = trace.processes();
@@ -46,18 +46,18 @@ pub fn pair_clause(
     place: usize,
     order: OrderPair,
     orders: &mut Vec<OrderPair>,
-) -> Result<(), Refusal>
+) -> Result<(), ReasonRefusal>
     ensures { OnOk result (HoldsOfSchedules trace.now (named_orders trace.now orders.new.items)) }
 {
     let _first = operation_of(trace, order.first)?;
     let _second = operation_of(trace, order.second)?;
     let pairs = trace.before();
     if place >= pairs.len() {
-        return Err(Refusal::For(ReasonCause::NoPair));
+        return Err(ReasonRefusal::For(ReasonCause::NoPair));
     }
     let pair = &pairs[place];
     if !is_named(trace, order.first, &pair.0) || !is_named(trace, order.second, &pair.1) {
-        return Err(Refusal::For(ReasonCause::NoPair));
+        return Err(ReasonRefusal::For(ReasonCause::NoPair));
     }
     push_order(orders, order.first, order.second)?;
     Ok(())

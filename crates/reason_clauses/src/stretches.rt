@@ -25,7 +25,7 @@ fn place_if(places: &[u32], low: usize, high: usize, k: usize) -> u32
     if low < high { places[k] } else { 0 }
 }
 
-/// The stretches of rising places, if so many are up to the bound, and so many before the limit.
+/// The stretches of rising places, by the number of those up to the bound, and of those before the limit.
 fn cut(places: &[u32], hidden: usize, before: usize) -> Stretches
     requires rising { IsNonDecreasing places.now }
     requires hidden { hidden ≤ length places.now }

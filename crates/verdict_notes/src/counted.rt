@@ -13,7 +13,7 @@ const MAX_NAMED: u64 = 20;
 
 /// A value at a location.
 #[derive(Clone, Copy)]
-struct PlacedValue<'t> {
+struct CountedValue<'t> {
     location: &'t [u8],
     value: u64,
 }
@@ -31,11 +31,11 @@ struct Balance {
     writers: u64,
 }
 
-impl<'t> PlacedValue<'t> {
+impl<'t> CountedValue<'t> {
     /// Gives what the operation reads, if it is an update.
-    fn of_update(op: &'t Op) -> Option<PlacedValue<'t>> {
+    fn of_update(op: &'t Op) -> Option<CountedValue<'t>> {
         match op {
-            Op::Update { location, read, .. } => Some(PlacedValue {
+            Op::Update { location, read, .. } => Some(CountedValue {
                 location: location.as_bytes(),
                 value: *read,
             }),
@@ -118,9 +118,9 @@ impl Balance {
 }
 
 /// Gives the first value that these updates read and of which there are too few.
-fn first_short_in<'t>(trace: &'t Trace, ops: &'t [Op]) -> Option<PlacedValue<'t>> {
+fn first_short_in<'t>(trace: &'t Trace, ops: &'t [Op]) -> Option<CountedValue<'t>> {
     for op in ops {
-        if let Some(read) = PlacedValue::of_update(op) {
+        if let Some(read) = CountedValue::of_update(op) {
             if read.balance(trace).is_short() {
                 return Some(read);
             }
@@ -130,7 +130,7 @@ fn first_short_in<'t>(trace: &'t Trace, ops: &'t [Op]) -> Option<PlacedValue<'t>
 }
 
 /// Gives the first value that updates read and of which there are too few.
-fn first_short<'t>(trace: &'t Trace) -> Option<PlacedValue<'t>> {
+fn first_short<'t>(trace: &'t Trace) -> Option<CountedValue<'t>> {
     for process in trace.processes() {
         let short = first_short_in(trace, process.operations.as_slice());
         if short.is_some() {
@@ -173,7 +173,7 @@ fn add_sources(sentence: &mut Sentence, balance: Balance) {
 }
 
 /// Notes that there are too few of the value.
-fn explain_balance(alloc: Global, notes: &mut Notes, short: PlacedValue<'_>, balance: Balance) {
+fn explain_balance(alloc: Global, notes: &mut Notes, short: CountedValue<'_>, balance: Balance) {
     let value = decimal(short.value);
     let mut sentence = Sentence::new(alloc);
     add_needed(&mut sentence, balance);
@@ -199,7 +199,7 @@ enum NamedRole {
 }
 
 /// Returns whether no operation of these leaves the value before one reads it.
-fn is_kept(short: PlacedValue<'_>, later: &[Op]) -> bool {
+fn is_kept(short: CountedValue<'_>, later: &[Op]) -> bool {
     for op in later {
         if short.is_left_by(op) {
             return false;
@@ -213,7 +213,7 @@ fn is_kept(short: PlacedValue<'_>, later: &[Op]) -> bool {
 
 impl NamedRole {
     /// Returns whether the operation at this place has this role for the value.
-    fn is_of(self, short: PlacedValue<'_>, ops: &[Op], k: usize) -> bool {
+    fn is_of(self, short: CountedValue<'_>, ops: &[Op], k: usize) -> bool {
         let (Some(op), Some(later)) = (ops.get(k), ops.get(k.saturating_add(1)..)) else {
             return false;
         };
@@ -227,7 +227,7 @@ impl NamedRole {
     }
 
     /// The number of operations of the trace that have this role.
-    fn count(self, trace: &Trace, short: PlacedValue<'_>) -> u64 {
+    fn count(self, trace: &Trace, short: CountedValue<'_>) -> u64 {
         let mut count: u64 = 0;
         for process in trace.processes() {
             let ops = process.operations.as_slice();
@@ -256,7 +256,7 @@ fn explain_names(
     notes: &mut Notes,
     trace: &Trace,
     places: &ShownPlaces,
-    short: PlacedValue<'_>,
+    short: CountedValue<'_>,
     role: NamedRole,
 ) {
     let mut sentence = Sentence::new(alloc);

@@ -86,7 +86,11 @@ fn names_written<'t>(
 }
 
 /// The locations that may be meant.
-fn names_near<'t>(trace: &'t Trace, wanted: WantedLocation<'_>, nearness: Nearness) -> FoundName<'t> {
+fn names_near<'t>(
+    trace: &'t Trace,
+    wanted: WantedLocation<'_>,
+    nearness: Nearness,
+) -> FoundName<'t> {
     let mut found = FoundName::Nothing;
     for entry in trace.initial() {
         let name = entry.0.as_bytes();

@@ -17,7 +17,7 @@ use Rattle.trace_semantics.proofs.NameLemmas.{same_bytes}
 use Rattle.restriction.specs.Restriction.{left_by}
 use Rattle.writer_table.specs.declared.runs.Run.{Run}
 use Rattle.writer_table.specs.declared.writer_classes.WriterClasses.{WriterClasses}
-use Rattle.writer_table.specs.declared.writer_table.WriterTable.{WriterTable}
+use Rattle.writer_table.specs.declared.trace_writers.TraceWriters.{TraceWriters}
 use Rattle.writer_table.specs.PlaceTable.{row, HasFirst}
 use Rattle.writer_table.specs.Runs.{IsIn}
 use Rattle.writer_table.specs.WriterClasses.{class_of, class_left}
@@ -74,7 +74,7 @@ module _ (processes : List Process) (classes : WriterClasses) where
           ]
 
 -- the whole table
-pub holds_writers : (t : TraceValue) (processes : List Process) (writers : WriterTable) → processes ≡ t.processes → HoldsFirst processes writers.classes writers.table (length processes) → HoldsWriters t writers
+pub holds_writers : (t : TraceValue) (processes : List Process) (writers : TraceWriters) → processes ≡ t.processes → HoldsFirst processes writers.classes writers.table (length processes) → HoldsWriters t writers
 holds_writers t processes writers same so =
     record {
       here = λ q k d p location low is e. whole.here q k d p location low is e;

@@ -7,7 +7,7 @@ use Rattle.trace_semantics.specs.Trace.{TraceValue}
 use Rattle.restriction.specs.Restriction.{left_by}
 use Rattle.writer_table.specs.declared.runs.Run.{Run}
 use Rattle.writer_table.specs.declared.writer_classes.WriterClasses.{WriterClasses}
-use Rattle.writer_table.specs.declared.writer_table.WriterTable.{WriterTable}
+use Rattle.writer_table.specs.declared.trace_writers.TraceWriters.{TraceWriters}
 use Rattle.writer_table.specs.PlaceTable.{row}
 use Rattle.writer_table.specs.Runs.{IsIn}
 use Rattle.writer_table.specs.WriterClasses.{class_of}
@@ -19,11 +19,11 @@ pub record HoldsFirst (processes : List Process) (classes : WriterClasses) (tabl
   pub only : (class q k : ℕ) → IsIn (row table class) q k → (q < n) × ((j : ℕ) × (k ≡ j + 1) × ((p : Process) → slice_index_or processes q p ≡ p → j < length p.operations))
 
 -- what the table gives for a location and a value
-abbrev pub runs_at : WriterTable → List ℕ → ℕ → List Run
+abbrev pub runs_at : TraceWriters → List ℕ → ℕ → List Run
 runs_at writers location value = row writers.table (class_of writers.classes location value)
 
 -- of each process the table has what leaves the value at the location, and only places of operations; a table by locations does not look at the value
-pub record HoldsWriters (t : TraceValue) (writers : WriterTable) : Type 0 where
+pub record HoldsWriters (t : TraceValue) (writers : TraceWriters) : Type 0 where
   pub here : (q k d : ℕ) (p : Process) (location : List ℕ) → q < length t.processes → slice_index_or t.processes q p ≡ p → option_and_then (left_by location) (slice_get p.operations k) ≡ Some d →
       IsIn (runs_at writers location d) q (k + 1)
   pub only : (location : List ℕ) (value q k : ℕ) → IsIn (runs_at writers location value) q k →

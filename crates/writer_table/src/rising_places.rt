@@ -6,7 +6,7 @@ ghost use Rattle.std.specs.List.Sorted.{IsNonDecreasing};
 use std::alloc::{AllocError, Global};
 use std::marker::Model;
 
-/// How many of the places are at most the bound.
+/// The number of the places that are at most the bound.
 fn count_at_most(places: &[u32], bound: u32) -> usize
     requires rising { IsNonDecreasing places.now }
     ensures within { result ≤ length places.now }
@@ -66,7 +66,7 @@ impl RisingPlaces {
         self.places.as_slice()
     }
 
-    /// How many of the places are at most the bound. They come first.
+    /// The number of the places that are at most the bound. They come first.
     pub fn count_to(&self, bound: u32) -> usize
         ensures within { result ≤ length self.now }
         ensures first { (k : ℕ) → k < result → slice_index self.now k ≤ bound }

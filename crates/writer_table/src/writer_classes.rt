@@ -7,7 +7,7 @@ use trace_semantics::operation::Op;
 /// A number for each location, or for each location and value, that operations write. What has no number counts as 0.
 #[derive(Drop)]
 pub struct WriterClasses<'a> {
-    /// Whether values are told apart.
+    /// Whether classes are of values too.
     pub by_value: bool,
     numbers: HashMap<(&'a [u8], u64), usize>,
 }
@@ -26,7 +26,7 @@ impl<'a> WriterClasses<'a> {
         }
     }
 
-    /// What of the value a class depends on.
+    /// The part of the value on which a class depends.
     fn key(&self, value: u64) -> u64
         ensures { result ≡ (if self.now.by_value then value else 0) }
     {

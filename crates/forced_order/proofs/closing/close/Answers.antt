@@ -18,8 +18,8 @@ loop-rows-preserved c =
     record {
       forced = c.raise_back.ensures.forced (c.raise_all.ensures.forced (c.raise_along.ensures.forced c.loop-rows.invariant.forced));
       rows = rows_stay ps c.raise_back.result c.raise_all.new.rows c.raise_back.new.rows c.raise_back.ensures.rise
-      (rows_stay ps c.raise_all.result c.raise_along.new.rows c.raise_all.new.rows c.raise_all.ensures.rise
-      (rows_stay ps c.raise_along.result c.loop-rows.rows c.raise_along.new.rows c.raise_along.ensures.rise c.loop-rows.invariant.rows));
+          (rows_stay ps c.raise_all.result c.raise_along.new.rows c.raise_all.new.rows c.raise_all.ensures.rise
+          (rows_stay ps c.raise_along.result c.loop-rows.rows c.raise_along.new.rows c.raise_along.ensures.rise c.loop-rows.invariant.rows));
     }
 
 pub loop-rows-smaller : goal.loop-rows-smaller

@@ -1,7 +1,7 @@
 use Rattle.std.proofs.Common.{◌≡◌, ◌+◌, List, take, sym, subst, rules}
 use Rattle.std.proofs.lemmas.List.{take_more}
 use Rattle.order_clauses.specs.declared.order_pair.OrderPair.{OrderPair}
-use Rattle.order_clauses.specs.declared.reason_list.Outcome.TheVariants.{Made}
+use Rattle.order_clauses.specs.declared.reason_list.ClauseOutcome.TheVariants.{Made}
 use Rattle.order_clauses.specs.ClauseOf.{IsClauseOf}
 use Rattle.order_clauses.proofs.VariableLemmas.{extended_over}
 use Rattle.order_clauses.proofs.reason_list.put_orders.Goals as goal

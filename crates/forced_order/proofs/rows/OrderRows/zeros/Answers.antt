@@ -38,7 +38,7 @@ pub loop-k-preserved : goal.loop-k-preserved
 loop-k-preserved c = record {
   zero = subst (λ (rows : OrderValue). (n : OperationNumber) (q : ℕ) → last_before rows n q ≡ 0) (sym (search rules)) (more_zeros c.loop-k.processes.items c.in_ok-zeros.field-0 c.loop-k.invariant.zero c.in_ok-zeros.ensures.zero);
   rows = subst (λ (rows : OrderValue). (j k count : ℕ) → j < c.loop-k.k + 1 → slice_get c.args.counts.now j ≡ Some count → k < count → HasRow rows (record { process = j; place = k })) (sym (search rules))
-  (one_more_process c.loop-k.processes.items c.in_ok-zeros.field-0 c.args.counts.now c.loop-k.k c.loop-k.invariant.long c.loop-k.invariant.rows c.in_ok-zeros.ensures.wide);
+      (one_more_process c.loop-k.processes.items c.in_ok-zeros.field-0 c.args.counts.now c.loop-k.k c.loop-k.invariant.long c.loop-k.invariant.rows c.in_ok-zeros.ensures.wide);
   long = search rules;
 }
 

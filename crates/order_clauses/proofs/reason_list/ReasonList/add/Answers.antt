@@ -1,6 +1,6 @@
 use Rattle.std.proofs.Common.{◌≡◌, List, ◌∷◌, ◌++◌, [], sym, ◌∙◌, subst, ap, rules}
 use Rattle.std.specs.Prelude.{ℤ}
-use Rattle.order_clauses.specs.declared.reason_list.Outcome.TheVariants.{Made}
+use Rattle.order_clauses.specs.declared.reason_list.ClauseOutcome.TheVariants.{Made}
 use Rattle.order_clauses.specs.declared.reason_list.ReasonList.{ReasonList}
 use Rattle.order_clauses.specs.ClauseOf.{IsClauseOf}
 use Rattle.order_clauses.specs.ReasonList.{HoldReasons}

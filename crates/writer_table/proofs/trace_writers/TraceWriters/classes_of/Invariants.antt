@@ -1,5 +1,5 @@
 use Rattle.std.proofs.Common.{◌≡◌}
-use Rattle.writer_table.proofs.writer_table.WriterTable.classes_of.Given as goal
+use Rattle.writer_table.proofs.trace_writers.TraceWriters.classes_of.Given as goal
 
 abbrev pub invariant-loop-process : goal.invariant-loop-process
 invariant-loop-process l = l.classes.by_value ≡ l.by_value

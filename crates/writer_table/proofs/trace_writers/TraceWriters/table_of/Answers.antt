@@ -4,7 +4,7 @@ use Rattle.trace_semantics.specs.declared.trace.Process.{Process}
 use Rattle.writer_table.specs.PlaceTable.{HasFirst}
 use Rattle.writer_table.specs.WriterClasses.{class_left}
 use Rattle.writer_table.proofs.WriterLemmas.{holds_next}
-use Rattle.writer_table.proofs.writer_table.WriterTable.table_of.Goals as goal
+use Rattle.writer_table.proofs.trace_writers.TraceWriters.table_of.Goals as goal
 
 pub loop-q-preserved : goal.loop-q-preserved
 loop-q-preserved c =

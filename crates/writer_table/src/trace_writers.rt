@@ -11,7 +11,7 @@ use trace_semantics::trace::{Process, Trace};
 
 /// The operations of a trace that write, by location, or by location and value, and by process.
 #[derive(Drop)]
-pub struct WriterTable<'a> {
+pub struct TraceWriters<'a> {
     classes: WriterClasses<'a>,
     table: PlaceTable,
 }
@@ -58,7 +58,7 @@ fn narrow(count: usize) -> Result<u32, AllocError>
     }
 }
 
-impl<'a> WriterTable<'a> {
+impl<'a> TraceWriters<'a> {
     ghost use Rattle.writer_table.specs.Writers.{HoldsFirst, HoldsWriters, runs_at};
 
     /// The classes of what the processes write.
@@ -97,17 +97,17 @@ impl<'a> WriterTable<'a> {
         alloc: Global,
         trace: &'a Trace,
         by_value: bool,
-    ) -> Result<WriterTable<'a>, AllocError>
+    ) -> Result<TraceWriters<'a>, AllocError>
         ensures holds { IfOk result (HoldsWriters trace.now) }
         ensures kind { IfOk result (λ writers. writers.classes.by_value ≡ by_value) }
     {
         let processes = trace.processes();
-        let classes = WriterTable::classes_of(alloc, processes, by_value)?;
-        let table = WriterTable::table_of(alloc, processes, &classes)?;
-        Ok(WriterTable { classes, table })
+        let classes = TraceWriters::classes_of(alloc, processes, by_value)?;
+        let table = TraceWriters::table_of(alloc, processes, &classes)?;
+        Ok(TraceWriters { classes, table })
     }
 
-    /// What leaves the value at the location; in a table by location, what writes the location.
+    /// The operations that leave the value at the location; in a table by location, those that write the location.
     pub fn runs(&self, location: &[u8], value: u64) -> &[Run]
         ensures { result.now ≡ runs_at self.now location.now value }
     {
