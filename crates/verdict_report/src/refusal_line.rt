@@ -10,7 +10,7 @@ use crate::pieces::write_pieces;
 use dimacs::{Failed, Sink, SinkFault};
 use itoa::Buffer;
 
-/// Writes the line of what is told.
+/// Writes the line of the refusal with these parts.
 fn write_told<W: Sink>(told: &FaultLine, out: &mut W) -> Result<(), Failed>
     ensures whole { OnOk result (W.written out.new ≡ W.written out.old ++ (codes "refused: " ++ (printed_parts told.now.area.now told.now.number told.now.name.now told.now.place ++ codes "\n"))) }
     ensures well { OnOk result (W.failures out.new ≡ W.failures out.old) }
