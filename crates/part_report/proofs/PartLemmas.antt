@@ -31,7 +31,7 @@ use Rattle.verdict_report.specs.Runs.{SourceRun, SinkRun, HandsOut}
 
 pub whole_refuted : (t : TraceValue) → IsTrace t → (names : List OpName) (made : PartValue) → IsPart t names made → HasNoSchedule made.trace → HasNoSchedule t
 whole_refuted t ok names made is_part none schedule legal =
-    let left = restriction_legal t ok is_part.ordered (has_come names) schedule legal (λ m n h k o. forced_before t schedule m n legal.interleaving (is_part.within m n h k o)) in
+    let left = restriction_legal t ok is_part.ordered (has_come names) schedule legal (λ m n h k o. forced_before t schedule m n legal.interleaving (is_part.forced.within m n h k o)) in
     none (restricted (stays t is_part.ordered (has_come names)) schedule) (subst (λ q. IsLegal q (restricted (stays t is_part.ordered (has_come names)) schedule)) (sym is_part.trace_is) left)
 
 module _ (trace_text names_text : List ℕ) (value : TraceValue) (is_trace : IsTrace value) (spelled : SpellsTrace trace_text value) where
