@@ -59,7 +59,7 @@ fn outcome_of(rt: &impl Abort, alloc: Global, says: Says) -> Result<Outcome, All
 }
 
 /// The job of a leaf with this cube.
-fn job_of(rt: &impl Abort, leaf: u32, literals: &[Lit]) -> Job {
+fn job_of(rt: &impl Abort, alloc: Global, leaf: u32, literals: &[Lit]) -> Job {
     if literals.len() > MAX_CUBE_LITERALS {
         panic!(rt; "a cube has no more than 20 literals");
     }
@@ -87,7 +87,7 @@ pub fn settled_of(
     says: Says,
 ) -> Result<Settled, AllocError> {
     let outcome = outcome_of(rt, alloc, says)?;
-    Ok(job_of(rt, leaf, literals).settle(outcome))
+    Ok(job_of(rt, alloc, leaf, literals).settle(outcome))
 }
 
 /// Returns whether these are the values of the variables 1, 2 and so on.
