@@ -153,33 +153,30 @@ fn explain_search(notes: &mut Notes, cause: SearchCause) {
     notes.note(&[b"--workers 1 needs no thread"]);
 }
 
-/// Adds that a file could not be read again, if that is so: what failed, or these words if that is not known.
-fn note_unread(notes: &mut Notes, text: &Option<NamedText<'_>>, says: &[u8]) {
-    match text {
-        Some(text) if text.bytes.is_none() => notes.note(&[
-            text.name.as_bytes(),
-            b": ",
-            text.failure.unwrap_or(says),
-        ]),
-        _ => {}
+/// Adds the name of a file that has failed, and what failed.
+fn note_failed(notes: &mut Notes, text: &Option<NamedText<'_>>) {
+    if let Some(text) = text {
+        if let Some(failure) = text.failure {
+            notes.note(&[text.name.as_bytes(), b": ", failure]);
+        }
     }
 }
 
-/// Adds for each file that could not be read again its name, and what failed or these words.
-fn note_all_unread(notes: &mut Notes, texts: &AskedTexts<'_>, says: &[u8]) {
-    note_unread(notes, &texts.trace, says);
-    note_unread(notes, &texts.schedule, says);
-    note_unread(notes, &texts.cnf, says);
-    note_unread(notes, &texts.model, says);
-    note_unread(notes, &texts.proof, says);
-    note_unread(notes, &texts.certificate, says);
-    note_unread(notes, &texts.names, says);
+/// Adds for each file that has failed its name, and what failed.
+fn note_all_failed(notes: &mut Notes, texts: &AskedTexts<'_>) {
+    note_failed(notes, &texts.trace);
+    note_failed(notes, &texts.schedule);
+    note_failed(notes, &texts.cnf);
+    note_failed(notes, &texts.model);
+    note_failed(notes, &texts.proof);
+    note_failed(notes, &texts.certificate);
+    note_failed(notes, &texts.names);
 }
 
 /// Adds which files cannot be read or written, and what failed.
 fn explain_device(notes: &mut Notes, texts: &AskedTexts<'_>) {
     let before = notes.as_slice().len();
-    note_all_unread(notes, texts, b"the file cannot be opened or read");
+    note_all_failed(notes, texts);
     if let Some(written) = texts.written {
         notes.note(&[written]);
     }
@@ -187,14 +184,13 @@ fn explain_device(notes: &mut Notes, texts: &AskedTexts<'_>) {
         return;
     }
     notes.note(&[
-        b"each file can be read now: standard output failed, or a file that was to be written",
+        b"each file could be read: standard output failed, or a file that was to be written",
     ]);
 }
 
-/// Adds which files are too long.
-fn explain_length(notes: &mut Notes, texts: &AskedTexts<'_>) {
+/// Adds how long a file may be.
+fn explain_length(notes: &mut Notes) {
     notes.note(&[b"a file has at most 268435456 bytes"]);
-    note_all_unread(notes, texts, b"the file is longer, or cannot be read");
 }
 
 /// Adds what may be done if memory ran out.
@@ -262,7 +258,7 @@ fn explain_giving_up(
     match fault {
         Fault::OutOfMemory => explain_memory(notes),
         Fault::Device => explain_device(notes, texts),
-        Fault::InputTooLong => explain_length(notes, texts),
+        Fault::InputTooLong => explain_length(notes),
         Fault::Reduce(cause, left) => explain_reduction(notes, *cause, *left as u64),
         Fault::Decode(cause, clause) => explain_decoding(notes, *cause, *clause as u64),
         Fault::Search(cause) => explain_search(notes, *cause),

@@ -257,12 +257,11 @@ fn explains_refusals(rt: HostRuntime) -> Result<(), AllocError> {
     Ok(())
 }
 
-/// The notes on two files that could not be read again, and on one that could not be made.
-const UNREAD: &str = "note: s: the file cannot be opened or read\n\
-    note: n: cannot be opened: no such file\n\
+/// The notes on a file that could not be read, and on one that could not be made.
+const UNREAD: &str = "note: n: cannot be opened: no such file\n\
     note: c: cannot be made\n";
 
-/// Returns whether the file that could not be read again is named, and one that was written, and no other.
+/// Returns whether the file that could not be read is named, and one that was written, and no other: not one that was never opened.
 fn names_unread(alloc: Global) -> Result<bool, AllocError> {
     let mut texts = AskedTexts::none();
     texts.trace = Some(NamedText {
