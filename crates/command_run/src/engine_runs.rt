@@ -57,12 +57,12 @@ fn translate_file<'p, R: Threads + Sync, H: Host<'p>, W: Sink>(
     out: &mut W,
     kept: &mut KeptRun,
 ) -> Result<Status, Fault>
-    requires some { 1 ≤ workers }
-    requires few { workers ≤ 8 }
     ensures { RunsOnFile H.calls (source_view H.Input.handed_out H.Input.is_at_end H.Input.failures H.Input.path) IsRunOfCnf
         host.old trace.now (sink_run W.written W.failures out.old out.new) result host.new }
 {
     let mut trace = open(alloc, host, trace, kept.keeps);
+    // A line has 1 to 8 workers, which the engine asks for: its text is the same for each number.
+    let workers = workers.max(1).min(8);
     let outcome = run_cnf(alloc, rt, &mut trace, workers, out);
     kept.first = trace.into_text();
     outcome
