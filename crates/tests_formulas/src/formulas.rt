@@ -123,6 +123,7 @@ fn is_of(clause: Clause, literals: &[Lit]) -> bool {
 
 #[test]
 fn keeps_literals_in_clauses(rt: HostRuntime) {
+    let alloc = rt.alloc();
     let [first, second] = [Lit::positive(7), Lit::positive(9).negated()];
     let last = Lit::positive(MAX_VARIABLE).negated();
     recall_literals(&[first, second, last]);
