@@ -30,7 +30,7 @@ fn arguments(rt: &HostRuntime) -> Result<Vec<String>, ArgumentFault> {
 }
 
 /// Does what the words ask for, and gives the exit status. Nothing is known of the host here, so what is said of its files holds of those of the
-/// system, which `main` hands on.
+/// system, which `run_on_system` hands on.
 fn run_words<'x, R: Threads + Wait + Sync, H: Host<'x>, O: Sink + Recalls, E: Sink>(
     rt: &HostRuntime,
     threads: &R,
@@ -61,6 +61,21 @@ fn run_words<'x, R: Threads + Wait + Sync, H: Host<'x>, O: Sink + Recalls, E: Si
     )
 }
 
+/// Does what the words ask for, with the files of the system, and gives the exit status.
+fn run_on_system<'x, R: Threads + Wait + Sync, O: Sink + Recalls, E: Sink>(
+    rt: &'x HostRuntime,
+    threads: &R,
+    words: &'x [&'x str],
+    out: &mut O,
+    err: &mut E,
+    is_terminal: bool,
+) -> u8
+    ensures { IsExitStatus result }
+{
+    let mut host = SystemHost::new(rt);
+    run_words(rt, threads, &mut host, words, out, err, is_terminal)
+}
+
 fn main(rt: HostRuntime) -> ExitCode {
     let _held = HeldNumbers::take(&rt);
     let mut out = Recorder::keeping(rt.alloc(), StreamSink::new(rt.stdout()));
@@ -72,16 +87,7 @@ fn main(rt: HostRuntime) -> ExitCode {
     let Ok(words) = words_of(rt.alloc(), &texts) else {
         return ExitCode::from(refuse(ArgumentFault::OutOfMemory, &mut err));
     };
-    let mut host = SystemHost::new(&rt);
     let is_terminal = rt.stderr().is_terminal();
     // The runtime starts threads where `main` hands it on for that, and nowhere else.
-    ExitCode::from(run_words(
-        &rt,
-        &rt,
-        &mut host,
-        words.as_slice(),
-        &mut out,
-        &mut err,
-        is_terminal,
-    ))
+    ExitCode::from(run_on_system(&rt, &rt, words.as_slice(), &mut out, &mut err, is_terminal))
 }
