@@ -47,7 +47,7 @@ PART_OF_HAND_OFF = "vsc 1\nproc P\n# P.1\nW x 1\nproc Q\n# Q.1\nR x 1\n"
 # Of the part of `UNWRITTEN` that Q.2 makes up, since nothing writes what it reads; and the notes on that.
 UNWRITTEN_CERTIFICATE = "vsc-cert 1\nleaf\nproof 0\n3 0 1 2 0\nend\n"
 UNWRITTEN_NOTES = (
-    "note: Q.2 reads 2 at x, which nothing writes, and x has no init line\nnote: each of these alone rules out all schedules\n"
+    "note: Q.2 reads 2 at x, which nothing writes, and x has no init line\nnote: this alone rules out all schedules\n"
 )
 
 # The cubes of each tree, those with a legal schedule first among the names of the row.
