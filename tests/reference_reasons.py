@@ -57,7 +57,9 @@ class Trace:
     def number(self, word):
         """The operation of a word as `P.3`."""
         process, dot, place = word.rpartition(".")
-        if not dot or process not in self.names or not place.isdigit() or place.startswith("0"):
+        if not dot or not process or "." in process or not place.isdigit() or place.startswith("0") or int(place) > 65535:
+            raise Refused("BadLine")
+        if process not in self.names:
             raise Refused("NoOperation")
         n = (self.names.index(process), int(place))
         if n[1] > len(self.processes[n[0]]):
@@ -394,10 +396,12 @@ def check(trace, text):
         elif words == ["p"]:
             is_proof = True
         elif words[0] == "v":
-            before = len(variables)
-            literals_of([(trace.number(words[1]), trace.number(words[2]))], variables)
-            if len(variables) == before:
-                raise Refused("VariableTwice")
+            if len(words) != 3:
+                raise Refused("BadLine")
+            pair = (trace.number(words[1]), trace.number(words[2]))
+            if pair[0][0] == pair[1][0]:
+                raise Refused("OneProcess")
+            literals_of([pair], variables)
         elif not words[0].startswith("#"):
             count += 1
             active[count] = literals_of(clause_of(trace, words), variables)

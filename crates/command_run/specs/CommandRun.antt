@@ -79,7 +79,7 @@ RunsRecheck calls read from trace cert None out outcome to = RunsOnFiles calls r
 RunsRecheck calls read from trace cert (Some names) out outcome to = RunsOnThreeFiles calls read IsRunOfPartRecheck from trace cert names.now out outcome to
 
 -- This search was reported to the host, and the engine that decides traces was run on the file at this path. If nothing is decided, what
--- was taken names the cubes that a search with these options leaves open.
+-- was taken names cubes that a search with these options can leave open.
 pub record RunsSearch {H I O : Type 0} (calls : HostCalls H I O) (read : SourceView I) (from : H) (trace : List ℕ) (search : SearchRequest) (out : SinkRun) (outcome : Result Status Fault) (to : H) : Type 0 where
   pub file : SourceRun
   pub between : H
@@ -122,7 +122,7 @@ RunsVerify calls read wrote from trace (Some cert) search out outcome to =
 -- ---- a survey on files
 
 -- This survey was reported to the host, and the engine that decides long traces was run on the file at this path. If nothing is decided, a
--- search of the whole trace with these options does not decide it.
+-- search of the whole trace with these options need not decide it.
 pub record RunsSurveyed {H I O : Type 0} (calls : HostCalls H I O) (read : SourceView I) (from : H) (trace : List ℕ) (search : SearchRequest) (out : SinkRun) (outcome : Result Status Fault) (to : H) : Type 0 where
   pub file : SourceRun
   pub between : H
@@ -154,11 +154,11 @@ pub record MakesFile {H I O : Type 0} (calls : HostCalls H I O) (wrote : SinkVie
   pub closes : calls.closes done after (is_ok outcome) to
 
 -- that, or it could not be made: then nothing else was done, and the other sinks took nothing; or there is no path, and this was done with
--- a sink that keeps nothing
+-- a sink that keeps nothing and does not fail
 abbrev pub WithFile : {H I O : Type 0} → HostCalls H I O → SinkView O → H → Option (Bor (List ℕ)) → (H → SinkRun → H → Type 0) → List SinkRun → Result Status Fault → H → Type 0
 WithFile calls wrote from (Some path) Does others outcome to =
     ((outcome ≡ Err Device) × TakeNothing others × calls.fails_to_make from path.now to) ⊎ MakesFile calls wrote from path.now Does outcome to
-WithFile calls wrote from None Does others outcome to = (nowhere : SinkRun) × (nowhere.before ≡ []) × (nowhere.failures_before ≡ 0) × Does from nowhere to
+WithFile calls wrote from None Does others outcome to = (nowhere : SinkRun) × (nowhere.before ≡ []) × (nowhere.failures_before ≡ 0) × (nowhere.failures_now ≡ 0) × Does from nowhere to
 
 -- with a file for the part; with one for the names before it; with one for the certificate before both, so all before the trace is opened
 abbrev pub TakesPart : {H I O : Type 0} → HostCalls H I O → SourceView I → SinkView O → H → List ℕ → Option (Bor (List ℕ)) → SearchRequest → (cert names out : SinkRun) → Result Status Fault → H → Type 0

@@ -10,7 +10,7 @@ pub mod options;
 mod outcome;
 mod search_fault;
 
-pub use gate::{Gate, OpenGate};
+pub use gate::{Gate, OpenGate, Stage};
 pub use job::{Job, Settled};
 pub use limits::{MAX_CUBES, MAX_WORKERS};
 pub use models::is_model_in;

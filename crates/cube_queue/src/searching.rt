@@ -48,8 +48,8 @@ fn search_in_threads<
     Ok(results)
 }
 
-/// Searches the cubes of these leaves of the tree (cube and conquer: Heule, Kullmann, Wieringa and Biere, 2011), between the two calls of
-/// the gate. There is one result for each of them, with its cube, and no other. What a result says of its cube is untrusted, and checked by
+/// Searches the cubes of these leaves of the tree (cube and conquer: Heule, Kullmann, Wieringa and Biere, 2011) as a round of jobs, each
+/// between the two calls of the gate. There is one result for each of them, with its cube, and no other. What a result says of its cube is untrusted, and checked by
 /// the caller. All cubes share the solver, and nothing rests on it.
 ///
 /// The workers search in threads of their own; a single one, or one for a single leaf, in the caller's. A worker that finds no memory
@@ -72,6 +72,7 @@ pub fn search<R: Threads + Wait + Sync, L: ClauseList + Sync, S: CubeSolver + Sy
     ensures results { IfOk result (λ results. AreResultsOf (L.formula formula.now).clauses (cubes_of tree.now) which.now results.items) }
     ensures fault { IfErr result (λ fault. IsFaultOf options.now.workers (cubes_of tree.now) which.now fault) }
 {
+    gate.begin_round(which.len());
     let workers = needed(options.workers(), which.len());
     let budget = options.budget();
     if workers < 2 {

@@ -1,7 +1,7 @@
 //! Notes on the derivation of a contradiction: each clause that its unit propagation uses is a sentence on operations of the trace.
 //!
-//! Nothing that is claimed rests on them, so nothing is proved of them but that they are safe and come to an end. A derivation is followed
-//! hint by hint; one that does not check is left out.
+//! A derivation is noted only if the checker accepts it, so what is noted is of a trace that has no legal schedule. Nothing is proved of the
+//! words. It is followed hint by hint, by unit propagation alone.
 #![tactic(auto)]
 
 mod chains;
@@ -16,4 +16,4 @@ mod rests;
 mod story;
 mod telling;
 
-pub use explaining::{Deriver, explain_derivation};
+pub use explaining::{Deriver, Telling, explain_derivation};

@@ -4,6 +4,7 @@ use note_text::NamedText;
 use schedule_text::schedule_reader::read_schedule;
 use std::alloc::{AllocError, Global};
 use text_lines::lines::cut_line;
+use text_lines::words::first_words;
 use trace_semantics::schedule::Schedule;
 use trace_semantics::trace::Trace;
 use trace_text::trace_reader::read_trace;
@@ -44,6 +45,17 @@ pub(crate) fn schedule_of(alloc: Global, text: &NamedText<'_>) -> Option<Schedul
     match read_schedule(alloc, bytes) {
         Ok(schedule) => Some(schedule),
         Err(_) => None,
+    }
+}
+
+/// Returns whether the report of a survey is that on a certificate of reasons.
+pub(crate) fn is_of_reasons(report: &[u8]) -> bool {
+    let Some((first, _rest)) = cut_line(report) else {
+        return false;
+    };
+    match first_words(first).as_slice().get(2) {
+        Some(word) => word.starts_with(b"reasons="),
+        None => false,
     }
 }
 

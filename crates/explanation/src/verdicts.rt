@@ -2,8 +2,10 @@
 
 use crate::asked_command::AskedCommand;
 use crate::by_solver::BySolver;
-use crate::inputs::{PlacedTrace, core_of_report, placed_trace_of, schedule_of, trace_of};
-use derivation_notes::explain_derivation;
+use crate::inputs::{
+    PlacedTrace, core_of_report, is_of_reasons, placed_trace_of, schedule_of, trace_of,
+};
+use derivation_notes::{Telling, explain_derivation};
 use note_text::{NamedText, Notes};
 use std::alloc::{AllocError, Global};
 use survey::BySaturation;
@@ -111,7 +113,13 @@ fn explain_at_once(
     Ok(explain_counted(alloc, notes, trace, places))
 }
 
-/// Notes a derivation of the contradiction in the trace in sentences, if a short one is found. The answer is whether it was.
+/// Notes that the checker refuses the derivation that the search found, so that nothing of it is said.
+fn note_refused(notes: &mut Notes) {
+    notes.note(&[b"the checker refuses the derivation that was found, so it is not explained"]);
+}
+
+/// Notes a derivation of the contradiction in the trace in sentences, if a short one is found that the checker accepts. The answer is
+/// whether it was.
 fn explain_derived(
     alloc: Global,
     notes: &mut Notes,
@@ -121,7 +129,12 @@ fn explain_derived(
     let deriver = BySolver {
         budget: SEARCH_CONFLICTS,
     };
-    explain_derivation(alloc, notes, trace, places, &deriver)
+    match explain_derivation(alloc, notes, trace, places, &deriver)? {
+        Telling::InSentences => return Ok(true),
+        Telling::NotInSentences => {}
+        Telling::Refused => note_refused(notes),
+    }
+    Ok(false)
 }
 
 /// Notes why the trace has no legal schedule: what rules out all of them without a search; or else a short derivation of a contradiction;
@@ -247,6 +260,20 @@ fn explain_reported_core(
     Ok(())
 }
 
+/// Notes why the trace has no legal schedule, for which a certificate of reasons was accepted: by counting, or else that it was.
+fn explain_reasoned(
+    alloc: Global,
+    notes: &mut Notes,
+    placed: &PlacedTrace,
+) -> Result<(), AllocError> {
+    if !explain_at_once(alloc, notes, &placed.trace, &placed.places)? {
+        notes.note(&[
+            b"a certificate of reasons was checked, which --cert keeps: no order of the operations meets all its lines",
+        ]);
+    }
+    Ok(())
+}
+
 /// Notes why the trace has no legal schedule, of which a survey made the report.
 fn explain_survey_report(
     alloc: Global,
@@ -254,6 +281,9 @@ fn explain_survey_report(
     placed: &PlacedTrace,
     report: &[u8],
 ) -> Result<(), AllocError> {
+    if is_of_reasons(report) {
+        return explain_reasoned(alloc, notes, placed);
+    }
     let Some(names) = core_of_report(alloc, report) else {
         return explain_inconsistent(alloc, notes, &placed.trace, &placed.places);
     };

@@ -9,7 +9,7 @@ ghost use Rattle.order_clauses.specs.declared.reason_list.ClauseOutcome.TheVaria
 use crate::literal_places::LiteralPlaces;
 use crate::order_pair::OrderPair;
 use crate::order_variables::OrderVariables;
-use dimacs::{Clause, Lit};
+use dimacs::{Clause, Formula, Lit};
 use std::alloc::{AllocError, Global};
 
 /// What came of orders that were to be made a clause.
@@ -74,7 +74,9 @@ fn put_orders(
 }
 
 impl ReasonList {
-    ghost use Rattle.std.specs.Prelude.{ℕ, length};
+    ghost use Rattle.std.specs.Prelude.{ℕ, length, true};
+    ghost use Rattle.std.specs.List.{list_all};
+    ghost use Rattle.dimacs.specs.Literal.{is_clause_up_to};
     ghost use Rattle.trace_semantics.specs.Trace.{TraceValue};
     ghost use Rattle.order_reasons.specs.Orders.{HoldsOfSchedules};
     ghost use Rattle.order_clauses.specs.Numbered.{named_orders};
@@ -107,5 +109,31 @@ impl ReasonList {
                 .push(Clause::from_slice(alloc, literals.as_slice())?)?;
         }
         Ok(outcome)
+    }
+
+    /// Numbers the pair of the order, if it has no variable yet. No clause changes.
+    pub fn number(&mut self, order: OrderPair) -> Result<ClauseOutcome, AllocError>
+        ensures { OnOk result ((t : TraceValue) → HoldReasons t self.old.variables self.old.clauses.items → HoldReasons t self.new.variables self.new.clauses.items) }
+    {
+        match self.variables.literal(order)? {
+            Some(_literal) => Ok(ClauseOutcome::Made),
+            None => Ok(ClauseOutcome::TooManyVariables),
+        }
+    }
+
+    /// Consumes the list and returns its clauses as a formula over its variables.
+    pub fn into_formula(self) -> Result<Formula, AllocError>
+        requires { list_all (is_clause_up_to (length self.variables)) self.clauses.items ≡ true }
+        ensures { IfOk result (λ formula. formula.clauses ≡ self.clauses.items) }
+    {
+        let ReasonList {
+            variables,
+            clauses,
+            ..
+        } = self;
+        let Ok(count) = u32::try_from(variables.pairs().len()) else {
+            return Err(AllocError);
+        };
+        Ok(Formula::new(count, clauses))
     }
 }

@@ -19,7 +19,7 @@ use Rattle.trace_part.specs.TraceParts.{PartValue, IsPart}
 use Rattle.trace_part.specs.declared.part_fault.PartCause.{PartCause}
 use Rattle.part_text.specs.NameLine.{HasChoiceFault}
 use Rattle.verdict_report.specs.declared.fault.Fault.{Fault}
-use Rattle.verdict_report.specs.declared.fault.Fault.TheVariants.{OutOfMemory, Device, InputTooLong, Trace, Schedule, Part, Model, Cnf, Lrat, Reduce, Decode, Check, Cert, Search}
+use Rattle.verdict_report.specs.declared.fault.Fault.TheVariants.{OutOfMemory, Device, InputTooLong, Trace, Schedule, Part, Model, Cnf, Lrat, Reduce, Decode, Check, Cert, Reasons, Search}
 use Rattle.verdict_report.specs.declared.status.Status.{Status}
 use Rattle.verdict_report.specs.Fault.{fault_of_part}
 use Rattle.part_report.specs.PartRecheckEngine.{AreRecheckedByPart, IsSaidByPart}
@@ -85,6 +85,7 @@ module _ (trace_text cert_text names_text : List ℕ) (value : TraceValue) (is_t
         said_of r e (Err (Reduce cause left)) d = absurd d
         said_of r e (Err (Decode cause clause)) d = absurd d
         said_of r e (Err (Check fault step)) d = absurd d
+        said_of r e (Err (Reasons cause line)) d = absurd d
         said_of r e (Err (Search fault)) d = absurd d
 
         pub said : (r : ReducedValue) → r.whole ≡ made.trace → (result : Result ℕ Fault) → IsRecheckedFor r certificate result → IsSaidByPart trace_text cert_text names_text result

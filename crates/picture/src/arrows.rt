@@ -99,7 +99,7 @@ fn draw_halo(svg: &mut SvgText, route: &Route) {
 
 /// Draws the number of the sentence that says why the arrow is there.
 fn draw_number(svg: &mut SvgText, route: &Route, number: u64) {
-    let place = route.label_place();
+    let place = route.number_place(number);
     svg.add(&[b"<rect class=\"number\" rx=\"3\""]);
     svg.at(place.x.saturating_sub(8), place.y.saturating_sub(7));
     svg.attribute(b"width", 16);

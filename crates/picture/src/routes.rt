@@ -8,11 +8,30 @@ use std::alloc::{AllocError, Global};
 /// How far a corner is rounded.
 const CORNER: u64 = 7;
 
+/// How far above or below the middle of a line down a number stands.
+const NUMBER_SHIFT: u64 = 8;
+
+/// How far to the left of the middle of a line across an odd number stands. At the middle and to its right program order comes down, which
+/// a number would hide.
+const ODD_SHIFT_LEFT: u64 = 30;
+
+/// The same of an even number.
+const EVEN_SHIFT_LEFT: u64 = 6;
+
 /// A point of the picture, in pixels.
 #[derive(Clone, Copy)]
 pub(crate) struct RoutePoint {
     pub x: u64,
     pub y: u64,
+}
+
+/// A line across or down, on which words can stand.
+#[derive(Clone, Copy)]
+struct LabelLine {
+    /// Its upper or left end.
+    first: RoutePoint,
+    /// Its lower or right end.
+    last: RoutePoint,
 }
 
 /// A way along straight lines with rounded corners.
@@ -65,6 +84,30 @@ fn place_toward(from: RoutePoint, to: RoutePoint) -> RoutePoint {
     }
 }
 
+impl LabelLine {
+    /// The line that has these ends.
+    fn between(one: RoutePoint, other: RoutePoint) -> LabelLine {
+        LabelLine {
+            first: RoutePoint {
+                x: one.x.min(other.x),
+                y: one.y.min(other.y),
+            },
+            last: RoutePoint {
+                x: one.x.max(other.x),
+                y: one.y.max(other.y),
+            },
+        }
+    }
+
+    /// Its middle.
+    fn middle(&self) -> RoutePoint {
+        RoutePoint {
+            x: toward(self.first.x, self.last.x, u64::MAX),
+            y: toward(self.first.y, self.last.y, u64::MAX),
+        }
+    }
+}
+
 impl Lanes {
     /// No arrow yet, in a picture of these columns and rows.
     pub fn new(alloc: Global, placement: &Placement<'_>) -> Result<Lanes, AllocError> {
@@ -107,11 +150,19 @@ fn crossing_row(from: &PictureItem<'_>, to: &PictureItem<'_>) -> usize {
     }
 }
 
+/// The distance from the middle of a box at which an arrow leaves below it, or comes in above it. Two arrows at one height would read as one,
+/// so those to the right and those to the left have distances of their own.
+fn distance_from_middle(goes_right: bool) -> u64 {
+    if goes_right { 2 } else { 8 }
+}
+
 /// The point at which an arrow leaves a box, to the right or to the left.
 fn exit_of(edges: BoxEdges, goes_right: bool) -> RoutePoint {
     RoutePoint {
         x: if goes_right { edges.right } else { edges.left },
-        y: edges.middle().saturating_add(5),
+        y: edges
+            .middle()
+            .saturating_add(distance_from_middle(goes_right)),
     }
 }
 
@@ -119,7 +170,9 @@ fn exit_of(edges: BoxEdges, goes_right: bool) -> RoutePoint {
 fn entry_of(edges: BoxEdges, goes_right: bool) -> RoutePoint {
     RoutePoint {
         x: if goes_right { edges.left } else { edges.right },
-        y: edges.middle().saturating_sub(5),
+        y: edges
+            .middle()
+            .saturating_sub(distance_from_middle(goes_right)),
     }
 }
 
@@ -239,24 +292,35 @@ impl Route {
         }
     }
 
-    /// The middle of its third line, or of its second one if it has no more, where words can stand.
-    pub fn label_place(&self) -> RoutePoint {
+    /// Its third line, or its second one if it has no more, on which words can stand.
+    fn label_line(&self) -> LabelLine {
         let count = self.places.len();
         if count < 3 {
-            return RoutePoint { x: 0, y: 0 };
+            let corner = RoutePoint { x: 0, y: 0 };
+            return LabelLine::between(corner, corner);
         }
         let begin = if count > 4 { 2 } else { 1 };
-        let first = self.places[begin];
-        let second = self.places[begin + 1];
+        LabelLine::between(self.places[begin], self.places[begin + 1])
+    }
+
+    /// The middle of the line on which words can stand.
+    pub fn label_place(&self) -> RoutePoint {
+        self.label_line().middle()
+    }
+
+    /// The place of this number. Lines beside each other have their middles at one height, where the numbers would cover each other, so odd
+    /// ones stand further up or further to the left.
+    pub fn number_place(&self, number: u64) -> RoutePoint {
+        let line = self.label_line();
+        let middle = line.middle();
+        let (side, shift_left) = if number % 2 == 1 {
+            (line.first, ODD_SHIFT_LEFT)
+        } else {
+            (line.last, EVEN_SHIFT_LEFT)
+        };
         RoutePoint {
-            x: first
-                .x
-                .min(second.x)
-                .saturating_add(first.x.abs_diff(second.x) / 2),
-            y: first
-                .y
-                .min(second.y)
-                .saturating_add(first.y.abs_diff(second.y) / 2),
+            x: toward(middle.x, line.first.x, shift_left),
+            y: toward(middle.y, side.y, NUMBER_SHIFT),
         }
     }
 }

@@ -11,7 +11,7 @@ text { font-family: sans-serif; font-size: 12px; fill: #222222 }
 .column { font-size: 14px; font-weight: bold; text-anchor: middle }
 .code { font-family: 'DejaVu Sans Mono', Menlo, Consolas, monospace; font-size: 12px }
 .position { fill: #1f5fa8; font-weight: bold }
-.name { fill: #707070 }
+.name { fill: #666666 }
 .label { font-size: 11px; font-weight: bold; text-anchor: middle; fill: #8a4b00 }
 rect { fill: #ffffff; stroke: #666666; stroke-width: 1.2 }
 rect.page { stroke: none }
@@ -24,7 +24,7 @@ rect.giving { fill: #e3f0fb; stroke: #2f74c0; stroke-width: 2 }
 rect.number { stroke: none }
 path { fill: none; stroke-width: 1.4 }
 path.halo { stroke: #f3b4b0; stroke-width: 6 }
-path.grey { stroke: #9a9a9a }
+path.grey { stroke: #808080 }
 path.blue { stroke: #2f74c0 }
 path.violet { stroke: #7a3fa0 }
 path.brown { stroke: #8a4b00 }
@@ -34,7 +34,7 @@ path.before { stroke-dasharray: 7 4 }
 path.derived { stroke-dasharray: 9 3 2 3 }
 path.excluded { stroke-dasharray: 1 3 }
 marker path { stroke: none }
-marker path.grey { fill: #9a9a9a }
+marker path.grey { fill: #808080 }
 marker path.blue { fill: #2f74c0 }
 marker path.violet { fill: #7a3fa0 }
 marker path.brown { fill: #8a4b00 }

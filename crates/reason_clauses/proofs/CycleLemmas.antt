@@ -1,5 +1,5 @@
 -- Steps that are turned round make a clause that holds.
-use Rattle.std.proofs.Common.{◌≡◌, ◌<◌, ◌+◌, ℕ, zero, suc, List, [], ◌∷◌, map, length, get_or, refl, ap, sym, ◌∙◌, arith, inl, inr, subst}
+use Rattle.std.proofs.Common.{◌≡◌, ◌<◌, ◌+◌, ℕ, suc, List, [], ◌∷◌, map, length, get_or, refl, sym, arith, inl, inr, subst}
 use Rattle.std.proofs.lemmas.Bool.{cases_order}
 use Rattle.trace_semantics.specs.declared.operation.OpName.{OpName}
 use Rattle.trace_semantics.specs.Trace.{TraceValue, IsTrace}
@@ -11,7 +11,7 @@ use Rattle.order_reasons.specs.Orders.{HoldsOfSchedules}
 use Rattle.order_reasons.specs.Reasons.{TurnsSteps}
 use Rattle.order_reasons.proofs.OrderReasons.{cycle_holds}
 use Rattle.reason_clauses.specs.Cycle.{IsTurned}
-use Rattle.reason_clauses.specs.Numbered.{AreIn, Grows, MakesSay}
+use Rattle.reason_clauses.specs.Numbered.{Grows, MakesSay}
 use Rattle.reason_clauses.proofs.NumberLemmas.{numbers_apart}
 
 pub turned_more : (t : TraceValue) (old new : List OrderPair) (u v : OperationPlace) → Grows old new → IsTurned t old u v → IsTurned t new u v

@@ -2,4 +2,6 @@ pub mod CycleLemmas
 pub mod MakerLemmas
 pub mod NumberLemmas
 pub mod NumberedLemmas
+pub mod OwnLemmas
 pub mod PairLemmas
+pub mod SourceLemmas

@@ -70,7 +70,7 @@ numbered_operation t ok q k p op low at here =
     let next : k + 1 ≡ suc k = omega arith in
     ap (option_and_then (λ (x : Process). at_place x.operations (k + 1))) finds_it ∙ ap (at_place p.operations) next ∙ here
 
-nobody : Process
+pub nobody : Process
 nobody = record { name = []; operations = [] }
 
 -- different numbers have different names

@@ -1,5 +1,5 @@
 -- A before pair is a clause that holds.
-use Rattle.std.proofs.Common.{◌≡◌, ◌<◌, ℕ, List, [], map, length, get_or, slice_index_or, true, refl, ap, sym, ◌∙◌, subst}
+use Rattle.std.proofs.Common.{◌≡◌, ◌<◌, List, length, get_or, sym, ◌∙◌, subst}
 use Rattle.std.specs.List.{Contains}
 use Rattle.trace_semantics.specs.declared.operation.OpName.{OpName}
 use Rattle.trace_semantics.specs.declared.trace.Process.{Process}
@@ -8,7 +8,6 @@ use Rattle.writer_table.specs.declared.operation_place.OperationPlace.{Operation
 use Rattle.order_clauses.specs.declared.order_pair.OrderPair.{OrderPair}
 use Rattle.order_clauses.specs.Numbered.{named, named_orders, IsKnown}
 use Rattle.order_reasons.specs.Orders.{HoldsOfSchedules}
-use Rattle.order_reasons.specs.Reasons.{Says}
 use Rattle.order_reasons.proofs.OrderReasons.{pair_stands}
 use Rattle.reason_clauses.specs.Numbered.{MakesSay}
 use Rattle.reason_clauses.proofs.NumberLemmas.{name_at}

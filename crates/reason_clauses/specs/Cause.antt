@@ -1,7 +1,7 @@
 -- The numbers and the names of what may be wrong with a line of reasons.
 use Rattle.std.specs.Prelude.{ℕ, List, codes}
 use Rattle.reason_clauses.specs.declared.cause.ReasonCause.{ReasonCause}
-use Rattle.reason_clauses.specs.declared.cause.ReasonCause.TheVariants.{NoOperation, NoReader, NoWitness, HidesItself, NoPiece, InitialLeft, BadCycle, NoPair, EnoughSources, AlwaysTrue, TooManyVariables}
+use Rattle.reason_clauses.specs.declared.cause.ReasonCause.TheVariants.{NoOperation, NoReader, NoWitness, HidesItself, NoPiece, InitialLeft, BadCycle, NoPair, EnoughSources, AlwaysTrue, TooManyVariables, BadHeader, BadLine, OneProcess, SecondPiece}
 
 -- the number of a cause
 abbrev pub cause_number : ReasonCause → ℕ
@@ -16,6 +16,10 @@ cause_number NoPair = 9
 cause_number EnoughSources = 10
 cause_number AlwaysTrue = 11
 cause_number TooManyVariables = 12
+cause_number BadHeader = 13
+cause_number BadLine = 14
+cause_number OneProcess = 15
+cause_number SecondPiece = 16
 
 -- the name of a cause
 abbrev pub cause_name : ReasonCause → List ℕ
@@ -30,3 +34,7 @@ cause_name NoPair = codes "NoPair"
 cause_name EnoughSources = codes "EnoughSources"
 cause_name AlwaysTrue = codes "AlwaysTrue"
 cause_name TooManyVariables = codes "TooManyVariables"
+cause_name BadHeader = codes "BadHeader"
+cause_name BadLine = codes "BadLine"
+cause_name OneProcess = codes "OneProcess"
+cause_name SecondPiece = codes "SecondPiece"

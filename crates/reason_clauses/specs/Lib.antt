@@ -1,7 +1,9 @@
+pub mod Barred
 pub mod Cause
 pub mod Cycle
 pub mod Mains
 pub mod Makers
 pub mod Numbered
-pub mod Own
 pub mod OwnLast
+pub mod Pieces
+pub mod Tables

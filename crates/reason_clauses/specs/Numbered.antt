@@ -1,9 +1,8 @@
 -- Orders of operations by numbers, as the code keeps them.
-use Rattle.std.specs.Prelude.{◌≡◌, ◌≤◌, ◌<◌, ◌⊎◌, ℕ, List, [], map, length, slice_index_or, Option, Some, IsSome}
+use Rattle.std.specs.Prelude.{◌≡◌, ◌≤◌, ◌⊎◌, ℕ, List, Option, Some}
 use Rattle.std.specs.List.{Contains}
 use Rattle.trace_semantics.specs.declared.operation.OpName.{OpName}
-use Rattle.trace_semantics.specs.declared.trace.Process.{Process}
-use Rattle.trace_semantics.specs.Trace.{TraceValue, operation_at}
+use Rattle.trace_semantics.specs.Trace.{TraceValue}
 use Rattle.writer_table.specs.declared.operation_place.OperationPlace.{OperationPlace}
 use Rattle.order_clauses.specs.declared.order_pair.OrderPair.{OrderPair}
 use Rattle.reason_clauses.specs.declared.stretches.Stretches.{Stretches}

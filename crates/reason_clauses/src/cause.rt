@@ -28,6 +28,14 @@ pub enum ReasonCause {
     AlwaysTrue,
     /// There are more variables than can be numbered.
     TooManyVariables,
+    /// The first line is not `vsc-reasons 1`, or there is none.
+    BadHeader,
+    /// The line is of no known form.
+    BadLine,
+    /// Both operations of a variable are of one process.
+    OneProcess,
+    /// A second piece where there may be one: of one kind for a process, for the initial value, or for all others.
+    SecondPiece,
 }
 
 /// Why a line makes no clause: a cause, or that memory ran out.
@@ -53,6 +61,10 @@ impl FaultCause for ReasonCause {
             ReasonCause::EnoughSources => 10,
             ReasonCause::AlwaysTrue => 11,
             ReasonCause::TooManyVariables => 12,
+            ReasonCause::BadHeader => 13,
+            ReasonCause::BadLine => 14,
+            ReasonCause::OneProcess => 15,
+            ReasonCause::SecondPiece => 16,
         }
     }
 
@@ -69,6 +81,10 @@ impl FaultCause for ReasonCause {
             ReasonCause::EnoughSources => "EnoughSources",
             ReasonCause::AlwaysTrue => "AlwaysTrue",
             ReasonCause::TooManyVariables => "TooManyVariables",
+            ReasonCause::BadHeader => "BadHeader",
+            ReasonCause::BadLine => "BadLine",
+            ReasonCause::OneProcess => "OneProcess",
+            ReasonCause::SecondPiece => "SecondPiece",
         }
     }
 }

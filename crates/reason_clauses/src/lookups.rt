@@ -1,13 +1,16 @@
 //! Operations of a trace by their numbers, and what they say of a value.
 
-ghost use Rattle.std.specs.Prelude.{◌≡◌, true, IfSome, OnOk, IfOk};
-ghost use Rattle.order_clauses.specs.Numbered.{IsKnown};
+ghost use Rattle.std.specs.Prelude.{◌≡◌, ◌<◌, true, length, IfSome, OnOk, IfOk};
+ghost use Rattle.std.specs.Str.{bytes_eq};
+ghost use Rattle.order_clauses.specs.Numbered.{named, IsKnown};
+ghost use Rattle.order_reasons.specs.Sources.{AllowsWriter};
 ghost use Rattle.reason_clauses.specs.Numbered.{IsGivenWitness, IsGivenFront};
 ghost use Rattle.reason_clauses.specs.Makers.{IsNumberOf, DoesHide};
 
 use crate::cause::{ReasonCause, ReasonRefusal};
-use trace_semantics::operation::Op;
-use trace_semantics::trace::Trace;
+use trace_semantics::name::Name;
+use trace_semantics::operation::{Op, OpName, Origin};
+use trace_semantics::trace::{Process, Trace};
 use writer_table::operation_place::OperationPlace;
 
 /// Returns the operation of these numbers.
@@ -111,5 +114,43 @@ pub fn want_front(
     match witness {
         Some(x) => want_witness(trace, reader, x, location, value),
         None => Ok(()),
+    }
+}
+
+/// Returns whether this is the name of the process.
+fn is_called(process: &Process, name: &Name) -> bool
+    ensures { result ≡ bytes_eq process.now.name name.now }
+{
+    process.name.as_bytes() == name.as_bytes()
+}
+
+/// Returns whether the name is that of the operation.
+pub fn is_named(trace: &Trace, n: OperationPlace, name: &OpName) -> bool
+    ensures only { result ≡ true → named trace.now n ≡ name.now }
+    ensures found { n.process < length trace.now.processes → named trace.now n ≡ name.now → result ≡ true }
+{
+    let processes = trace.processes();
+    let q = n.process as usize;
+    if q >= processes.len() {
+        return false;
+    }
+    if !is_called(&processes[q], &name.process) {
+        return false;
+    }
+    let place = u32::from(name.place);
+    if n.place != place {
+        return false;
+    }
+    true
+}
+
+/// Returns whether a value may be from the operation, by what is said of it.
+pub fn is_from(trace: &Trace, origin: &Origin, n: OperationPlace) -> bool
+    ensures { n.process < length trace.now.processes → AllowsWriter origin.now (named trace.now n) → result ≡ true }
+{
+    match origin {
+        Origin::Any => true,
+        Origin::Initial => false,
+        Origin::Operation(name) => is_named(trace, n, name),
     }
 }

@@ -60,6 +60,18 @@ pub fn stretches_of(places: &RisingPlaces, bound: u32, limit: u32) -> Stretches
     cut(places.as_slice(), hidden, before)
 }
 
+/// Returns the stretches of no places.
+pub fn no_stretches() -> Stretches
+    ensures { (n : ℕ) → AreUpTo result n }
+{
+    Stretches {
+        hidden: 0,
+        later: 0,
+        first: 0,
+        last: 0,
+    }
+}
+
 /// Returns the stretches of one place. A limit of 0 is none.
 pub fn stretches_of_one(place: u32, bound: u32, limit: u32) -> Stretches
     ensures taken { 1 ≤ place → IsTaken result place }

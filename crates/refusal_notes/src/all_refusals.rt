@@ -8,6 +8,7 @@ use lrat_check::lrat_fault::LratCause;
 use lrat_check::refusal::StepFault;
 use model_text::ModelCause;
 use note_text::{Notes, decimal};
+use reason_clauses::cause::ReasonCause;
 use reducer::reduce_fault::ReduceCause;
 use schedule_decode::decode_fault::DecodeCause;
 use schedule_text::schedule_fault::ScheduleCause;
@@ -89,6 +90,24 @@ const CERT: [CertCause; 10] = [
     CertCause::Derivation,
 ];
 
+const REASONS: [ReasonCause; 15] = [
+    ReasonCause::NoOperation,
+    ReasonCause::NoReader,
+    ReasonCause::NoWitness,
+    ReasonCause::HidesItself,
+    ReasonCause::NoPiece,
+    ReasonCause::InitialLeft,
+    ReasonCause::BadCycle,
+    ReasonCause::NoPair,
+    ReasonCause::EnoughSources,
+    ReasonCause::AlwaysTrue,
+    ReasonCause::TooManyVariables,
+    ReasonCause::BadHeader,
+    ReasonCause::BadLine,
+    ReasonCause::OneProcess,
+    ReasonCause::SecondPiece,
+];
+
 const SEARCH: [SearchCause; 2] = [SearchCause::Cut, SearchCause::NoThread];
 
 /// Adds a line for a refusal: its area, its number, its name, and what it means.
@@ -139,6 +158,7 @@ fn list_of_checks(notes: &mut Notes) {
     list_causes(notes, "decode", &DECODE);
     list_causes(notes, "check", &CHECK);
     list_causes(notes, "cert", &CERT);
+    list_causes(notes, "reasons", &REASONS);
     list_causes(notes, "search", &SEARCH);
 }
 

@@ -6,6 +6,7 @@ use cube_jobs::SearchCause;
 use lrat_check::lrat_fault::LratCause;
 use lrat_check::refusal::StepFault;
 use model_text::ModelCause;
+use reason_clauses::cause::ReasonCause;
 use reducer::reduce_fault::ReduceCause;
 use schedule_decode::decode_fault::DecodeCause;
 use schedule_text::schedule_fault::ScheduleCause;
@@ -145,6 +146,38 @@ impl Explained for CertCause {
             CertCause::Double => "a leaf has two sections",
             CertCause::Missing => "a leaf has no section",
             CertCause::Derivation => "the proof of a leaf is not accepted for this trace",
+        }
+    }
+}
+
+impl Explained for ReasonCause {
+    fn meaning(&self) -> &'static str {
+        match self {
+            ReasonCause::NoOperation => "the trace has no such operation",
+            ReasonCause::NoReader => "the operation reads nothing",
+            ReasonCause::NoWitness => {
+                "a witness writes the location or reads another value there, and is not the reader itself"
+            }
+            ReasonCause::HidesItself => "the witness is the source that it is to hide",
+            ReasonCause::NoPiece => "a piece wants a witness, and none is given",
+            ReasonCause::InitialLeft => {
+                "the reader may read the initial value, and no piece takes it"
+            }
+            ReasonCause::BadCycle => {
+                "a cycle has an operation or more, and no step from an operation to itself"
+            }
+            ReasonCause::NoPair => {
+                "no before line of the trace puts the first operation before the second"
+            }
+            ReasonCause::EnoughSources => "there are enough sources",
+            ReasonCause::AlwaysTrue => "the clause of the line always holds",
+            ReasonCause::TooManyVariables => "there are more than 4194304 variables",
+            ReasonCause::BadHeader => "the first line is not `vsc-reasons 1`",
+            ReasonCause::BadLine => "the line has none of the forms of a certificate of reasons",
+            ReasonCause::OneProcess => "both operations of a variable are of one process",
+            ReasonCause::SecondPiece => {
+                "a second piece for a process, for the initial value, or for all others"
+            }
         }
     }
 }

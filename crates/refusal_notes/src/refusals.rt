@@ -11,6 +11,7 @@ use crate::trace_notes::explain_trace;
 use cube_jobs::SearchCause;
 use model_text::ModelCause;
 use note_text::{AskedTexts, NamedText, Notes, count_words, decimal, line_of_text, word_at};
+use reason_clauses::cause::ReasonCause;
 use reducer::reduce_fault::ReduceCause;
 use schedule_decode::decode_fault::DecodeCause;
 use schedule_text::schedule_fault::ScheduleCause;
@@ -198,6 +199,14 @@ fn explain_memory(notes: &mut Notes) {
     notes.note(&[b"memory ran out; of verify, --workers 1 and a smaller --budget take less"]);
 }
 
+/// Adds the line of a certificate of reasons at which it was refused, and what the cause means.
+fn explain_reasons(notes: &mut Notes, cause: ReasonCause, number: u64, texts: &AskedTexts<'_>) {
+    if let Some(text) = texts.certificate {
+        notes.marked_line(&text, number, Some(0));
+    }
+    notes.note(&[cause.meaning().as_bytes()]);
+}
+
 /// Adds why a file of a command about clauses and proofs was refused.
 fn explain_proofs(
     alloc: Global,
@@ -235,6 +244,7 @@ fn explain_proofs(
             *place as u64,
             texts,
         )?,
+        Fault::Reasons(cause, line) => explain_reasons(notes, *cause, *line as u64, texts),
         Fault::OutOfMemory
         | Fault::Device
         | Fault::InputTooLong

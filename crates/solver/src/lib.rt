@@ -2,6 +2,7 @@
 //!
 //! - `solve` takes a formula, a cube, hints and a budget.
 //! - `PreparedFormula` is what all cubes of a formula share, and `solve_cube` searches one of them.
+//! - `SourceCounter` only counts, within a budget of its own.
 //! - `Answer` is its answer.
 //! - `EncodingHints` says which clauses are the transitivity of an order.
 //!
@@ -25,6 +26,7 @@ mod schedule_heuristic;
 mod search;
 mod solving;
 mod source_count;
+mod source_counter;
 mod told_reads;
 mod units;
 mod wanted;
@@ -34,3 +36,4 @@ pub use clause_database::{EncodingHints, LastWriter, ReadsFromTable, ReadsFromVa
 pub use prepared_formula::PreparedFormula;
 pub use proof_log::{Answer, CubeSolver};
 pub use solving::{solve, solve_cube};
+pub use source_counter::SourceCounter;

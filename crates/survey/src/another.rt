@@ -1,15 +1,15 @@
 //! Another contradiction of the same trace, whose core may be smaller.
 
 use crate::contradiction::contradicting;
+use crate::given_order::GivenOrder;
 use crate::part::Chosen;
 use crate::shrinking::Core;
-use derived_order::DerivedOrder;
 use numbered_log::Budget;
 use order_sets::tables::at;
 use std::alloc::{AllocError, Global};
 
 /// Operations of a core that is small enough.
-pub const SMALL: u32 = 10;
+pub const SMALL: u32 = 8;
 
 /// The largest number of other contradictions that are looked for. Each costs a saturation of the whole trace.
 const MAX_TRIES: u32 = 60;
@@ -21,11 +21,23 @@ const MAX_APART: u32 = 8;
 /// makes a core somewhat smaller is not worth more than what found it.
 const LEAST_FOR_ANOTHER: u64 = 4_000_000;
 
+/// The operations of a core beyond which its part may be too large to be refuted.
+const LARGE: u32 = 40;
+
+/// The steps that the search for others may take: about as many as found the core, or half of what is left if that is large.
+fn steps_for_another(core: &Core<'_>, spent: u64, budget: &Budget) -> u64 {
+    if core.count() > LARGE {
+        budget.left() / 2
+    } else {
+        spent.max(LEAST_FOR_ANOTHER)
+    }
+}
+
 /// A core that is found in a part of the trace, before it is made smaller. What the part loses, no part of it finds again, so the core is
 /// one of the whole.
 fn core_within<'a>(
     alloc: Global,
-    forced: &'a DerivedOrder<'a>,
+    forced: &'a GivenOrder<'a>,
     within: &Chosen,
     budget: &mut Budget,
 ) -> Result<Option<Core<'a>>, AllocError> {
@@ -34,24 +46,25 @@ fn core_within<'a>(
         return Ok(None);
     };
     let mut core = Core::new(alloc, forced, found)?;
-    core.close(budget)?;
+    core.complete(budget)?;
     if !core.is_refuted(budget)? {
         return Ok(None);
     }
     Ok(Some(core))
 }
 
-/// Makes the core smaller, or puts another one in its place. Others are looked for as long as it has more than ten operations, with no more
+/// Makes the core smaller, or puts another one in its place. Others are looked for as long as it has more than eight operations, with no more
 /// steps than the `spent` ones that found it, or some. They come first since the price of making a core smaller grows with the square of
 /// its operations.
 pub fn make_smaller<'a>(
     alloc: Global,
-    forced: &'a DerivedOrder<'a>,
+    forced: &'a GivenOrder<'a>,
     core: &mut Core<'a>,
     spent: u64,
     budget: &mut Budget,
 ) -> Result<(), AllocError> {
-    let mut share = budget.share(spent.max(LEAST_FOR_ANOTHER));
+    let steps = steps_for_another(core, spent, budget);
+    let mut share = budget.share(steps);
     apart_from_each(alloc, forced, core, &mut share)?;
     // With a small budget the share is all of it, and the core could not be made smaller with nothing left.
     let rest = share.left();
@@ -67,7 +80,7 @@ pub fn make_smaller<'a>(
 /// many places.
 fn apart_from_each<'a>(
     alloc: Global,
-    forced: &'a DerivedOrder<'a>,
+    forced: &'a GivenOrder<'a>,
     best: &mut Core<'a>,
     budget: &mut Budget,
 ) -> Result<(), AllocError> {
@@ -87,7 +100,7 @@ fn apart_from_each<'a>(
 /// Looks for a core in this part, takes its operations out of the part, and goes on from it if it is smaller. Returns whether there is one.
 fn finds_core<'a>(
     alloc: Global,
-    forced: &'a DerivedOrder<'a>,
+    forced: &'a GivenOrder<'a>,
     within: &mut Chosen,
     best: &mut Core<'a>,
     budget: &mut Budget,
@@ -103,7 +116,7 @@ fn finds_core<'a>(
 /// Leaves out one of the core's operations from the whole trace, looks for a core there, and goes on from a smaller one.
 fn without_each<'a>(
     alloc: Global,
-    forced: &'a DerivedOrder<'a>,
+    forced: &'a GivenOrder<'a>,
     best: &mut Core<'a>,
     budget: &mut Budget,
 ) -> Result<(), AllocError> {
@@ -128,7 +141,7 @@ fn without_each<'a>(
 /// Looks for a core in this part, makes it smaller, and goes on from it if it is smaller than the best one. Returns whether it is.
 fn finds_smaller_core<'a>(
     alloc: Global,
-    forced: &'a DerivedOrder<'a>,
+    forced: &'a GivenOrder<'a>,
     within: &Chosen,
     best: &mut Core<'a>,
     budget: &mut Budget,

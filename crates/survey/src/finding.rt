@@ -1,12 +1,15 @@
 //! What a survey finds.
+ghost use Rattle.std.specs.Prelude.{◌≤◌, IfOk};
 
 use crate::another::make_smaller;
+use crate::counting_first::counted_reasons;
+use crate::given_order::GivenOrder;
 use crate::purse::Purse;
 use crate::reading::{log_of, names_of};
 use crate::shrinking::Core;
-use derived_order::DerivedOrder;
 use numbered_log::{Budget, NumberedLog};
-use order_walk::{Walk, WalkEnd};
+use order_propagation::Propagation;
+use schedule_search::{ScheduleSearch, SearchEnding};
 use std::alloc::{AllocError, Global};
 use surveyor::{Extent, Finding, Overview, Surveyor};
 use trace_semantics::trace::Trace;
@@ -29,7 +32,14 @@ struct Walked {
     undecided: u32,
 }
 
-/// The survey that saturates an order and walks from the front, until it has found something or its budget of steps is spent.
+/// The progress of a survey that has taken no step.
+const NO_EXTENT: Extent = Extent {
+    placed: 0,
+    undecided: 0,
+    steps: 0,
+};
+
+/// The survey that counts, saturates an order and walks from the front, until it has found something or its budget of steps is spent.
 #[derive(Clone, Copy)]
 pub struct BySaturation {
     pub budget: u64,
@@ -39,6 +49,26 @@ impl Surveyor for BySaturation {
     ghost budget = { λ s. s.budget };
 
     fn survey(&self, alloc: Global, trace: &Trace) -> Result<Overview, AllocError> {
+        let counted = counted_reasons(alloc, trace)?;
+        match counted {
+            None => self.saturate(alloc, trace),
+            Some(reasons) if reasons.are_many => Ok(Overview {
+                finding: reasons.into_finding(),
+                extent: NO_EXTENT,
+            }),
+            Some(reasons) => {
+                let overview = self.saturate(alloc, trace)?;
+                Ok(reasons.unless_found(overview))
+            }
+        }
+    }
+}
+
+impl BySaturation {
+    /// The finding of saturation and of walks.
+    fn saturate(&self, alloc: Global, trace: &Trace) -> Result<Overview, AllocError>
+        ensures { IfOk result (λ overview. overview.extent.steps ≤ self.now.budget) }
+    {
         let log = log_of(alloc, trace)?;
         let mut purse = Purse::new(self.budget);
         let mut budget = Budget::new(purse.left());
@@ -86,41 +116,43 @@ fn finding_of(
 /// not made smaller is often too large to be refuted.
 fn walk_over(alloc: Global, log: &NumberedLog, budget: &mut Budget) -> Result<Walked, AllocError> {
     let kept = budget.share(budget.left() / 4);
-    let order = DerivedOrder::new(alloc, log, *budget)?;
-    let mut walk = Walk::new(alloc, order)?;
-    end_of(alloc, &mut walk, kept, budget)
-}
-
-/// Runs the walk, and gives its end as a finding. What is left of its budget, and what was kept, is the budget from then on.
-fn end_of(
-    alloc: Global,
-    walk: &mut Walk<'_>,
-    kept: Budget,
-    budget: &mut Budget,
-) -> Result<Walked, AllocError> {
-    let ending = walk.run()?;
-    *budget = walk.order().budget();
+    let mut order = Propagation::new(alloc, log, *budget)?;
+    let mut search = ScheduleSearch::new(alloc);
+    let ending = search.run(alloc, &mut order)?;
+    *budget = order.budget();
     budget.give_back(kept);
-    let numbers = numbers_at(alloc, walk, ending)?;
-    walk.take_back_all();
     Ok(Walked {
-        numbers,
-        placed: walk.most_placed(),
-        undecided: walk.order().undecided(),
+        numbers: numbers_of(alloc, &search, ending)?,
+        placed: search.most_placed(),
+        undecided: undecided_of(&order),
     })
 }
 
-/// A schedule, or the operations from which a contradiction follows, given how the walk has ended.
-fn numbers_at(
+/// The number of reads and final values that have more than one possible source.
+fn undecided_of(order: &Propagation<'_>) -> u32 {
+    let mut count: u32 = 0;
+    for reader in 0..order.sources().readers() {
+        if order.sources().has_several(reader) {
+            count = count.wrapping_add(1);
+        }
+    }
+    count
+}
+
+/// The finding of a search that has ended so.
+fn numbers_of(
     alloc: Global,
-    walk: &Walk<'_>,
-    ending: WalkEnd,
+    search: &ScheduleSearch,
+    ending: SearchEnding,
 ) -> Result<NumberedFinding, AllocError> {
-    Ok(match ending {
-        WalkEnd::Scheduled => NumberedFinding::Schedule(Vec::from_slice(alloc, walk.placed())?),
-        WalkEnd::Contradicted => NumberedFinding::Core(walk.explanation.operations(alloc)?),
-        WalkEnd::GivenUp => NumberedFinding::Nothing,
-    })
+    if ending == SearchEnding::Scheduled {
+        let schedule = Vec::from_slice(alloc, search.schedule())?;
+        return Ok(NumberedFinding::Schedule(schedule));
+    }
+    match search.core() {
+        Some(core) => Ok(NumberedFinding::Core(Vec::from_slice(alloc, core)?)),
+        None => Ok(NumberedFinding::Nothing),
+    }
 }
 
 /// Makes the core smaller while saturation, or a walk, still refutes it. The formula of its part grows with the cube of its operations, so
@@ -132,15 +164,14 @@ fn smallest_core(
     spent: u64,
     budget: &mut Budget,
 ) -> Result<Vec<u32>, AllocError> {
-    let forced = DerivedOrder::new(alloc, log, *budget)?;
-    *budget = forced.budget();
+    let forced = GivenOrder::new(alloc, log, budget)?;
     smallest_core_of(alloc, &forced, operations, spent, budget)
 }
 
 /// Makes the core smaller, given the order that program order and known pairs force.
 fn smallest_core_of<'a>(
     alloc: Global,
-    forced: &'a DerivedOrder<'a>,
+    forced: &'a GivenOrder<'a>,
     operations: Vec<u32>,
     spent: u64,
     budget: &mut Budget,
@@ -153,15 +184,15 @@ fn smallest_core_of<'a>(
 /// Makes the core smaller, after it was completed so that saturation or a walk refutes it.
 fn make_smallest<'a>(
     alloc: Global,
-    forced: &'a DerivedOrder<'a>,
+    forced: &'a GivenOrder<'a>,
     core: &mut Core<'a>,
     spent: u64,
     budget: &mut Budget,
 ) -> Result<(), AllocError> {
-    if forced.is_contradicted() {
+    if forced.is_cyclic() {
         return core.add_writers(budget);
     }
-    core.close(budget)?;
+    core.complete(budget)?;
     if core.is_refuted(budget)? {
         return make_smaller(alloc, forced, core, spent, budget);
     }

@@ -1,12 +1,14 @@
-//! A look over a whole trace: a schedule, or a few operations by which it has none.
+//! A look over a whole trace: a schedule, or a few operations by which it has none, or a certificate of reasons that it has none.
 //!
-//! Nothing here is believed: the caller judges the schedule, or makes the part of the core and refutes it. So nothing is proved of it but
+//! Nothing here is believed: the caller judges the schedule, makes the part of the core and refutes it, or checks the certificate. So nothing is proved of it but
 //! that it is safe and comes to an end, and a look past the end of a table reads a fixed value.
 #![tactic(auto)]
 
 mod another;
 mod contradiction;
+mod counting_first;
 mod finding;
+mod given_order;
 mod part;
 mod purse;
 mod reading;

@@ -2,7 +2,7 @@
 //!
 //! If this is not the part that is made of the trace, the answer is of no use, and nothing worse.
 
-use derived_order::DerivedOrder;
+use crate::given_order::GivenOrder;
 use numbered_log::{Budget, NOBODY, NumberedLog, NumberedOrigin, NumberedPair, Operation};
 use order_sets::tables::{at, put, size};
 use std::alloc::{AllocError, Global};
@@ -106,7 +106,7 @@ impl Drop for Renaming {
 /// pairs force, before anything else was derived: what follows from reads that the part loses does not hold in it.
 pub fn part_of(
     alloc: Global,
-    order: &DerivedOrder<'_>,
+    order: &GivenOrder<'_>,
     operations: &[u32],
     chosen: &Chosen,
     budget: &mut Budget,
@@ -134,15 +134,15 @@ pub fn part_of(
 }
 
 /// The number of steps that it takes to make the part of these operations.
-fn steps_of(order: &DerivedOrder<'_>, operations: &[u32]) -> u64 {
+fn steps_of(order: &GivenOrder<'_>, operations: &[u32]) -> u64 {
     let log = order.log();
     let mut steps = log.count().saturating_add(log.locations()) as u64;
     for number in operations {
-        let span = order.sources().span(*number);
+        let span = order.span(*number);
         steps = steps.saturating_add(span).saturating_add(1);
     }
     for location in 0..log.locations() {
-        let span = order.sources().span(order.final_reader(location));
+        let span = order.span(order.final_reader(location));
         steps = steps.saturating_add(span);
     }
     if !log.pairs().is_empty() {
@@ -182,21 +182,23 @@ impl Renaming {
 }
 
 /// Returns whether all possible sources of the reader are chosen.
-pub fn has_all_sources(order: &DerivedOrder<'_>, reader: u32, chosen: &Chosen) -> bool {
-    if !order.sources().is_bound(reader) {
+pub fn has_all_sources(order: &GivenOrder<'_>, reader: u32, chosen: &Chosen) -> bool {
+    if !order.sources().is_reader(reader) {
         return false;
     }
-    for place in order.sources().begin(reader)..order.sources().end(reader) {
-        let operation = order.sources().source(place).operation;
-        if operation != NOBODY && !chosen.has(operation) {
-            return false;
+    for run in 0..order.sources().intervals(reader) {
+        let low = order.sources().low(reader, run);
+        for position in low..order.sources().high(reader, run) {
+            if !chosen.has(order.writer(position)) {
+                return false;
+            }
         }
     }
     true
 }
 
 /// Returns whether the reading operation still reads.
-fn keeps_read(order: &DerivedOrder<'_>, number: u32, chosen: &Chosen) -> bool {
+fn keeps_read(order: &GivenOrder<'_>, number: u32, chosen: &Chosen) -> bool {
     match order.log().operation(number).origin {
         NumberedOrigin::Any => has_all_sources(order, number, chosen),
         NumberedOrigin::Initial => true,
@@ -208,7 +210,7 @@ fn keeps_read(order: &DerivedOrder<'_>, number: u32, chosen: &Chosen) -> bool {
 impl LogPart {
     /// Keeps all initial values of the locations, and the final values whose possible last writers are all chosen, where some writer of
     /// the location is.
-    fn set_values(&mut self, order: &DerivedOrder<'_>, renaming: &Renaming, chosen: &Chosen) {
+    fn set_values(&mut self, order: &GivenOrder<'_>, renaming: &Renaming, chosen: &Chosen) {
         let log = order.log();
         for location in 0..size(renaming.old_locations.as_slice()) {
             let old = at(renaming.old_locations.as_slice(), location, 0);
@@ -225,7 +227,7 @@ impl LogPart {
     /// Adds what is left of the operations.
     fn add_operations(
         &mut self,
-        order: &DerivedOrder<'_>,
+        order: &GivenOrder<'_>,
         renaming: &mut Renaming,
         operations: &[u32],
         chosen: &Chosen,
@@ -271,7 +273,7 @@ impl LogPart {
     fn add_pairs(
         &mut self,
         alloc: Global,
-        order: &DerivedOrder<'_>,
+        order: &GivenOrder<'_>,
         renaming: &Renaming,
     ) -> Result<(), AllocError> {
         let log = order.log();
@@ -295,7 +297,7 @@ impl LogPart {
     /// Adds the pairs whose first operation is of this process.
     fn add_pairs_of(
         &mut self,
-        order: &DerivedOrder<'_>,
+        order: &GivenOrder<'_>,
         process: u32,
         nearest: &[u32],
     ) -> Result<(), AllocError> {

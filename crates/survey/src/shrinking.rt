@@ -1,11 +1,12 @@
 //! Smaller cores.
 
-use crate::contradiction::contradicting;
+use crate::contradiction::{contradicting, is_refuted};
+use crate::given_order::GivenOrder;
 use crate::part::{Chosen, LogPart, has_all_sources, part_of};
-use derived_order::{DerivedOrder, Saturation};
 use numbered_log::{Budget, NumberedOrigin};
+use order_propagation::Propagation;
 use order_sets::tables::{at, piece, size};
-use order_walk::{Walk, WalkEnd};
+use schedule_search::is_refuted_by_walk;
 use std::alloc::{AllocError, Global};
 
 /// A set of operations whose part has no legal schedule, which saturation or a walk has found.
@@ -13,7 +14,7 @@ use std::alloc::{AllocError, Global};
 pub struct Core<'a> {
     alloc: Global,
     /// The order that program order and pairs force on the whole.
-    forced: &'a DerivedOrder<'a>,
+    forced: &'a GivenOrder<'a>,
     operations: Vec<u32>,
     chosen: Chosen,
     /// Whether a part that saturation does not refute is walked over.
@@ -27,7 +28,7 @@ impl<'a> Core<'a> {
     /// The core of these operations, which stand by rising numbers.
     pub fn new(
         alloc: Global,
-        forced: &'a DerivedOrder<'a>,
+        forced: &'a GivenOrder<'a>,
         operations: Vec<u32>,
     ) -> Result<Core<'a>, AllocError> {
         let mut chosen = Chosen::new(alloc, forced.log().count(), false)?;
@@ -63,20 +64,16 @@ impl<'a> Core<'a> {
         if self.walks {
             return self.is_refuted_by_walk(&part, budget);
         }
-        let mut order = DerivedOrder::new(self.alloc, &part.log, *budget)?;
-        let outcome = order.saturate()?;
-        *budget = order.budget();
-        Ok(outcome == Saturation::Contradicted)
+        is_refuted(self.alloc, &part.log, budget)
     }
 
     /// Returns whether a walk over the part ends in a contradiction.
     fn is_refuted_by_walk(&self, part: &LogPart, budget: &mut Budget) -> Result<bool, AllocError> {
         let share = budget.share(WALK);
-        let order = DerivedOrder::new(self.alloc, &part.log, share)?;
-        let mut walk = Walk::new(self.alloc, order)?;
-        let ending = walk.run()?;
-        budget.give_back(walk.order().budget());
-        Ok(ending == WalkEnd::Contradicted)
+        let mut order = Propagation::new(self.alloc, &part.log, share)?;
+        let is_refuted = is_refuted_by_walk(self.alloc, &mut order)?;
+        budget.give_back(order.budget());
+        Ok(is_refuted)
     }
 
     /// Has parts walked over from now on, since saturation alone does not refute the core.
@@ -110,6 +107,30 @@ impl<'a> Core<'a> {
         Ok(())
     }
 
+    /// Adds the possible sources of readers, and then the writers by which others are hidden.
+    pub fn complete(&mut self, budget: &mut Budget) -> Result<(), AllocError> {
+        for place in 0..self.count() {
+            let reader = at(self.operations.as_slice(), place, 0);
+            if self.forced.log().operation(reader).reads && !budget.is_spent() {
+                budget.spend(self.forced.span(reader));
+                self.add_sources(reader);
+            }
+        }
+        self.operations = self.chosen.all(self.alloc)?;
+        self.close(budget)
+    }
+
+    /// Adds the possible sources of the reader.
+    fn add_sources(&mut self, reader: u32) {
+        let forced = self.forced;
+        for run in 0..forced.sources().intervals(reader) {
+            let low = forced.sources().low(reader, run);
+            for position in low..forced.sources().high(reader, run) {
+                self.chosen.set(forced.writer(position), true);
+            }
+        }
+    }
+
     /// Adds the origins of readers, and all writers of the values that they read, until the budget is spent. With these the part keeps each
     /// read, whatever the order says.
     pub fn add_writers(&mut self, budget: &mut Budget) -> Result<(), AllocError> {
@@ -139,6 +160,9 @@ impl<'a> Core<'a> {
     /// Adds the origin of the reader, or writers that hide others from it.
     fn close_reader(&mut self, reader: u32, budget: &mut Budget) {
         let operation = self.forced.log().operation(reader);
+        if self.forced.log().initial(operation.location) == Some(operation.needed) {
+            self.hide_initial(reader, budget);
+        }
         match operation.origin {
             NumberedOrigin::Initial => {}
             NumberedOrigin::Operation(origin) => {
@@ -146,7 +170,7 @@ impl<'a> Core<'a> {
                 self.hide(reader, origin, budget);
             }
             NumberedOrigin::Any => {
-                let span = self.forced.sources().span(reader);
+                let span = self.forced.span(reader);
                 budget.spend(span.saturating_add(self.count() as u64));
                 if has_all_sources(self.forced, reader, &self.chosen) {
                     for place in 0..self.count() {
@@ -185,6 +209,27 @@ impl<'a> Core<'a> {
         }
     }
 
+    /// Adds a writer that hides the initial value from the reader, if there is one and none is chosen.
+    fn hide_initial(&mut self, reader: u32, budget: &mut Budget) {
+        let forced = self.forced;
+        let location = forced.log().operation(reader).location;
+        let mut found = None;
+        budget.spend(forced.log().processes() as u64);
+        for process in 0..forced.log().processes() {
+            let to = forced.before(reader, process);
+            if self.has_chosen_writer(process, location, 1, to, budget) {
+                return;
+            }
+            let place = forced.next_writer(process, location, 1);
+            if place <= to {
+                found = Some(forced.log().number(process, place));
+            }
+        }
+        if let Some(writer) = found {
+            self.chosen.set(writer, true);
+        }
+    }
+
     /// Returns whether a writer of the location in the process, from one place up to another, is chosen.
     fn has_chosen_writer(
         &self,
@@ -201,7 +246,7 @@ impl<'a> Core<'a> {
             if place > to {
                 break;
             }
-            place = self.forced.writers().next(log, process, location, place);
+            place = self.forced.next_writer(process, location, place);
             if place > to || place > log.length(process) {
                 break;
             }
@@ -217,7 +262,7 @@ impl<'a> Core<'a> {
     fn close_last(&mut self, location: u32, budget: &mut Budget) {
         let forced = self.forced;
         let log = forced.log();
-        let span = forced.sources().span(forced.final_reader(location));
+        let span = forced.span(forced.final_reader(location));
         budget.spend(span.saturating_add(self.count() as u64));
         if !has_all_sources(forced, forced.final_reader(location), &self.chosen) {
             return;
@@ -270,7 +315,7 @@ impl<'a> Core<'a> {
 
     /// Closes the other core, and returns whether it then has fewer operations and its part is refuted too.
     fn gives_way_to(&self, other: &mut Core<'a>, budget: &mut Budget) -> Result<bool, AllocError> {
-        other.close(budget)?;
+        other.complete(budget)?;
         if other.count() >= self.count() {
             return Ok(false);
         }

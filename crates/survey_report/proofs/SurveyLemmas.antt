@@ -16,7 +16,7 @@ use Rattle.schedule_text.specs.ScheduleText.{SpellsSchedule}
 use Rattle.schedule_text.specs.ScheduleWritten.{canonical_schedule}
 use Rattle.survey_verdict.specs.declared.surveyed.RefutedCore.{RefutedCore}
 use Rattle.survey_verdict.specs.declared.surveyed.Surveyed.{Surveyed}
-use Rattle.survey_verdict.specs.declared.surveyed.Surveyed.TheVariants.{Decided, Refuted, Undecided}
+use Rattle.survey_verdict.specs.declared.surveyed.Surveyed.TheVariants.{Decided, Reasoned, Refuted, Undecided}
 use Rattle.survey_verdict.specs.Surveyed.{IsCertificateFor, IsSurveyed, core_names, core_part, survey_certificate, survey_report}
 use Rattle.surveyor.specs.declared.Overview.{Overview}
 use Rattle.text_lines.specs.declared.plain_fault.PlainFault.{PlainFault}
@@ -29,7 +29,7 @@ use Rattle.trace_decision.specs.declared.decision.Decision.TheVariants.{Consiste
 use Rattle.trace_decision.specs.declared.refutation.Refutation.{Refutation}
 use Rattle.trace_decision.specs.Decision.{IsDecided, certificate_in, certificate_text}
 use Rattle.verdict_report.specs.declared.fault.Fault.{Fault}
-use Rattle.verdict_report.specs.declared.fault.Fault.TheVariants.{OutOfMemory, Device, InputTooLong, Trace, Schedule, Part, Model, Cnf, Lrat, Reduce, Decode, Check, Cert, Search}
+use Rattle.verdict_report.specs.declared.fault.Fault.TheVariants.{OutOfMemory, Device, InputTooLong, Trace, Schedule, Part, Model, Cnf, Lrat, Reduce, Decode, Check, Cert, Reasons, Search}
 use Rattle.verdict_report.specs.declared.status.Status.{Status}
 use Rattle.verdict_report.specs.declared.status.Status.TheVariants.{Yes, No, Unknown}
 use Rattle.verdict_report.specs.Engine.{HandOut, IsRunOfWriting, Reads, TakeNothing, TakesNothing, TakesWhole, of_one}
@@ -89,6 +89,7 @@ module _ (trace : SourceRun) (cert names part out : SinkRun) (text : List ℕ) (
     report_written told shown (Err (Decode cause clause)) w = absurd w
     report_written told shown (Err (Check cause step)) w = absurd w
     report_written told shown (Err (Cert cause place)) w = absurd w
+    report_written told shown (Err (Reasons cause line)) w = absurd w
     report_written told shown (Err (Search fault)) w = absurd w
 
 -- what follows from the status
@@ -110,6 +111,7 @@ module _ (trace : SourceRun) (text : List ℕ) (handed : HandOut (trace ∷ []) 
   tells (Decided (Inconsistent refutation)) given whole is = absurd (let wrong : Yes ≡ No = is in cc)
   tells (Decided (NotDecided cubes)) given whole is = absurd (let wrong : Yes ≡ Unknown = is in cc)
   tells (Refuted core) given whole is = absurd (let wrong : Yes ≡ No = is in cc)
+  tells (Reasoned reasons) given whole is = absurd (let wrong : Yes ≡ No = is in cc)
   tells (Undecided extent) given whole is = absurd (let wrong : Yes ≡ Unknown = is in cc)
 
   tells_extent : (surveyed : Surveyed) → IsSurveyedFrom options text surveyed → out.now ≡ out.before ++ survey_report surveyed → Unknown ≡ status_of_survey surveyed → TellsExtent options trace out
@@ -117,6 +119,7 @@ module _ (trace : SourceRun) (text : List ℕ) (handed : HandOut (trace ∷ []) 
   tells_extent (Decided (Inconsistent refutation)) given whole is = absurd (let wrong : Unknown ≡ No = is in cc)
   tells_extent (Decided (NotDecided cubes)) given whole is = absurd given.decided
   tells_extent (Refuted core) given whole is = absurd (let wrong : Unknown ≡ No = is in cc)
+  tells_extent (Reasoned reasons) given whole is = absurd (let wrong : Unknown ≡ No = is in cc)
   tells_extent (Undecided extent) given whole is = record {
     text = text;
     handed = handed.0.0;
@@ -141,6 +144,14 @@ module _ (trace : SourceRun) (text : List ℕ) (handed : HandOut (trace ∷ []) 
   }
   has_none (Decided (NotDecided cubes)) given is = absurd (let wrong : No ≡ Unknown = is in cc)
   has_none (Refuted core) given is = record {
+    text = text;
+    handed = handed.0.0;
+    value = given.value;
+    is_trace = given.is_trace;
+    spelled = given.spelled;
+    no_schedule = given.decided.none_legal;
+  }
+  has_none (Reasoned reasons) given is = record {
     text = text;
     handed = handed.0.0;
     value = given.value;
@@ -177,7 +188,7 @@ answered IsFound trace text handed options out surveyed follows result w status 
     record { text = text; handed = handed.0.0; surveyed = surveyed; follows = follows; whole = at.1.0; status_is = at.0 }
 
 -- what the laws say of the texts of an INCONSISTENT
-module _ (trace : SourceRun) (cert names part : SinkRun) (text : List ℕ) (handed : HandOut (trace ∷ []) (text ∷ [])) (options : OptionsValue)
+module _ (trace : SourceRun) (cert names part out : SinkRun) (text : List ℕ) (handed : HandOut (trace ∷ []) (text ∷ [])) (options : OptionsValue)
     (spells : (options : OptionsValue) (value : TraceValue) (refutation : Refutation) → IsDecided options value (Inconsistent refutation) → SpellsCertificate (certificate_text (Inconsistent refutation)) (certificate_in refutation))
     (accepted : (options : OptionsValue) (value : TraceValue) (refutation : Refutation) → IsDecided options value (Inconsistent refutation) → IsRechecked (clauses_of (kept_trace value)) (certificate_in refutation) (leaves refutation.tree))
     (certified_core : (options : OptionsValue) (t : TraceValue) (core : RefutedCore) → IsSurveyed options t (Refuted core) → IsCertificateFor core.part.trace (survey_certificate (Refuted core)))
@@ -185,10 +196,10 @@ module _ (trace : SourceRun) (cert names part : SinkRun) (text : List ℕ) (hand
     (names_spell : (options : OptionsValue) (t : TraceValue) (core : RefutedCore) → IsTrace t → IsSurveyed options t (Refuted core) → SpellsSchedule (core_names (Refuted core)) core.names)
     (part_is_trace : (options : OptionsValue) (t : TraceValue) (core : RefutedCore) → IsTrace t → IsSurveyed options t (Refuted core) → IsTrace core.part.trace) where
   certifies : (surveyed : Surveyed) → IsSurveyedFrom options text surveyed → cert.now ≡ cert.before ++ survey_certificate surveyed → names.now ≡ names.before ++ core_names surveyed → part.now ≡ part.before ++ core_part surveyed →
-      No ≡ status_of_survey surveyed → CertifiesSurvey options trace cert names part
-  certifies (Decided (Consistent schedule)) given whole told shown is = absurd (let wrong : No ≡ Yes = is in cc)
-  certifies (Decided (Inconsistent refutation)) given whole told shown is = inr (
-    record {
+      out.now ≡ out.before ++ survey_report surveyed → No ≡ status_of_survey surveyed → CertifiesSurvey options trace cert names part out
+  certifies (Decided (Consistent schedule)) given whole told shown reported is = absurd (let wrong : No ≡ Yes = is in cc)
+  certifies (Decided (Inconsistent refutation)) given whole told shown reported is = inr (
+    inl (record {
       text = text;
       handed = handed.0.0;
       value = given.value;
@@ -205,12 +216,12 @@ module _ (trace : SourceRun) (cert names part : SinkRun) (text : List ℕ) (hand
       none_legal = given.decided.0.1;
       few_left = given.decided.2;
       unrefuted = given.decided.1;
-    },
+    }),
     told ∙ append-nil names.before,
     shown ∙ append-nil part.before,
   )
-  certifies (Decided (NotDecided cubes)) given whole told shown is = absurd (let wrong : No ≡ Unknown = is in cc)
-  certifies (Refuted core) given whole told shown is = inl (record {
+  certifies (Decided (NotDecided cubes)) given whole told shown reported is = absurd (let wrong : No ≡ Unknown = is in cc)
+  certifies (Refuted core) given whole told shown reported is = inl (record {
     text = text;
     handed = handed.0.0;
     value = given.value;
@@ -231,14 +242,30 @@ module _ (trace : SourceRun) (cert names part : SinkRun) (text : List ℕ) (hand
     certified = certified_core options given.value core given.decided;
     none_legal = given.decided.none_legal;
   })
-  certifies (Undecided extent) given whole told shown is = absurd (let wrong : No ≡ Unknown = is in cc)
+  certifies (Reasoned reasons) given whole told shown reported is = inr (
+    inr (record {
+      text = text;
+      handed = handed.0.0;
+      value = given.value;
+      is_trace = given.is_trace;
+      spelled = given.spelled;
+      reasons = reasons;
+      reasoned = given.decided;
+      none_legal = given.decided.none_legal;
+      whole = whole;
+      told = reported;
+    }),
+    told ∙ append-nil names.before,
+    shown ∙ append-nil part.before,
+  )
+  certifies (Undecided extent) given whole told shown reported is = absurd (let wrong : No ≡ Unknown = is in cc)
 
   -- the answer is the one for what is decided
   pub certified : (surveyed : Surveyed) → IsSurveyedFrom options text surveyed → cert.now ≡ cert.before ++ survey_certificate surveyed → names.now ≡ names.before ++ core_names surveyed → part.now ≡ part.before ++ core_part surveyed →
-      (out : SinkRun) (result : Result Status Fault) → IsRunOfWriting (survey_report surveyed) (status_of_survey surveyed) out result → result ≡ Ok No → CertifiesSurvey options trace cert names part
-  certified surveyed given whole told shown out result w so =
+      (result : Result Status Fault) → IsRunOfWriting (survey_report surveyed) (status_of_survey surveyed) out result → result ≡ Ok No → CertifiesSurvey options trace cert names part out
+  certified surveyed given whole told shown result w so =
       let at : IsRunOfWriting (survey_report surveyed) (status_of_survey surveyed) out (Ok No) = subst (λ (r : Result Status Fault). IsRunOfWriting (survey_report surveyed) (status_of_survey surveyed) out r) so w in
-      certifies surveyed given whole told shown at.0
+      certifies surveyed given whole told shown at.1.0 at.0
 
 -- a sink that takes no text takes nothing
 nothing_taken : (sink : SinkRun) → TakesWhole sink [] → TakesNothing sink
@@ -251,6 +278,7 @@ module _ (cert names part : SinkRun) where
   takes_nothing (Decided (Inconsistent refutation)) other whole told shown = absurd (other refl)
   takes_nothing (Decided (NotDecided cubes)) other whole told shown = (nothing_taken cert whole, (nothing_taken names told, (nothing_taken part shown, tt)))
   takes_nothing (Refuted core) other whole told shown = absurd (other refl)
+  takes_nothing (Reasoned reasons) other whole told shown = absurd (other refl)
   takes_nothing (Undecided extent) other whole told shown = (nothing_taken cert whole, (nothing_taken names told, (nothing_taken part shown, tt)))
 
   pub silent : (surveyed : Surveyed) → TakesWhole cert (survey_certificate surveyed) → TakesWhole names (core_names surveyed) → TakesWhole part (core_part surveyed) → (out : SinkRun) (result : Result Status Fault) →

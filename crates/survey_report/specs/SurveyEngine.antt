@@ -6,9 +6,10 @@ use Rattle.reducer.specs.Reduction.{kept_trace}
 use Rattle.schedule_text.specs.ScheduleText.{SpellsSchedule}
 use Rattle.schedule_text.specs.ScheduleWritten.{canonical_schedule}
 use Rattle.survey_verdict.specs.Findings.{FollowsFromSome}
+use Rattle.survey_verdict.specs.declared.surveyed.ReasonCertificate.{ReasonCertificate}
 use Rattle.survey_verdict.specs.declared.surveyed.Surveyed.{Surveyed}
-use Rattle.survey_verdict.specs.declared.surveyed.Surveyed.TheVariants.{Decided, Refuted, Undecided}
-use Rattle.survey_verdict.specs.Surveyed.{IsCertificateFor, IsLeftOpen, IsSurveyed, IsUnrefutedChoice, core_names, core_of, core_part, extent_line, survey_certificate, survey_report}
+use Rattle.survey_verdict.specs.declared.surveyed.Surveyed.TheVariants.{Decided, Reasoned, Refuted, Undecided}
+use Rattle.survey_verdict.specs.Surveyed.{IsCertificateFor, IsLeftOpen, IsReasoned, IsSurveyed, IsUnrefutedChoice, core_names, core_of, core_part, extent_line, reasons_report, survey_certificate, survey_report}
 use Rattle.surveyor.specs.declared.Extent.{Extent}
 use Rattle.surveyor.specs.declared.Overview.{Overview}
 use Rattle.trace_part.specs.TraceParts.{PartValue, IsPart}
@@ -59,6 +60,7 @@ IsSaidOfSurvey text (Err fault) = ⊥
 abbrev pub status_of_survey : Surveyed → Status
 status_of_survey (Decided decision) = status_of_decision decision
 status_of_survey (Refuted core) = No
+status_of_survey (Reasoned reasons) = No
 status_of_survey (Undecided extent) = Unknown
 
 -- the texts that are written: the report alone
@@ -93,8 +95,8 @@ pub record TellsExtent (options : OptionsValue) (trace : SourceRun) (out : SinkR
   pub left_open : IsLeftOpen options value
 
 -- The source handed out the text of a trace, and the sink took the report of what is decided of it. That follows from something that a
--- surveyor may find in the trace: a legal schedule, or a core of which the part is refuted, if it is one of these, and else what a search of
--- the whole trace decides. The status is the one for it.
+-- surveyor may find in the trace: a legal schedule, a core of which the part is refuted, or a certificate of reasons that is accepted, if it is
+-- one of these, and else what a search of the whole trace decides. The status is the one for it.
 pub record AnswersSurvey (options : OptionsValue) (IsFound : TraceValue → Overview → Type 0) (trace : SourceRun) (out : SinkRun) (status : Status) : Type 0 where
   pub text : List ℕ
   pub handed : HandsOut trace text
@@ -143,7 +145,23 @@ pub record CertifiesWhole (options : OptionsValue) (trace : SourceRun) (cert : S
   pub few_left : operation_count (kept_trace value) ≤ 160
   pub unrefuted : IsUnrefutedChoice options value (operation_names value)
 
--- the certificate is that of a core's part, whose names and text were taken, or that of the whole trace, and no name and no part was taken
-abbrev pub CertifiesSurvey : OptionsValue → SourceRun → SinkRun → SinkRun → SinkRun → Type 0
-CertifiesSurvey options trace cert names part =
-    CertifiesCore trace cert names part ⊎ (CertifiesWhole options trace cert × (names.now ≡ names.before) × (part.now ≡ part.before))
+-- The source handed out the text of a trace that has no legal schedule. One sink took the text of a certificate of reasons, and another the
+-- report on it, which no other answer has. That the certificate was accepted for the trace is no part of this: which texts are accepted is
+-- not defined here.
+pub record CertifiesReasons (trace : SourceRun) (cert out : SinkRun) : Type 0 where
+  pub text : List ℕ
+  pub handed : HandsOut trace text
+  pub value : TraceValue
+  pub is_trace : IsTrace value
+  pub spelled : SpellsTrace text value
+  pub reasons : ReasonCertificate
+  pub reasoned : IsReasoned value reasons
+  pub none_legal : HasNoSchedule value
+  pub whole : cert.now ≡ cert.before ++ reasons.text.items
+  pub told : out.now ≡ out.before ++ reasons_report reasons
+
+-- the certificate is that of a core's part, whose names and text were taken; or that of the whole trace or one of reasons, and no name and no
+-- part was taken
+abbrev pub CertifiesSurvey : OptionsValue → SourceRun → SinkRun → SinkRun → SinkRun → SinkRun → Type 0
+CertifiesSurvey options trace cert names part out =
+    CertifiesCore trace cert names part ⊎ ((CertifiesWhole options trace cert ⊎ CertifiesReasons trace cert out) × (names.now ≡ names.before) × (part.now ≡ part.before))

@@ -34,8 +34,9 @@ use verdict_report::{Fault, Source, Status};
 
 /// Decides whether the trace that the source hands out, of whatever length a trace may have, has a legal schedule, and writes the report:
 /// CONSISTENT and a legal schedule of the whole trace, which was judged or is one by the search of the whole; INCONSISTENT and the names
-/// of a core, the part of which the search refutes, or INCONSISTENT alone if the search refutes the whole and no part; or UNKNOWN and how
-/// far the survey came, if neither was shown. Nothing that the surveyor finds is taken on trust. If at most 160 operations are left of the
+/// of a core, the part of which the search refutes; INCONSISTENT and the operations that the lines of an accepted certificate of reasons
+/// name, if they are few; INCONSISTENT alone if the search refutes the whole and no part; or UNKNOWN and how far the survey came, if neither
+/// was shown. Nothing that the surveyor finds is taken on trust. If at most 160 operations are left of the
 /// whole trace, the search of the whole has the last word, so UNKNOWN is said of such a trace only if a search with these options can leave
 /// cubes open.
 ///
@@ -77,7 +78,8 @@ pub fn run_survey<R: Threads + Wait + Sync, T: Source, S: Surveyor, G: Gate + Sy
 /// Does what [`run_survey`] does, and before the report writes three texts of an INCONSISTENT, each to a sink of its own: the certificate,
 /// the names of the core, and its part, as a trace's text with the names of its operations in the whole. The certificate is accepted for
 /// this part. If the search refutes the whole trace and not the part of all its operations, there are no names and no part, and the
-/// certificate is that of the whole. With another report these sinks take nothing.
+/// certificate is that of the whole. If a certificate of reasons is accepted, it is the certificate, and there are no names and no part. With
+/// another report these sinks take nothing.
 ///
 /// If memory runs out or a sink fails while something is written, a prefix of the four texts may have been written: the certificate,
 /// the names, the part, and the report. Before the other refusals, which are those of `run_survey`, nothing was.
@@ -116,7 +118,8 @@ pub fn run_certified_survey<
         (source_run T.handed_out T.is_at_end T.failures trace.old trace.new)
         (sink_run C.written C.failures cert.old cert.new)
         (sink_run N.written N.failures names.old names.new)
-        (sink_run P.written P.failures part.old part.new) }
+        (sink_run P.written P.failures part.old part.new)
+        (sink_run W.written W.failures out.old out.new) }
     ensures unknown { result ≡ Ok Unknown → TellsExtent options.now
         (source_run T.handed_out T.is_at_end T.failures trace.old trace.new)
         (sink_run W.written W.failures out.old out.new) }
@@ -174,6 +177,7 @@ fn status_of(surveyed: &Surveyed) -> Status
         Surveyed::Decided(Decision::Inconsistent(_)) => Status::No,
         Surveyed::Decided(Decision::Unknown(_)) => Status::Unknown,
         Surveyed::Refuted(_) => Status::No,
+        Surveyed::Reasoned(_) => Status::No,
         Surveyed::Undecided(_) => Status::Unknown,
     }
 }

@@ -1,16 +1,16 @@
 -- What follows from what a surveyor finds.
-use Rattle.std.specs.Prelude.{◌≡◌, ◌⊎◌, ⊤, min, List, Option, Some, None}
+use Rattle.std.specs.Prelude.{◌≡◌, ◌⊎◌, ⊤, ℕ, min, List, Option, Some, None}
 use Rattle.cube_jobs.specs.Options.{OptionsValue}
 use Rattle.surveyor.specs.declared.Extent.{Extent}
 use Rattle.surveyor.specs.declared.Finding.{Finding}
-use Rattle.surveyor.specs.declared.Finding.TheVariants.{Core, Nothing, Schedule}
+use Rattle.surveyor.specs.declared.Finding.TheVariants.{Core, Nothing, Reasons, Schedule}
 use Rattle.surveyor.specs.declared.Overview.{Overview}
 use Rattle.survey_verdict.specs.declared.surveyed.Surveyed.{Surveyed}
-use Rattle.survey_verdict.specs.declared.surveyed.Surveyed.TheVariants.{Decided, Refuted, Undecided}
+use Rattle.survey_verdict.specs.declared.surveyed.Surveyed.TheVariants.{Decided, Reasoned, Refuted, Undecided}
 use Rattle.survey_verdict.specs.Surveyed.{IsSurveyed, IsUnrefutedChoice, core_of}
 use Rattle.trace_decision.specs.declared.decision.Decision.TheVariants.{Consistent}
 use Rattle.trace_semantics.specs.declared.operation.OpName.{OpName}
-use Rattle.trace_semantics.specs.Legal.{IsLegal}
+use Rattle.trace_semantics.specs.Legal.{HasNoSchedule, IsLegal}
 use Rattle.trace_semantics.specs.Trace.{TraceValue, operation_count, operation_names}
 
 -- these names, if they are a legal schedule of the trace
@@ -18,23 +18,38 @@ abbrev pub IsJudged : TraceValue → List OpName → Option (List OpName) → Ty
 IsJudged t names (Some schedule) = (schedule ≡ names) × IsLegal t schedule
 IsJudged t names None = IsLegal t names → ⊥
 
+-- if a certificate of reasons is accepted, with some number of clauses, the trace has no legal schedule
+abbrev pub IsAcceptedSome : TraceValue → Option ℕ → Type 0
+IsAcceptedSome t (Some clauses) = HasNoSchedule t
+IsAcceptedSome t None = ⊤
+
 -- what is decided is this core
 abbrev pub HasCore : List OpName → Surveyed → Type 0
 HasCore names (Decided decision) = ⊥
 HasCore names (Refuted core) = core.names ≡ names
+HasCore names (Reasoned reasons) = ⊥
 HasCore names (Undecided extent) = ⊥
 
--- what is decided is what was found: the schedule, or the core, in the order of the trace
+-- what is decided is the certificate of reasons with this text
+abbrev pub HasReasons : List ℕ → Surveyed → Type 0
+HasReasons text (Decided decision) = ⊥
+HasReasons text (Refuted core) = ⊥
+HasReasons text (Reasoned reasons) = reasons.text.items ≡ text
+HasReasons text (Undecided extent) = ⊥
+
+-- what is decided is what was found: the schedule, or the core, in the order of the trace, or the certificate of reasons
 abbrev pub IsAsFound : TraceValue → Finding → Surveyed → Type 0
 IsAsFound t (Schedule names) surveyed = surveyed ≡ Decided (Consistent names.items)
 IsAsFound t (Core names) surveyed = HasCore (core_of t names.items) surveyed
+IsAsFound t (Reasons text) surveyed = HasReasons text.items surveyed
 IsAsFound t Nothing surveyed = ⊥
 
--- what was found shows nothing: the schedule is not legal, or a search with these options need not refute the part of the core, which is true
--- of each core
+-- What was found shows nothing: the schedule is not legal, or a search with these options need not refute the part of the core, which is true
+-- of each core. Of a certificate of reasons nothing is said here: that each one that should be accepted is used is tested.
 abbrev pub ShowsNothing : OptionsValue → TraceValue → Finding → Type 0
 ShowsNothing options t (Schedule names) = IsLegal t names.items → ⊥
 ShowsNothing options t (Core names) = IsUnrefutedChoice options t (core_of t names.items)
+ShowsNothing options t (Reasons text) = ⊤
 ShowsNothing options t Nothing = ⊤
 
 -- what is decided by what was found, or that it shows nothing
@@ -47,6 +62,7 @@ IsShownBy options t finding None = ShowsNothing options t finding
 abbrev pub IsOfWhole : TraceValue → Extent → Surveyed → Type 0
 IsOfWhole t extent (Decided decision) = ⊤
 IsOfWhole t extent (Refuted core) = core.names ≡ operation_names t
+IsOfWhole t extent (Reasoned reasons) = ⊥
 IsOfWhole t extent (Undecided told) = told ≡ extent
 
 -- what is decided of the whole trace is so

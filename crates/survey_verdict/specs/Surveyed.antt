@@ -23,9 +23,10 @@ use Rattle.trace_decision.specs.declared.decision.Decision.{Decision}
 use Rattle.trace_decision.specs.declared.decision.Decision.TheVariants.{Consistent, Inconsistent, Unknown}
 use Rattle.trace_decision.specs.declared.refutation.Refutation.{Refutation}
 use Rattle.trace_decision.specs.Decision.{IsDecided, certificate_in, certificate_text, report}
+use Rattle.survey_verdict.specs.declared.surveyed.ReasonCertificate.{ReasonCertificate}
 use Rattle.survey_verdict.specs.declared.surveyed.RefutedCore.{RefutedCore}
 use Rattle.survey_verdict.specs.declared.surveyed.Surveyed.{Surveyed}
-use Rattle.survey_verdict.specs.declared.surveyed.Surveyed.TheVariants.{Decided, Refuted, Undecided}
+use Rattle.survey_verdict.specs.declared.surveyed.Surveyed.TheVariants.{Decided, Reasoned, Refuted, Undecided}
 
 -- more operations are left of the trace than a search takes
 abbrev pub IsTooLong : TraceValue → Type 0
@@ -63,7 +64,7 @@ abbrev pub core_of : TraceValue → List OpName → List OpName
 core_of t found = filter (has_come found) (operation_names t)
 
 -- The names of the core are those of operations of the trace, in the trace's order. The part is the one that they make up, no more than 160
--- operations are left of it, and a search with these options shows that it has no legal schedule. So the trace has none.
+-- operations are left of it, and the refutation shows that it has no legal schedule. So the trace has none.
 pub record IsRefutedCore (options : OptionsValue) (t : TraceValue) (core : RefutedCore) : Type 0 where
   pub in_order : core.names ≡ core_of t core.names
   pub is_part : IsPart t core.names core.part
@@ -80,20 +81,29 @@ abbrev pub IsRefutedChoice : OptionsValue → TraceValue → List OpName → Opt
 IsRefutedChoice options t names (Some core) = (core.names ≡ names) × IsRefutedCore options t core
 IsRefutedChoice options t names None = IsUnrefutedChoice options t names
 
+-- A certificate of reasons that was accepted for the trace, so that the trace has no legal schedule. The names are those of operations of the
+-- trace, in the trace's order, as many as are said to be named, or none. Which texts are accepted is not defined here.
+pub record IsReasoned (t : TraceValue) (reasons : ReasonCertificate) : Type 0 where
+  pub in_order : reasons.names ≡ core_of t reasons.names
+  pub counted : (reasons.names ≡ []) ⊎ (reasons.operations ≡ length reasons.names)
+  pub none_legal : HasNoSchedule t
+
 -- a search of the whole trace need not decide it: too many operations are left, or a search with these options can leave cubes open; this is
 -- true of each trace too
 abbrev pub IsLeftOpen : OptionsValue → TraceValue → Type 0
 IsLeftOpen options t = IsTooLong t ⊎ ((cubes : List (List ℤ)) × IsDecided options t (Unknown cubes))
 
--- What is decided is so: it is a legal schedule of the whole trace; or the part of the core is refuted by a search with these options, and the
--- trace has no legal schedule; or such a search refutes the whole trace, of which no more than 160 operations are left, and need not refute the
--- part of all its operations; or nothing is said, a search of the whole trace need not say more, and no more operations are said to be placed
+-- What is decided is so: it is a legal schedule of the whole trace; or the part of the core is refuted, and the trace has no legal schedule; or
+-- a certificate of reasons was accepted for the trace, and it has none; or the whole trace is refuted, of which no more than 160 operations are
+-- left, and a search with these options need not refute the part of all its operations; or nothing is said, a search of the whole trace need not
+-- say more, and no more operations are said to be placed
 -- than it has.
 abbrev pub IsSurveyed : OptionsValue → TraceValue → Surveyed → Type 0
 IsSurveyed options t (Decided (Consistent schedule)) = IsLegal t schedule
 IsSurveyed options t (Decided (Inconsistent refutation)) = IsDecided options t (Inconsistent refutation) × IsUnrefutedChoice options t (operation_names t) × (operation_count (kept_trace t) ≤ 160)
 IsSurveyed options t (Decided (Unknown cubes)) = ⊥
 IsSurveyed options t (Refuted core) = IsRefutedCore options t core
+IsSurveyed options t (Reasoned reasons) = IsReasoned t reasons
 IsSurveyed options t (Undecided extent) = IsLeftOpen options t × (extent.placed ≤ operation_count t)
 
 -- the line of a core of this many operations, of which a tree of this many cubes is refuted
@@ -104,6 +114,14 @@ core_line operations cubes = codes "INCONSISTENT operations=" ++ (decimal operat
 abbrev pub core_report : RefutedCore → List ℕ
 core_report core = core_line (length core.names) (leaves core.refutation.tree) ++ canonical_schedule core.names
 
+-- the line of a certificate of reasons that names this many operations, and of which the lines make this many clauses
+abbrev pub reasons_line : ℕ → ℕ → List ℕ
+reasons_line operations clauses = codes "INCONSISTENT operations=" ++ (decimal operations ++ (codes " reasons=" ++ (decimal clauses ++ codes "\n")))
+
+-- the report of a certificate of reasons: its line, and the names of the operations, one a line
+abbrev pub reasons_report : ReasonCertificate → List ℕ
+reasons_report reasons = reasons_line reasons.operations reasons.clauses ++ canonical_schedule reasons.names
+
 -- the line that says how far a survey came that shows nothing
 abbrev pub extent_line : Extent → List ℕ
 extent_line extent = codes "UNKNOWN placed=" ++ (decimal extent.placed ++ (codes " undecided=" ++ (decimal extent.undecided ++ codes "\n")))
@@ -112,24 +130,28 @@ extent_line extent = codes "UNKNOWN placed=" ++ (decimal extent.placed ++ (codes
 abbrev pub survey_report : Surveyed → List ℕ
 survey_report (Decided decision) = report decision
 survey_report (Refuted core) = core_report core
+survey_report (Reasoned reasons) = reasons_report reasons
 survey_report (Undecided extent) = extent_line extent
 
--- the certificate: that of the whole trace, or of the core's part; and else nothing
+-- the certificate: that of the whole trace, or of the core's part, or the one of reasons; and else nothing
 abbrev pub survey_certificate : Surveyed → List ℕ
 survey_certificate (Decided decision) = certificate_text decision
 survey_certificate (Refuted core) = canonical_certificate (certificate_in core.refutation)
+survey_certificate (Reasoned reasons) = reasons.text.items
 survey_certificate (Undecided extent) = []
 
 -- the names of the core, one a line, and else nothing
 abbrev pub core_names : Surveyed → List ℕ
 core_names (Decided decision) = []
 core_names (Refuted core) = canonical_schedule core.names
+core_names (Reasoned reasons) = []
 core_names (Undecided extent) = []
 
 -- the part that the core makes up, as a trace's text with the names of its operations in the whole, and else nothing
 abbrev pub core_part : Surveyed → List ℕ
 core_part (Decided decision) = []
 core_part (Refuted core) = part_text true core.part
+core_part (Reasoned reasons) = []
 core_part (Undecided extent) = []
 
 -- the text spells a certificate, which is accepted for the clauses of what is kept of the trace

@@ -1,20 +1,24 @@
 //! From what a survey finds to what is decided.
-ghost use Rattle.std.specs.Prelude.{◌≡◌, ◌≤◌, IfOk};
+ghost use Rattle.std.specs.Prelude.{◌≡◌, ◌⊎◌, ◌≤◌, [], IfOk, length};
 ghost use Rattle.cube_jobs.specs.Options.{OptionsValue};
 ghost use Rattle.reducer.specs.Reduction.{kept_trace};
-ghost use Rattle.survey_verdict.specs.Findings.{FollowsFrom, FollowsFromSome, IsDecidedWhole, IsJudged, IsShownBy};
-ghost use Rattle.survey_verdict.specs.Surveyed.{IsDecidedIfShort, IsReducedIfSmall, IsRefutedChoice, IsRefutedIfShort, IsSurveyed, core_of, refutation_in};
+ghost use Rattle.survey_verdict.specs.Findings.{FollowsFrom, FollowsFromSome, IsAcceptedSome, IsDecidedWhole, IsJudged, IsShownBy};
+ghost use Rattle.survey_verdict.specs.Surveyed.{IsDecidedIfShort, IsReducedIfSmall, IsRefutedChoice, IsReasoned, IsRefutedIfShort, IsSurveyed, core_of, refutation_in};
 ghost use Rattle.surveyor.specs.declared.Extent.{Extent as Reached};
-ghost use Rattle.surveyor.specs.declared.Finding.TheVariants.{Core as CoreFound, Schedule as ScheduleFound};
+ghost use Rattle.surveyor.specs.declared.Finding.TheVariants.{Core as CoreFound, Reasons as ReasonsFound, Schedule as ScheduleFound};
 ghost use Rattle.trace_decision.specs.Decision.{IsDecided};
 ghost use Rattle.trace_decision.specs.declared.decision.Decision.TheVariants.{Inconsistent};
 ghost use Rattle.trace_part.specs.TraceParts.{IsPart};
+ghost use Rattle.trace_semantics.specs.Legal.{HasNoSchedule};
 ghost use Rattle.trace_semantics.specs.Trace.{operation_count};
 
 use crate::core_names::{all_names, names_among};
-use crate::extent::within_trace;
-use crate::surveyed::{RefutedCore, Surveyed};
-use cube_jobs::{Gate, Options, SearchFault};
+use crate::extent::{count_operations, within_trace};
+use crate::named_operations::named_operations;
+use crate::surveyed::{ReasonCertificate, RefutedCore, Surveyed};
+use cube_jobs::{Gate, Options, SearchFault, Stage};
+use reason_check::reasons_check::check_reasons;
+use reason_check::reasons_fault::ReasonsFault;
 use reducer::reduced::{Reduced, reduce};
 use schedule_judge::judge::judge;
 use std::alloc::{AllocError, Global};
@@ -56,11 +60,29 @@ fn reduced_if_small(alloc: Global, trace: &Trace) -> Result<Option<Reduced>, All
     }
 }
 
-/// Gives what the search decides of the trace, if few enough operations are left of it.
+/// Decides whether the whole trace has a legal schedule, between the two calls of the gate for this stage.
+fn decide_in_stage<R: Threads + Wait + Sync, G: Gate + Sync>(
+    alloc: Global,
+    rt: &R,
+    reduced: &Reduced,
+    stage: Stage,
+    options: &Options,
+    gate: &G,
+) -> Result<Decision, SearchFault>
+    ensures { IfOk result (λ decision. IsDecided options.now reduced.now.whole decision) }
+{
+    gate.begin(stage);
+    let decided = decide(alloc, rt, reduced, options, gate);
+    gate.end(stage);
+    decided
+}
+
+/// Gives what the search of this stage decides of the trace, if few enough operations are left of it.
 fn decided_if_short<R: Threads + Wait + Sync, G: Gate + Sync>(
     alloc: Global,
     rt: &R,
     trace: &Trace,
+    stage: Stage,
     options: &Options,
     gate: &G,
 ) -> Result<Option<Decision>, SearchFault>
@@ -69,7 +91,7 @@ fn decided_if_short<R: Threads + Wait + Sync, G: Gate + Sync>(
     let small = reduced_if_small(alloc, trace)?;
     match small {
         Some(reduced) => {
-            let decision = decide(alloc, rt, &reduced, options, gate)?;
+            let decision = decide_in_stage(alloc, rt, &reduced, stage, options, gate)?;
             Ok(Some(decision))
         }
         None => Ok(None),
@@ -87,7 +109,7 @@ fn refutation_of(decision: Decision) -> Option<Refutation>
     }
 }
 
-/// Gives what shows that the trace has no legal schedule, if few enough operations are left of it and the search refutes it.
+/// Gives what shows that the trace of a core has no legal schedule, if few enough operations are left of it and the search refutes it.
 fn refuted<R: Threads + Wait + Sync, G: Gate + Sync>(
     alloc: Global,
     rt: &R,
@@ -97,7 +119,8 @@ fn refuted<R: Threads + Wait + Sync, G: Gate + Sync>(
 ) -> Result<Option<Refutation>, SearchFault>
     ensures { IfOk result (IsRefutedIfShort options.now trace.now) }
 {
-    let decided = decided_if_short(alloc, rt, trace, options, gate)?;
+    let stage = Stage::Core(count_operations(trace));
+    let decided = decided_if_short(alloc, rt, trace, stage, options, gate)?;
     match decided {
         Some(decision) => Ok(refutation_of(decision)),
         None => Ok(None),
@@ -201,7 +224,8 @@ fn decided_whole<R: Threads + Wait + Sync, G: Gate + Sync>(
     requires { extent.placed ≤ operation_count trace.now }
     ensures { IfOk result (IsDecidedWhole options.now trace.now extent) }
 {
-    let decided = decided_if_short(alloc, rt, trace, options, gate)?;
+    let stage = Stage::Whole(count_operations(trace));
+    let decided = decided_if_short(alloc, rt, trace, stage, options, gate)?;
     match decided {
         Some(decision) => said_of_whole(alloc, rt, trace, decision, extent, options, gate),
         None => Ok(Surveyed::Undecided(extent)),
@@ -241,6 +265,64 @@ fn shown_by_core<R: Threads + Wait + Sync, G: Gate + Sync>(
     }
 }
 
+/// The number of clauses of the certificate of reasons, if it is accepted for the trace.
+fn accepted_clauses(alloc: Global, trace: &Trace, text: &[u8]) -> Result<Option<usize>, AllocError>
+    ensures { IfOk result (IsAcceptedSome trace.now) }
+{
+    match check_reasons(alloc, trace, text) {
+        Ok(accepted) => Ok(Some(accepted.clauses)),
+        Err(ReasonsFault::OutOfMemory) => Err(AllocError),
+        Err(_refusal) => Ok(None),
+    }
+}
+
+/// The number of operations that are named: as many as there are names, or this many if there are none.
+fn count_named(names: &[OpName], many: usize) -> usize
+    ensures { (names.now ≡ []) ⊎ (result ≡ length names.now) }
+{
+    if names.is_empty() { many } else { names.len() }
+}
+
+/// The certificate of reasons, which was accepted for the trace, with the operations that its lines name.
+fn with_names(
+    alloc: Global,
+    trace: &Trace,
+    text: Vec<u8>,
+    clauses: usize,
+) -> Result<ReasonCertificate, AllocError>
+    requires { HasNoSchedule trace.now }
+    ensures reasoned { IfOk result (IsReasoned trace.now) }
+    ensures same { IfOk result (λ reasons. reasons.text ≡ text) }
+{
+    let named = named_operations(alloc, trace, text.as_slice())?;
+    let names = names_among(alloc, trace, named.few.as_slice())?;
+    let operations = count_named(names.as_slice(), named.count);
+    Ok(ReasonCertificate {
+        text,
+        clauses,
+        operations,
+        names: Schedule::new(names),
+    })
+}
+
+/// Gives what the certificate of reasons shows, if it is accepted.
+fn shown_by_reasons(
+    alloc: Global,
+    trace: &Trace,
+    text: Vec<u8>,
+) -> Result<Option<Surveyed>, AllocError>
+    ensures { (options : OptionsValue) → IfOk result (IsShownBy options trace.now (ReasonsFound text)) }
+{
+    let accepted = accepted_clauses(alloc, trace, text.as_slice())?;
+    match accepted {
+        Some(clauses) => {
+            let reasons = with_names(alloc, trace, text, clauses)?;
+            Ok(Some(Surveyed::Reasoned(reasons)))
+        }
+        None => Ok(None),
+    }
+}
+
 /// Gives what follows from what was found, if it is as it should be.
 fn shown<R: Threads + Wait + Sync, G: Gate + Sync>(
     alloc: Global,
@@ -258,6 +340,10 @@ fn shown<R: Threads + Wait + Sync, G: Gate + Sync>(
             Ok(shown)
         }
         Finding::Core(names) => shown_by_core(alloc, rt, trace, names, options, gate),
+        Finding::Reasons(text) => {
+            let shown = shown_by_reasons(alloc, trace, text)?;
+            Ok(shown)
+        }
         Finding::Nothing => Ok(None),
     }
 }
@@ -285,10 +371,26 @@ fn decide_by_overview<R: Threads + Wait + Sync, G: Gate + Sync>(
     }
 }
 
+/// Gives what the surveyor finds in the trace, between the two calls of the gate for the survey.
+fn overview_of<S: Surveyor, G: Gate>(
+    alloc: Global,
+    trace: &Trace,
+    surveyor: &S,
+    gate: &G,
+) -> Result<Overview, AllocError>
+    ensures { IfOk result (S.finds surveyor.now trace.now) }
+{
+    let stage = Stage::Survey(count_operations(trace));
+    gate.begin(stage);
+    let found = surveyor.survey(alloc, trace);
+    gate.end(stage);
+    found
+}
+
 /// Decides whether the trace has a legal schedule by what the survey finds, or else by the search of the whole, if few enough operations
-/// are left of that. A legal schedule that the surveyor finds is the answer. A core of its is the answer if the search refutes its part,
-/// and what that search decides of the whole does not stay undecided; but no search is bound to decide anything, so the clauses say only
-/// that one with these options can leave it open, which is true of each trace.
+/// are left of that. A legal schedule that the surveyor finds is the answer, and so is a certificate of reasons that is accepted. A core of its
+/// is the answer if the search refutes its part, and what that search decides of the whole does not stay undecided; but no search is bound to
+/// decide anything, so the clauses say only that one with these options can leave it open, which is true of each trace.
 pub fn decide_by_survey<R: Threads + Wait + Sync, S: Surveyor, G: Gate + Sync>(
     alloc: Global,
     rt: &R,
@@ -300,6 +402,6 @@ pub fn decide_by_survey<R: Threads + Wait + Sync, S: Surveyor, G: Gate + Sync>(
     ensures decided { IfOk result (IsSurveyed options.now trace.now) }
     ensures follows { IfOk result (FollowsFromSome options.now trace.now (S.finds surveyor.now trace.now)) }
 {
-    let overview = surveyor.survey(alloc, trace)?;
+    let overview = overview_of(alloc, trace, surveyor, gate)?;
     decide_by_overview(alloc, rt, trace, overview, options, gate)
 }

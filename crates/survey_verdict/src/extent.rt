@@ -7,7 +7,7 @@ use surveyor::Extent;
 use trace_semantics::trace::Trace;
 
 /// Returns the number of operations of the trace.
-fn count_operations(trace: &Trace) -> usize
+pub(crate) fn count_operations(trace: &Trace) -> usize
     ensures { result ≡ operation_count trace.now }
 {
     trace.recall_invariant();

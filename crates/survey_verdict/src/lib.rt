@@ -1,5 +1,5 @@
 //! What is decided of a trace with the help of a survey. Nothing that the survey finds is taken on trust: a schedule is judged, and the
-//! part of a core is refuted, before anything is said.
+//! part of a core is refuted, and a certificate of reasons is checked, before anything is said.
 #![tactic(auto)]
 
 mod certifying;
@@ -7,10 +7,11 @@ mod core_names;
 mod deciding;
 mod extent;
 pub mod laws;
+mod named_operations;
 mod reporting;
 mod surveyed;
 
 pub use certifying::write_survey_certificate;
 pub use deciding::decide_by_survey;
 pub use reporting::{names_of_core, part_of_core, report_of_survey};
-pub use surveyed::{RefutedCore, Surveyed};
+pub use surveyed::{ReasonCertificate, RefutedCore, Surveyed};

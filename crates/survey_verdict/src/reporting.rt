@@ -1,8 +1,8 @@
 //! The report of what is decided with the help of a survey.
 ghost use Rattle.std.specs.Prelude.{◌≡◌, IfOk};
-ghost use Rattle.survey_verdict.specs.Surveyed.{core_names, core_part, core_report, extent_line, survey_report};
+ghost use Rattle.survey_verdict.specs.Surveyed.{core_names, core_part, core_report, extent_line, reasons_report, survey_report};
 
-use crate::surveyed::{RefutedCore, Surveyed};
+use crate::surveyed::{ReasonCertificate, RefutedCore, Surveyed};
 use part_text::part_writer::write_part;
 use schedule_text::schedule_writer::write_schedule;
 use std::alloc::{AllocError, Global};
@@ -19,6 +19,20 @@ fn report_of_core(alloc: Global, core: &RefutedCore) -> Result<Vec<u8>, AllocErr
     let line = format!(in alloc; "INCONSISTENT operations={operations} cubes={cubes}\n")?;
     text.extend_from_slice(line.as_bytes())?;
     let names = write_schedule(alloc, &core.names)?;
+    text.extend_from_slice(names.as_slice())?;
+    Ok(text)
+}
+
+/// The report of a certificate of reasons: how many operations its lines name, how many clauses they make, and the names.
+fn report_of_reasons(alloc: Global, reasons: &ReasonCertificate) -> Result<Vec<u8>, AllocError>
+    ensures { IfOk result (λ text. text.items ≡ reasons_report reasons.now) }
+{
+    let mut text = Vec::new(alloc);
+    let operations = reasons.operations;
+    let clauses = reasons.clauses;
+    let line = format!(in alloc; "INCONSISTENT operations={operations} reasons={clauses}\n")?;
+    text.extend_from_slice(line.as_bytes())?;
+    let names = write_schedule(alloc, &reasons.names)?;
     text.extend_from_slice(names.as_slice())?;
     Ok(text)
 }
@@ -42,6 +56,7 @@ pub fn report_of_survey(alloc: Global, surveyed: &Surveyed) -> Result<Vec<u8>, A
     match surveyed {
         Surveyed::Decided(decision) => report_of(alloc, decision),
         Surveyed::Refuted(core) => report_of_core(alloc, core),
+        Surveyed::Reasoned(reasons) => report_of_reasons(alloc, reasons),
         Surveyed::Undecided(extent) => line_of_extent(alloc, extent),
     }
 }
@@ -53,6 +68,7 @@ pub fn names_of_core(alloc: Global, surveyed: &Surveyed) -> Result<Vec<u8>, Allo
     match surveyed {
         Surveyed::Refuted(core) => write_schedule(alloc, &core.names),
         Surveyed::Decided(_) => Ok(Vec::new(alloc)),
+        Surveyed::Reasoned(_) => Ok(Vec::new(alloc)),
         Surveyed::Undecided(_) => Ok(Vec::new(alloc)),
     }
 }
@@ -64,6 +80,7 @@ pub fn part_of_core(alloc: Global, surveyed: &Surveyed) -> Result<Vec<u8>, Alloc
     match surveyed {
         Surveyed::Refuted(core) => write_part(alloc, &core.part, true),
         Surveyed::Decided(_) => Ok(Vec::new(alloc)),
+        Surveyed::Reasoned(_) => Ok(Vec::new(alloc)),
         Surveyed::Undecided(_) => Ok(Vec::new(alloc)),
     }
 }

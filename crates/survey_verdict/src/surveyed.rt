@@ -27,12 +27,38 @@ impl Drop for RefutedCore {
     }
 }
 
+/// A certificate of reasons that was accepted for a trace.
+pub struct ReasonCertificate {
+    /// Its text.
+    pub text: Vec<u8>,
+    /// The number of clauses that its lines make.
+    pub clauses: usize,
+    /// The number of operations that its lines name.
+    pub operations: usize,
+    /// The names of these operations, by process and place, or none if they are many.
+    pub names: Schedule,
+}
+
+/// Drops each field, for the same reason.
+impl Drop for ReasonCertificate {
+    fn drop(self) {
+        let ReasonCertificate {
+            text: _text,
+            clauses: _clauses,
+            operations: _operations,
+            names: _names,
+        } = self;
+    }
+}
+
 /// What is decided of a trace with the help of a survey.
 pub enum Surveyed {
     /// What is shown of the trace as a whole.
     Decided(Decision),
     /// The trace has no legal schedule, since the part of this core has none.
     Refuted(RefutedCore),
+    /// The trace has no legal schedule, since this certificate of reasons was accepted for it.
+    Reasoned(ReasonCertificate),
     /// Nothing is shown. The survey came this far.
     Undecided(Extent),
 }
@@ -43,6 +69,7 @@ impl Drop for Surveyed {
         match self {
             Surveyed::Decided(_decision) => {}
             Surveyed::Refuted(_core) => {}
+            Surveyed::Reasoned(_reasons) => {}
             Surveyed::Undecided(_extent) => {}
         }
     }

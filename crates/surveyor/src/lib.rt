@@ -22,14 +22,16 @@ pub struct Extent {
     pub steps: u64,
 }
 
-/// A finding of a survey, which is untrusted. The caller judges the schedule, or refutes the part of the core.
+/// A finding of a survey, which is untrusted. The caller judges the schedule, refutes the part of the core, or checks the certificate.
 #[derive(Drop)]
 pub enum Finding {
     /// A schedule that should be legal.
     Schedule(Vec<OpName>),
     /// Operations whose part should have no legal schedule.
     Core(Vec<OpName>),
-    /// Neither.
+    /// The text of a certificate of reasons that should be accepted for the trace.
+    Reasons(Vec<u8>),
+    /// None of these.
     Nothing,
 }
 

@@ -1,5 +1,5 @@
-//! The progress of a search, reported on standard error.
-use cube_jobs::Gate;
+//! The progress of a search or a survey, reported on standard error.
+use cube_jobs::{Gate, Stage};
 use std::io::IsTerminal;
 use std::sync::atomic::{AtomicU64, Ordering};
 use std::time::Instant;
@@ -8,26 +8,29 @@ use std::time::Instant;
 const CLEARED: &str =
     "                                                                              ";
 
-/// A gate that reports each cube that is taken or settled: its number, the worker, the seconds since the start, how many are settled, and
-/// how many conflicts there were. If standard error is a terminal, there is one line, which is written anew each time, and cleared when no
-/// cube is in work; the worker is left out there, so that the line fits. Nothing depends on it.
+/// A gate that reports each stage that begins or ends, and each cube that is taken or settled: its number, the worker, the seconds since the
+/// start, how many cubes of the round are settled, and how many conflicts there were. If standard error is a terminal, there is one line,
+/// which is written anew each time, and cleared when a stage ends or no cube is in work; the worker is left out there, so that the line fits.
+/// Nothing depends on it.
 #[derive(Drop)]
 pub struct Progress<'a> {
     rt: &'a HostRuntime,
     start: Option<Instant>,
     is_terminal: bool,
+    cubes: AtomicU64,
     taken: AtomicU64,
     settled: AtomicU64,
     conflicts: AtomicU64,
 }
 
 impl<'a> Progress<'a> {
-    /// The progress of a search that starts now.
+    /// The progress of what starts now.
     pub fn new(rt: &'a HostRuntime) -> Progress<'a> {
         Progress {
             rt,
             start: Instant::now(rt).ok(),
             is_terminal: rt.stderr().is_terminal(),
+            cubes: AtomicU64::new(0),
             taken: AtomicU64::new(0),
             settled: AtomicU64::new(0),
             conflicts: AtomicU64::new(0),
@@ -48,16 +51,22 @@ impl<'a> Progress<'a> {
     /// Writes the one line of a terminal anew, or clears it if no cube is in work.
     fn show(&self, what: &str, ticket: u32) {
         let seconds = self.seconds();
+        let cubes = self.cubes.load(Ordering::SeqCst);
         let settled = self.settled.load(Ordering::SeqCst);
         let in_work = self.taken.load(Ordering::SeqCst).saturating_sub(settled);
         let conflicts = self.conflicts.load(Ordering::SeqCst);
         let _ = eprint!(self.rt;
-            "\r{settled} cubes settled, {in_work} in work, {seconds} s, {conflicts} conflicts, cube {ticket} {what}   \r"
+            "\r{settled} of {cubes} cubes, {in_work} in work, {seconds} s, {conflicts} conflicts, cube {ticket} {what}   \r"
         );
         // The last worker that comes here finds that all are settled, whatever the others wrote meanwhile.
         if self.settled.load(Ordering::SeqCst) == self.taken.load(Ordering::SeqCst) {
-            let _ = eprint!(self.rt; "\r{CLEARED}\r");
+            self.clear();
         }
+    }
+
+    /// Clears the one line of a terminal.
+    fn clear(&self) {
+        let _ = eprint!(self.rt; "\r{CLEARED}\r");
     }
 
     /// Reports what became of a cube. If standard error fails, nothing is reported.
@@ -66,14 +75,59 @@ impl<'a> Progress<'a> {
             return self.show(what, ticket);
         }
         let seconds = self.seconds();
+        let cubes = self.cubes.load(Ordering::SeqCst);
         let conflicts = self.conflicts.load(Ordering::SeqCst);
         let _ = eprintln!(self.rt;
-            "cube {ticket} {what} by worker {worker} after {seconds} s, {settled} settled, {conflicts} conflicts"
+            "cube {ticket} {what} by worker {worker} after {seconds} s, {settled} of {cubes} settled, {conflicts} conflicts"
         );
+    }
+
+    /// Reports on one line that a stage has begun or ended.
+    fn tell_stage(&self, stage: Stage, what: &str) {
+        let seconds = self.seconds();
+        let (name, operations) = named(stage);
+        let _ = eprintln!(self.rt; "{name} {operations} operations {what} after {seconds} s");
+    }
+
+    /// Writes on the one line of a terminal which stage has begun.
+    fn show_stage(&self, stage: Stage) {
+        let (name, operations) = named(stage);
+        let _ = eprint!(self.rt; "\r{name} {operations} operations   \r");
+    }
+}
+
+/// Names the stage, with the number of its operations.
+fn named(stage: Stage) -> (&'static str, usize) {
+    match stage {
+        Stage::Survey(operations) => ("survey of", operations),
+        Stage::Core(operations) => ("search of a core of", operations),
+        Stage::Whole(operations) => ("search of all", operations),
     }
 }
 
 impl Gate for Progress<'_> {
+    fn begin(&self, stage: Stage) {
+        if self.is_terminal {
+            self.show_stage(stage);
+        } else {
+            self.tell_stage(stage, "begun");
+        }
+    }
+
+    fn end(&self, stage: Stage) {
+        if self.is_terminal {
+            self.clear();
+        } else {
+            self.tell_stage(stage, "ended");
+        }
+    }
+
+    fn begin_round(&self, jobs: usize) {
+        self.cubes.store(jobs as u64, Ordering::SeqCst);
+        self.taken.store(0, Ordering::SeqCst);
+        self.settled.store(0, Ordering::SeqCst);
+    }
+
     fn before(&self, worker: u32, ticket: u32) {
         self.taken.fetch_add(1, Ordering::SeqCst);
         self.tell("taken", worker, ticket, self.settled.load(Ordering::SeqCst));

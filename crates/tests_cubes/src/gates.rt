@@ -6,7 +6,8 @@ use crate::texts::{WRITTEN_AGAIN, formula_of, tree_of};
 use cube_jobs::{Gate, Options, Outcome, Settled};
 use std::sync::atomic::{AtomicU64, Ordering};
 
-/// A gate that notes its calls, each as a digit: 2t + 1 before the job of ticket t, and 2t + 2 after it.
+/// A gate that notes its calls, each as a digit: how many jobs a round has when it begins, 2t + 1 before the job of ticket t, and 2t + 2
+/// after it.
 #[derive(Drop)]
 struct NotingGate {
     calls: AtomicU64,
@@ -14,20 +15,24 @@ struct NotingGate {
 
 impl NotingGate {
     /// Notes a call of this digit.
-    fn note(&self, digit: u32) {
+    fn note(&self, digit: u64) {
         let before = self.calls.load(Ordering::SeqCst);
-        let after = before.wrapping_mul(10).wrapping_add(u64::from(digit));
+        let after = before.wrapping_mul(10).wrapping_add(digit);
         self.calls.store(after, Ordering::SeqCst);
     }
 }
 
 impl Gate for NotingGate {
+    fn begin_round(&self, jobs: usize) {
+        self.note(jobs as u64);
+    }
+
     fn before(&self, _worker: u32, ticket: u32) {
-        self.note(ticket.wrapping_mul(2).wrapping_add(1));
+        self.note(u64::from(ticket.wrapping_mul(2).wrapping_add(1)));
     }
 
     fn after(&self, _worker: u32, ticket: u32) {
-        self.note(ticket.wrapping_mul(2).wrapping_add(2));
+        self.note(u64::from(ticket.wrapping_mul(2).wrapping_add(2)));
     }
 }
 
@@ -53,7 +58,7 @@ fn calls_the_gate_and_skips_after_a_model(rt: HostRuntime) {
     };
     let found = results_of(&rt, alloc, &formula, &tree, &options, &gate);
     let results = ample(&rt, found);
-    assert!(&rt; gate.calls.load(Ordering::SeqCst) == 123_456 && results.len() == 3);
+    assert!(&rt; gate.calls.load(Ordering::SeqCst) == 3_123_456 && results.len() == 3);
     let mut leaf = 0usize;
     for settled in &results {
         expect(&rt, is_of_leaf(settled, leaf), leaf);

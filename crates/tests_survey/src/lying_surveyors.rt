@@ -13,6 +13,8 @@ pub enum Lie {
     Schedule(u16, u16),
     /// The core of these places of the process P.
     Core(u16, u16),
+    /// A certificate that counts a value at this location.
+    Reasons(u8),
     /// Nothing.
     Nothing,
 }
@@ -39,6 +41,15 @@ fn names_at(alloc: Global, first: u16, second: u16) -> Result<Vec<OpName>, Alloc
     Ok(names)
 }
 
+/// The text of a certificate that there are too few sources of 0 at this location.
+fn counting_text(alloc: Global, location: u8) -> Result<Vec<u8>, AllocError> {
+    let mut text = Vec::new(alloc);
+    text.extend_from_slice(b"vsc-reasons 1\nN ")?;
+    text.push(location)?;
+    text.extend_from_slice(b" 0\n")?;
+    Ok(text)
+}
+
 impl Surveyor for Liar {
     ghost budget = { λ _. 0 };
 
@@ -46,6 +57,7 @@ impl Surveyor for Liar {
         let finding = match self.lie {
             Lie::Schedule(first, second) => Finding::Schedule(names_at(alloc, first, second)?),
             Lie::Core(first, second) => Finding::Core(names_at(alloc, first, second)?),
+            Lie::Reasons(location) => Finding::Reasons(counting_text(alloc, location)?),
             Lie::Nothing => Finding::Nothing,
         };
         Ok(Overview {

@@ -50,6 +50,7 @@ fn decides_whatever_a_surveyor_says(rt: HostRuntime) {
         Lie::Core(1, 2),
         Lie::Core(1, 1),
         Lie::Core(9, 1),
+        Lie::Reasons(b'x'),
         Lie::Nothing,
     ];
     for lie in lies {
@@ -111,7 +112,7 @@ fn finds_the_core_of_a_long_trace(rt: HostRuntime) {
 fn says_how_far_it_came(rt: HostRuntime) {
     let survey = BySaturation { budget: 0 };
     let long = ample(&rt, with_many_writes(rt.alloc(), STORE_BUFFERING));
-    let report = b"UNKNOWN placed=0 undecided=2\n";
+    let report = b"UNKNOWN placed=0 undecided=0\n";
     assert_reports(
         rt.alloc(),
         &rt,

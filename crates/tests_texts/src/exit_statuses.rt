@@ -8,6 +8,7 @@ use dimacs::MemorySink;
 use lrat_check::lrat_fault::LratCause;
 use lrat_check::refusal::StepFault;
 use model_text::ModelCause;
+use reason_clauses::cause::ReasonCause;
 use reducer::reduce_fault::ReduceCause;
 use schedule_decode::decode_fault::DecodeCause;
 use schedule_text::schedule_fault::ScheduleCause;
@@ -25,7 +26,7 @@ fn gives_a_status_for_each_answer(rt: HostRuntime) {
 }
 
 /// Faults, the exit status of each, and its line.
-const FAULTS: [(Fault, u8, &str); 15] = [
+const FAULTS: [(Fault, u8, &str); 16] = [
     (Fault::OutOfMemory, 2, "refused: memory\n"),
     (Fault::Device, 4, "refused: device\n"),
     (Fault::InputTooLong, 2, "refused: input 2 InputTooLong\n"),
@@ -78,6 +79,11 @@ const FAULTS: [(Fault, u8, &str); 15] = [
         Fault::Cert(CertCause::Missing, 1),
         2,
         "refused: cert 10 Missing at 1\n",
+    ),
+    (
+        Fault::Reasons(ReasonCause::NoPair, 3),
+        2,
+        "refused: reasons 9 NoPair at 3\n",
     ),
     (
         Fault::Search(SearchCause::Cut),

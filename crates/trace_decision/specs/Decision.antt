@@ -55,9 +55,9 @@ pub record AreLeftOpen (t : TraceValue) (options : OptionsValue) (cubes : List (
   pub ended : HaveEnded t options slots verdict
   pub open_are : AreCubesLeftOpen slots verdict cubes
 
--- What is decided by a search with these options is so: the schedule is a legal one of the whole trace; or each cube of the tree is
--- refuted, and the trace has no legal schedule; or the cubes are those that the search leaves open, all models of the clauses are in them,
--- and each legal schedule of the whole trace is.
+-- What is decided is so: the schedule is a legal one of the whole trace; or each cube of the tree is refuted, and the trace has no legal
+-- schedule; or the cubes are some that a search with these options can leave open, all models of the clauses are in them, and each legal
+-- schedule of the whole trace is.
 abbrev pub IsDecided : OptionsValue → TraceValue → Decision → Type 0
 IsDecided options value (Consistent names) = IsLegal value names
 IsDecided options value (Inconsistent refutation) = IsRefutation (clauses_of (kept_trace value)) refutation × HasNoSchedule value

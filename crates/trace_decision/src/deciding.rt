@@ -1,5 +1,5 @@
 //! From a reduced trace to what is decided of it.
-ghost use Rattle.std.specs.Prelude.{◌≡◌, ◌<◌, ℕ, length, IfOk};
+ghost use Rattle.std.specs.Prelude.{◌≡◌, ◌<◌, ℕ, length, IfOk, IfSome};
 ghost use Rattle.std.specs.List.{Contains};
 ghost use Rattle.cube_tree.specs.CubeTree.{cubes_of};
 ghost use Rattle.dimacs.specs.Assignment.{value_of};
@@ -7,6 +7,7 @@ ghost use Rattle.schedule_decode.specs.Decode.{IsModelOfKept};
 ghost use Rattle.trace_semantics.specs.Legal.{IsLegal};
 ghost use Rattle.result_ledger.specs.Ledger.{cubes_in};
 ghost use Rattle.trace_decision.specs.Decision.{IsDecided, NamesOpen, AreCubesOf};
+ghost use Rattle.trace_decision.specs.declared.decision.Decision.TheVariants.{Inconsistent};
 ghost use Rattle.trace_decision.specs.Rounds.{HaveEnded};
 
 use crate::cubes::Cubes;
@@ -22,7 +23,7 @@ use reducer::expand::expand;
 use reducer::reduced::Reduced;
 use result_ledger::{Ledger, Verdict, inconsistent_has_no_model, unknown_holds_all_models};
 use schedule_decode::decode::schedule_of;
-use solver::{PreparedFormula, ReadsFromTable};
+use solver::{PreparedFormula, ReadsFromTable, SourceCounter};
 use std::alloc::{AllocError, Global};
 use std::sync::Wait;
 use std::thread::Threads;
@@ -139,6 +140,53 @@ fn search_clauses<R: Threads + Wait + Sync, G: Gate + Sync>(
     search_in_rounds(alloc, rt, clauses, &prepared, options, gate)
 }
 
+/// The steps that counting may take whatever the budget of a search is. The largest lock of 160 operations takes 786 thousand.
+const COUNTING_STEPS: u64 = 1_000_000;
+
+/// Counts sources in the whole formula of these clauses, as one cube, and searches nothing.
+fn count_clauses<R: Threads + Wait + Sync, G: Gate + Sync>(
+    alloc: Global,
+    rt: &R,
+    clauses: &TraceClauses,
+    options: &Options,
+    gate: &G,
+) -> Result<Decided, SearchFault>
+    ensures cubes { IfOk result (λ decided. cubes_in decided.ledger ≡ cubes_of decided.tree) }
+    ensures ended { IfOk result (λ decided. HaveEnded clauses.now options.now decided.ledger decided.verdict) }
+{
+    let reads_from = reads_from_table(alloc, clauses)?;
+    let encoding = guide_to_order(clauses).with_reads_from(&reads_from);
+    let prepared = PreparedFormula::of(alloc, clauses, encoding)?;
+    let counter = SourceCounter::of(&prepared);
+    search_in_rounds(alloc, rt, clauses, &counter, options, gate)
+}
+
+/// Gives a refutation by counting, if there is one that the budget of the search was too small for. Its tree is one leaf, since each cube would have
+/// the same long derivation. A search that may have no conflict decides nothing, and neither does counting for it.
+fn refute_by_counting<R: Threads + Wait + Sync, G: Gate + Sync>(
+    alloc: Global,
+    rt: &R,
+    reduced: &Reduced,
+    clauses: &TraceClauses,
+    options: &Options,
+    gate: &G,
+) -> Result<Option<Refutation>, SearchFault>
+    requires { clauses.now ≡ reduced.now.kept }
+    ensures { IfOk result (λ found. IfSome found (λ refutation. IsDecided options.now reduced.now.whole (Inconsistent refutation))) }
+{
+    if options.budget() == 0 || options.budget() >= COUNTING_STEPS {
+        return Ok(None);
+    }
+    let Ok(counting) = Options::new(1, 0, COUNTING_STEPS, 1) else {
+        return Ok(None);
+    };
+    let decided = count_clauses(alloc, rt, clauses, &counting, gate)?;
+    match decision_of(alloc, reduced, clauses, &counting, decided)? {
+        Decision::Inconsistent(refutation) => Ok(Some(refutation)),
+        _ => Ok(None),
+    }
+}
+
 /// Decides whether the whole trace has a legal schedule, within the limits of the options.
 pub fn decide<R: Threads + Wait + Sync, G: Gate + Sync>(
     alloc: Global,
@@ -151,5 +199,11 @@ pub fn decide<R: Threads + Wait + Sync, G: Gate + Sync>(
 {
     let clauses = TraceClauses::of(alloc, reduced)?;
     let decided = search_clauses(alloc, rt, &clauses, options, gate)?;
-    Ok(decision_of(alloc, reduced, &clauses, options, decided)?)
+    let decision = decision_of(alloc, reduced, &clauses, options, decided)?;
+    if let Decision::Unknown(_) = &decision {
+        if let Some(refutation) = refute_by_counting(alloc, rt, reduced, &clauses, options, gate)? {
+            return Ok(Decision::Inconsistent(refutation));
+        }
+    }
+    Ok(decision)
 }

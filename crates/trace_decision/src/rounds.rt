@@ -15,7 +15,7 @@ use cube_queue::search;
 use cube_tree::{Tree, grow};
 use dimacs::MAX_CUBE_LITERALS;
 use result_ledger::{Ledger, Verdict, enter_all};
-use solver::PreparedFormula;
+use solver::CubeSolver;
 use std::alloc::{AllocError, Global};
 use std::sync::Wait;
 use std::thread::Threads;
@@ -30,11 +30,11 @@ fn unanswered(alloc: Global, _tree: &Tree, ledger: &Ledger) -> Result<Vec<u32>, 
 }
 
 /// The results of the leaves that have no answer.
-fn search_unanswered<R: Threads + Wait + Sync, G: Gate + Sync>(
+fn search_unanswered<R: Threads + Wait + Sync, S: CubeSolver + Sync, G: Gate + Sync>(
     alloc: Global,
     rt: &R,
     clauses: &TraceClauses,
-    prepared: &PreparedFormula,
+    solver: &S,
     tree: &Tree,
     ledger: &Ledger,
     options: &Options,
@@ -48,7 +48,7 @@ fn search_unanswered<R: Threads + Wait + Sync, G: Gate + Sync>(
         alloc,
         rt,
         clauses,
-        prepared,
+        solver,
         tree,
         which.as_slice(),
         options,
@@ -57,11 +57,11 @@ fn search_unanswered<R: Threads + Wait + Sync, G: Gate + Sync>(
 }
 
 /// Searches the leaves that have no answer, enters what is found, and gives the verdict that follows from what was answered for all leaves.
-fn search_and_confirm<R: Threads + Wait + Sync, G: Gate + Sync>(
+fn search_and_confirm<R: Threads + Wait + Sync, S: CubeSolver + Sync, G: Gate + Sync>(
     alloc: Global,
     rt: &R,
     clauses: &TraceClauses,
-    prepared: &PreparedFormula,
+    solver: &S,
     tree: &Tree,
     ledger: &mut Ledger,
     options: &Options,
@@ -72,18 +72,18 @@ fn search_and_confirm<R: Threads + Wait + Sync, G: Gate + Sync>(
     ensures verdict { IfOk result (λ verdict. IsVerdict (clauses_of clauses.now) ledger.new verdict) }
     ensures searched { OnOk result (IsSearched (clauses_of clauses.now) ledger.old ledger.new) }
 {
-    let results = search_unanswered(alloc, rt, clauses, prepared, tree, ledger, options, gate)?;
+    let results = search_unanswered(alloc, rt, clauses, solver, tree, ledger, options, gate)?;
     enter_all(ledger, results);
     let verdict = ledger.confirm(alloc, rt, clauses, options.workers())?;
     Ok(verdict)
 }
 
 /// Searches the leaves that have no answer, enters what is found, and confirms what was answered for all leaves.
-fn search_open<R: Threads + Wait + Sync, G: Gate + Sync>(
+fn search_open<R: Threads + Wait + Sync, S: CubeSolver + Sync, G: Gate + Sync>(
     alloc: Global,
     rt: &R,
     clauses: &TraceClauses,
-    prepared: &PreparedFormula,
+    solver: &S,
     tree: Tree,
     ledger: Ledger,
     options: &Options,
@@ -98,7 +98,7 @@ fn search_open<R: Threads + Wait + Sync, G: Gate + Sync>(
         alloc,
         rt,
         clauses,
-        prepared,
+        solver,
         &tree,
         &mut ledger,
         options,
@@ -126,11 +126,11 @@ fn first_leaves(
 }
 
 /// The first round: the leaves of the first tree are searched.
-fn search_first<R: Threads + Wait + Sync, G: Gate + Sync>(
+fn search_first<R: Threads + Wait + Sync, S: CubeSolver + Sync, G: Gate + Sync>(
     alloc: Global,
     rt: &R,
     clauses: &TraceClauses,
-    prepared: &PreparedFormula,
+    solver: &S,
     options: &Options,
     gate: &G,
 ) -> Result<Decided, SearchFault>
@@ -138,15 +138,15 @@ fn search_first<R: Threads + Wait + Sync, G: Gate + Sync>(
     ensures searched { IfOk result (λ decided. IsSearched (clauses_of clauses.now) (map empty_slot (cubes_of (first_tree clauses.now options.now.split))) decided.ledger) }
 {
     let (tree, ledger) = first_leaves(alloc, clauses, options)?;
-    search_open(alloc, rt, clauses, prepared, tree, ledger, options, gate)
+    search_open(alloc, rt, clauses, solver, tree, ledger, options, gate)
 }
 
 /// One more round, where the verdict is open and some open leaf can be split: the open leaves are split, and the new ones are searched.
-fn search_again<R: Threads + Wait + Sync, G: Gate + Sync>(
+fn search_again<R: Threads + Wait + Sync, S: CubeSolver + Sync, G: Gate + Sync>(
     alloc: Global,
     rt: &R,
     clauses: &TraceClauses,
-    prepared: &PreparedFormula,
+    solver: &S,
     variables: &[u32],
     decided: Decided,
     options: &Options,
@@ -176,7 +176,7 @@ fn search_again<R: Threads + Wait + Sync, G: Gate + Sync>(
             verdict,
         }));
     }
-    let after = search_open(alloc, rt, clauses, prepared, tree, ledger, options, gate)?;
+    let after = search_open(alloc, rt, clauses, solver, tree, ledger, options, gate)?;
     Ok(Next::Searched(after))
 }
 
@@ -188,11 +188,11 @@ fn split_variables(alloc: Global, clauses: &TraceClauses) -> Result<Vec<u32>, Al
 }
 
 /// Searches in rounds, at most as many as the options say.
-pub(crate) fn search_in_rounds<R: Threads + Wait + Sync, G: Gate + Sync>(
+pub(crate) fn search_in_rounds<R: Threads + Wait + Sync, S: CubeSolver + Sync, G: Gate + Sync>(
     alloc: Global,
     rt: &R,
     clauses: &TraceClauses,
-    prepared: &PreparedFormula,
+    solver: &S,
     options: &Options,
     gate: &G,
 ) -> Result<Decided, SearchFault>
@@ -200,13 +200,13 @@ pub(crate) fn search_in_rounds<R: Threads + Wait + Sync, G: Gate + Sync>(
     ensures ended { IfOk result (λ decided. HaveEnded clauses.now options.now decided.ledger decided.verdict) }
 {
     let variables = split_variables(alloc, clauses)?;
-    let mut decided = search_first(alloc, rt, clauses, prepared, options, gate)?;
+    let mut decided = search_first(alloc, rt, clauses, solver, options, gate)?;
     for _round in 1..options.rounds() {
         match search_again(
             alloc,
             rt,
             clauses,
-            prepared,
+            solver,
             variables.as_slice(),
             decided,
             options,

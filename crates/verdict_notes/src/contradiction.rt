@@ -25,6 +25,7 @@ pub fn explain_by_survey<S: Surveyor>(
     match &overview.finding {
         Finding::Core(names) => explain_core(alloc, notes, trace, places, names.as_slice()),
         Finding::Schedule(_) => explain_no_core(notes),
+        Finding::Reasons(_) => explain_no_core(notes),
         Finding::Nothing => explain_no_core(notes),
     }
     Ok(())

@@ -1,6 +1,7 @@
 //! Notes on verdicts: why a schedule is illegal, why a trace is inconsistent, and what to try if it is not decided.
 //!
-//! Nothing that is claimed rests on them, so nothing is proved of them but that they are safe and come to an end.
+//! Nothing that is claimed rests on them. An open cube is noted as orders that its literals say by the layout; nothing else is proved
+//! of them but that they are safe and come to an end.
 #![tactic(auto)]
 
 mod certificate_length;

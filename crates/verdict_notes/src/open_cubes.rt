@@ -1,7 +1,7 @@
 //! The cubes that a report leaves open: how many they are, and the first ones in words.
 
 use crate::kept_operations::kept_ops;
-use crate::open_orders::OpenOrders;
+use crate::open_orders::text_of_cube;
 use crate::shown_places::ShownPlaces;
 use note_text::{Notes, decimal};
 use reducer::reduced::{Reduced, reduce};
@@ -84,10 +84,6 @@ fn explain_of_reduced(
     if ops.len() != layout.operations() {
         return Ok(());
     }
-    let orders = OpenOrders {
-        ops: ops.as_slice(),
-        layout: &layout,
-    };
     let mut shown = 0;
     let mut rest = report;
     // The bound is never reached: each turn takes a line away. The checker sees by it that the loop returns.
@@ -97,7 +93,8 @@ fn explain_of_reduced(
         };
         if let Some(literals) = literals_of(line) {
             if shown < MAX_SHOWN {
-                orders.note_open_cube(alloc, notes, literals);
+                let text = text_of_cube(alloc, &layout, ops.as_slice(), literals)?;
+                notes.note(&[b"open: ", text.as_slice()]);
                 shown += 1;
             }
         }

@@ -4,91 +4,154 @@
 //! in words, by the trace and the layout of its variables. A cube is made by splitting on order variables alone, so each of its literals
 //! says of two operations which one stands before the other.
 
+ghost use Rattle.std.specs.Prelude.{◌≡◌, ◌<◌, ◌++◌, ℕ, List, IfOk, OnOk, IfSome, MatchOption};
+ghost use Rattle.std.specs.List.{flat_map};
+ghost use Rattle.text_lines.specs.Words.{words_of};
+ghost use Rattle.trace_semantics.specs.Trace.{operation_count};
+ghost use Rattle.verdict_notes.specs.declared.open_orders.NumberedOrder.{NumberedOrder as SaidOrder};
+ghost use Rattle.verdict_notes.specs.OpenCubes.{Says, Writes, AreWritten, name_at, order_text, later_text, orders_text};
+
 use crate::kept_operations::KeptOp;
-use crate::sentence::Sentence;
-use note_text::Notes;
-use std::alloc::Global;
-use text_lines::numbers::{SolverNumber, read_solver_number};
+use dimacs::Lit;
+use itoa::Buffer;
+use lrat_check::lrat_number::read_literal;
+use std::alloc::{AllocError, Global};
 use text_lines::words::cut_word;
 use var_layout::layout::Layout;
 
-/// The operations of a trace that have variables, by their numbers in the layout, and these variables.
+/// Two operations by their numbers, of which the first stands before the second.
 #[derive(Clone, Copy)]
-pub struct OpenOrders<'t> {
-    pub ops: &'t [KeptOp<'t>],
-    pub layout: &'t Layout,
+pub struct NumberedOrder {
+    pub first: usize,
+    pub second: usize,
 }
 
-impl<'t> OpenOrders<'t> {
-    /// The number j above i for which the variable says that operation i stands before operation j, if there is one.
-    fn partner(&self, i: usize, variable: u64) -> Option<usize> {
-        let count = self.layout.operations();
-        for j in 0..count {
-            if i < j && self.layout.order_lit(i, j).variable() as u64 == variable {
-                return Some(j);
-            }
+/// The operation of which the literal says that operation i stands before it, if there is one.
+fn later_of(layout: &Layout, literal: Lit, i: usize) -> Option<usize>
+    requires { i < operation_count layout.now }
+    ensures { MatchOption result ((j : ℕ) → Says (operation_count layout.now) literal i j → ⊥) (λ j. Says (operation_count layout.now) literal i j) }
+{
+    for j in 0..layout.operations() {
+        if i != j && layout.order_lit(i, j).number() == literal.number() {
+            return Some(j);
         }
-        None
     }
+    None
+}
 
-    /// The numbers of the operations of which the variable says that the first stands before the second. `None` if it is not the variable
-    /// of an order.
-    fn pair_of(&self, variable: u64) -> Option<(usize, usize)> {
-        for i in 0..self.layout.operations() {
-            if let Some(j) = self.partner(i, variable) {
-                return Some((i, j));
-            }
+/// The order that the literal says, if its variable is one of the order.
+fn order_said(layout: &Layout, literal: Lit) -> Option<NumberedOrder>
+    ensures { MatchOption result
+        ((i j : ℕ) → Says (operation_count layout.now) literal i j → ⊥)
+        (λ order. Says (operation_count layout.now) literal order.first order.second) }
+{
+    for i in 0..layout.operations() {
+        if let Some(j) = later_of(layout, literal, i) {
+            return Some(NumberedOrder {
+                first: i,
+                second: j,
+            });
         }
-        None
     }
+    None
+}
 
-    /// Adds the name of the operation of this number, counted from 0. The caller has compared the number of operations with that of the
-    /// layout, so none is missing.
-    fn add_name(&self, sentence: &mut Sentence, number: usize) {
-        match self.ops.get(number) {
-            Some(op) => sentence.add_name(op.process, op.place),
-            None => {}
-        }
+/// The order that the word writes, if it is a literal that says one.
+fn order_written(layout: &Layout, word: &[u8]) -> Option<NumberedOrder>
+    ensures { IfSome result (Writes (operation_count layout.now) word.now) }
+{
+    match read_literal(word) {
+        Ok(Some(literal)) => order_said(layout, literal),
+        _ => None,
     }
+}
 
-    /// Adds the order that the literal says, as `A before B`, after a comma if there is an order before it. Adds nothing for the 0 at the
-    /// end of a line, which is no variable; a number of 2^64 or more (`magnitude` is `None` then) and a variable that is not of an order
-    /// are in no report of the trace.
-    fn add_literal(&self, sentence: &mut Sentence, literal: SolverNumber) {
-        let Some(variable) = literal.magnitude else {
-            return;
-        };
-        let Some((i, j)) = self.pair_of(variable) else {
-            return;
-        };
-        let (first, second) = if literal.is_negative { (j, i) } else { (i, j) };
-        if !sentence.is_empty() {
-            sentence.add(&[b", "]);
-        }
-        self.add_name(sentence, first);
-        sentence.add(&[b" before "]);
-        self.add_name(sentence, second);
-    }
+/// Appends the name of the operation of this number.
+fn push_name(text: &mut Vec<u8>, ops: &[KeptOp<'_>], number: usize) -> Result<(), AllocError>
+    ensures { OnOk result (text.new.items ≡ text.old.items ++ name_at ops.now number) }
+{
+    let Some(op) = ops.get(number) else {
+        return Ok(());
+    };
+    let mut buffer = Buffer::new();
+    text.extend_from_slice(op.process)?;
+    text.push(b'.')?;
+    text.extend_from_slice(buffer.format(op.place).as_bytes())?;
+    Ok(())
+}
 
-    /// Adds the note `open: A before B, ..` for the cube of these literals, which are words with spaces between. A cube without literals,
-    /// of a search that was not split, leaves every order open, and its note says so. A word that is no literal is passed over, as notes
-    /// are no verdict and refuse nothing.
-    pub fn note_open_cube(&self, alloc: Global, notes: &mut Notes, cube_text: &[u8]) {
-        let mut sentence = Sentence::new(alloc);
-        let mut rest = cube_text;
-        // The bound is never reached: each turn takes a word away. The checker sees by it that the loop returns.
-        for _ in 0..u64::MAX {
-            let Some((word, after)) = cut_word(rest) else {
-                break;
-            };
-            if let Some(literal) = read_solver_number(word) {
-                self.add_literal(&mut sentence, literal);
-            }
-            rest = after;
+/// Appends the order as `A before B`.
+fn push_order(
+    text: &mut Vec<u8>,
+    ops: &[KeptOp<'_>],
+    order: NumberedOrder,
+) -> Result<(), AllocError>
+    ensures { OnOk result (text.new.items ≡ text.old.items ++ order_text ops.now order) }
+{
+    push_name(text, ops, order.first)?;
+    text.extend_from_slice(b" before ")?;
+    push_name(text, ops, order.second)
+}
+
+/// The orders that the words of the cube write. A word that is no literal of an order, as the 0 at the end of a line, is passed over, as
+/// notes are no verdict and refuse nothing.
+fn orders_of(alloc: Global, layout: &Layout, cube: &[u8]) -> Result<Vec<NumberedOrder>, AllocError>
+    ensures { IfOk result (λ orders. AreWritten (operation_count layout.now) (words_of cube.now) orders.items) }
+{
+    let mut orders = Vec::new(alloc);
+    let mut rest = cube;
+    while let Some((word, after)) = cut_word(rest) {
+        if let Some(order) = order_written(layout, word) {
+            orders.push(order)?;
         }
-        if sentence.is_empty() {
-            return notes.note(&[b"open: every order"]);
-        }
-        sentence.note_after(&[b"open: "], notes);
+        rest = after;
     }
+    Ok(orders)
+}
+
+/// Appends the other orders, each after a comma.
+fn push_others(
+    text: &mut Vec<u8>,
+    ops: &[KeptOp<'_>],
+    others: &[NumberedOrder],
+) -> Result<(), AllocError>
+    ensures { OnOk result (text.new.items ≡ text.old.items ++ flat_map (later_text ops.now) others.now) }
+{
+    for order in others {
+        text.extend_from_slice(b", ")?;
+        push_order(text, ops, *order)?;
+    }
+    Ok(())
+}
+
+/// The words of the orders. A cube without literals, of a search that was not split, leaves every order open.
+fn text_of_orders(
+    alloc: Global,
+    ops: &[KeptOp<'_>],
+    orders: &[NumberedOrder],
+) -> Result<Vec<u8>, AllocError>
+    ensures { IfOk result (λ text. text.items ≡ orders_text ops.now orders.now) }
+{
+    let mut text = Vec::new(alloc);
+    let Some((first, others)) = orders.split_first() else {
+        text.extend_from_slice(b"every order")?;
+        return Ok(text);
+    };
+    push_order(&mut text, ops, *first)?;
+    push_others(&mut text, ops, others)?;
+    Ok(text)
+}
+
+/// The words of a cube, which are of its orders: each is what the layout says of the variable of a literal, and its operations are named as
+/// those of these numbers.
+pub fn text_of_cube(
+    alloc: Global,
+    layout: &Layout,
+    ops: &[KeptOp<'_>],
+    cube: &[u8],
+) -> Result<Vec<u8>, AllocError>
+    ensures { IfOk result (λ text. (orders : List SaidOrder) × AreWritten (operation_count layout.now) (words_of cube.now) orders × (text.items ≡ orders_text ops.now orders)) }
+{
+    let orders = orders_of(alloc, layout, cube)?;
+    text_of_orders(alloc, ops, orders.as_slice())
 }

@@ -20,7 +20,7 @@ use Rattle.clause_blocks.specs.ModelOrder.{IsInOrderOf}
 use Rattle.reducer.specs.declared.reduce_fault.ReduceCause.TheVariants.{StillTooLarge}
 use Rattle.schedule_decode.specs.declared.decode_fault.DecodeCause.TheVariants.{NotAModel}
 use Rattle.verdict_report.specs.declared.fault.Fault.{Fault}
-use Rattle.verdict_report.specs.declared.fault.Fault.TheVariants.{OutOfMemory, Device, InputTooLong, Trace, Schedule, Part, Model, Cnf, Lrat, Reduce, Decode, Check, Cert, Search}
+use Rattle.verdict_report.specs.declared.fault.Fault.TheVariants.{OutOfMemory, Device, InputTooLong, Trace, Schedule, Part, Model, Cnf, Lrat, Reduce, Decode, Check, Cert, Reasons, Search}
 use Rattle.verdict_report.specs.Admitted.{Admits}
 use Rattle.verdict_report.specs.Fault.{fault_of_part}
 use Rattle.verdict_report.specs.DecodeEngine.{IsDecoding, IsDecodedFrom, IsSaidOfModel}
@@ -55,6 +55,7 @@ module _ (r : ReducedValue) (ok : IsReduced r) (truth : List Bool) where
     said (Err (Reduce StillTooLarge left)) d = absurd d
     said (Err (Check fault step)) d = absurd d
     said (Err (Cert cause place)) d = absurd d
+    said (Err (Reasons cause line)) d = absurd d
     said (Err (Search fault)) d = absurd d
 
 -- a trace that is not reduced, where both texts are read

@@ -8,7 +8,7 @@ use Rattle.dimacs.specs.declared.sink_fault.SinkFault.TheVariants.{OutOfMemory a
 use Rattle.dimacs.specs.Sink.{AppendsFront}
 use Rattle.dimacs.specs.SinkFault.{failures_told}
 use Rattle.verdict_report.specs.declared.fault.Fault.{Fault}
-use Rattle.verdict_report.specs.declared.fault.Fault.TheVariants.{OutOfMemory, Device, InputTooLong, Trace, Schedule, Part, Model, Cnf, Lrat, Reduce, Decode, Check, Cert, Search}
+use Rattle.verdict_report.specs.declared.fault.Fault.TheVariants.{OutOfMemory, Device, InputTooLong, Trace, Schedule, Part, Model, Cnf, Lrat, Reduce, Decode, Check, Cert, Reasons, Search}
 use Rattle.verdict_report.specs.declared.reading.ReadFault.{ReadFault}
 use Rattle.verdict_report.specs.declared.reading.ReadFault.TheVariants.{OutOfMemory as NoReadMemory, Device as SourceFails, TooLong}
 use Rattle.verdict_report.specs.declared.reading.TheConstants.{MAX_INPUT_BYTES}
@@ -70,6 +70,7 @@ module _ {A : Type 0} (said : List (List ℕ) → Result A Fault → Type 0) (te
     refused d l (Decode cause clause) s = (record { texts = texts; handed = handed; is_said = s }, none)
     refused d l (Check cause step) s = (record { texts = texts; handed = handed; is_said = s }, none)
     refused d l (Cert cause place) s = (record { texts = texts; handed = handed; is_said = s }, none)
+    refused d l (Reasons cause line) s = (record { texts = texts; handed = handed; is_said = s }, none)
     refused d l (Search fault) s = (record { texts = texts; handed = handed; is_said = s }, none)
 
 -- an engine with one sink writes its answer
@@ -92,6 +93,7 @@ module _ {A : Type 0} (said : List (List ℕ) → Result A Fault → Type 0) (te
   written (Err (Decode cause clause)) w = absurd w
   written (Err (Check cause step)) w = absurd w
   written (Err (Cert cause place)) w = absurd w
+  written (Err (Reasons cause line)) w = absurd w
   written (Err (Search fault)) w = absurd w
 
   -- while it is made, and the sink fails or memory runs out after a prefix

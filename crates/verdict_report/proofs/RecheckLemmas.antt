@@ -1,5 +1,6 @@
 -- What a certificate for the clauses of a kept trace says of the whole trace.
-use Rattle.std.proofs.Common.{◌≤◌, ℕ, Bool, List, inl, inr, subst, sym}
+use Rattle.std.proofs.Common.{◌≤◌, ℕ, Bool, true, false, List, inl, inr, subst, sym}
+use Rattle.std.specs.Bool.{MatchBool}
 use Rattle.std.specs.Prelude.{Result, Ok, Err, OnOk}
 use Rattle.certificate.specs.CertFaults.{HasCertFault}
 use Rattle.certificate.specs.CertText.{SpellsCertificate}
@@ -18,12 +19,14 @@ use Rattle.trace_semantics.specs.Legal.{HasNoSchedule}
 use Rattle.trace_semantics.specs.Trace.{TraceValue, IsTrace, operation_count}
 use Rattle.trace_text.specs.TraceText.{SpellsTrace}
 use Rattle.verdict_report.specs.declared.fault.Fault.{Fault}
-use Rattle.verdict_report.specs.declared.fault.Fault.TheVariants.{OutOfMemory, Device, InputTooLong, Trace, Schedule, Part, Model, Cnf, Lrat, Reduce, Decode, Check, Cert, Search}
+use Rattle.verdict_report.specs.declared.fault.Fault.TheVariants.{OutOfMemory, Device, InputTooLong, Trace, Schedule, Part, Model, Cnf, Lrat, Reduce, Decode, Check, Cert, Reasons, Search}
 use Rattle.verdict_report.specs.Admitted.{Admits}
 use Rattle.verdict_report.specs.Fault.{fault_of_part}
 use Rattle.verdict_report.specs.Runs.{SourceRun, HandsOut}
+use Rattle.verdict_report.specs.declared.recheck_engine.CertificateSize.{CertificateSize}
+use Rattle.verdict_report.specs.declared.recheck_engine.CertificateSize.TheVariants.{Cubes, Clauses}
 use Rattle.verdict_report.specs.declared.status.Status.{Status}
-use Rattle.verdict_report.specs.RecheckEngine.{Refutes, IsRecheckedFor, AreRechecked, IsSaidOfCertificate, InputHasNoLegalSchedule}
+use Rattle.verdict_report.specs.RecheckEngine.{Refutes, IsRecheckedFor, AreRechecked, IsSaidOfCertificate, InputHasNoLegalSchedule, IsSaidOfReasons, IsSaidOfEither}
 use Rattle.verdict_report.proofs.MeaningLemmas.{model_of_schedule}
 
 module _ (r : ReducedValue) (ok : IsReduced r) (certificate : Certificate) where
@@ -62,6 +65,7 @@ module _ (r : ReducedValue) (ok : IsReduced r) (certificate : Certificate) where
     said (Err (Reduce StillTooLarge left)) d = absurd d
     said (Err (Decode cause clause)) d = absurd d
     said (Err (Check fault step)) d = absurd d
+    said (Err (Reasons cause line)) d = absurd d
     said (Err (Search fault)) d = absurd d
 
 module _ (trace_text cert_text : List ℕ) (value : TraceValue) (is_trace : IsTrace value) (spelled : SpellsTrace trace_text value) where
@@ -89,3 +93,22 @@ shown trace trace_text cert_text count handed accepted (Ok status) = record {
   no_schedule = accepted.refuted.no_schedule;
 }
 shown trace trace_text cert_text count handed accepted (Err fault) = tt
+
+-- the same, whichever kind the certificate is of
+pub shown_either : (trace : SourceRun) (trace_text cert_text : List ℕ) (size : CertificateSize) → HandsOut trace trace_text → IsSaidOfEither trace_text cert_text (Ok size) → (result : Result Status Fault) →
+    OnOk result (InputHasNoLegalSchedule trace)
+shown_either trace trace_text cert_text (Cubes count) handed said result = shown trace trace_text cert_text count handed said.1 result
+shown_either trace trace_text cert_text (Clauses count) handed said (Ok status) = record {
+  text = trace_text;
+  handed = handed;
+  value = said.1.some.value;
+  is_trace = said.1.some.is_trace;
+  spelled = said.1.some.spelled;
+  no_schedule = said.1.no_schedule;
+}
+shown_either trace trace_text cert_text (Clauses count) handed said (Err fault) = tt
+
+-- what is nothing in both cases is nothing
+pub none_of_both : (b : Bool) → MatchBool b ⊥ ⊥ → ⊥
+none_of_both true e = e
+none_of_both false e = e

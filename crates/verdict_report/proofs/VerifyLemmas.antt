@@ -12,7 +12,7 @@ use Rattle.trace_decision.specs.declared.decision.Decision.{Decision}
 use Rattle.trace_decision.specs.declared.decision.Decision.TheVariants.{Consistent, Inconsistent, Unknown as NotDecided}
 use Rattle.trace_decision.specs.Decision.{report}
 use Rattle.verdict_report.specs.declared.fault.Fault.{Fault}
-use Rattle.verdict_report.specs.declared.fault.Fault.TheVariants.{OutOfMemory, Device, InputTooLong, Trace, Schedule, Part, Model, Cnf, Lrat, Reduce, Decode, Check, Cert, Search}
+use Rattle.verdict_report.specs.declared.fault.Fault.TheVariants.{OutOfMemory, Device, InputTooLong, Trace, Schedule, Part, Model, Cnf, Lrat, Reduce, Decode, Check, Cert, Reasons, Search}
 use Rattle.verdict_report.specs.declared.status.Status.{Status}
 use Rattle.verdict_report.specs.declared.status.Status.TheVariants.{Yes, No, Unknown}
 use Rattle.verdict_report.specs.Admitted.{Admits, IsReducedFrom}
@@ -38,6 +38,7 @@ unreduced text (Reduce StillTooLarge left) r = r
 unreduced text (Decode cause clause) r = absurd r
 unreduced text (Check cause step) r = absurd r
 unreduced text (Cert cause place) r = absurd r
+unreduced text (Reasons cause line) r = absurd r
 unreduced text (Search cause) r = absurd r
 
 -- the search has no results

@@ -14,6 +14,7 @@ use Rattle.certificate.specs.CertCause as cert
 use Rattle.lrat_check.specs.LratFault as lrat
 use Rattle.lrat_check.specs.Refusal as check
 use Rattle.model_text.specs.ModelCauses as model
+use Rattle.reason_clauses.specs.Cause as reasons
 use Rattle.reducer.specs.ReduceCauses as reduce
 use Rattle.schedule_decode.specs.DecodeCauses as decode
 use Rattle.schedule_text.specs.ScheduleCauses as schedule
@@ -22,7 +23,9 @@ use Rattle.trace_text.specs.TraceCauses as trace
 use Rattle.cube_jobs.specs.SearchCauses as search
 use Rattle.cube_jobs.specs.declared.search_fault.SearchCause.{SearchCause}
 use Rattle.verdict_report.specs.declared.fault.Fault.{Fault}
-use Rattle.verdict_report.specs.declared.fault.Fault.TheVariants.{OutOfMemory, Device, InputTooLong, Trace, Schedule, Part, Model, Cnf, Lrat, Reduce, Decode, Check, Cert, Search}
+use Rattle.verdict_report.specs.declared.fault.Fault.TheVariants.{OutOfMemory, Device, InputTooLong, Trace, Schedule, Part, Model, Cnf, Lrat, Reduce, Decode, Check, Cert, Reasons, Search}
+use Rattle.reason_check.specs.declared.reasons_fault.ReasonsFault.{ReasonsFault}
+use Rattle.reason_check.specs.declared.reasons_fault.ReasonsFault.TheVariants.{OutOfMemory as NoReasonMemory, Line, Lrat as BadStep, Step}
 use Rattle.verdict_report.specs.declared.reading.ReadFault.{ReadFault}
 use Rattle.verdict_report.specs.declared.reading.ReadFault.TheVariants.{OutOfMemory as NoReadMemory, Device as SourceFailed, TooLong}
 use Rattle.verdict_report.specs.declared.status.Status.{Status}
@@ -54,6 +57,7 @@ told (Decode cause clause) = located (codes "decode") (decode.cause_number cause
 told (Search cause) = record { area = codes "search"; number = Some (search.cause_number cause); name = search.cause_name cause; place = None }
 told (Check cause step) = located (codes "check") (check.fault_number cause) (check.fault_name cause) step
 told (Cert cause place) = located (codes "cert") (cert.cause_number cause) (cert.cause_name cause) place
+told (Reasons cause line) = located (codes "reasons") (reasons.cause_number cause) (reasons.cause_name cause) line
 
 -- what refused
 abbrev pub area_of : Fault → List ℕ
@@ -94,6 +98,13 @@ abbrev pub fault_of_reading : ReadFault → Fault
 fault_of_reading NoReadMemory = OutOfMemory
 fault_of_reading SourceFailed = Device
 fault_of_reading TooLong = InputTooLong
+
+-- what is wrong with a derivation of reasons is said as of any derivation
+abbrev pub fault_of_reasons : ReasonsFault → Fault
+fault_of_reasons NoReasonMemory = OutOfMemory
+fault_of_reasons (Line cause line) = Reasons cause line
+fault_of_reasons (BadStep cause line) = Lrat cause line
+fault_of_reasons (Step fault step) = Check fault step
 
 -- lack of memory is the engine's own
 abbrev pub fault_of_search : PlainFault SearchCause → Fault

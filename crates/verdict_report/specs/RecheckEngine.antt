@@ -1,11 +1,13 @@
 -- What the engine that checks certificates answers and writes.
-use Rattle.std.specs.Prelude.{◌⊎◌, ⊤, ℕ, List, [], ◌∷◌, ◌++◌, codes, decimal, Result, Ok, Err}
+use Rattle.std.specs.Prelude.{◌≡◌, ◌⊎◌, ⊤, ℕ, true, false, List, [], ◌∷◌, ◌++◌, codes, decimal, Result, Ok, Err}
+use Rattle.std.specs.Bool.{MatchBool}
 use Rattle.certificate.specs.CertFaults.{HasCertFault}
 use Rattle.certificate.specs.CertText.{SpellsCertificate}
 use Rattle.certificate.specs.Rechecked.{IsRechecked, HasRecheckFault}
 use Rattle.certificate.specs.declared.cert_fault.CertCause.{CertCause}
 use Rattle.certificate.specs.declared.certificate.Certificate.{Certificate}
 use Rattle.clause_blocks.specs.Clauses.{clauses_of}
+use Rattle.reason_text.specs.Header.{begins_reasons}
 use Rattle.reducer.specs.Reduced.{ReducedValue}
 use Rattle.reducer.specs.Reduction.{kept_trace}
 use Rattle.reducer.specs.declared.reduce_fault.ReduceCause.TheVariants.{StillTooLarge}
@@ -14,7 +16,9 @@ use Rattle.trace_semantics.specs.Trace.{TraceValue, IsTrace}
 use Rattle.trace_text.specs.TraceFault.{HasTraceFault}
 use Rattle.trace_text.specs.TraceText.{SpellsTrace}
 use Rattle.verdict_report.specs.declared.fault.Fault.{Fault}
-use Rattle.verdict_report.specs.declared.fault.Fault.TheVariants.{OutOfMemory, Trace, Cert, Reduce}
+use Rattle.verdict_report.specs.declared.fault.Fault.TheVariants.{OutOfMemory, Trace, Cert, Reduce, Lrat, Check, Reasons}
+use Rattle.verdict_report.specs.declared.recheck_engine.CertificateSize.{CertificateSize}
+use Rattle.verdict_report.specs.declared.recheck_engine.CertificateSize.TheVariants.{Cubes, Clauses}
 use Rattle.verdict_report.specs.declared.status.Status.{Status}
 use Rattle.verdict_report.specs.declared.status.Status.TheVariants.{Yes}
 use Rattle.verdict_report.specs.Admitted.{Admits, IsTooLarge}
@@ -80,10 +84,49 @@ rechecked_line count = codes "ACCEPTED cubes=" ++ (decimal count ++ codes "\n")
 abbrev pub rechecked_status : ℕ → Status
 rechecked_status count = Yes
 
+-- the text spells a trace, and if it is refuted, one that has no legal schedule
+pub record SpellsSomeTrace (text : List ℕ) : Type 0 where
+  pub value : TraceValue
+  pub is_trace : IsTrace value
+  pub spelled : SpellsTrace text value
+
+pub record SpellsRefuted (text : List ℕ) : Type 0 where
+  pub some : SpellsSomeTrace text
+  pub no_schedule : HasNoSchedule some.value
+
+-- What is said of a trace's text and a certificate of reasons, if it is accepted, or the trace or the certificate is refused. A trace may have
+-- any length, and an accepted certificate shows that it has no legal schedule.
+abbrev pub IsSaidOfReasons : List ℕ → Result ℕ Fault → Type 0
+IsSaidOfReasons trace_text (Ok count) = SpellsRefuted trace_text
+IsSaidOfReasons trace_text (Err OutOfMemory) = ⊤
+IsSaidOfReasons trace_text (Err (Trace cause line)) = HasTraceFault trace_text cause line
+IsSaidOfReasons trace_text (Err (Reasons cause line)) = SpellsSomeTrace trace_text
+IsSaidOfReasons trace_text (Err (Lrat cause line)) = SpellsSomeTrace trace_text
+IsSaidOfReasons trace_text (Err (Check fault step)) = SpellsSomeTrace trace_text
+IsSaidOfReasons trace_text (Err fault) = ⊥
+
+-- what is said of a trace and a certificate, which has reasons if its first line is their header, and else a tree
+abbrev pub IsSaidOfEither : List ℕ → List ℕ → Result CertificateSize Fault → Type 0
+IsSaidOfEither trace_text cert_text (Ok (Cubes count)) = (begins_reasons cert_text ≡ false) × IsSaidOfCertificate trace_text cert_text (Ok count)
+IsSaidOfEither trace_text cert_text (Ok (Clauses count)) = (begins_reasons cert_text ≡ true) × IsSaidOfReasons trace_text (Ok count)
+IsSaidOfEither trace_text cert_text (Err fault) =
+    MatchBool (begins_reasons cert_text) (IsSaidOfReasons trace_text (Err fault)) (IsSaidOfCertificate trace_text cert_text (Err fault))
+
+-- the line of a certificate of reasons
+abbrev pub clauses_line : ℕ → List ℕ
+clauses_line count = codes "ACCEPTED clauses=" ++ (decimal count ++ codes "\n")
+
+abbrev pub size_line : CertificateSize → List ℕ
+size_line (Cubes count) = rechecked_line count
+size_line (Clauses count) = clauses_line count
+
+abbrev pub size_status : CertificateSize → Status
+size_status size = Yes
+
 -- what the engine answers, by what the sources hand out and the sink takes
 abbrev pub IsRunOfRecheck : SourceRun → SourceRun → SinkRun → Result Status Fault → Type 0
 IsRunOfRecheck trace cert out =
-    IsRunOfEngine AtOnce (of_two IsSaidOfCertificate) (λ count. rechecked_line count ∷ []) rechecked_status (trace ∷ cert ∷ []) (out ∷ [])
+    IsRunOfEngine AtOnce (of_two IsSaidOfEither) (λ size. size_line size ∷ []) size_status (trace ∷ cert ∷ []) (out ∷ [])
 
 -- the source handed out the text of a trace that has no legal schedule
 pub record InputHasNoLegalSchedule (trace : SourceRun) : Type 0 where

@@ -25,7 +25,7 @@ use Rattle.verdict_report.specs.Admitted.{Admits, IsTooLarge}
 use Rattle.verdict_report.specs.Engine.{AtOnce, InPieces, IsRunOfEngine, of_one}
 use Rattle.verdict_report.specs.Runs.{SourceRun, SinkRun, HandsOut}
 
--- the text spells an admitted trace, of which this is decided by a search with these options
+-- the text spells an admitted trace, of which this is decided; cubes that are left open are some that a search with these options can leave open
 pub record IsDecidedFrom (options : OptionsValue) (text : List ℕ) (decision : Decision) : Type 0 where
   pub value : TraceValue
   pub admitted : Admits text value
@@ -76,7 +76,7 @@ pub record ReportsLegalSchedule (trace : SourceRun) (out : SinkRun) : Type 0 whe
   pub told : SpellsSchedule schedule names
   pub legal : IsLegal value names
 
--- the source handed out the text of a trace, and the sink took the report of the cubes that a search with these options leaves open; each
+-- the source handed out the text of a trace, and the sink took the report of cubes that a search with these options can leave open; each
 -- legal schedule of the trace, restricted to the operations that are kept, is in one of them, and so are all models of the clauses
 pub record TellsOpen (options : OptionsValue) (trace : SourceRun) (out : SinkRun) : Type 0 where
   pub text : List ℕ

@@ -8,6 +8,7 @@ use cube_jobs::SearchCause;
 use lrat_check::lrat_fault::LratCause;
 use lrat_check::refusal::StepFault;
 use model_text::ModelCause;
+use reason_clauses::cause::ReasonCause;
 use reducer::reduce_fault::ReduceCause;
 use schedule_decode::decode_fault::DecodeCause;
 use schedule_text::schedule_fault::ScheduleCause;
@@ -60,6 +61,9 @@ pub enum Fault {
     /// number, counted from 0.
     #[error("cert {number} {name} at {1}", number = .0.number(), name = .0.name())]
     Cert(CertCause, usize),
+    /// What is wrong with a line of a certificate of reasons, and its number, counted from 1.
+    #[error("reasons {number} {name} at {1}", number = .0.number(), name = .0.name())]
+    Reasons(ReasonCause, usize),
     /// Why the search has no results. If memory ran out, it is `OutOfMemory`, as everywhere.
     #[error("search {number} {name}", number = .0.number(), name = .0.name())]
     Search(SearchCause),
@@ -133,6 +137,7 @@ impl Fault {
             Fault::Decode(cause, clause) => located("decode", cause, *clause),
             Fault::Check(cause, step) => located("check", cause, *step),
             Fault::Cert(cause, place) => located("cert", cause, *place),
+            Fault::Reasons(cause, line) => located("reasons", cause, *line),
             Fault::Search(cause) => FaultLine {
                 area: "search",
                 number: Some(cause.number()),
@@ -143,7 +148,7 @@ impl Fault {
     }
 
     /// Gives what refused: `memory`, `device`, `input`, `trace`, `schedule`, `part`, `model`, `cnf`, `lrat`, `reduce`, `decode`, `check`,
-    /// `cert` or `search`.
+    /// `cert`, `reasons` or `search`.
     pub fn area(&self) -> &'static str
         ensures { result.now ≡ area_of self.now }
     {

@@ -11,6 +11,7 @@ use dimacs::{Failed, SinkFault};
 use lrat_check::lrat_fault::LratCause;
 use lrat_check::refusal::StepFault;
 use model_text::ModelCause;
+use reason_check::reasons_fault::ReasonsFault;
 use reducer::reduce_fault::ReduceCause;
 use schedule_decode::decode_fault::DecodeCause;
 use schedule_text::schedule_fault::ScheduleCause;
@@ -185,6 +186,22 @@ impl From<SinkFault> for Fault {
         match fault {
             SinkFault::OutOfMemory => Fault::OutOfMemory,
             SinkFault::Device => Fault::Device,
+        }
+    }
+}
+
+impl From<ReasonsFault> for Fault {
+    ghost use Rattle.std.specs.Prelude.{◌≡◌};
+    ghost use Rattle.verdict_report.specs.Fault.{fault_of_reasons};
+
+    ghost from_gives = { λ fault e. e ≡ fault_of_reasons fault };
+
+    fn from(fault: ReasonsFault) -> Fault {
+        match fault {
+            ReasonsFault::OutOfMemory => Fault::OutOfMemory,
+            ReasonsFault::Line(cause, line) => Fault::Reasons(cause, line),
+            ReasonsFault::Lrat(cause, line) => Fault::Lrat(cause, line),
+            ReasonsFault::Step(fault, step) => Fault::Check(fault, step),
         }
     }
 }

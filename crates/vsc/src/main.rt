@@ -1,13 +1,9 @@
 //! The program `vsc`: a command line, run with the system as its host.
 #![tactic(auto)]
 
-ghost use Rattle.clap.specs.Walk.{texts};
-ghost use Rattle.command_host.specs.Streams.{sink_view, source_view};
-ghost use Rattle.command_run.specs.CommandRun.{EndsWords};
 ghost use Rattle.command_run.specs.ExitStatus.{IsExitStatus};
-ghost use Rattle.verdict_report.specs.Runs.{sink_run};
 
-use command_host::{Host, Recalls, Recorder};
+use command_host::{Recalls, Recorder};
 use command_run::{ArgumentFault, refuse, run, words_of};
 use dimacs::Sink;
 use std::env;
@@ -29,39 +25,8 @@ fn arguments(rt: &HostRuntime) -> Result<Vec<String>, ArgumentFault> {
     }
 }
 
-/// Does what the words ask for, and gives the exit status. Nothing is known of the host here, so what is said of its files holds of those of the
-/// system, which `run_on_system` hands on.
-fn run_words<'x, R: Threads + Wait + Sync, H: Host<'x>, O: Sink + Recalls, E: Sink>(
-    rt: &HostRuntime,
-    threads: &R,
-    host: &mut H,
-    words: &'x [&'x str],
-    out: &mut O,
-    err: &mut E,
-    is_terminal: bool,
-) -> u8
-    ensures ends { EndsWords H.calls (source_view H.Input.handed_out H.Input.is_at_end H.Input.failures H.Input.path)
-        (sink_view H.Output.written H.Output.failures H.Output.path)
-        is_terminal host.old (texts words.now)
-        (sink_run O.written O.failures out.old out.new)
-        (sink_run E.written E.failures err.old err.new)
-        result host.new }
-    ensures known { IsExitStatus result }
-{
-    let progress = Progress::new(rt);
-    run(
-        rt.alloc(),
-        threads,
-        &progress,
-        host,
-        words,
-        is_terminal,
-        out,
-        err,
-    )
-}
-
-/// Does what the words ask for, with the files of the system, and gives the exit status.
+/// Does what the words ask for, with the files of the system, and gives the exit status. What `run` knows of these is what it knows of any
+/// host, and it gets no runtime by which it could write elsewhere.
 fn run_on_system<'x, R: Threads + Wait + Sync, O: Sink + Recalls, E: Sink>(
     rt: &'x HostRuntime,
     threads: &R,
@@ -73,7 +38,17 @@ fn run_on_system<'x, R: Threads + Wait + Sync, O: Sink + Recalls, E: Sink>(
     ensures { IsExitStatus result }
 {
     let mut host = SystemHost::new(rt);
-    run_words(rt, threads, &mut host, words, out, err, is_terminal)
+    let progress = Progress::new(rt);
+    run(
+        rt.alloc(),
+        threads,
+        &progress,
+        &mut host,
+        words,
+        is_terminal,
+        out,
+        err,
+    )
 }
 
 fn main(rt: HostRuntime) -> ExitCode {

@@ -18,7 +18,7 @@ use Rattle.trace_decision.specs.declared.refutation.Refutation.{Refutation}
 use Rattle.trace_decision.specs.Decision.{certificate_text, certificate_in}
 use Rattle.verdict_report.specs.Admitted.{Admits}
 use Rattle.verdict_report.specs.declared.fault.Fault.{Fault}
-use Rattle.verdict_report.specs.declared.fault.Fault.TheVariants.{OutOfMemory, Device, InputTooLong, Trace, Schedule, Part, Model, Cnf, Lrat, Reduce, Decode, Check, Cert, Search}
+use Rattle.verdict_report.specs.declared.fault.Fault.TheVariants.{OutOfMemory, Device, InputTooLong, Trace, Schedule, Part, Model, Cnf, Lrat, Reduce, Decode, Check, Cert, Reasons, Search}
 use Rattle.verdict_report.specs.RecheckEngine.{IsSaidOfCertificate}
 use Rattle.core_recheck.specs.CoreRecheck.{IsAcceptedOf}
 use Rattle.core_recheck.proofs.laws.certificate_is_rechecked.Goals as goal
@@ -56,6 +56,7 @@ module _ (t : TraceValue) (refutation : Refutation) (trace_text : List ℕ) (adm
   rechecked (Err (Lrat cause line)) said = absurd said
   rechecked (Err (Decode cause clause)) said = absurd said
   rechecked (Err (Check cause step)) said = absurd said
+  rechecked (Err (Reasons cause line)) said = absurd said
   rechecked (Err (Search fault)) said = absurd said
 
 pub returns : goal.returns

@@ -29,7 +29,7 @@ use Rattle.survey_verdict.specs.declared.surveyed.Surveyed.TheVariants.{Refuted}
 use Rattle.survey_verdict.specs.Surveyed.{IsRefutedCore, core_names, survey_certificate}
 use Rattle.trace_decision.specs.Decision.{certificate_in}
 use Rattle.verdict_report.specs.declared.fault.Fault.{Fault}
-use Rattle.verdict_report.specs.declared.fault.Fault.TheVariants.{OutOfMemory, Device, InputTooLong, Trace, Schedule, Part, Model, Cnf, Lrat, Reduce, Decode, Check, Cert, Search}
+use Rattle.verdict_report.specs.declared.fault.Fault.TheVariants.{OutOfMemory, Device, InputTooLong, Trace, Schedule, Part, Model, Cnf, Lrat, Reduce, Decode, Check, Cert, Reasons, Search}
 use Rattle.part_report.specs.PartEngine.{HasFaultyChoice, MakeUp}
 use Rattle.part_report.specs.PartRecheckEngine.{AreNotRecheckedByPart, IsSaidByPart}
 use Rattle.core_recheck.specs.CoreRecheck.{IsAcceptedOf}
@@ -87,6 +87,7 @@ module _ (options : OptionsValue) (t : TraceValue) (core : RefutedCore) (trace_t
   rechecked (Err (Lrat cause line)) said = absurd said
   rechecked (Err (Decode cause clause)) said = absurd said
   rechecked (Err (Check cause step)) said = absurd said
+  rechecked (Err (Reasons cause line)) said = absurd said
   rechecked (Err (Search fault)) said = absurd said
 
 pub returns : goal.returns

@@ -36,8 +36,8 @@ returns-clause-certified g c =
     let names : SinkRun = sink_run g.N.Sink.written g.N.Sink.failures c.args.names.now c.write_names.new.names in
     let part : SinkRun = sink_run g.P.Sink.written g.P.Sink.failures c.args.part.now c.write_core_part.new.part in
     let out : SinkRun = sink_run g.W.Sink.written g.W.Sink.failures c.args.out.now c.write_report.new.out in
-    certified trace cert names part c.in_ok-text.text.items (search rules) c.args.options.now c.certificate_is_accepted.ensures.spelled c.certificate_is_accepted.ensures.accepted c.core_certificate_is_accepted.ensures c.core_part_spells.ensures c.core_names_spell.ensures c.core_part_is_a_trace.ensures
-    c.in_ok-surveyed.surveyed (search rules) c.in_ok-write_survey_certificate.ensures.whole c.in_ok-write_names.ensures.whole c.in_ok-write_core_part.ensures.whole out c.write_report.result c.write_report.ensures.run
+    certified trace cert names part out c.in_ok-text.text.items (search rules) c.args.options.now c.certificate_is_accepted.ensures.spelled c.certificate_is_accepted.ensures.accepted c.core_certificate_is_accepted.ensures c.core_part_spells.ensures c.core_names_spell.ensures c.core_part_is_a_trace.ensures
+    c.in_ok-surveyed.surveyed (search rules) c.in_ok-write_survey_certificate.ensures.whole c.in_ok-write_names.ensures.whole c.in_ok-write_core_part.ensures.whole c.write_report.result c.write_report.ensures.run
 
 pub returns-clause-silent : goal.returns-clause-silent
 returns-clause-silent g c =

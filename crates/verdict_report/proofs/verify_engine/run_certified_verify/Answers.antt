@@ -20,7 +20,7 @@ use Rattle.verdict_report.specs.Engine.{InPieces, of_one, HandOut, IsRunOfWritin
 use Rattle.verdict_report.specs.Runs.{SourceRun, SinkRun, source_run, sink_run}
 use Rattle.verdict_report.specs.VerifyEngine.{IsSaidOfTrace, status_of_decision, texts_with_certificate, WritesAcceptedCertificate, IsDecidedFrom, IsRunOfCertifiedVerify}
 use Rattle.verdict_report.specs.declared.fault.Fault.{Fault}
-use Rattle.verdict_report.specs.declared.fault.Fault.TheVariants.{OutOfMemory, Device, InputTooLong, Trace, Schedule, Part, Model, Cnf, Lrat, Reduce, Decode, Check, Cert, Search}
+use Rattle.verdict_report.specs.declared.fault.Fault.TheVariants.{OutOfMemory, Device, InputTooLong, Trace, Schedule, Part, Model, Cnf, Lrat, Reduce, Decode, Check, Cert, Reasons, Search}
 use Rattle.verdict_report.specs.declared.status.Status.{Status}
 use Rattle.verdict_report.specs.declared.status.Status.TheVariants.{Yes, No, Unknown}
 use Rattle.verdict_report.specs.Fault.{fault_of_sink}
@@ -60,6 +60,7 @@ module _ (trace : SourceRun) (cert out : SinkRun) (text : List ℕ) (handed : Ha
   report_written whole (Err (Decode cause clause)) w = absurd w
   report_written whole (Err (Check cause step)) w = absurd w
   report_written whole (Err (Cert cause place)) w = absurd w
+  report_written whole (Err (Reasons cause line)) w = absurd w
   report_written whole (Err (Search fault)) w = absurd w
 
 -- what the laws say of a certificate that is written

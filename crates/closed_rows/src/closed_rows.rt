@@ -1,0 +1,314 @@
+//! Rows of places.
+
+use numbered_log::NumberedLog;
+use order_sets::tables::{at, put, size};
+use std::alloc::{AllocError, Global};
+
+/// A change of an entry of a row: its index in its table, and its value before.
+#[derive(Clone, Copy)]
+struct RowChange {
+    index: u32,
+    old: u32,
+    is_after: bool,
+}
+
+/// The most changes that are kept, at 12 bytes each.
+const MAX_ROW_CHANGES: usize = 1 << 22;
+
+/// A place of a process.
+#[derive(Clone, Copy)]
+pub struct RowEntry {
+    pub process: u32,
+    pub place: u32,
+}
+
+/// No place.
+const NO_BOUND: RowEntry = RowEntry {
+    process: 0,
+    place: 0,
+};
+
+/// For each operation two rows with a place for each process: the first of its operations that stands after this one, and the last one
+/// that stands before it. As a process is a chain, these say of each two operations whether one stands before the other.
+pub struct ClosedRows {
+    width: u32,
+    /// The place after the last where nothing stands after the operation.
+    after: Vec<u32>,
+    /// 0 where nothing stands before it.
+    before: Vec<u32>,
+    changes: Vec<RowChange>,
+    keeps_changes: bool,
+    /// What a new pair says of what stands before its second operation, where that is news.
+    floors: Vec<RowEntry>,
+    /// What it says of what stands after its first operation.
+    ceilings: Vec<RowEntry>,
+}
+
+/// Drops the tables, in one call at each exit of a function that owns rows.
+impl Drop for ClosedRows {
+    fn drop(self) {
+        let ClosedRows {
+            width: _,
+            after: _after,
+            before: _before,
+            changes: _changes,
+            keeps_changes: _,
+            floors: _floors,
+            ceilings: _ceilings,
+        } = self;
+    }
+}
+
+impl ClosedRows {
+    /// The rows of program order alone.
+    pub fn new(alloc: Global, log: &NumberedLog) -> Result<ClosedRows, AllocError> {
+        let width = log.processes();
+        let entries = log.count().wrapping_mul(width) as usize;
+        let mut rows = ClosedRows {
+            width,
+            after: vec![in alloc; 0; entries]?,
+            before: vec![in alloc; 0; entries]?,
+            changes: Vec::new(alloc),
+            keeps_changes: false,
+            floors: Vec::with_capacity(alloc, width as usize)?,
+            ceilings: Vec::with_capacity(alloc, width as usize)?,
+        };
+        for number in 0..log.count() {
+            rows.set_program_order(log, number);
+        }
+        Ok(rows)
+    }
+
+    fn set_program_order(&mut self, log: &NumberedLog, number: u32) {
+        let operation = log.operation(number);
+        let base = number.wrapping_mul(self.width);
+        for process in 0..self.width {
+            let index = base.wrapping_add(process);
+            let mut after = log.length(process).wrapping_add(1);
+            if process == operation.process {
+                after = operation.place.wrapping_add(1);
+                let before = operation.place.wrapping_sub(1);
+                put(self.before.as_mut_slice(), index, before);
+            }
+            put(self.after.as_mut_slice(), index, after);
+        }
+    }
+
+    /// The number of processes.
+    #[inline(always)]
+    pub fn width(&self) -> u32 {
+        self.width
+    }
+
+    #[inline(always)]
+    fn index(&self, number: u32, process: u32) -> u32 {
+        number.wrapping_mul(self.width).wrapping_add(process)
+    }
+
+    /// The place of the process's first operation that stands after this one.
+    #[inline(always)]
+    pub fn after(&self, number: u32, process: u32) -> u32 {
+        at(self.after.as_slice(), self.index(number, process), 0)
+    }
+
+    /// The place of the process's last operation that stands before this one, or 0.
+    #[inline(always)]
+    pub fn before(&self, number: u32, process: u32) -> u32 {
+        at(self.before.as_slice(), self.index(number, process), 0)
+    }
+
+    /// Returns whether the first operation stands before the second.
+    #[inline(always)]
+    pub fn stands_before(&self, log: &NumberedLog, first: u32, second: u32) -> bool {
+        let other = log.operation(second);
+        self.after(first, other.process) <= other.place
+    }
+
+    /// Notes what the new pair says: the places that are news for the rows of its two operations. Of other rows only these entries can
+    /// change, as rows are closed.
+    pub fn begin_pair(
+        &mut self,
+        log: &NumberedLog,
+        first: u32,
+        second: u32,
+    ) -> Result<(), AllocError> {
+        self.floors.clear();
+        self.ceilings.clear();
+        let earlier = log.operation(first);
+        let later = log.operation(second);
+        for process in 0..self.width {
+            let mut place = self.before(first, process);
+            if process == earlier.process {
+                place = earlier.place;
+            }
+            if place > self.before(second, process) && process != later.process {
+                self.floors.push(RowEntry { process, place })?;
+            }
+            let mut place = self.after(second, process);
+            if process == later.process {
+                place = later.place;
+            }
+            if place < self.after(first, process) && process != earlier.process {
+                self.ceilings.push(RowEntry { process, place })?;
+            }
+        }
+        Ok(())
+    }
+
+    /// The number of entries that the new pair raises in rows of what stands before.
+    #[inline(always)]
+    pub fn floors(&self) -> u32 {
+        size(self.floors.as_slice())
+    }
+
+    /// The entry of this number.
+    #[inline(always)]
+    pub fn floor(&self, number: u32) -> RowEntry {
+        at(self.floors.as_slice(), number, NO_BOUND)
+    }
+
+    /// The number of entries that the new pair lowers in rows of what stands after.
+    #[inline(always)]
+    pub fn ceilings(&self) -> u32 {
+        size(self.ceilings.as_slice())
+    }
+
+    /// The entry of this number.
+    #[inline(always)]
+    pub fn ceiling(&self, number: u32) -> RowEntry {
+        at(self.ceilings.as_slice(), number, NO_BOUND)
+    }
+
+    /// Sets an entry of what stands before, and keeps what it was if changes are kept.
+    #[inline(always)]
+    pub fn raise(&mut self, number: u32, bound: RowEntry) -> Result<(), AllocError> {
+        let index = self.index(number, bound.process);
+        if self.keeps_changes {
+            let old = at(self.before.as_slice(), index, 0);
+            let is_after = false;
+            self.changes.push(RowChange {
+                index,
+                old,
+                is_after,
+            })?;
+        }
+        put(self.before.as_mut_slice(), index, bound.place);
+        Ok(())
+    }
+
+    /// Sets an entry of what stands after, and keeps what it was if changes are kept.
+    #[inline(always)]
+    pub fn lower(&mut self, number: u32, bound: RowEntry) -> Result<(), AllocError> {
+        let index = self.index(number, bound.process);
+        if self.keeps_changes {
+            let old = at(self.after.as_slice(), index, 0);
+            let is_after = true;
+            self.changes.push(RowChange {
+                index,
+                old,
+                is_after,
+            })?;
+        }
+        put(self.after.as_mut_slice(), index, bound.place);
+        Ok(())
+    }
+
+    /// Sets the row of what stands before the operation to that of the one before it in its process.
+    pub fn begin_before(&mut self, log: &NumberedLog, number: u32) {
+        let operation = log.operation(number);
+        for process in 0..self.width {
+            let mut place = 0;
+            if process == operation.process {
+                place = operation.place.wrapping_sub(1);
+            } else if operation.place > 1 {
+                place = self.before(number.wrapping_sub(1), process);
+            }
+            let index = self.index(number, process);
+            put(self.before.as_mut_slice(), index, place);
+        }
+    }
+
+    /// Raises the row of what stands before the operation to that of one which stands before it, and this one's place.
+    pub fn raise_to(&mut self, log: &NumberedLog, number: u32, earlier: u32) {
+        let other = log.operation(earlier);
+        for process in 0..self.width {
+            let mut place = self.before(earlier, process);
+            if process == other.process {
+                place = other.place;
+            }
+            let index = self.index(number, process);
+            if at(self.before.as_slice(), index, 0) < place {
+                put(self.before.as_mut_slice(), index, place);
+            }
+        }
+    }
+
+    /// Sets the row of what stands after the operation to that of the one behind it in its process.
+    pub fn begin_after(&mut self, log: &NumberedLog, number: u32) {
+        let operation = log.operation(number);
+        let is_last = operation.place >= log.length(operation.process);
+        for process in 0..self.width {
+            let mut place = log.length(process).wrapping_add(1);
+            if process == operation.process {
+                place = operation.place.wrapping_add(1);
+            } else if !is_last {
+                place = self.after(number.wrapping_add(1), process);
+            }
+            let index = self.index(number, process);
+            put(self.after.as_mut_slice(), index, place);
+        }
+    }
+
+    /// Lowers the row of what stands after the operation to that of one which stands after it, and this one's place.
+    pub fn lower_to(&mut self, log: &NumberedLog, number: u32, later: u32) {
+        let other = log.operation(later);
+        for process in 0..self.width {
+            let mut place = self.after(later, process);
+            if process == other.process {
+                place = other.place;
+            }
+            let index = self.index(number, process);
+            if at(self.after.as_slice(), index, 0) > place {
+                put(self.after.as_mut_slice(), index, place);
+            }
+        }
+    }
+
+    /// Returns whether there is no room for a further change.
+    #[inline(always)]
+    pub fn is_full(&self) -> bool {
+        self.changes.len() >= MAX_ROW_CHANGES
+    }
+
+    /// Keeps each change from now on, so that it can be undone. Returns how many are kept so far.
+    pub fn keep_changes(&mut self) -> usize {
+        self.keeps_changes = true;
+        self.changes.len()
+    }
+
+    /// Undoes changes, the last first, until this number is left, and says whether changes are kept from now on.
+    pub fn take_back(&mut self, left: usize, keeps_changes: bool) {
+        self.keeps_changes = keeps_changes;
+        for _ in left..self.changes.len() {
+            let Some(change) = self.changes.pop() else {
+                break;
+            };
+            if change.is_after {
+                put(self.after.as_mut_slice(), change.index, change.old);
+            } else {
+                put(self.before.as_mut_slice(), change.index, change.old);
+            }
+        }
+    }
+
+    /// The sum of all places of both rows, which grows along each schedule: an estimate of twice the operation's place.
+    pub fn estimate(&self, number: u32) -> u32 {
+        let mut sum: u32 = 0;
+        for process in 0..self.width {
+            sum = sum
+                .wrapping_add(self.before(number, process))
+                .wrapping_add(self.after(number, process));
+        }
+        sum
+    }
+}

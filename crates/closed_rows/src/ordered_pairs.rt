@@ -1,0 +1,127 @@
+//! The pairs of which the first operation stands before the second, with their reasons.
+
+use numbered_log::NOBODY;
+use order_sets::tables::{at, put, size};
+use possible_sources::Time;
+use std::alloc::{AllocError, Global};
+
+/// The reason of a pair.
+#[derive(Clone, Copy, PartialEq, Eq)]
+pub enum PairReason {
+    /// The trace has it.
+    Given,
+    /// The first operation is the only source of this reader, or stands before all its sources, and the reader is the second.
+    BeforeReader(u32),
+    /// The second operation comes after all sources of this reader, which is the first, and is no read of what it reads.
+    AfterReader(u32),
+    /// The first operation stands before this reader, and the second is its only source.
+    BeforeSource(u32),
+    /// The second operation is the only last writer of this final value's location.
+    BeforeLast(u32),
+    /// It was decided.
+    Decided,
+    /// It is what the learned clause of this number leaves.
+    Learned(u32),
+    /// It was guessed, so nothing that rests on it is of the trace.
+    Guessed,
+}
+
+/// Two operations of which the first stands before the second.
+#[derive(Clone, Copy)]
+pub struct OrderedPair {
+    pub first: u32,
+    pub second: u32,
+    pub reason: PairReason,
+    pub time: Time,
+    /// The number of decisions that stood when it was added.
+    pub level: u32,
+    /// The pair before this one with the same first operation.
+    pub previous: u32,
+}
+
+/// No pair.
+pub const NO_PAIR: OrderedPair = OrderedPair {
+    first: NOBODY,
+    second: NOBODY,
+    reason: PairReason::Given,
+    time: Time::START,
+    level: 0,
+    previous: NOBODY,
+};
+
+/// All pairs, in the order of their times.
+#[derive(Drop)]
+pub struct OrderedPairs {
+    pairs: Vec<OrderedPair>,
+    /// For each operation its last pair as the first.
+    heads: Vec<u32>,
+}
+
+/// The most pairs, at 40 bytes each. Mostly there are fewer than twice as many as operations, and in a window one for each operation and
+/// process.
+const MAX_PAIRS: u32 = 1 << 21;
+
+impl OrderedPairs {
+    /// No pair, for a log of this number of operations.
+    pub fn new(alloc: Global, operations: u32) -> Result<OrderedPairs, AllocError> {
+        Ok(OrderedPairs {
+            pairs: Vec::new(alloc),
+            heads: vec![in alloc; NOBODY; operations as usize]?,
+        })
+    }
+
+    /// Adds the pair.
+    pub fn add(
+        &mut self,
+        first: u32,
+        second: u32,
+        reason: PairReason,
+        at_time: (Time, u32),
+    ) -> Result<(), AllocError> {
+        let number = self.count();
+        let previous = at(self.heads.as_slice(), first, NOBODY);
+        self.pairs.push(OrderedPair {
+            first,
+            second,
+            reason,
+            time: at_time.0,
+            level: at_time.1,
+            previous,
+        })?;
+        put(self.heads.as_mut_slice(), first, number);
+        Ok(())
+    }
+
+    /// The number of pairs.
+    #[inline(always)]
+    pub fn count(&self) -> u32 {
+        size(self.pairs.as_slice())
+    }
+
+    /// Returns whether there is no room for more.
+    pub fn is_full(&self) -> bool {
+        self.count() >= MAX_PAIRS
+    }
+
+    /// The pair of this number.
+    #[inline(always)]
+    pub fn pair(&self, number: u32) -> OrderedPair {
+        at(self.pairs.as_slice(), number, NO_PAIR)
+    }
+
+    /// The number of the last pair with this first operation, or `NOBODY`.
+    #[inline(always)]
+    pub fn last_of(&self, first: u32) -> u32 {
+        at(self.heads.as_slice(), first, NOBODY)
+    }
+
+    /// Takes pairs away, the last first, until this number is left.
+    pub fn take_back(&mut self, left: u32) {
+        for _ in left..self.count() {
+            let Some(pair) = self.pairs.pop() else {
+                break;
+            };
+            put(self.heads.as_mut_slice(), pair.first, pair.previous);
+        }
+    }
+}

@@ -1,0 +1,185 @@
+//! Rows of many pairs at once, by two topological sweeps.
+
+use crate::closed_rows::ClosedRows;
+use crate::ordered_pairs::OrderedPairs;
+use numbered_log::{NOBODY, NumberedLog};
+use order_sets::tables::{at, put, size};
+use std::alloc::{AllocError, Global};
+
+/// The result of two sweeps.
+#[derive(Clone, Copy, PartialEq, Eq)]
+pub enum Sweeps {
+    /// The rows have what follows from the pairs, and nothing else.
+    Closed,
+    /// The pairs are cyclic. The rows are of no use.
+    Cyclic,
+}
+
+/// A sweep over the operations in an order in which each comes behind all that stand before it.
+struct Sweep {
+    /// For each operation the last pair of which it is the second, or `NOBODY`.
+    heads: Vec<u32>,
+    /// For each pair the one before it with the same second operation.
+    next: Vec<u32>,
+    /// For each process the place of its next operation.
+    fronts: Vec<u32>,
+    /// For each process the operation that its next one waits for, or `NOBODY`.
+    awaited: Vec<u32>,
+    /// The operations that were passed.
+    passed: Vec<u32>,
+}
+
+/// Drops each table, in one call for each exit of a function that owns a sweep.
+impl Drop for Sweep {
+    fn drop(self) {
+        let Sweep {
+            heads: _heads,
+            next: _next,
+            fronts: _fronts,
+            awaited: _awaited,
+            passed: _passed,
+        } = self;
+    }
+}
+
+impl Sweep {
+    fn new(alloc: Global, log: &NumberedLog, pairs: &OrderedPairs) -> Result<Sweep, AllocError> {
+        let processes = log.processes() as usize;
+        let mut sweep = Sweep {
+            heads: vec![in alloc; NOBODY; log.count() as usize]?,
+            next: vec![in alloc; NOBODY; pairs.count() as usize]?,
+            fronts: vec![in alloc; 1; processes]?,
+            awaited: vec![in alloc; NOBODY; processes]?,
+            passed: Vec::with_capacity(alloc, log.count() as usize)?,
+        };
+        for number in 0..pairs.count() {
+            let second = pairs.pair(number).second;
+            let head = at(sweep.heads.as_slice(), second, NOBODY);
+            put(sweep.next.as_mut_slice(), number, head);
+            put(sweep.heads.as_mut_slice(), second, number);
+        }
+        Ok(sweep)
+    }
+
+    #[inline(always)]
+    fn has_passed(&self, log: &NumberedLog, number: u32) -> bool {
+        let operation = log.operation(number);
+        at(self.fronts.as_slice(), operation.process, 0) > operation.place
+    }
+
+    /// An operation that stands before this one by a pair and was not passed yet, or `NOBODY`.
+    fn missing(&self, log: &NumberedLog, pairs: &OrderedPairs, number: u32) -> u32 {
+        let mut pair = at(self.heads.as_slice(), number, NOBODY);
+        for _ in 0..pairs.count() {
+            if pair == NOBODY {
+                break;
+            }
+            let first = pairs.pair(pair).first;
+            if !self.has_passed(log, first) {
+                return first;
+            }
+            pair = at(self.next.as_slice(), pair, NOBODY);
+        }
+        NOBODY
+    }
+
+    /// Makes the row of what stands before the operation.
+    fn make_row(
+        &self,
+        log: &NumberedLog,
+        pairs: &OrderedPairs,
+        rows: &mut ClosedRows,
+        number: u32,
+    ) {
+        rows.begin_before(log, number);
+        let mut pair = at(self.heads.as_slice(), number, NOBODY);
+        for _ in 0..pairs.count() {
+            if pair == NOBODY {
+                break;
+            }
+            rows.raise_to(log, number, pairs.pair(pair).first);
+            pair = at(self.next.as_slice(), pair, NOBODY);
+        }
+    }
+
+    /// Passes operations of the process up to the first that has to wait. Returns whether there were any.
+    fn pass_process(
+        &mut self,
+        log: &NumberedLog,
+        pairs: &OrderedPairs,
+        rows: &mut ClosedRows,
+        process: u32,
+    ) -> Result<bool, AllocError> {
+        let awaited = at(self.awaited.as_slice(), process, NOBODY);
+        if awaited != NOBODY && !self.has_passed(log, awaited) {
+            return Ok(false);
+        }
+        let begin = at(self.fronts.as_slice(), process, 0);
+        let mut passes = false;
+        for place in begin..log.length(process).wrapping_add(1) {
+            let number = log.number(process, place);
+            let missing = self.missing(log, pairs, number);
+            put(self.awaited.as_mut_slice(), process, missing);
+            if missing != NOBODY {
+                break;
+            }
+            self.make_row(log, pairs, rows, number);
+            self.passed.push(number)?;
+            put(self.fronts.as_mut_slice(), process, place.wrapping_add(1));
+            passes = true;
+        }
+        Ok(passes)
+    }
+
+    /// Passes all operations, unless there is a cycle.
+    fn pass_all(
+        &mut self,
+        log: &NumberedLog,
+        pairs: &OrderedPairs,
+        rows: &mut ClosedRows,
+    ) -> Result<(), AllocError> {
+        for _ in 0..log.count() {
+            let mut passes = false;
+            for process in 0..log.processes() {
+                passes |= self.pass_process(log, pairs, rows, process)?;
+            }
+            if !passes {
+                break;
+            }
+        }
+        Ok(())
+    }
+
+    /// Makes the rows of what stands after each operation, from the last that was passed on.
+    fn sweep_back(&self, log: &NumberedLog, pairs: &OrderedPairs, rows: &mut ClosedRows) {
+        for number in self.passed.as_slice().iter().rev() {
+            rows.begin_after(log, *number);
+            let mut pair = pairs.last_of(*number);
+            for _ in 0..pairs.count() {
+                if pair == NOBODY {
+                    break;
+                }
+                let met = pairs.pair(pair);
+                rows.lower_to(log, *number, met.second);
+                pair = met.previous;
+            }
+        }
+    }
+}
+
+/// Makes all rows anew: of program order and the pairs. Each pair and each operation takes a look at one row of either kind, while a pair
+/// that is added by itself may change as many rows as there are operations.
+pub fn close_rows(
+    alloc: Global,
+    log: &NumberedLog,
+    pairs: &OrderedPairs,
+    rows: &mut ClosedRows,
+) -> Result<Sweeps, AllocError> {
+    let mut sweep = Sweep::new(alloc, log, pairs)?;
+    sweep.pass_all(log, pairs, rows)?;
+    if size(sweep.passed.as_slice()) < log.count() {
+        return Ok(Sweeps::Cyclic);
+    }
+    sweep.sweep_back(log, pairs, rows);
+    Ok(Sweeps::Closed)
+}

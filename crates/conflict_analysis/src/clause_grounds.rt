@@ -1,0 +1,125 @@
+//! What learned clauses rest on.
+
+use order_sets::tables::{at, size};
+use std::alloc::{AllocError, Global};
+
+/// Lists, one behind the other.
+pub(crate) struct GroundLists {
+    entries: Vec<u32>,
+    /// The place at which the first list begins, and for each list the place behind it.
+    ends: Vec<u32>,
+}
+
+/// Drops both tables, in one call for each exit of a function that owns lists.
+impl Drop for GroundLists {
+    fn drop(self) {
+        let GroundLists {
+            entries: _entries,
+            ends: _ends,
+        } = self;
+    }
+}
+
+impl GroundLists {
+    fn new(alloc: Global) -> Result<GroundLists, AllocError> {
+        Ok(GroundLists {
+            entries: Vec::new(alloc),
+            ends: vec![in alloc; 0; 1]?,
+        })
+    }
+
+    fn add(&mut self, list: &[u32]) -> Result<(), AllocError> {
+        for entry in list {
+            self.entries.push(*entry)?;
+        }
+        let end = self.size();
+        self.ends.push(end)?;
+        Ok(())
+    }
+
+    /// The number of entries of all lists.
+    fn size(&self) -> u32 {
+        size(self.entries.as_slice())
+    }
+
+    /// The place of the first entry of the list of this number.
+    pub(crate) fn begin(&self, number: u32) -> u32 {
+        at(self.ends.as_slice(), number, 0)
+    }
+
+    /// The place behind its last entry.
+    pub(crate) fn end(&self, number: u32) -> u32 {
+        self.begin(number.wrapping_add(1))
+    }
+
+    /// The entry at this place.
+    pub(crate) fn entry(&self, place: u32) -> u32 {
+        at(self.entries.as_slice(), place, 0)
+    }
+}
+
+/// The most entries of one kind.
+const MOST_ENTRIES: u32 = 1 << 21;
+
+/// For each learned clause what its derivation rests on: the operations that it names, the clauses that it uses, and pairs of no decision.
+pub(crate) struct ClauseGrounds {
+    pub(crate) operations: GroundLists,
+    pub(crate) clauses: GroundLists,
+    pub(crate) pairs: GroundLists,
+    count: u32,
+    is_whole: bool,
+}
+
+/// Drops each table, in one call for each exit of a function that owns grounds.
+impl Drop for ClauseGrounds {
+    fn drop(self) {
+        let ClauseGrounds {
+            operations: _operations,
+            clauses: _clauses,
+            pairs: _pairs,
+            count: _,
+            is_whole: _,
+        } = self;
+    }
+}
+
+impl ClauseGrounds {
+    /// The grounds of no clause.
+    pub(crate) fn new(alloc: Global) -> Result<ClauseGrounds, AllocError> {
+        Ok(ClauseGrounds {
+            operations: GroundLists::new(alloc)?,
+            clauses: GroundLists::new(alloc)?,
+            pairs: GroundLists::new(alloc)?,
+            count: 0,
+            is_whole: true,
+        })
+    }
+
+    /// The number of clauses.
+    pub(crate) fn count(&self) -> u32 {
+        self.count
+    }
+
+    /// Returns whether there was room for all that was added.
+    pub(crate) fn is_whole(&self) -> bool {
+        self.is_whole
+    }
+
+    /// Adds the grounds of the next clause, if there is room.
+    pub(crate) fn add(
+        &mut self,
+        operations: &[u32],
+        clauses: &[u32],
+        pairs: &[u32],
+    ) -> Result<(), AllocError> {
+        if self.operations.size() > MOST_ENTRIES || self.pairs.size() > MOST_ENTRIES {
+            self.is_whole = false;
+            return Ok(());
+        }
+        self.operations.add(operations)?;
+        self.clauses.add(clauses)?;
+        self.pairs.add(pairs)?;
+        self.count = self.count.wrapping_add(1);
+        Ok(())
+    }
+}

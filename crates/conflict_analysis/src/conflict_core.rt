@@ -1,0 +1,103 @@
+//! The operations that a conflict of no decision rests on.
+
+use crate::analysis::Analysis;
+use crate::learned_clauses::LearnedClauses;
+use order_propagation::Propagation;
+use order_sets::tables::{at, put, size};
+use std::alloc::{AllocError, Global};
+
+/// The operations that the conflict of propagation rests on, by rising numbers.
+pub fn core_of_conflict(
+    alloc: Global,
+    order: &mut Propagation<'_>,
+) -> Result<Option<Vec<u32>>, AllocError> {
+    let mut analysis = Analysis::new(alloc, order.log().count())?;
+    let clauses = LearnedClauses::new(alloc, order.log().count())?;
+    analysis.begin_core();
+    analysis.ask_conflict(order, &clauses)?;
+    let core = analysis.find_core(alloc, order, &clauses)?;
+    let steps = analysis.take_steps();
+    order.spend(steps);
+    Ok(core)
+}
+
+impl Analysis {
+    /// Goes back from what was asked to the trace, and returns the operations that were named on the way, by rising numbers: ends of pairs,
+    /// readers, what their lost sources were lost by, and the same of each learned clause that was used. Their part, with all possible
+    /// sources of its readers, should be in conflict. None if not all grounds of clauses were kept, or if the budget is spent before.
+    pub fn find_core(
+        &mut self,
+        alloc: Global,
+        order: &Propagation<'_>,
+        clauses: &LearnedClauses,
+    ) -> Result<Option<Vec<u32>>, AllocError> {
+        self.asks_all = true;
+        if !self.grounds.is_whole() {
+            return Ok(None);
+        }
+        let mut is_taken = vec![in alloc; false; self.grounds.count() as usize]?;
+        self.take_used(order, &mut is_taken)?;
+        for number in (0..self.highest.wrapping_add(1)).rev() {
+            self.steps = self.steps.wrapping_add(1);
+            if self.is_spent(order) {
+                return Ok(None);
+            }
+            if at(self.is_marked.as_slice(), number, false) {
+                let pair = order.pairs().pair(number);
+                self.name_ends(pair)?;
+                self.ask_reason(order, clauses, pair)?;
+                self.take_used(order, &mut is_taken)?;
+            }
+        }
+        Ok(Some(self.all_named(alloc)?))
+    }
+
+    /// Takes over what the clauses rest on that were used.
+    fn take_used(
+        &mut self,
+        order: &Propagation<'_>,
+        is_taken: &mut Vec<bool>,
+    ) -> Result<(), AllocError> {
+        for _ in 0..u64::MAX {
+            let Some(clause) = self.used.pop() else {
+                break;
+            };
+            if !at(is_taken.as_slice(), clause, true) {
+                put(is_taken.as_mut_slice(), clause, true);
+                self.take_grounds(order, clause)?;
+            }
+        }
+        Ok(())
+    }
+
+    /// Takes over what the clause rests on.
+    fn take_grounds(&mut self, order: &Propagation<'_>, clause: u32) -> Result<(), AllocError> {
+        let begin = self.grounds.operations.begin(clause);
+        for place in begin..self.grounds.operations.end(clause) {
+            let operation = self.grounds.operations.entry(place);
+            self.name(operation)?;
+        }
+        let begin = self.grounds.clauses.begin(clause);
+        for place in begin..self.grounds.clauses.end(clause) {
+            let used = self.grounds.clauses.entry(place);
+            self.used.push(used)?;
+        }
+        let begin = self.grounds.pairs.begin(clause);
+        for place in begin..self.grounds.pairs.end(clause) {
+            let pair = self.grounds.pairs.entry(place);
+            self.mark(order, pair)?;
+        }
+        Ok(())
+    }
+
+    /// All that was named, by rising numbers.
+    fn all_named(&self, alloc: Global) -> Result<Vec<u32>, AllocError> {
+        let mut named = Vec::new(alloc);
+        for operation in 0..size(self.is_named.as_slice()) {
+            if at(self.is_named.as_slice(), operation, false) {
+                named.push(operation)?;
+            }
+        }
+        Ok(named)
+    }
+}

@@ -1,0 +1,229 @@
+//! A way from one operation to a later one by program order and older pairs.
+
+use numbered_log::NOBODY;
+use order_propagation::Propagation;
+use order_sets::tables::{at, put, size};
+use possible_sources::Time;
+use std::alloc::{AllocError, Global};
+
+/// What is asked for: why the first operation stands before the second by pairs that are older than a time.
+#[derive(Clone, Copy)]
+pub(crate) struct WayQuestion {
+    pub(crate) first: u32,
+    pub(crate) second: u32,
+    pub(crate) time: Time,
+}
+
+/// A search for a way with the fewest pairs that are not used yet.
+pub(crate) struct WaySearch {
+    /// The number of the search at hand, by which each operation that it has met is known.
+    turn: u32,
+    turns: Vec<u32>,
+    /// For each operation that was met the number of new pairs up to it.
+    lengths: Vec<u32>,
+    /// The pair by which it was met, or `NOBODY` for the one before it in its process.
+    arrivals: Vec<u32>,
+    /// The operations met at the length at hand, and at the next.
+    near: Vec<u32>,
+    far: Vec<u32>,
+    /// The pairs of the way, the last first.
+    way: Vec<u32>,
+    steps: u64,
+}
+
+/// Drops each table, in one call for each exit of a function that owns a search.
+impl Drop for WaySearch {
+    fn drop(self) {
+        let WaySearch {
+            turn: _,
+            turns: _turns,
+            lengths: _lengths,
+            arrivals: _arrivals,
+            near: _near,
+            far: _far,
+            way: _way,
+            steps: _,
+        } = self;
+    }
+}
+
+impl WaySearch {
+    pub(crate) fn new(alloc: Global, operations: u32) -> Result<WaySearch, AllocError> {
+        let count = operations as usize;
+        Ok(WaySearch {
+            turn: 0,
+            turns: vec![in alloc; 0; count]?,
+            lengths: vec![in alloc; 0; count]?,
+            arrivals: vec![in alloc; NOBODY; count]?,
+            near: Vec::new(alloc),
+            far: Vec::new(alloc),
+            way: Vec::new(alloc),
+            steps: 0,
+        })
+    }
+
+    /// The number of pairs of the way that was found.
+    pub(crate) fn pairs(&self) -> u32 {
+        size(self.way.as_slice())
+    }
+
+    /// The pair of the way that has this number.
+    pub(crate) fn pair(&self, number: u32) -> u32 {
+        at(self.way.as_slice(), number, NOBODY)
+    }
+
+    /// The number of steps since it was last asked, which goes on.
+    pub(crate) fn steps(&self) -> u64 {
+        self.steps
+    }
+
+    /// The number of steps since it was last asked.
+    pub(crate) fn take_steps(&mut self) -> u64 {
+        let steps = self.steps;
+        self.steps = 0;
+        steps
+    }
+
+    /// Finds a way. Pairs that are marked cost nothing, and neither do those of no decision if these need no reason.
+    pub(crate) fn find(
+        &mut self,
+        order: &Propagation<'_>,
+        question: WayQuestion,
+        is_marked: &[bool],
+        asks_all: bool,
+    ) -> Result<(), AllocError> {
+        self.turn = self.turn.wrapping_add(1);
+        self.near.clear();
+        self.far.clear();
+        self.meet(question.first, 0, NOBODY, true)?;
+        let mut length: u32 = 0;
+        for _ in 0..u64::MAX {
+            let Some(number) = self.near.pop() else {
+                if self.far.is_empty() {
+                    break;
+                }
+                length = length.wrapping_add(1);
+                self.begin_next()?;
+                continue;
+            };
+            if number == question.second {
+                break;
+            }
+            if at(self.lengths.as_slice(), number, 0) == length {
+                self.go_on(order, question, number, length)?;
+                self.follow_pairs(order, question, (number, length), (is_marked, asks_all))?;
+            }
+        }
+        self.trace_back(order, question)
+    }
+
+    /// Makes the operations of the next length those at hand.
+    fn begin_next(&mut self) -> Result<(), AllocError> {
+        for _ in 0..self.far.len() {
+            let Some(number) = self.far.pop() else {
+                break;
+            };
+            self.near.push(number)?;
+        }
+        Ok(())
+    }
+
+    /// Meets the operation, unless it was met at this length or a smaller one.
+    #[inline(always)]
+    fn meet(
+        &mut self,
+        number: u32,
+        length: u32,
+        arrival: u32,
+        is_near: bool,
+    ) -> Result<(), AllocError> {
+        let is_met = at(self.turns.as_slice(), number, 0) == self.turn;
+        if is_met && at(self.lengths.as_slice(), number, 0) <= length {
+            return Ok(());
+        }
+        put(self.turns.as_mut_slice(), number, self.turn);
+        put(self.lengths.as_mut_slice(), number, length);
+        put(self.arrivals.as_mut_slice(), number, arrival);
+        if is_near {
+            self.near.push(number)?;
+        } else {
+            self.far.push(number)?;
+        }
+        Ok(())
+    }
+
+    /// Returns whether a way may lead over this operation.
+    #[inline(always)]
+    fn leads_on(order: &Propagation<'_>, question: WayQuestion, number: u32) -> bool {
+        number == question.second || order.stands_before(number, question.second)
+    }
+
+    /// Goes on to the next operation of the process.
+    fn go_on(
+        &mut self,
+        order: &Propagation<'_>,
+        question: WayQuestion,
+        number: u32,
+        length: u32,
+    ) -> Result<(), AllocError> {
+        self.steps = self.steps.wrapping_add(4);
+        let operation = order.log().operation(number);
+        let next = number.wrapping_add(1);
+        if operation.place < order.log().length(operation.process)
+            && WaySearch::leads_on(order, question, next)
+        {
+            self.meet(next, length, NOBODY, true)?;
+        }
+        Ok(())
+    }
+
+    /// Goes on by the pairs of which the operation is the first.
+    fn follow_pairs(
+        &mut self,
+        order: &Propagation<'_>,
+        question: WayQuestion,
+        from: (u32, u32),
+        costs: (&[bool], bool),
+    ) -> Result<(), AllocError> {
+        let mut number = order.pairs().last_of(from.0);
+        for _ in 0..order.pairs().count() {
+            if number == NOBODY {
+                break;
+            }
+            let pair = order.pairs().pair(number);
+            self.steps = self.steps.wrapping_add(4);
+            if pair.time.is_before(question.time)
+                && WaySearch::leads_on(order, question, pair.second)
+            {
+                let is_free = at(costs.0, number, false) || (pair.level == 0 && !costs.1);
+                let length = from.1.wrapping_add(!is_free as u32);
+                self.meet(pair.second, length, number, is_free)?;
+            }
+            number = pair.previous;
+        }
+        Ok(())
+    }
+
+    /// Notes the pairs of the way that was found.
+    fn trace_back(
+        &mut self,
+        order: &Propagation<'_>,
+        question: WayQuestion,
+    ) -> Result<(), AllocError> {
+        self.way.clear();
+        let mut number = question.second;
+        for _ in 0..order.log().count() {
+            if number == question.first || at(self.turns.as_slice(), number, 0) != self.turn {
+                break;
+            }
+            let arrival = at(self.arrivals.as_slice(), number, NOBODY);
+            if arrival == NOBODY {
+                number = number.wrapping_sub(1);
+            } else {
+                self.way.push(arrival)?;
+                number = order.pairs().pair(arrival).first;
+            }
+        }
+        Ok(())
+    }
+}

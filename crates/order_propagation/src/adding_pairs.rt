@@ -1,0 +1,121 @@
+//! A new pair and the rows that it changes.
+
+use crate::conflict::Stop;
+use crate::propagation::Propagation;
+use closed_rows::{PairReason, RowEntry};
+use std::alloc::AllocError;
+
+impl<'a> Propagation<'a> {
+    /// Adds the pair of which the first operation must stand before the second. If the budget is spent, it is left out.
+    pub fn add(&mut self, first: u32, second: u32, reason: PairReason) -> Result<(), Stop> {
+        if first == second || self.stands_before(second, first) {
+            return self.stop_at_cycle(first, second, reason);
+        }
+        if self.stands_before(first, second) || self.budget.is_spent() {
+            return Ok(());
+        }
+        self.store(first, second, reason)?;
+        self.rows.begin_pair(self.log, first, second)?;
+        for number in 0..self.rows.ceilings() {
+            let bound = self.rows.ceiling(number);
+            self.raise_from(bound, first)?;
+        }
+        for number in 0..self.rows.floors() {
+            let bound = self.rows.floor(number);
+            self.lower_from(bound, second)?;
+        }
+        self.budget.spend(self.rows.width() as u64);
+        if self.rows.is_full() || self.pairs.is_full() {
+            self.budget.use_up();
+        }
+        Ok(())
+    }
+
+    /// Raises the rows of the process's operations from this place on, up to the first that has the pair's first operation already: rows are
+    /// closed and grow along a process, so all behind it have what the pair says.
+    fn raise_from(&mut self, bound: RowEntry, first: u32) -> Result<(), AllocError> {
+        let earlier = self.log.operation(first);
+        let end = self.log.length(bound.process).wrapping_add(1);
+        for place in bound.place..end {
+            let number = self.log.number(bound.process, place);
+            if self.rows.before(number, earlier.process) >= earlier.place {
+                break;
+            }
+            self.raise_row(number)?;
+        }
+        Ok(())
+    }
+
+    /// Lowers the rows of the process's operations from this place back, up to the first that has the pair's second operation already.
+    fn lower_from(&mut self, bound: RowEntry, second: u32) -> Result<(), AllocError> {
+        let later = self.log.operation(second);
+        for place in (1..bound.place.wrapping_add(1)).rev() {
+            let number = self.log.number(bound.process, place);
+            if self.rows.after(number, later.process) <= later.place {
+                break;
+            }
+            self.lower_row(number)?;
+        }
+        Ok(())
+    }
+
+    /// Raises what stands before this operation to what the pair says, and wakes the readers to which that is news. To a reader of one source
+    /// it is only if an access of its location is among what is new.
+    #[inline(always)]
+    fn raise_row(&mut self, number: u32) -> Result<(), AllocError> {
+        let operation = self.log.operation(number);
+        let is_quiet = operation.reads
+            && self.sources.count(number) == 1
+            && !self.agenda.waits(number);
+        let mut has_news = !is_quiet;
+        for entry in 0..self.rows.floors() {
+            let floor = self.rows.floor(entry);
+            let old = self.rows.before(number, floor.process);
+            if old < floor.place {
+                has_news = has_news
+                    || self.is_accessed(
+                        operation.location,
+                        floor.process,
+                        old.wrapping_add(1),
+                        floor.place,
+                    );
+                self.rows.raise(number, floor)?;
+            }
+        }
+        self.budget
+            .spend((self.rows.floors() as u64).wrapping_mul(4));
+        self.wake_raised(number, operation, has_news);
+        Ok(())
+    }
+
+    /// Lowers what stands after this operation to what the pair says, and wakes the readers to which that is news.
+    #[inline(always)]
+    fn lower_row(&mut self, number: u32) -> Result<(), AllocError> {
+        let operation = self.log.operation(number);
+        let mut has_news = !operation.writes;
+        for entry in 0..self.rows.ceilings() {
+            let ceiling = self.rows.ceiling(entry);
+            let old = self.rows.after(number, ceiling.process);
+            if old > ceiling.place {
+                has_news = has_news
+                    || self.is_accessed(
+                        operation.location,
+                        ceiling.process,
+                        ceiling.place,
+                        old.wrapping_sub(1),
+                    );
+                self.rows.lower(number, ceiling)?;
+            }
+        }
+        self.budget
+            .spend((self.rows.ceilings() as u64).wrapping_mul(4));
+        self.wake_lowered(number, operation, has_news);
+        Ok(())
+    }
+
+    /// Returns whether the process has an access of the location that hides sources, from one place up to another.
+    #[inline(always)]
+    fn is_accessed(&self, location: u32, process: u32, from: u32, to: u32) -> bool {
+        self.accesses.next_of_any(process, location, from) <= to
+    }
+}

@@ -1,0 +1,125 @@
+//! The readers that wait for a look at them.
+
+use numbered_log::NOBODY;
+use order_sets::tables::{at, put, size};
+use std::alloc::{AllocError, Global};
+
+/// The readers that wait: all of a round in the order of their estimated places, and between them those that wait again.
+pub struct Agenda {
+    waits: Vec<bool>,
+    /// The readers of the round.
+    round: Vec<u32>,
+    /// The number of them that were reached.
+    reached: u32,
+    /// For each reader its place in the round, or `NOBODY`.
+    places: Vec<u32>,
+    /// Those that wait again, in a ring.
+    again: Vec<u32>,
+    first: u32,
+    count: u32,
+}
+
+/// Drops each table, in one call for each exit of a function that owns an agenda.
+impl Drop for Agenda {
+    fn drop(self) {
+        let Agenda {
+            waits: _waits,
+            round: _round,
+            reached: _,
+            places: _places,
+            again: _again,
+            first: _,
+            count: _,
+        } = self;
+    }
+}
+
+impl Agenda {
+    /// An agenda for this number of readers, of which none waits.
+    pub fn new(alloc: Global, readers: u32) -> Result<Agenda, AllocError> {
+        Ok(Agenda {
+            waits: vec![in alloc; false; readers as usize]?,
+            round: Vec::with_capacity(alloc, readers as usize)?,
+            reached: 0,
+            places: vec![in alloc; NOBODY; readers as usize]?,
+            again: vec![in alloc; NOBODY; readers as usize]?,
+            first: 0,
+            count: 0,
+        })
+    }
+
+    /// Has no reader wait.
+    pub fn clear(&mut self) {
+        for _ in 0..size(self.waits.as_slice()) {
+            if self.take().is_none() {
+                break;
+            }
+        }
+    }
+
+    /// Begins a round of these readers, in this order.
+    pub fn begin_round(&mut self, readers: &[u32]) -> Result<(), AllocError> {
+        self.clear();
+        for reader in self.round.as_slice() {
+            put(self.places.as_mut_slice(), *reader, NOBODY);
+        }
+        self.round.clear();
+        self.reached = 0;
+        for reader in readers {
+            let place = size(self.round.as_slice());
+            self.round.push(*reader)?;
+            put(self.places.as_mut_slice(), *reader, place);
+            put(self.waits.as_mut_slice(), *reader, true);
+        }
+        Ok(())
+    }
+
+    /// Returns whether the reader waits.
+    #[inline(always)]
+    pub fn waits(&self, reader: u32) -> bool {
+        at(self.waits.as_slice(), reader, false)
+    }
+
+    /// Has the reader wait.
+    #[inline(always)]
+    pub fn add(&mut self, reader: u32) {
+        if self.waits(reader) {
+            return;
+        }
+        put(self.waits.as_mut_slice(), reader, true);
+        let place = at(self.places.as_slice(), reader, NOBODY);
+        if place != NOBODY && place >= self.reached {
+            return;
+        }
+        let room = size(self.again.as_slice());
+        let mut slot = self.first.wrapping_add(self.count);
+        if slot >= room {
+            slot = slot.wrapping_sub(room);
+        }
+        put(self.again.as_mut_slice(), slot, reader);
+        self.count = self.count.wrapping_add(1);
+    }
+
+    /// Takes the next reader.
+    pub fn take(&mut self) -> Option<u32> {
+        if self.count > 0 {
+            let reader = at(self.again.as_slice(), self.first, NOBODY);
+            self.first = self.first.wrapping_add(1);
+            if self.first >= size(self.again.as_slice()) {
+                self.first = 0;
+            }
+            self.count = self.count.wrapping_sub(1);
+            put(self.waits.as_mut_slice(), reader, false);
+            return Some(reader);
+        }
+        for place in self.reached..size(self.round.as_slice()) {
+            self.reached = place.wrapping_add(1);
+            let reader = at(self.round.as_slice(), place, NOBODY);
+            if self.waits(reader) {
+                put(self.waits.as_mut_slice(), reader, false);
+                return Some(reader);
+            }
+        }
+        None
+    }
+}

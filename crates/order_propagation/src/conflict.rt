@@ -1,0 +1,42 @@
+//! How propagation ends.
+
+use closed_rows::OrderedPair;
+use std::alloc::AllocError;
+
+/// The conflict in which propagation ended.
+#[derive(Clone, Copy)]
+pub enum Conflict {
+    /// None.
+    None,
+    /// The pair would be added, and its second operation stands before its first.
+    Cycle(OrderedPair),
+    /// The pairs that were stored before a sweep are cyclic.
+    CyclicPairs,
+    /// The reader has no possible source.
+    NoSource(u32),
+}
+
+/// The reason why work ends before it is done.
+#[derive(Clone, Copy)]
+pub enum Stop {
+    OutOfMemory,
+    /// The conflict is kept.
+    Conflict,
+}
+
+impl From<AllocError> for Stop {
+    fn from(_error: AllocError) -> Stop {
+        Stop::OutOfMemory
+    }
+}
+
+/// The result of propagation.
+#[derive(Clone, Copy, PartialEq, Eq)]
+pub enum Propagated {
+    /// Nothing more follows.
+    Done,
+    /// There is a conflict.
+    Conflict,
+    /// The budget is spent.
+    Spent,
+}

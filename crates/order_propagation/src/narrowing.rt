@@ -1,0 +1,131 @@
+//! The loss of sources that have become impossible.
+
+use crate::conflict::{Conflict, Stop};
+use crate::propagation::Propagation;
+use numbered_log::NOBODY;
+use order_sets::tables::at;
+use possible_sources::LossCause;
+use std::alloc::AllocError;
+
+impl<'a> Propagation<'a> {
+    /// Takes from the reading operation the sources that are hidden or stand after it.
+    pub(crate) fn narrow(&mut self, reader: u32) -> Result<(), Stop> {
+        self.find_hiders(reader)?;
+        let mut count: u32 = 0;
+        for run in 0..self.sources.intervals(reader) {
+            count = count.wrapping_add(self.narrow_interval(reader, run)?);
+        }
+        if self.sources.has_initial(reader) {
+            let hider = at(self.hiders.as_slice(), 0, NOBODY);
+            if hider == NOBODY {
+                count = count.wrapping_add(1);
+            } else {
+                let cause = self.cause_of(NOBODY, hider);
+                self.sources.hide_initial(reader, cause)?;
+            }
+        }
+        self.sources.set_count(reader, count);
+        if count == 0 {
+            self.conflict = Conflict::NoSource(reader);
+            return Err(Stop::Conflict);
+        }
+        Ok(())
+    }
+
+    /// Finds for each process its last access of the reader's location that stands before the reader and is no read of its value: what
+    /// stands before that access is hidden.
+    fn find_hiders(&mut self, reader: u32) -> Result<(), AllocError> {
+        let operation = self.log.operation(reader);
+        self.hiders.clear();
+        for process in 0..self.rows.width() {
+            let place = self.rows.before(reader, process);
+            if place != 0 {
+                let found = self
+                    .accesses
+                    .previous(process, operation.location, operation.needed, place);
+                if found != 0 {
+                    let hider = self.log.number(process, found);
+                    self.hiders.push(hider)?;
+                }
+            }
+        }
+        self.budget
+            .spend((self.rows.width() as u64).wrapping_mul(8));
+        Ok(())
+    }
+
+    /// Narrows the interval, and returns how many sources are left in it.
+    fn narrow_interval(&mut self, reader: u32, run: u32) -> Result<u32, AllocError> {
+        let mut low = self.sources.low(reader, run);
+        let mut high = self.sources.high(reader, run);
+        if low >= high {
+            return Ok(0);
+        }
+        let process = self.sources.process(&self.classes, reader, run);
+        let (floor, witness) = self.hidden_up_to(process);
+        if self.place_at(low) <= floor {
+            low = self.first_behind(low, high, floor);
+            let writer = self.classes.writer(low.wrapping_sub(1));
+            let cause = self.cause_of(writer, witness);
+            self.sources.hide_before(reader, run, low, cause)?;
+        }
+        let ceiling = self.rows.after(reader, process);
+        if low < high && self.place_at(high.wrapping_sub(1)) >= ceiling {
+            high = self.first_behind(low, high, ceiling.wrapping_sub(1));
+            let writer = self.classes.writer(high);
+            let cause = self.cause_of(writer, reader);
+            self.sources.end_before(reader, run, high, cause)?;
+        }
+        Ok(high.saturating_sub(low))
+    }
+
+    /// The cause of a loss, at a new time.
+    pub(crate) fn cause_of(&mut self, writer: u32, witness: u32) -> LossCause {
+        self.now = self.now.next();
+        LossCause {
+            writer,
+            witness,
+            time: self.now,
+        }
+    }
+
+    /// The place in the process up to which all stands before one of the hiders, and that hider.
+    fn hidden_up_to(&mut self, process: u32) -> (u32, u32) {
+        let mut floor: u32 = 0;
+        let mut witness = NOBODY;
+        for hider in self.hiders.as_slice() {
+            let place = self.rows.before(*hider, process);
+            if place > floor {
+                floor = place;
+                witness = *hider;
+            }
+        }
+        self.budget
+            .spend((self.hiders.len() as u64).saturating_add(8));
+        (floor, witness)
+    }
+
+    /// The place of the writer at this position.
+    #[inline(always)]
+    fn place_at(&self, position: u32) -> u32 {
+        self.log.operation(self.classes.writer(position)).place
+    }
+
+    /// The first position, from one up to another of a run, whose writer stands behind this place.
+    fn first_behind(&self, begin: u32, end: u32, place: u32) -> u32 {
+        let mut low = begin;
+        let mut high = end;
+        for _ in 0..32 {
+            if low >= high {
+                break;
+            }
+            let middle = low.wrapping_add(high.wrapping_sub(low) / 2);
+            if self.place_at(middle) <= place {
+                low = middle.wrapping_add(1);
+            } else {
+                high = middle;
+            }
+        }
+        low
+    }
+}

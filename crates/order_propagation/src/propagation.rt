@@ -1,0 +1,428 @@
+//! The order that a log forces, with the possible sources of its readers.
+
+use crate::agenda::Agenda;
+use crate::conflict::{Conflict, Propagated, Stop};
+use closed_rows::{ClosedRows, NO_PAIR, OrderedPair, OrderedPairs, PairReason};
+use numbered_log::{Budget, NOBODY, NumberedLog};
+use order_sets::tables::{at, put, size};
+use possible_sources::{HidingAccesses, ReaderClasses, SourceIntervals, Time, ValueClasses};
+use std::alloc::{AllocError, Global};
+
+/// Lengths of the lists at the time of a decision, to which backtracking cuts them.
+#[derive(Clone, Copy)]
+struct DecisionLevel {
+    changes: usize,
+    losses: u32,
+    pairs: u32,
+}
+
+/// No decision.
+const NO_LEVEL: DecisionLevel = DecisionLevel {
+    changes: 0,
+    losses: 0,
+    pairs: NOBODY,
+};
+
+/// A point of the trail without decisions, to which it can be cut. The rows then have to be made anew.
+#[derive(Clone, Copy)]
+pub struct TrailMark {
+    losses: u32,
+    pairs: u32,
+}
+
+/// The order that program order, the pairs of a trace, its reads and decisions force, and the sources that are possible by it.
+pub struct Propagation<'a> {
+    pub(crate) alloc: Global,
+    pub(crate) log: &'a NumberedLog,
+    pub(crate) classes: ValueClasses,
+    pub(crate) readers: ReaderClasses,
+    pub(crate) sources: SourceIntervals,
+    pub(crate) accesses: HidingAccesses,
+    pub(crate) rows: ClosedRows,
+    pub(crate) pairs: OrderedPairs,
+    pub(crate) agenda: Agenda,
+    pub(crate) budget: Budget,
+    pub(crate) conflict: Conflict,
+    pub(crate) now: Time,
+    levels: Vec<DecisionLevel>,
+    /// For each operation whether it is a possible source of a reader that has several.
+    pub(crate) is_open_source: Vec<bool>,
+    /// For each operation whether the final value of its location has to be looked at when its row changes.
+    pub(crate) is_near_end: Vec<bool>,
+    /// The accesses that hide sources from the reader at hand, one of each process.
+    pub(crate) hiders: Vec<u32>,
+    /// For each process a place: up to which all is before the reader at hand, and after which all is behind its sources.
+    pub(crate) lows: Vec<u32>,
+    pub(crate) highs: Vec<u32>,
+}
+
+/// Drops each table, in one call for each exit of a function that owns an order.
+impl Drop for Propagation<'_> {
+    fn drop(self) {
+        let Propagation {
+            alloc: _,
+            log: _,
+            classes: _classes,
+            readers: _readers,
+            sources: _sources,
+            accesses: _accesses,
+            rows: _rows,
+            pairs: _pairs,
+            agenda: _agenda,
+            budget: _,
+            conflict: _,
+            now: _,
+            levels: _levels,
+            is_open_source: _is_open_source,
+            is_near_end: _is_near_end,
+            hiders: _hiders,
+            lows: _lows,
+            highs: _highs,
+        } = self;
+    }
+}
+
+/// The operations that can hide a source: writers, and plain reads with several possible sources.
+fn hiding(
+    alloc: Global,
+    log: &NumberedLog,
+    sources: &SourceIntervals,
+) -> Result<Vec<bool>, AllocError> {
+    let mut hides = vec![in alloc; false; log.count() as usize]?;
+    for number in 0..log.count() {
+        let is_hiding = log.operation(number).writes || sources.has_several(number);
+        put(hides.as_mut_slice(), number, is_hiding);
+    }
+    Ok(hides)
+}
+
+impl<'a> Propagation<'a> {
+    /// The order of the log before anything was derived: the pairs of the trace and those of readers that have one source by program order
+    /// are stored, and the rows do not have them yet.
+    pub fn new(
+        alloc: Global,
+        log: &'a NumberedLog,
+        budget: Budget,
+    ) -> Result<Propagation<'a>, AllocError> {
+        let classes = ValueClasses::new(alloc, log)?;
+        let readers = ReaderClasses::new(alloc, log, &classes)?;
+        let sources = SourceIntervals::new(alloc, log, &classes)?;
+        let hides = hiding(alloc, log, &sources)?;
+        let accesses = HidingAccesses::new(alloc, log, hides.as_slice())?;
+        let width = log.processes() as usize;
+        let count = log.count() as usize;
+        let mut order = Propagation {
+            alloc,
+            log,
+            agenda: Agenda::new(alloc, sources.readers())?,
+            classes,
+            readers,
+            sources,
+            accesses,
+            rows: ClosedRows::new(alloc, log)?,
+            pairs: OrderedPairs::new(alloc, log.count())?,
+            budget,
+            conflict: Conflict::None,
+            now: Time::START,
+            levels: Vec::new(alloc),
+            is_open_source: vec![in alloc; false; count]?,
+            is_near_end: vec![in alloc; false; count]?,
+            hiders: Vec::with_capacity(alloc, width)?,
+            lows: vec![in alloc; 0; width]?,
+            highs: vec![in alloc; 0; width]?,
+        };
+        order.store_first_pairs()?;
+        order.note_ends();
+        Ok(order)
+    }
+
+    /// Stores the pairs of the trace and those that follow from program order alone.
+    fn store_first_pairs(&mut self) -> Result<(), AllocError> {
+        let log = self.log;
+        for pair in log.pairs() {
+            self.store(pair.first, pair.second, PairReason::Given)?;
+        }
+        for reader in 0..log.count() {
+            if self.sources.count(reader) == 1 {
+                let source = self.sources.source(&self.classes, reader);
+                if source != NOBODY && !self.stands_before(source, reader) {
+                    self.store(source, reader, PairReason::BeforeReader(reader))?;
+                }
+            }
+            if self.sources.count(reader) == 0 {
+                self.conflict = Conflict::NoSource(reader);
+            }
+        }
+        Ok(())
+    }
+
+    /// Notes which operations are near the end of a process, for the final values.
+    fn note_ends(&mut self) {
+        let log = self.log;
+        for location in 0..log.locations() {
+            let reader = self.final_reader(location);
+            let Some(value) = log.last(location) else {
+                continue;
+            };
+            if self.sources.count(reader) == 0 {
+                self.conflict = Conflict::NoSource(reader);
+            }
+            for process in 0..log.processes() {
+                let length = log.length(process);
+                let place = self.accesses.previous(process, location, value, length);
+                if place != 0 {
+                    let number = log.number(process, place);
+                    put(self.is_near_end.as_mut_slice(), number, true);
+                }
+            }
+            for run in 0..self.sources.intervals(reader) {
+                let low = self.sources.low(reader, run);
+                if low < self.sources.high(reader, run) {
+                    let writer = self.classes.writer(low);
+                    put(self.is_near_end.as_mut_slice(), writer, true);
+                }
+            }
+        }
+    }
+
+    /// Stores a pair without a look at rows.
+    pub(crate) fn store(
+        &mut self,
+        first: u32,
+        second: u32,
+        reason: PairReason,
+    ) -> Result<(), AllocError> {
+        self.now = self.now.next();
+        let level = self.decisions();
+        self.pairs.add(first, second, reason, (self.now, level))
+    }
+
+    /// The log.
+    #[inline(always)]
+    pub fn log(&self) -> &'a NumberedLog {
+        self.log
+    }
+
+    /// The possible sources.
+    #[inline(always)]
+    pub fn sources(&self) -> &SourceIntervals {
+        &self.sources
+    }
+
+    /// The writers by class.
+    #[inline(always)]
+    pub fn classes(&self) -> &ValueClasses {
+        &self.classes
+    }
+
+    /// The readers by class.
+    #[inline(always)]
+    pub fn readers(&self) -> &ReaderClasses {
+        &self.readers
+    }
+
+    /// The rows.
+    #[inline(always)]
+    pub fn rows(&self) -> &ClosedRows {
+        &self.rows
+    }
+
+    /// The pairs.
+    pub fn pairs(&self) -> &OrderedPairs {
+        &self.pairs
+    }
+
+    /// The conflict in which propagation ended.
+    pub fn conflict(&self) -> Conflict {
+        self.conflict
+    }
+
+    /// Returns whether there is one.
+    pub fn has_conflict(&self) -> bool {
+        !matches!(self.conflict, Conflict::None)
+    }
+
+    /// The time after all that was derived.
+    pub fn later(&self) -> Time {
+        self.now.next()
+    }
+
+    /// The rest of the budget.
+    pub fn budget(&self) -> Budget {
+        self.budget
+    }
+
+    /// Sets the rest of the budget.
+    pub fn set_budget(&mut self, budget: Budget) {
+        self.budget = budget;
+    }
+
+    /// Takes these steps out of the budget.
+    #[inline(always)]
+    pub fn spend(&mut self, steps: u64) {
+        self.budget.spend(steps);
+    }
+
+    /// Returns whether the first operation stands before the second.
+    #[inline(always)]
+    pub fn stands_before(&self, first: u32, second: u32) -> bool {
+        self.rows.stands_before(self.log, first, second)
+    }
+
+    /// The number of the final value of the location among the readers.
+    #[inline(always)]
+    pub fn final_reader(&self, location: u32) -> u32 {
+        self.log.count().wrapping_add(location)
+    }
+
+    /// The source of the reader if it has only one.
+    pub fn only_source(&self, reader: u32) -> Option<u32> {
+        if self.sources.count(reader) == 1 {
+            Some(self.sources.source(&self.classes, reader))
+        } else {
+            None
+        }
+    }
+
+    /// Returns whether the writer is a possible source of the reader.
+    #[inline(always)]
+    pub fn may_read(&self, reader: u32, writer: u32) -> bool {
+        self.sources.may_read(&self.classes, reader, writer)
+    }
+
+    /// The number of reading operations that have more than one possible source.
+    pub fn undecided(&self) -> u32 {
+        let mut count: u32 = 0;
+        for reader in 0..self.log.count() {
+            if self.sources.has_several(reader) {
+                count = count.wrapping_add(1);
+            }
+        }
+        count
+    }
+
+    /// The number of decisions that stand.
+    #[inline(always)]
+    pub fn decisions(&self) -> u32 {
+        size(self.levels.as_slice())
+    }
+
+    /// Decides that the first operation stands before the second.
+    pub fn decide(&mut self, first: u32, second: u32) -> Result<(), Stop> {
+        let level = DecisionLevel {
+            changes: self.rows.keep_changes(),
+            losses: self.sources.losses(),
+            pairs: self.pairs.count(),
+        };
+        self.push_level(level)?;
+        self.add(first, second, PairReason::Decided)
+    }
+
+    fn push_level(&mut self, level: DecisionLevel) -> Result<(), AllocError> {
+        self.levels.push(level)?;
+        Ok(())
+    }
+
+    /// The pair that was decided as the decision of this number, counted from 1.
+    pub fn decision(&self, number: u32) -> OrderedPair {
+        let level = at(self.levels.as_slice(), number.wrapping_sub(1), NO_LEVEL);
+        self.pairs.pair(level.pairs)
+    }
+
+    /// Backtracks to the first decisions, of which this number stays, and undoes all that followed from the others.
+    pub fn take_back(&mut self, decisions: u32) {
+        for _ in decisions..self.decisions() {
+            let Some(level) = self.levels.pop() else {
+                break;
+            };
+            let keeps = !self.levels.is_empty();
+            self.rows.take_back(level.changes, keeps);
+            self.sources.give_back(level.losses);
+            self.pairs.take_back(level.pairs);
+        }
+        self.conflict = Conflict::None;
+        self.agenda.clear();
+    }
+
+    /// The point of the trail that is reached, without the decisions.
+    pub fn mark(&self) -> TrailMark {
+        TrailMark {
+            losses: self.sources.losses(),
+            pairs: self.pairs.count(),
+        }
+    }
+
+    /// Cuts the trail to this point. The rows are of no use until they are made anew by `propagate_in_rounds`.
+    pub fn cut_to(&mut self, mark: TrailMark) {
+        self.take_back(0);
+        self.sources.give_back(mark.losses);
+        self.pairs.take_back(mark.pairs);
+    }
+
+    /// Keeps that the pair cannot be added, as its second operation stands before its first.
+    pub(crate) fn stop_at_cycle(
+        &mut self,
+        first: u32,
+        second: u32,
+        reason: PairReason,
+    ) -> Result<(), Stop> {
+        self.now = self.now.next();
+        self.conflict = Conflict::Cycle(OrderedPair {
+            first,
+            second,
+            reason,
+            time: self.now,
+            level: self.decisions(),
+            ..NO_PAIR
+        });
+        Err(Stop::Conflict)
+    }
+
+    /// Stores a guess: that the first operation stands before the second. The rows have it after `propagate_in_rounds`. If there is no room
+    /// for more pairs, the budget counts as spent.
+    pub fn guess(&mut self, first: u32, second: u32) -> Result<(), AllocError> {
+        if self.pairs.is_full() {
+            self.budget.use_up();
+            return Ok(());
+        }
+        self.store(first, second, PairReason::Guessed)
+    }
+
+    /// Has no reader wait: after a conflict their turn would be spent on rows that are taken back.
+    pub fn forget_waiting(&mut self) {
+        self.agenda.clear();
+    }
+
+    /// Looks at readers until nothing more follows.
+    pub fn propagate(&mut self) -> Result<Propagated, AllocError> {
+        if self.has_conflict() {
+            return Ok(Propagated::Conflict);
+        }
+        let stopped = self.look_at_waiting();
+        match stopped {
+            Ok(()) if self.budget.is_spent() => {
+                self.agenda.clear();
+                Ok(Propagated::Spent)
+            }
+            Ok(()) => Ok(Propagated::Done),
+            Err(Stop::Conflict) => {
+                self.agenda.clear();
+                Ok(Propagated::Conflict)
+            }
+            Err(Stop::OutOfMemory) => Err(AllocError),
+        }
+    }
+
+    fn look_at_waiting(&mut self) -> Result<(), Stop> {
+        for _ in 0..self.budget.left() {
+            let Some(reader) = self.agenda.take() else {
+                break;
+            };
+            if self.budget.is_spent() {
+                break;
+            }
+            self.look_at(reader)?;
+        }
+        Ok(())
+    }
+}

@@ -1,0 +1,248 @@
+//! What a reader says of the order.
+
+use crate::conflict::{Conflict, Stop};
+use crate::propagation::Propagation;
+use closed_rows::PairReason;
+use numbered_log::NOBODY;
+use order_sets::tables::{at, put};
+use std::alloc::AllocError;
+
+/// A place behind all others.
+const FAR: u32 = u32::MAX;
+
+impl<'a> Propagation<'a> {
+    /// Derives what follows from the reader.
+    pub(crate) fn look_at(&mut self, reader: u32) -> Result<(), Stop> {
+        self.budget
+            .spend((self.rows.width() as u64).wrapping_mul(8));
+        if reader >= self.log.count() {
+            return self.look_at_final(reader);
+        }
+        if self.sources.count(reader) != 1 {
+            self.narrow(reader)?;
+        }
+        match self.only_source(reader) {
+            Some(NOBODY) => self.follow_initial(reader),
+            Some(source) => self.follow_source(reader, source),
+            None => {
+                self.find_common(reader);
+                self.add_common(reader)
+            }
+        }
+    }
+
+    /// The reader reads the initial value, so all accesses that are no read of it stand after the reader.
+    fn follow_initial(&mut self, reader: u32) -> Result<(), Stop> {
+        let operation = self.log.operation(reader);
+        for process in 0..self.rows.width() {
+            let place = self
+                .accesses
+                .next(process, operation.location, operation.needed, 1);
+            self.add_behind(reader, process, place)?;
+        }
+        Ok(())
+    }
+
+    /// The reader reads this source: the source stands before it, and each access that is no read of its value stands before the source or
+    /// after the reader.
+    fn follow_source(&mut self, reader: u32, source: u32) -> Result<(), Stop> {
+        if !self.stands_before(source, reader) {
+            self.add(source, reader, PairReason::BeforeReader(reader))?;
+        }
+        let operation = self.log.operation(reader);
+        for process in 0..self.rows.width() {
+            let from = self.rows.after(source, process);
+            if from < self.rows.after(reader, process) {
+                let place = self
+                    .accesses
+                    .next(process, operation.location, operation.needed, from);
+                self.add_behind(reader, process, place)?;
+            }
+        }
+        self.follow_back(reader, source)
+    }
+
+    /// Adds that what stands before the reader and is not its source stands before the source.
+    fn follow_back(&mut self, reader: u32, source: u32) -> Result<(), Stop> {
+        let operation = self.log.operation(reader);
+        let writer = self.log.operation(source);
+        for process in 0..self.rows.width() {
+            let mut known = self.rows.before(source, process);
+            if process == writer.process {
+                known = writer.place;
+            }
+            let place = self.rows.before(reader, process);
+            if place > known {
+                let found = self
+                    .accesses
+                    .previous(process, operation.location, operation.needed, place);
+                if found > known {
+                    let access = self.log.number(process, found);
+                    if access != source && !self.stands_before(access, source) {
+                        self.add(access, source, PairReason::BeforeSource(reader))?;
+                    }
+                }
+            }
+        }
+        Ok(())
+    }
+
+    /// Adds that the process's operation at this place stands after the reader, unless it is the reader or there is none.
+    fn add_behind(&mut self, reader: u32, process: u32, place: u32) -> Result<(), Stop> {
+        if place >= self.rows.after(reader, process) || place > self.log.length(process) {
+            return Ok(());
+        }
+        let other = self.log.number(process, place);
+        if other == reader {
+            return Ok(());
+        }
+        self.add(reader, other, PairReason::AfterReader(reader))
+    }
+
+    /// Finds for each process up to where all stands before each source of the reader, and from where all stands after each of them.
+    fn find_common(&mut self, reader: u32) {
+        let has_initial = self.sources.has_initial(reader);
+        for process in 0..self.rows.width() {
+            let mut low = FAR;
+            let mut high = 0;
+            if has_initial {
+                low = 0;
+                high = 1;
+            }
+            put(self.lows.as_mut_slice(), process, low);
+            put(self.highs.as_mut_slice(), process, high);
+        }
+        for run in 0..self.sources.intervals(reader) {
+            let low = self.sources.low(reader, run);
+            let high = self.sources.high(reader, run);
+            if low < high {
+                let first = self.classes.writer(low);
+                let last = self.classes.writer(high.wrapping_sub(1));
+                self.widen(first, last);
+            }
+        }
+    }
+
+    /// Takes a run of sources, from the first to the last, to what `find_common` finds. All stands before the run that stands before its
+    /// first one, and after it what stands after its last one.
+    #[inline(always)]
+    fn widen(&mut self, first: u32, last: u32) {
+        let earliest = self.log.operation(first);
+        for process in 0..self.rows.width() {
+            let mut before = self.rows.before(first, process);
+            if process == earliest.process {
+                before = earliest.place;
+            }
+            if before < at(self.lows.as_slice(), process, 0) {
+                put(self.lows.as_mut_slice(), process, before);
+            }
+            let after = self.rows.after(last, process);
+            if after > at(self.highs.as_slice(), process, FAR) {
+                put(self.highs.as_mut_slice(), process, after);
+            }
+        }
+        self.budget.spend(self.rows.width() as u64);
+    }
+
+    /// Adds that what stands before all sources stands before the reader, and that what stands after all and is no read of its value stands
+    /// after it.
+    fn add_common(&mut self, reader: u32) -> Result<(), Stop> {
+        let operation = self.log.operation(reader);
+        for process in 0..self.rows.width() {
+            let low = at(self.lows.as_slice(), process, 0);
+            if low != FAR && low > self.rows.before(reader, process) {
+                let earlier = self.log.number(process, low);
+                if earlier != reader {
+                    self.add(earlier, reader, PairReason::BeforeReader(reader))?;
+                }
+            }
+            let high = at(self.highs.as_slice(), process, FAR);
+            if high < self.rows.after(reader, process) {
+                let place = self
+                    .accesses
+                    .next(process, operation.location, operation.needed, high);
+                self.add_behind(reader, process, place)?;
+            }
+        }
+        Ok(())
+    }
+
+    /// Takes from a final value the last writers that something else of the location stands after, and if one is left, adds that all else
+    /// stands before it.
+    fn look_at_final(&mut self, reader: u32) -> Result<(), Stop> {
+        let location = reader.wrapping_sub(self.log.count());
+        self.find_last_accesses(location)?;
+        let mut count: u32 = 0;
+        let mut only = NOBODY;
+        for run in 0..self.sources.intervals(reader) {
+            let low = self.sources.low(reader, run);
+            if low < self.sources.high(reader, run) {
+                let writer = self.classes.writer(low);
+                let witness = self.last_access_after(writer);
+                if witness == NOBODY {
+                    count = count.wrapping_add(1);
+                    only = writer;
+                } else {
+                    let cause = self.cause_of(writer, witness);
+                    self.sources
+                        .hide_before(reader, run, low.wrapping_add(1), cause)?;
+                }
+            }
+        }
+        if self.sources.has_initial(reader) {
+            count = count.wrapping_add(1);
+            only = NOBODY;
+        }
+        self.sources.set_count(reader, count);
+        if count == 0 {
+            self.conflict = Conflict::NoSource(reader);
+            return Err(Stop::Conflict);
+        }
+        if count == 1 && only != NOBODY {
+            return self.put_last(reader, only);
+        }
+        Ok(())
+    }
+
+    /// Finds for each process its last access of the location that is no read of the final value.
+    fn find_last_accesses(&mut self, location: u32) -> Result<(), AllocError> {
+        self.hiders.clear();
+        let Some(value) = self.log.last(location) else {
+            return Ok(());
+        };
+        for process in 0..self.rows.width() {
+            let length = self.log.length(process);
+            let place = self.accesses.previous(process, location, value, length);
+            if place != 0 {
+                let access = self.log.number(process, place);
+                self.hiders.push(access)?;
+            }
+        }
+        Ok(())
+    }
+
+    /// One of the last accesses that stands after the writer, or `NOBODY`.
+    fn last_access_after(&self, writer: u32) -> u32 {
+        for access in self.hiders.as_slice() {
+            if *access != writer && self.stands_before(writer, *access) {
+                return *access;
+            }
+        }
+        NOBODY
+    }
+
+    /// Adds that each of the last accesses stands before the only last writer.
+    fn put_last(&mut self, reader: u32, writer: u32) -> Result<(), Stop> {
+        for number in 0..self.hiders.len() {
+            let access = at(
+                self.hiders.as_slice(),
+                (number & 0xffff_ffff) as u32,
+                writer,
+            );
+            if access != writer && !self.stands_before(access, writer) {
+                self.add(access, writer, PairReason::BeforeLast(reader))?;
+            }
+        }
+        Ok(())
+    }
+}

@@ -1,0 +1,143 @@
+//! Which readers a changed row may say something new to.
+
+use crate::propagation::Propagation;
+use numbered_log::{NOBODY, Operation};
+use order_sets::tables::at;
+
+/// The number of readers of a class up to which all are looked at.
+const FEW_READERS: u32 = 24;
+
+impl<'a> Propagation<'a> {
+    /// More stands before the operation.
+    #[inline(always)]
+    pub(crate) fn wake_raised(&mut self, number: u32, operation: Operation, has_news: bool) {
+        if operation.reads && has_news {
+            self.agenda.add(number);
+        }
+        if operation.writes && at(self.is_open_source.as_slice(), number, false) {
+            self.wake_readers(number, false);
+        }
+    }
+
+    /// More stands after the operation.
+    #[inline(always)]
+    pub(crate) fn wake_lowered(&mut self, number: u32, operation: Operation, has_news: bool) {
+        if operation.reads && self.sources.has_several(number) {
+            self.agenda.add(number);
+        }
+        if operation.writes && (has_news || at(self.is_open_source.as_slice(), number, false)) {
+            self.wake_readers(number, has_news);
+        }
+        if at(self.is_near_end.as_slice(), number, false) {
+            let reader = self.final_reader(operation.location);
+            if self.sources.is_reader(reader) {
+                self.agenda.add(reader);
+            }
+        }
+    }
+
+    /// Wakes the readers that have the writer at an end of their interval, all of them or those of several sources: what lies within an
+    /// interval says nothing.
+    fn wake_readers(&mut self, writer: u32, all: bool) {
+        let class = self.classes.class_of(writer);
+        let begin = self.readers.begin(class);
+        let end = self.readers.end(class);
+        if end.saturating_sub(begin) <= FEW_READERS {
+            for position in begin..end {
+                self.wake_at(position, writer, all);
+            }
+            self.budget
+                .spend((end.saturating_sub(begin) as u64).wrapping_mul(4));
+            return;
+        }
+        let mut position = begin;
+        for _ in 0..self.log.processes() {
+            if position >= end {
+                break;
+            }
+            let process = self.log.operation(self.readers.reader(position)).process;
+            let next = self.log.start(process.wrapping_add(1));
+            let behind = self.readers.first_from(position, end, next);
+            self.wake_of_process(writer, process, (position, behind), all);
+            position = behind;
+        }
+    }
+
+    /// Wakes such readers of one process. As rows rise along a process, they are two runs: those of which the writer is the last source,
+    /// and those of which it is the first.
+    fn wake_of_process(&mut self, writer: u32, process: u32, positions: (u32, u32), all: bool) {
+        let (begin, end) = positions;
+        let place = self.rows.before(writer, process);
+        let first = self.log.number(process, place.wrapping_add(1));
+        let mut position = self.readers.first_from(begin, end, first);
+        let own = self.classes.position_of(writer);
+        self.budget.spend(24);
+        for _ in position..end {
+            let (low, high) = self.ends_at(position, writer);
+            if low > own || (low < high && high.wrapping_sub(1) != own && low != own) {
+                break;
+            }
+            self.wake_at(position, writer, all);
+            self.budget.spend(4);
+            position = position.wrapping_add(1);
+        }
+        if position < end && self.ends_at(position, writer).0 <= own {
+            position = self.first_low(position, end, writer, own);
+            for _ in position..end {
+                if self.ends_at(position, writer).0 != own {
+                    break;
+                }
+                self.wake_at(position, writer, all);
+                self.budget.spend(4);
+                position = position.wrapping_add(1);
+            }
+        }
+    }
+
+    /// The first position whose reader has no source before this one in the writer's run.
+    fn first_low(&self, begin: u32, end: u32, writer: u32, own: u32) -> u32 {
+        let mut low = begin;
+        let mut high = end;
+        for _ in 0..32 {
+            if low >= high {
+                break;
+            }
+            let middle = low.wrapping_add(high.wrapping_sub(low) / 2);
+            if self.ends_at(middle, writer).0 < own {
+                low = middle.wrapping_add(1);
+            } else {
+                high = middle;
+            }
+        }
+        low
+    }
+
+    /// The ends of the interval in which the writer may stand, of the reader at this position.
+    #[inline(always)]
+    fn ends_at(&self, position: u32, writer: u32) -> (u32, u32) {
+        let reader = self.readers.reader(position);
+        let class = self.classes.class_of(writer);
+        let run = self
+            .classes
+            .run_of(writer)
+            .wrapping_sub(self.classes.first_run(class));
+        (
+            self.sources.low(reader, run),
+            self.sources.high(reader, run),
+        )
+    }
+
+    /// Wakes the reader at this position if the writer is at an end of its interval.
+    #[inline(always)]
+    fn wake_at(&mut self, position: u32, writer: u32, all: bool) {
+        let reader = self.readers.reader(position);
+        if reader == NOBODY || !(all || self.sources.has_several(reader)) {
+            return;
+        }
+        let (low, high) = self.ends_at(position, writer);
+        let own = self.classes.position_of(writer);
+        if low < high && (low == own || high.wrapping_sub(1) == own) {
+            self.agenda.add(reader);
+        }
+    }
+}

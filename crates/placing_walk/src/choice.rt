@@ -1,0 +1,133 @@
+//! Which operation comes next.
+
+use crate::placing_walk::{Deciding, PlacingWalk};
+use crate::waiting::Awaited;
+use numbered_log::Operation;
+use order_propagation::Propagation;
+use order_sets::tables::at;
+
+/// Operations of another process up to which one on the same location is looked for.
+const SIGHT: u32 = 12;
+
+/// The cost if the order to some other operation has to be decided, since each decision may have to be turned round.
+const OPEN: i64 = 100_500;
+
+/// The cost of each reader of the value that is there, since it would come too late.
+const LOSS: i64 = 3000;
+
+/// The gain of each reader that waits for the new value.
+const GAIN: i64 = 1500;
+
+/// The cost of a place that is this number of operations behind.
+const PROGRESS: i64 = 2000;
+
+const PROGRESS_LENGTH: i64 = 4096;
+
+impl PlacingWalk {
+    /// The next operation: a plain read that can come, since it changes nothing for others, or else a writer.
+    pub(crate) fn next_operation(&self, order: &mut Propagation<'_>) -> Option<u32> {
+        let log = order.log();
+        let mut best = None;
+        let mut most = i64::MIN;
+        for process in 0..log.processes() {
+            if at(self.awaited.as_slice(), process, Awaited::Never) == Awaited::Nothing {
+                let number = log.number(process, self.memory.front(process));
+                if !log.operation(number).writes {
+                    return Some(number);
+                }
+                let worth = self.worth(order, number);
+                if best.is_none() || worth > most {
+                    best = Some(number);
+                    most = worth;
+                }
+            }
+        }
+        best
+    }
+
+    /// The worth of the writer as the next operation; the highest is placed. If the walk decides only when it is stuck, the one with the lowest
+    /// estimated place is.
+    fn worth(&self, order: &mut Propagation<'_>, number: u32) -> i64 {
+        let estimate = at(self.estimates.as_slice(), number, 0) as i64;
+        if self.deciding == Deciding::WhenStuck {
+            return 0i64.wrapping_sub(estimate);
+        }
+        let log = order.log();
+        let operation = log.operation(number);
+        let held = self.held_value(order, operation.location);
+        let mut worth: i64 = 0;
+        let mut is_open = false;
+        for process in 0..log.processes() {
+            if process != operation.process {
+                let Some(other) = self.in_sight(order, process, operation.location) else {
+                    continue;
+                };
+                let met = log.operation(other);
+                let is_after = order.stands_before(number, other);
+                is_open |= !is_after;
+                worth = worth.wrapping_add(self.gain(operation, met));
+                if met.reads && !is_after && held == Some(met.needed) {
+                    worth = worth.wrapping_sub(LOSS);
+                }
+            }
+        }
+        order.spend((log.processes() as u64).wrapping_mul(SIGHT as u64));
+        if is_open {
+            worth = worth.wrapping_sub(OPEN);
+        }
+        worth.wrapping_sub(estimate.wrapping_mul(PROGRESS) / PROGRESS_LENGTH)
+    }
+
+    /// The gain by a reader that waits for the value of the writer.
+    fn gain(&self, operation: Operation, met: Operation) -> i64 {
+        let waits = met.reads
+            && met.place == self.memory.front(met.process)
+            && met.needed == operation.left;
+        if waits { GAIN } else { 0 }
+    }
+
+    /// The value that the location holds.
+    fn held_value(&self, order: &Propagation<'_>, location: u32) -> Option<u64> {
+        let held = self.memory.held(location);
+        if held < order.log().count() {
+            Some(order.log().operation(held).left)
+        } else {
+            order.log().initial(location)
+        }
+    }
+
+    /// The process's next operation on the location, if it is in sight.
+    #[inline(always)]
+    fn in_sight(&self, order: &Propagation<'_>, process: u32, location: u32) -> Option<u32> {
+        let log = order.log();
+        let front = self.memory.front(process);
+        let end = log.length(process).wrapping_add(1);
+        for place in front..end.min(front.saturating_add(SIGHT)) {
+            let number = log.number(process, place);
+            if log.operation(number).location == location {
+                return Some(number);
+            }
+        }
+        None
+    }
+
+    /// The process's next operation that must come after this one: on its location, and a writer where this one is no writer.
+    pub(crate) fn next_rival(
+        &self,
+        order: &mut Propagation<'_>,
+        operation: Operation,
+        process: u32,
+    ) -> Option<u32> {
+        let log = order.log();
+        let front = self.memory.front(process);
+        for place in front..log.length(process).wrapping_add(1) {
+            let number = log.number(process, place);
+            let other = log.operation(number);
+            order.spend(1);
+            if other.location == operation.location && (operation.writes || other.writes) {
+                return Some(number);
+            }
+        }
+        None
+    }
+}

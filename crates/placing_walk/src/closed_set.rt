@@ -1,0 +1,151 @@
+//! Processes of which none can go on before another of them does: a conflict.
+
+use crate::placing_walk::PlacingWalk;
+use numbered_log::NOBODY;
+use order_propagation::Propagation;
+use order_sets::tables::{at, put};
+use std::alloc::{AllocError, Global};
+
+impl PlacingWalk {
+    /// Finds the smallest set of processes whose next operations are each behind the next operation of another of them, or read only what these
+    /// processes have still to write. Asks why that is so. Returns whether there is one.
+    pub(crate) fn ask_closed_set(
+        &mut self,
+        alloc: Global,
+        order: &mut Propagation<'_>,
+    ) -> Result<bool, AllocError> {
+        let processes = order.log().processes();
+        let mut smallest = NOBODY;
+        let mut best = NOBODY;
+        for process in 0..processes {
+            if self.head(order, process) != NOBODY {
+                let count = self.close(alloc, order, process)?;
+                if count != 0 && count < smallest {
+                    smallest = count;
+                    best = process;
+                }
+            }
+        }
+        if best == NOBODY {
+            return Ok(false);
+        }
+        self.close(alloc, order, best)?;
+        self.analysis.begin();
+        for process in 0..processes {
+            if at(self.is_in_set.as_slice(), process, false) {
+                self.ask_head(order, process)?;
+            }
+        }
+        Ok(true)
+    }
+
+    /// The next operation of the process, or `NOBODY`.
+    fn head(&self, order: &Propagation<'_>, process: u32) -> u32 {
+        let front = self.memory.front(process);
+        if front <= order.log().length(process) {
+            order.log().number(process, front)
+        } else {
+            NOBODY
+        }
+    }
+
+    /// A process whose next operation stands before this one, one of the set if there is one, or `NOBODY`.
+    fn blocking(&self, order: &Propagation<'_>, number: u32) -> u32 {
+        let mut found = NOBODY;
+        let own = order.log().operation(number).process;
+        for process in 0..order.log().processes() {
+            let is_before = order.rows().before(number, process) >= self.memory.front(process);
+            if is_before && process != own {
+                if at(self.is_in_set.as_slice(), process, false) {
+                    return process;
+                }
+                if found == NOBODY {
+                    found = process;
+                }
+            }
+        }
+        found
+    }
+
+    /// Closes the set of this process alone. Returns the number of its processes, or 0 if one of them can go on.
+    fn close(
+        &mut self,
+        alloc: Global,
+        order: &mut Propagation<'_>,
+        process: u32,
+    ) -> Result<u32, AllocError> {
+        let processes = order.log().processes();
+        for other in 0..processes {
+            put(self.is_in_set.as_mut_slice(), other, false);
+        }
+        let mut due = Vec::new(alloc);
+        put(self.is_in_set.as_mut_slice(), process, true);
+        due.push(process)?;
+        let mut count: u32 = 0;
+        for _ in 0..processes {
+            let Some(next) = due.pop() else {
+                break;
+            };
+            order.spend(processes as u64);
+            count = count.wrapping_add(1);
+            if !self.join_needed(order, next, &mut due)? {
+                return Ok(0);
+            }
+        }
+        Ok(count)
+    }
+
+    /// Has the processes join the set that have to go on before this one can. Returns whether it needs any.
+    fn join_needed(
+        &mut self,
+        order: &Propagation<'_>,
+        process: u32,
+        due: &mut Vec<u32>,
+    ) -> Result<bool, AllocError> {
+        let number = self.head(order, process);
+        let blocking = self.blocking(order, number);
+        if blocking != NOBODY {
+            self.join(blocking, due)?;
+            return Ok(true);
+        }
+        if !order.log().operation(number).reads || order.sources().has_initial(number) {
+            return Ok(false);
+        }
+        for run in 0..order.sources().intervals(number) {
+            let low = order.sources().low(number, run);
+            if low < order.sources().high(number, run) {
+                let other = order.sources().process(order.classes(), number, run);
+                let writer = order.log().operation(order.classes().writer(low));
+                if other == process
+                    || self.head(order, other) == NOBODY
+                    || self.memory.front(other) > writer.place
+                {
+                    return Ok(false);
+                }
+                self.join(other, due)?;
+            }
+        }
+        Ok(true)
+    }
+
+    fn join(&mut self, process: u32, due: &mut Vec<u32>) -> Result<(), AllocError> {
+        if !at(self.is_in_set.as_slice(), process, true) {
+            put(self.is_in_set.as_mut_slice(), process, true);
+            due.push(process)?;
+        }
+        Ok(())
+    }
+
+    /// Asks why the next operation of the process cannot come before others of the set.
+    fn ask_head(&mut self, order: &Propagation<'_>, process: u32) -> Result<(), AllocError> {
+        let number = self.head(order, process);
+        let blocking = self.blocking(order, number);
+        if blocking == NOBODY {
+            return self.analysis.ask_sources(order, number, order.later());
+        }
+        let first = self.head(order, blocking);
+        self.analysis.name(number)?;
+        self.analysis.name(first)?;
+        self.analysis.ask(order, first, number, order.later())
+    }
+}

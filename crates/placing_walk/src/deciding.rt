@@ -1,0 +1,214 @@
+//! Decisions, and what is learned from their conflicts.
+
+use crate::placing_walk::{Deciding, PlacingWalk, WalkEnding};
+use crate::waiting::Awaited;
+use closed_rows::PairReason;
+use conflict_analysis::Backjump;
+use numbered_log::NOBODY;
+use order_propagation::{Propagated, Propagation, Stop};
+use order_sets::tables::{at, size};
+use std::alloc::{AllocError, Global};
+
+/// The most times that no operation can come next before a walk gives up.
+const MOST_STUCK: u32 = 20_000;
+
+/// The most times that a walk begins anew at the front since nothing says what to decide.
+const MOST_RESTARTS: u32 = 40;
+
+impl PlacingWalk {
+    /// Decides that the operation comes before its rivals, and places it, unless what follows says that it has to wait.
+    pub(crate) fn decide_and_place(
+        &mut self,
+        order: &mut Propagation<'_>,
+        number: u32,
+    ) -> Result<Option<WalkEnding>, AllocError> {
+        let operation = order.log().operation(number);
+        let before = order.pairs().count();
+        for process in 0..order.log().processes() {
+            if process != operation.process {
+                if let Some(rival) = self.next_rival(order, operation, process) {
+                    if !order.stands_before(number, rival) {
+                        match self.push_decision(order, number, rival) {
+                            Ok(()) => {}
+                            Err(Stop::Conflict) => return self.resolve(order),
+                            Err(Stop::OutOfMemory) => return Err(AllocError),
+                        }
+                    }
+                }
+            }
+        }
+        if order.pairs().count() != before {
+            match self.clauses.propagate(order)? {
+                Propagated::Done => self.heed(order, NOBODY),
+                Propagated::Spent => return Ok(Some(WalkEnding::GivenUp)),
+                Propagated::Conflict => return self.resolve(order),
+            }
+            let is_next = operation.place == self.memory.front(operation.process);
+            if !is_next || self.awaited_by(order, operation.process) != Awaited::Nothing {
+                return Ok(None);
+            }
+        }
+        self.place(order, number)?;
+        Ok(None)
+    }
+
+    /// Decides the order of the two operations, and takes back what is placed against it.
+    pub(crate) fn decide(
+        &mut self,
+        order: &mut Propagation<'_>,
+        first: u32,
+        second: u32,
+    ) -> Result<Option<WalkEnding>, AllocError> {
+        if first >= order.log().count() || second >= order.log().count() {
+            return Ok(Some(WalkEnding::GivenUp));
+        }
+        match self.push_decision(order, first, second) {
+            Ok(()) => {}
+            Err(Stop::Conflict) => return self.resolve(order),
+            Err(Stop::OutOfMemory) => return Err(AllocError),
+        }
+        match self.clauses.propagate(order)? {
+            Propagated::Done => self.heed(order, NOBODY),
+            Propagated::Spent => return Ok(Some(WalkEnding::GivenUp)),
+            Propagated::Conflict => return self.resolve(order),
+        }
+        Ok(None)
+    }
+
+    fn push_decision(
+        &mut self,
+        order: &mut Propagation<'_>,
+        first: u32,
+        second: u32,
+    ) -> Result<(), Stop> {
+        self.note_decision()?;
+        order.decide(first, second)
+    }
+
+    fn note_decision(&mut self) -> Result<(), AllocError> {
+        let placed = self.memory.count();
+        self.decided_at.push(placed)?;
+        Ok(())
+    }
+
+    /// Learns from the conflict of the order.
+    fn resolve(&mut self, order: &mut Propagation<'_>) -> Result<Option<WalkEnding>, AllocError> {
+        order.forget_waiting();
+        self.analysis.begin();
+        self.analysis.ask_conflict(order, &self.clauses)?;
+        self.learn(order)
+    }
+
+    /// Learns a clause from what the analysis was asked, jumps back to where it leaves one literal, and adds that, as long as this is a conflict
+    /// again.
+    pub(crate) fn learn(
+        &mut self,
+        order: &mut Propagation<'_>,
+    ) -> Result<Option<WalkEnding>, AllocError> {
+        let mut target = NOBODY;
+        for _ in 0..order.budget().left() {
+            let learned = self.analysis.find_clause(order, &self.clauses)?;
+            let steps = self.analysis.take_steps();
+            order.spend(steps);
+            let Backjump::To(level, literal) = learned else {
+                return Ok(Some(WalkEnding::Refuted));
+            };
+            let literals = self.analysis.literals();
+            let clause = self.clauses.add(literals)?;
+            target = target.min(at(self.decided_at.as_slice(), level, 0));
+            self.jump_back(order, level);
+            let added = order.add(literal.first, literal.second, PairReason::Learned(clause));
+            match self.settled(order, added)? {
+                Propagated::Done => {
+                    self.heed(order, target);
+                    return Ok(None);
+                }
+                Propagated::Spent => break,
+                Propagated::Conflict => {}
+            }
+            self.conflicts = self.conflicts.wrapping_add(1);
+            if self.conflicts > self.most_conflicts || self.clauses.is_full() {
+                break;
+            }
+            order.forget_waiting();
+            self.analysis.begin();
+            self.analysis.ask_conflict(order, &self.clauses)?;
+        }
+        Ok(Some(WalkEnding::GivenUp))
+    }
+
+    /// Backtracks to this number of decisions.
+    fn jump_back(&mut self, order: &mut Propagation<'_>, level: u32) {
+        self.conflicts = self.conflicts.wrapping_add(1);
+        order.take_back(level);
+        for _ in level..size(self.decided_at.as_slice()) {
+            if self.decided_at.pop().is_none() {
+                break;
+            }
+        }
+        self.heeded = self.heeded.min(order.pairs().count());
+    }
+
+    /// The result of propagation after a pair was added.
+    fn settled(
+        &mut self,
+        order: &mut Propagation<'_>,
+        added: Result<(), Stop>,
+    ) -> Result<Propagated, AllocError> {
+        match added {
+            Ok(()) => self.clauses.propagate(order),
+            Err(Stop::Conflict) => Ok(Propagated::Conflict),
+            Err(Stop::OutOfMemory) => Err(AllocError),
+        }
+    }
+
+    /// Takes back what is not placed in the order of all pairs, with all behind it; if the walk decides always, also what was placed after the
+    /// decisions that were undone.
+    pub(crate) fn heed(&mut self, order: &Propagation<'_>, target: u32) {
+        let log = order.log();
+        let mut left = self.memory.count();
+        if self.deciding != Deciding::WhenStuck {
+            left = left.min(target);
+        }
+        for number in self.heeded..order.pairs().count() {
+            let pair = order.pairs().pair(number);
+            let second = self.memory.position(pair.second);
+            let first = self.memory.position(pair.first);
+            if second != NOBODY && (first == NOBODY || first > second) && second < left {
+                left = second;
+            }
+        }
+        self.heeded = order.pairs().count();
+        self.memory.take_back(log, left);
+        self.memory.note_sources(order);
+        self.change_all(log.processes());
+    }
+
+    /// Goes on if no operation can come next: an order is decided by which processes stop to wait for one another, or it is a conflict.
+    pub(crate) fn go_on_stuck(
+        &mut self,
+        alloc: Global,
+        order: &mut Propagation<'_>,
+    ) -> Result<Option<WalkEnding>, AllocError> {
+        self.stuck = self.stuck.wrapping_add(1);
+        if self.stuck > MOST_STUCK || self.conflicts > self.most_conflicts {
+            return Ok(Some(WalkEnding::GivenUp));
+        }
+        if self.deciding != Deciding::WhenStuck && self.ask_closed_set(alloc, order)? {
+            return self.learn(order);
+        }
+        if let Some((first, second)) = self.untie(alloc, order)? {
+            return self.decide(order, first, second);
+        }
+        if self.deciding == Deciding::WhenStuck && self.ask_closed_set(alloc, order)? {
+            return self.learn(order);
+        }
+        self.restarts = self.restarts.wrapping_add(1);
+        if self.restarts > MOST_RESTARTS {
+            return Ok(Some(WalkEnding::GivenUp));
+        }
+        self.memory.take_back(order.log(), 0);
+        self.change_all(order.log().processes());
+        Ok(None)
+    }
+}

@@ -1,0 +1,223 @@
+//! What is placed, and what memory holds by it.
+
+use numbered_log::{NOBODY, NumberedLog, Operation};
+use order_propagation::Propagation;
+use order_sets::tables::{at, put, size};
+use std::alloc::{AllocError, Global};
+
+/// A source that is not known yet, as there are several.
+pub(crate) const UNKNOWN_SOURCE: u32 = NOBODY - 1;
+
+/// The operations that are placed, in order, and what each location holds after them.
+pub(crate) struct PlacedMemory {
+    pub(crate) placed: Vec<u32>,
+    /// For each operation the number of those placed before it, or `NOBODY`.
+    positions: Vec<u32>,
+    /// For each process the place of its next operation.
+    fronts: Vec<u32>,
+    /// For each location the operation that has written it last, or `NOBODY`.
+    held: Vec<u32>,
+    /// For each placed operation that writes the one that its location held before.
+    held_before: Vec<u32>,
+    /// For each reading operation its source, if it has one only.
+    sources: Vec<u32>,
+    /// For each operation the readers that are not placed and have it as their only source.
+    unread: Vec<u32>,
+    /// The same for the initial value of each location.
+    unread_initial: Vec<u32>,
+    /// The reading operations that had several sources when the walk began.
+    open: Vec<u32>,
+}
+
+/// Drops each table, in one call for each exit of a function that owns it.
+impl Drop for PlacedMemory {
+    fn drop(self) {
+        let PlacedMemory {
+            placed: _placed,
+            positions: _positions,
+            fronts: _fronts,
+            held: _held,
+            held_before: _held_before,
+            sources: _sources,
+            unread: _unread,
+            unread_initial: _unread_initial,
+            open: _open,
+        } = self;
+    }
+}
+
+/// The source of the reader, as it is noted.
+fn source_noted(order: &Propagation<'_>, reader: u32) -> u32 {
+    match order.only_source(reader) {
+        Some(source) => source,
+        None => UNKNOWN_SOURCE,
+    }
+}
+
+impl PlacedMemory {
+    /// Nothing placed.
+    pub(crate) fn new(alloc: Global, order: &Propagation<'_>) -> Result<PlacedMemory, AllocError> {
+        let log = order.log();
+        let count = log.count() as usize;
+        let mut memory = PlacedMemory {
+            placed: Vec::with_capacity(alloc, count)?,
+            positions: vec![in alloc; NOBODY; count]?,
+            fronts: vec![in alloc; 1; log.processes() as usize]?,
+            held: vec![in alloc; NOBODY; log.locations() as usize]?,
+            held_before: vec![in alloc; NOBODY; count]?,
+            sources: vec![in alloc; UNKNOWN_SOURCE; count]?,
+            unread: vec![in alloc; 0; count]?,
+            unread_initial: vec![in alloc; 0; log.locations() as usize]?,
+            open: Vec::new(alloc),
+        };
+        for number in 0..log.count() {
+            if order.sources().is_reader(number) {
+                let source = source_noted(order, number);
+                memory.set_source(log, number, source);
+                if source == UNKNOWN_SOURCE {
+                    memory.open.push(number)?;
+                }
+            }
+        }
+        Ok(memory)
+    }
+
+    /// Notes the source of a reader that is not placed.
+    fn set_source(&mut self, log: &NumberedLog, reader: u32, source: u32) {
+        put(self.sources.as_mut_slice(), reader, source);
+        let location = log.operation(reader).location;
+        self.change_unread(source, location, 1);
+    }
+
+    /// Adds to the number of readers that the source waits for. A difference below 0 is added as its complement.
+    fn change_unread(&mut self, source: u32, location: u32, difference: u32) {
+        if source == NOBODY {
+            let count = at(self.unread_initial.as_slice(), location, 0);
+            let changed = count.wrapping_add(difference);
+            put(self.unread_initial.as_mut_slice(), location, changed);
+        } else if source != UNKNOWN_SOURCE {
+            let count = at(self.unread.as_slice(), source, 0);
+            put(
+                self.unread.as_mut_slice(),
+                source,
+                count.wrapping_add(difference),
+            );
+        }
+    }
+
+    /// Notes the sources anew of the readers that had several.
+    pub(crate) fn note_sources(&mut self, order: &Propagation<'_>) {
+        let log = order.log();
+        for entry in 0..size(self.open.as_slice()) {
+            let reader = at(self.open.as_slice(), entry, NOBODY);
+            let source = source_noted(order, reader);
+            let old = self.source(reader);
+            if source != old {
+                put(self.sources.as_mut_slice(), reader, source);
+                if !self.is_placed(reader) {
+                    let location = log.operation(reader).location;
+                    self.change_unread(old, location, u32::MAX);
+                    self.change_unread(source, location, 1);
+                }
+            }
+        }
+    }
+
+    /// The source of the reader, or `UNKNOWN_SOURCE`.
+    #[inline(always)]
+    pub(crate) fn source(&self, reader: u32) -> u32 {
+        at(self.sources.as_slice(), reader, UNKNOWN_SOURCE)
+    }
+
+    /// The number of operations that are placed.
+    #[inline(always)]
+    pub(crate) fn count(&self) -> u32 {
+        size(self.placed.as_slice())
+    }
+
+    /// The number of operations placed before this one, or `NOBODY` if it is not placed.
+    #[inline(always)]
+    pub(crate) fn position(&self, number: u32) -> u32 {
+        at(self.positions.as_slice(), number, NOBODY)
+    }
+
+    #[inline(always)]
+    pub(crate) fn is_placed(&self, number: u32) -> bool {
+        self.position(number) != NOBODY
+    }
+
+    /// The place of the process's next operation.
+    #[inline(always)]
+    pub(crate) fn front(&self, process: u32) -> u32 {
+        at(self.fronts.as_slice(), process, NOBODY)
+    }
+
+    /// The operation that has written the location last, or `NOBODY`.
+    #[inline(always)]
+    pub(crate) fn held(&self, location: u32) -> u32 {
+        at(self.held.as_slice(), location, NOBODY)
+    }
+
+    /// The operation that its location held before this one was placed.
+    #[inline(always)]
+    pub(crate) fn held_before(&self, writer: u32) -> u32 {
+        at(self.held_before.as_slice(), writer, NOBODY)
+    }
+
+    /// The number of readers that wait for what the location holds.
+    #[inline(always)]
+    pub(crate) fn unread(&self, location: u32) -> u32 {
+        let writer = self.held(location);
+        if writer == NOBODY {
+            at(self.unread_initial.as_slice(), location, 0)
+        } else {
+            at(self.unread.as_slice(), writer, 0)
+        }
+    }
+
+    /// Places the operation. Returns whether what its location holds is another write now, or was read by the last that waited for it.
+    pub(crate) fn place(&mut self, number: u32, operation: Operation) -> Result<bool, AllocError> {
+        let position = self.count();
+        self.placed.push(number)?;
+        put(self.positions.as_mut_slice(), number, position);
+        let front = operation.place.wrapping_add(1);
+        put(self.fronts.as_mut_slice(), operation.process, front);
+        let mut is_free = false;
+        if operation.reads {
+            let source = self.source(number);
+            self.change_unread(source, operation.location, u32::MAX);
+            is_free = self.unread(operation.location) == 0;
+        }
+        if operation.writes {
+            let held = self.held(operation.location);
+            put(self.held_before.as_mut_slice(), number, held);
+            put(self.held.as_mut_slice(), operation.location, number);
+            is_free = true;
+        }
+        Ok(is_free)
+    }
+
+    /// Takes operations back, the last first, until this number is placed.
+    pub(crate) fn take_back(&mut self, log: &NumberedLog, left: u32) {
+        for _ in left..self.count() {
+            let Some(number) = self.placed.pop() else {
+                break;
+            };
+            let operation = log.operation(number);
+            put(self.positions.as_mut_slice(), number, NOBODY);
+            put(
+                self.fronts.as_mut_slice(),
+                operation.process,
+                operation.place,
+            );
+            if operation.writes {
+                let before = self.held_before(number);
+                put(self.held.as_mut_slice(), operation.location, before);
+            }
+            if operation.reads {
+                let source = self.source(number);
+                self.change_unread(source, operation.location, 1);
+            }
+        }
+    }
+}

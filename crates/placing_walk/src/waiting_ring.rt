@@ -1,0 +1,236 @@
+//! Processes that wait for one another.
+
+use crate::memory::{PlacedMemory, UNKNOWN_SOURCE};
+use crate::placing_walk::PlacingWalk;
+use crate::waiting::Awaited;
+use numbered_log::{NOBODY, NumberedLog};
+use order_propagation::Propagation;
+use order_sets::tables::{at, put, size};
+use std::alloc::{AllocError, Global};
+
+/// A process of a chain in which each waits for the next.
+#[derive(Clone, Copy)]
+struct Link {
+    /// Its next operation.
+    waiting: u32,
+    awaited: Awaited,
+    /// The process that it waits for.
+    next: u32,
+}
+
+/// Processes of which each waits for the next, and the last for the first.
+#[derive(Drop)]
+struct WaitingRing {
+    links: Vec<Link>,
+}
+
+/// Two operations whose order would untie a knot, and where the second of them is placed.
+#[derive(Clone, Copy)]
+struct Untying {
+    first: u32,
+    second: u32,
+    position: u32,
+}
+
+impl PlacingWalk {
+    /// Two operations: if the first comes before the second, processes stop to wait for one another. The second is placed, and the later it
+    /// is, the less has to be taken back.
+    pub(crate) fn untie(
+        &mut self,
+        alloc: Global,
+        order: &mut Propagation<'_>,
+    ) -> Result<Option<(u32, u32)>, AllocError> {
+        let ring = self.find_ring(alloc, order)?;
+        let mut best: Option<Untying> = None;
+        for link in ring.links.as_slice() {
+            best = later(best, self.early_writer(order, *link));
+        }
+        if best.is_none() {
+            for link in ring.links.as_slice() {
+                best = later(best, self.lost_source(order, *link));
+            }
+        }
+        Ok(match best {
+            Some(untying) => Some((untying.first, untying.second)),
+            None => None,
+        })
+    }
+
+    /// Finds the ring at the end of the chain that begins with the first process that waits.
+    fn find_ring(
+        &self,
+        alloc: Global,
+        order: &mut Propagation<'_>,
+    ) -> Result<WaitingRing, AllocError> {
+        let log = order.log();
+        let processes = log.processes();
+        let mut seen = vec![in alloc; NOBODY; processes as usize]?;
+        let mut chain: Vec<Link> = Vec::new(alloc);
+        let mut process = self.first_waiting(processes);
+        for _ in 0..processes {
+            if at(seen.as_slice(), process, 0) != NOBODY {
+                break;
+            }
+            put(seen.as_mut_slice(), process, size(chain.as_slice()));
+            let link = self.link_of(order, process);
+            chain.push(link)?;
+            process = link.next;
+        }
+        let mut links = Vec::new(alloc);
+        for number in at(seen.as_slice(), process, 0)..size(chain.as_slice()) {
+            let nothing = Link {
+                waiting: NOBODY,
+                awaited: Awaited::Never,
+                next: NOBODY,
+            };
+            links.push(at(chain.as_slice(), number, nothing))?;
+        }
+        order.spend(processes as u64);
+        Ok(WaitingRing { links })
+    }
+
+    fn first_waiting(&self, processes: u32) -> u32 {
+        for process in 0..processes {
+            if at(self.awaited.as_slice(), process, Awaited::Never) != Awaited::Never {
+                return process;
+            }
+        }
+        0
+    }
+
+    /// Returns what the process waits for, and a process that has to go on before.
+    fn link_of(&self, order: &mut Propagation<'_>, process: u32) -> Link {
+        let log = order.log();
+        let awaited = at(self.awaited.as_slice(), process, Awaited::Never);
+        let waiting = log.number(process, self.memory.front(process));
+        let next = match awaited {
+            Awaited::Process(other, _) => other,
+            Awaited::Readers(location) => {
+                order.spend(log.count() as u64);
+                let held = self.memory.held(location);
+                reader_of(&self.memory, log, waiting, held, location)
+            }
+            Awaited::Value(_) => self.writer_for(order, waiting, process),
+            Awaited::Nothing => process,
+            Awaited::Never => process,
+        };
+        Link {
+            waiting,
+            awaited,
+            next,
+        }
+    }
+
+    /// The process of a writer that is not placed and may be the source of this reader, or the reader's own.
+    fn writer_for(&self, order: &Propagation<'_>, reader: u32, process: u32) -> u32 {
+        let runs = order.sources().intervals(reader);
+        let turn = self.stuck;
+        for number in 0..runs {
+            let mut run = number;
+            if runs > 0 {
+                run = number.wrapping_add(turn) % runs;
+            }
+            let low = order.sources().low(reader, run);
+            let high = order.sources().high(reader, run);
+            if low < high {
+                let writer = order.classes().writer(high.wrapping_sub(1));
+                let other = order.sources().process(order.classes(), reader, run);
+                if !self.memory.is_placed(writer) && other != process {
+                    return other;
+                }
+            }
+        }
+        process
+    }
+
+    /// A write that is held by the location and whose readers cannot come, while a writer waits for them: the writer is to come before it.
+    fn early_writer(&self, order: &Propagation<'_>, link: Link) -> Option<Untying> {
+        let Awaited::Readers(location) = link.awaited else {
+            return None;
+        };
+        let held = self.memory.held(location);
+        if held == NOBODY || order.stands_before(held, link.waiting) {
+            return None;
+        }
+        Some(Untying {
+            first: link.waiting,
+            second: held,
+            position: self.memory.position(held),
+        })
+    }
+
+    /// A reader whose last source was written over: the reader is to come before what wrote over it, or else that before the source.
+    fn lost_source(&self, order: &Propagation<'_>, link: Link) -> Option<Untying> {
+        let Awaited::Value(location) = link.awaited else {
+            return None;
+        };
+        let mut over = self.memory.held(location);
+        let mut source = NOBODY;
+        for _ in 0..self.memory.count() {
+            if over == NOBODY {
+                return None;
+            }
+            source = self.memory.held_before(over);
+            if order.may_read(link.waiting, source) {
+                break;
+            }
+            over = source;
+        }
+        if over == NOBODY || !order.may_read(link.waiting, source) {
+            return None;
+        }
+        if !order.stands_before(over, link.waiting) {
+            return Some(Untying {
+                first: link.waiting,
+                second: over,
+                position: self.memory.position(over),
+            });
+        }
+        if source != NOBODY && !order.stands_before(source, over) {
+            return Some(Untying {
+                first: over,
+                second: source,
+                position: self.memory.position(source),
+            });
+        }
+        None
+    }
+}
+
+/// The one of the two whose second operation is placed later.
+fn later(best: Option<Untying>, other: Option<Untying>) -> Option<Untying> {
+    let Some(right) = other else {
+        return best;
+    };
+    if let Some(left) = best {
+        if left.position >= right.position {
+            return best;
+        }
+    }
+    other
+}
+
+/// The process of a reader that is not placed and reads what is held, other than the operation that waits; or that one's own.
+fn reader_of(
+    memory: &PlacedMemory,
+    log: &NumberedLog,
+    waiting: u32,
+    held: u32,
+    location: u32,
+) -> u32 {
+    let own = log.operation(waiting).process;
+    for reader in 0..log.count() {
+        let source = memory.source(reader);
+        if source == held && source != UNKNOWN_SOURCE && reader != waiting {
+            let operation = log.operation(reader);
+            if operation.location == location
+                && operation.reads
+                && operation.process != own
+                && !memory.is_placed(reader)
+            {
+                return operation.process;
+            }
+        }
+    }
+    own
+}

@@ -1,0 +1,199 @@
+//! The accesses of a location that can hide a source from a reader.
+
+use numbered_log::NumberedLog;
+use order_sets::tables::{at, put, sum_up};
+use std::alloc::{AllocError, Global};
+
+/// For each process and location the places of the accesses that can hide a source, rising: writers, and plain reads that have several
+/// possible sources. What such a read of another value reads was written in between. A plain read of one source hides no more than what
+/// follows from its source.
+#[derive(Drop)]
+pub struct HidingAccesses {
+    locations: u32,
+    /// For each process and location where its accesses begin, and where all end.
+    begins: Vec<u32>,
+    places: Vec<u32>,
+    /// For each entry that is a plain read the place of the nearest access before it that is no read of its value, or 0; of a writer its
+    /// own place.
+    others_before: Vec<u32>,
+    /// The same of the nearest one behind it, or `FAR`.
+    others_behind: Vec<u32>,
+    /// For each entry the value that is read, or none of a writer.
+    values: Vec<Option<u64>>,
+}
+
+/// A place behind all others.
+pub const FAR: u32 = u32::MAX;
+
+impl HidingAccesses {
+    /// The accesses of the log. The operations that hide are the writers and those that are named.
+    pub fn new(
+        alloc: Global,
+        log: &NumberedLog,
+        hides: &[bool],
+    ) -> Result<HidingAccesses, AllocError> {
+        let pairs = log.locations().wrapping_mul(log.processes());
+        let count = log.count() as usize;
+        let mut accesses = HidingAccesses {
+            locations: log.locations(),
+            begins: vec![in alloc; 0; pairs.wrapping_add(2) as usize]?,
+            places: vec![in alloc; 0; count]?,
+            others_before: vec![in alloc; 0; count]?,
+            others_behind: vec![in alloc; FAR; count]?,
+            values: vec![in alloc; None; count]?,
+        };
+        for number in 0..log.count() {
+            if at(hides, number, false) {
+                accesses.count_one(log, number);
+            }
+        }
+        sum_up(accesses.begins.as_mut_slice());
+        for number in 0..log.count() {
+            if at(hides, number, false) {
+                accesses.enter(log, number);
+            }
+        }
+        for pair in 0..pairs {
+            accesses.link(pair);
+        }
+        Ok(accesses)
+    }
+
+    #[inline(always)]
+    fn pair_of(&self, process: u32, location: u32) -> u32 {
+        process.wrapping_mul(self.locations).wrapping_add(location)
+    }
+
+    fn count_one(&mut self, log: &NumberedLog, number: u32) {
+        let operation = log.operation(number);
+        let place = self
+            .pair_of(operation.process, operation.location)
+            .wrapping_add(2);
+        let more = at(self.begins.as_slice(), place, 0).wrapping_add(1);
+        put(self.begins.as_mut_slice(), place, more);
+    }
+
+    fn enter(&mut self, log: &NumberedLog, number: u32) {
+        let operation = log.operation(number);
+        let place = self
+            .pair_of(operation.process, operation.location)
+            .wrapping_add(1);
+        let free = at(self.begins.as_slice(), place, 0);
+        put(self.begins.as_mut_slice(), place, free.wrapping_add(1));
+        put(self.places.as_mut_slice(), free, operation.place);
+        if !operation.writes {
+            let needed = Some(operation.needed);
+            put(self.values.as_mut_slice(), free, needed);
+        }
+    }
+
+    /// Links the plain reads of one process and location to the accesses beside them.
+    fn link(&mut self, pair: u32) {
+        let begin = at(self.begins.as_slice(), pair, 0);
+        let end = at(self.begins.as_slice(), pair.wrapping_add(1), 0);
+        for entry in begin..end {
+            let mut other = at(self.places.as_slice(), entry, 0);
+            if self.value(entry).is_some() {
+                other = 0;
+                if entry > begin {
+                    let previous = entry.wrapping_sub(1);
+                    other = self.linked(entry, previous, self.others_before.as_slice());
+                }
+            }
+            put(self.others_before.as_mut_slice(), entry, other);
+        }
+        for back in begin..end {
+            let entry = end.wrapping_sub(1).wrapping_sub(back.wrapping_sub(begin));
+            let mut other = at(self.places.as_slice(), entry, 0);
+            if self.value(entry).is_some() {
+                other = FAR;
+                let next = entry.wrapping_add(1);
+                if next < end {
+                    other = self.linked(entry, next, self.others_behind.as_slice());
+                }
+            }
+            put(self.others_behind.as_mut_slice(), entry, other);
+        }
+    }
+
+    /// The place of the neighbour, or what it is linked to if both read one value.
+    fn linked(&self, entry: u32, neighbour: u32, links: &[u32]) -> u32 {
+        if self.value(neighbour) == self.value(entry) {
+            at(links, neighbour, 0)
+        } else {
+            at(self.places.as_slice(), neighbour, 0)
+        }
+    }
+
+    #[inline(always)]
+    fn value(&self, entry: u32) -> Option<u64> {
+        at(self.values.as_slice(), entry, None)
+    }
+
+    /// The first entry, from one up to another, that has this place or a later one, or the end.
+    #[inline(always)]
+    fn first_from(&self, begin: u32, end: u32, place: u32) -> u32 {
+        let mut low = begin;
+        let mut high = end;
+        for _ in 0..32 {
+            if low >= high {
+                break;
+            }
+            let middle = low.wrapping_add(high.wrapping_sub(low) / 2);
+            if at(self.places.as_slice(), middle, 0) < place {
+                low = middle.wrapping_add(1);
+            } else {
+                high = middle;
+            }
+        }
+        low
+    }
+
+    /// The place of the process's last access of the location up to this place that is no plain read of the value, or 0.
+    #[inline(always)]
+    pub fn previous(&self, process: u32, location: u32, value: u64, place: u32) -> u32 {
+        let pair = self.pair_of(process, location);
+        let begin = at(self.begins.as_slice(), pair, 0);
+        let end = at(self.begins.as_slice(), pair.wrapping_add(1), 0);
+        let behind = self.first_from(begin, end, place.saturating_add(1));
+        if behind <= begin {
+            return 0;
+        }
+        let entry = behind.wrapping_sub(1);
+        if self.value(entry) == Some(value) {
+            at(self.others_before.as_slice(), entry, 0)
+        } else {
+            at(self.places.as_slice(), entry, 0)
+        }
+    }
+
+    /// The place of the process's first access of the location from this place on that is no plain read of the value, or `FAR`.
+    #[inline(always)]
+    pub fn next(&self, process: u32, location: u32, value: u64, place: u32) -> u32 {
+        let pair = self.pair_of(process, location);
+        let begin = at(self.begins.as_slice(), pair, 0);
+        let end = at(self.begins.as_slice(), pair.wrapping_add(1), 0);
+        let entry = self.first_from(begin, end, place);
+        if entry >= end {
+            return FAR;
+        }
+        if self.value(entry) == Some(value) {
+            at(self.others_behind.as_slice(), entry, FAR)
+        } else {
+            at(self.places.as_slice(), entry, FAR)
+        }
+    }
+
+    /// The place of the process's first access of the location from this place on, or `FAR`.
+    #[inline(always)]
+    pub fn next_of_any(&self, process: u32, location: u32, place: u32) -> u32 {
+        let pair = self.pair_of(process, location);
+        let begin = at(self.begins.as_slice(), pair, 0);
+        let end = at(self.begins.as_slice(), pair.wrapping_add(1), 0);
+        let entry = self.first_from(begin, end, place);
+        if entry >= end {
+            return FAR;
+        }
+        at(self.places.as_slice(), entry, FAR)
+    }
+}

@@ -1,0 +1,571 @@
+//! The possible sources of each reader, as intervals.
+
+use crate::time::Time;
+use crate::value_classes::ValueClasses;
+use numbered_log::{NOBODY, NumberedLog, NumberedOrigin, Operation};
+use order_sets::tables::{at, put, size};
+use std::alloc::{AllocError, Global};
+
+/// The initial value in place of a writer.
+pub const INITIAL_VALUE: u32 = NOBODY;
+
+/// The bound of an interval that was moved, or the initial value that was lost.
+#[derive(Clone, Copy, PartialEq, Eq)]
+pub enum LostBound {
+    /// Writers up to one of the process are hidden: they and the witness stand in this order, and the witness before the reader.
+    Hidden,
+    /// Writers of the process from one on stand after the reader.
+    Late,
+    /// The initial value is hidden by the witness.
+    Initial,
+}
+
+/// The cause of a loss.
+#[derive(Clone, Copy)]
+pub struct LossCause {
+    /// The writer that was lost and is nearest to what stays.
+    pub writer: u32,
+    /// The access that hides it, or the reader if it stands after that.
+    pub witness: u32,
+    pub time: Time,
+}
+
+/// A change of a reader's possible sources: what was lost, when, and by which witness. It is a piece of a reason.
+#[derive(Clone, Copy)]
+pub struct SourceLoss {
+    pub reader: u32,
+    /// The number of the interval among all.
+    pub interval: u32,
+    pub bound: LostBound,
+    pub cause: LossCause,
+    /// The bound before.
+    pub old_bound: u32,
+    /// The number of sources before.
+    old_count: u32,
+    /// The loss before this one at the same bound, or `NOBODY`.
+    pub previous: u32,
+}
+
+/// Nothing lost.
+const NO_LOSS: SourceLoss = SourceLoss {
+    reader: NOBODY,
+    interval: NOBODY,
+    bound: LostBound::Initial,
+    cause: LossCause {
+        writer: NOBODY,
+        witness: NOBODY,
+        time: Time::START,
+    },
+    old_bound: 0,
+    old_count: 0,
+    previous: NOBODY,
+};
+
+/// For each reader, which is an operation or, behind all operations, the final value of a location, its possible sources: of each process
+/// that writes its value an interval of the positions of a run of writers, since rows rise along a process; and maybe the initial value.
+pub struct SourceIntervals {
+    operations: u32,
+    /// For each reader where its intervals begin, and where all end.
+    begins: Vec<u32>,
+    /// For each reader its class, or `NOBODY`.
+    classes: Vec<u32>,
+    lows: Vec<u32>,
+    highs: Vec<u32>,
+    /// For each interval its last loss at either end.
+    hidden: Vec<u32>,
+    late: Vec<u32>,
+    /// For each reader whether the initial value is possible.
+    is_initial: Vec<bool>,
+    /// For each reader the loss of the initial value, or `NOBODY`.
+    initial_losses: Vec<u32>,
+    /// For each reader the number of its possible sources, or `NOBODY` of what reads nothing.
+    counts: Vec<u32>,
+    losses: Vec<SourceLoss>,
+}
+
+/// Drops each table, in one call for each exit of a function that owns sources.
+impl Drop for SourceIntervals {
+    fn drop(self) {
+        let SourceIntervals {
+            operations: _,
+            begins: _begins,
+            classes: _classes,
+            lows: _lows,
+            highs: _highs,
+            hidden: _hidden,
+            late: _late,
+            is_initial: _is_initial,
+            initial_losses: _initial_losses,
+            counts: _counts,
+            losses: _losses,
+        } = self;
+    }
+}
+
+/// For each location the last writer that was met, with its process.
+#[derive(Drop)]
+struct LatestWrites {
+    writers: Vec<u32>,
+}
+
+impl SourceIntervals {
+    /// The sources that are possible by program order and origins.
+    pub fn new(
+        alloc: Global,
+        log: &NumberedLog,
+        classes: &ValueClasses,
+    ) -> Result<SourceIntervals, AllocError> {
+        let readers = log.count().wrapping_add(log.locations());
+        let mut sources = SourceIntervals::of_classes(alloc, log, classes, readers)?;
+        let mut last = LatestWrites {
+            writers: vec![in alloc; NOBODY; log.locations() as usize]?,
+        };
+        for number in 0..log.count() {
+            sources.narrow_by_program(log, classes, number, &last);
+            let operation = log.operation(number);
+            if operation.writes {
+                put(last.writers.as_mut_slice(), operation.location, number);
+            }
+        }
+        sources.narrow_final_values(alloc, log, classes)?;
+        Ok(sources)
+    }
+
+    /// For each reader all writers of its class.
+    fn of_classes(
+        alloc: Global,
+        log: &NumberedLog,
+        classes: &ValueClasses,
+        readers: u32,
+    ) -> Result<SourceIntervals, AllocError> {
+        let mut sources = SourceIntervals {
+            operations: log.count(),
+            begins: Vec::new(alloc),
+            classes: vec![in alloc; NOBODY; readers as usize]?,
+            lows: Vec::new(alloc),
+            highs: Vec::new(alloc),
+            hidden: Vec::new(alloc),
+            late: Vec::new(alloc),
+            is_initial: vec![in alloc; false; readers as usize]?,
+            initial_losses: vec![in alloc; NOBODY; readers as usize]?,
+            counts: vec![in alloc; NOBODY; readers as usize]?,
+            losses: Vec::new(alloc),
+        };
+        for reader in 0..readers {
+            sources.enter(log, classes, reader)?;
+        }
+        let end = size(sources.lows.as_slice());
+        sources.begins.push(end)?;
+        Ok(sources)
+    }
+
+    /// Enters the reader with all writers of its class, and the initial value if that is what it reads.
+    fn enter(
+        &mut self,
+        log: &NumberedLog,
+        classes: &ValueClasses,
+        reader: u32,
+    ) -> Result<(), AllocError> {
+        let begin = size(self.lows.as_slice());
+        self.begins.push(begin)?;
+        let Some((location, value)) = self.reads(log, reader) else {
+            return Ok(());
+        };
+        let class = classes.class(location, value);
+        put(self.classes.as_mut_slice(), reader, class);
+        let initial = log.initial(location) == Some(value);
+        put(self.is_initial.as_mut_slice(), reader, initial);
+        let mut count = initial as u32;
+        for run in 0..classes.run_count(class) {
+            let run = classes.first_run(class).wrapping_add(run);
+            self.lows.push(classes.begin(run))?;
+            self.highs.push(classes.end(run))?;
+            self.hidden.push(NOBODY)?;
+            self.late.push(NOBODY)?;
+            count = count
+                .wrapping_add(classes.end(run))
+                .wrapping_sub(classes.begin(run));
+        }
+        put(self.counts.as_mut_slice(), reader, count);
+        Ok(())
+    }
+
+    /// The location and the value that the reader reads.
+    fn reads(&self, log: &NumberedLog, reader: u32) -> Option<(u32, u64)> {
+        if reader < self.operations {
+            let operation = log.operation(reader);
+            if operation.reads {
+                Some((operation.location, operation.needed))
+            } else {
+                None
+            }
+        } else {
+            let location = reader.wrapping_sub(self.operations);
+            match log.last(location) {
+                Some(value) => Some((location, value)),
+                None => None,
+            }
+        }
+    }
+
+    /// Leaves the reading operation of the writers of its own process the last one before it, and what its origin allows.
+    fn narrow_by_program(
+        &mut self,
+        log: &NumberedLog,
+        classes: &ValueClasses,
+        number: u32,
+        last: &LatestWrites,
+    ) {
+        let operation = log.operation(number);
+        if !operation.reads {
+            return;
+        }
+        let own = last.of(log, operation);
+        if own != NOBODY {
+            put(self.is_initial.as_mut_slice(), number, false);
+        }
+        for run in 0..self.intervals(number) {
+            let process = self.process(classes, number, run);
+            if process == operation.process {
+                self.keep_only(classes, number, run, own);
+            }
+        }
+        self.narrow_by_origin(classes, number, operation);
+        self.count_again(number);
+    }
+
+    /// Leaves the reading operation what its origin allows.
+    fn narrow_by_origin(&mut self, classes: &ValueClasses, number: u32, operation: Operation) {
+        match operation.origin {
+            NumberedOrigin::Any => {}
+            NumberedOrigin::Initial => {
+                for run in 0..self.intervals(number) {
+                    self.keep_only(classes, number, run, NOBODY);
+                }
+            }
+            NumberedOrigin::Operation(origin) => {
+                put(self.is_initial.as_mut_slice(), number, false);
+                for run in 0..self.intervals(number) {
+                    self.keep_only(classes, number, run, origin);
+                }
+            }
+        }
+    }
+
+    /// Leaves this writer alone in the interval, or none if it is not there.
+    fn keep_only(&mut self, classes: &ValueClasses, reader: u32, run: u32, writer: u32) {
+        let interval = self.interval(reader, run);
+        let low = at(self.lows.as_slice(), interval, 0);
+        let high = at(self.highs.as_slice(), interval, 0);
+        let position = classes.position_of(writer);
+        if low <= position && position < high {
+            put(self.lows.as_mut_slice(), interval, position);
+            put(
+                self.highs.as_mut_slice(),
+                interval,
+                position.wrapping_add(1),
+            );
+        } else {
+            put(self.highs.as_mut_slice(), interval, low);
+        }
+    }
+
+    /// Counts the sources of the reader anew.
+    fn count_again(&mut self, reader: u32) {
+        let mut count = at(self.is_initial.as_slice(), reader, false) as u32;
+        for run in 0..self.intervals(reader) {
+            let width = self.high(reader, run).saturating_sub(self.low(reader, run));
+            count = count.wrapping_add(width);
+        }
+        self.set_count(reader, count);
+    }
+
+    /// Leaves each final value of each process its last writer.
+    fn narrow_final_values(
+        &mut self,
+        alloc: Global,
+        log: &NumberedLog,
+        classes: &ValueClasses,
+    ) -> Result<(), AllocError> {
+        let mut last = vec![in alloc; NOBODY; log.locations() as usize]?;
+        for process in 0..log.processes() {
+            for place in 1..log.length(process).wrapping_add(1) {
+                let number = log.number(process, place);
+                let operation = log.operation(number);
+                if operation.writes {
+                    put(last.as_mut_slice(), operation.location, number);
+                }
+            }
+            for location in 0..log.locations() {
+                let reader = self.operations.wrapping_add(location);
+                let writer = at(last.as_slice(), location, NOBODY);
+                if writer != NOBODY {
+                    put(self.is_initial.as_mut_slice(), reader, false);
+                    put(last.as_mut_slice(), location, NOBODY);
+                }
+                for run in 0..self.intervals(reader) {
+                    if self.process(classes, reader, run) == process {
+                        self.keep_only(classes, reader, run, writer);
+                    }
+                }
+            }
+        }
+        for location in 0..log.locations() {
+            let reader = self.operations.wrapping_add(location);
+            if self.is_reader(reader) {
+                self.count_again(reader);
+            }
+        }
+        Ok(())
+    }
+
+    /// The number of readers, those that read nothing among them.
+    pub fn readers(&self) -> u32 {
+        size(self.counts.as_slice())
+    }
+
+    /// The class of the reader, or `NOBODY`.
+    #[inline(always)]
+    pub fn class(&self, reader: u32) -> u32 {
+        at(self.classes.as_slice(), reader, NOBODY)
+    }
+
+    /// The number of its intervals.
+    #[inline(always)]
+    pub fn intervals(&self, reader: u32) -> u32 {
+        at(self.begins.as_slice(), reader.wrapping_add(1), 0).saturating_sub(at(
+            self.begins.as_slice(),
+            reader,
+            0,
+        ))
+    }
+
+    /// The number among all of the reader's interval of this number.
+    #[inline(always)]
+    pub fn interval(&self, reader: u32, run: u32) -> u32 {
+        at(self.begins.as_slice(), reader, 0).wrapping_add(run)
+    }
+
+    /// The process of the interval.
+    #[inline(always)]
+    pub fn process(&self, classes: &ValueClasses, reader: u32, run: u32) -> u32 {
+        classes.process(classes.first_run(self.class(reader)).wrapping_add(run))
+    }
+
+    /// The first position of the interval.
+    #[inline(always)]
+    pub fn low(&self, reader: u32, run: u32) -> u32 {
+        at(self.lows.as_slice(), self.interval(reader, run), 0)
+    }
+
+    /// The position behind the interval.
+    #[inline(always)]
+    pub fn high(&self, reader: u32, run: u32) -> u32 {
+        at(self.highs.as_slice(), self.interval(reader, run), 0)
+    }
+
+    /// Returns whether it reads anything.
+    #[inline(always)]
+    pub fn is_reader(&self, reader: u32) -> bool {
+        self.count(reader) != NOBODY
+    }
+
+    /// The number of its possible sources when it was last looked at, or `NOBODY` of what reads nothing.
+    #[inline(always)]
+    pub fn count(&self, reader: u32) -> u32 {
+        at(self.counts.as_slice(), reader, NOBODY)
+    }
+
+    /// Returns whether it reads and has other than one possible source.
+    #[inline(always)]
+    pub fn has_several(&self, reader: u32) -> bool {
+        let count = self.count(reader);
+        count != 1 && count != NOBODY
+    }
+
+    /// Returns whether the initial value is possible.
+    #[inline(always)]
+    pub fn has_initial(&self, reader: u32) -> bool {
+        at(self.is_initial.as_slice(), reader, false)
+            && at(self.initial_losses.as_slice(), reader, NOBODY) == NOBODY
+    }
+
+    /// A possible source, the only one if there is one.
+    pub fn source(&self, classes: &ValueClasses, reader: u32) -> u32 {
+        if !self.has_initial(reader) {
+            for run in 0..self.intervals(reader) {
+                if self.low(reader, run) < self.high(reader, run) {
+                    return classes.writer(self.low(reader, run));
+                }
+            }
+        }
+        INITIAL_VALUE
+    }
+
+    /// Returns whether the writer is a possible source of the reader.
+    #[inline(always)]
+    pub fn may_read(&self, classes: &ValueClasses, reader: u32, writer: u32) -> bool {
+        if writer == INITIAL_VALUE {
+            return self.has_initial(reader);
+        }
+        let class = self.class(reader);
+        if class == NOBODY || classes.class_of(writer) != class {
+            return false;
+        }
+        let run = classes
+            .run_of(writer)
+            .wrapping_sub(classes.first_run(class));
+        let position = classes.position_of(writer);
+        self.low(reader, run) <= position && position < self.high(reader, run)
+    }
+
+    /// Sets the number of possible sources of the reader.
+    pub fn set_count(&mut self, reader: u32, count: u32) {
+        put(self.counts.as_mut_slice(), reader, count);
+    }
+
+    /// Moves the first position of an interval: the writers before it are hidden.
+    pub fn hide_before(
+        &mut self,
+        reader: u32,
+        run: u32,
+        low: u32,
+        cause: LossCause,
+    ) -> Result<(), AllocError> {
+        let interval = self.interval(reader, run);
+        let previous = at(self.hidden.as_slice(), interval, NOBODY);
+        let old_bound = at(self.lows.as_slice(), interval, 0);
+        let number = self.losses();
+        put(self.hidden.as_mut_slice(), interval, number);
+        put(self.lows.as_mut_slice(), interval, low);
+        self.note_loss(SourceLoss {
+            reader,
+            interval,
+            bound: LostBound::Hidden,
+            cause,
+            old_bound,
+            old_count: 0,
+            previous,
+        })
+    }
+
+    /// Moves the position behind an interval: the writers from it on stand after the reader.
+    pub fn end_before(
+        &mut self,
+        reader: u32,
+        run: u32,
+        high: u32,
+        cause: LossCause,
+    ) -> Result<(), AllocError> {
+        let interval = self.interval(reader, run);
+        let previous = at(self.late.as_slice(), interval, NOBODY);
+        let old_bound = at(self.highs.as_slice(), interval, 0);
+        let number = self.losses();
+        put(self.late.as_mut_slice(), interval, number);
+        put(self.highs.as_mut_slice(), interval, high);
+        self.note_loss(SourceLoss {
+            reader,
+            interval,
+            bound: LostBound::Late,
+            cause,
+            old_bound,
+            old_count: 0,
+            previous,
+        })
+    }
+
+    /// Takes the initial value from the reader, which the witness hides.
+    pub fn hide_initial(&mut self, reader: u32, cause: LossCause) -> Result<(), AllocError> {
+        let number = self.losses();
+        put(self.initial_losses.as_mut_slice(), reader, number);
+        self.note_loss(SourceLoss {
+            reader,
+            interval: NOBODY,
+            bound: LostBound::Initial,
+            cause,
+            old_bound: 0,
+            old_count: 0,
+            previous: NOBODY,
+        })
+    }
+
+    /// Notes the loss, with the number of sources before it.
+    fn note_loss(&mut self, loss: SourceLoss) -> Result<(), AllocError> {
+        let old_count = self.count(loss.reader);
+        self.losses.push(SourceLoss { old_count, ..loss })?;
+        Ok(())
+    }
+
+    /// The number of losses.
+    pub fn losses(&self) -> u32 {
+        size(self.losses.as_slice())
+    }
+
+    /// Gives back what was lost, the last first, until this number of losses is left.
+    pub fn give_back(&mut self, left: u32) {
+        for _ in left..self.losses() {
+            let Some(loss) = self.losses.pop() else {
+                break;
+            };
+            self.undo(loss);
+        }
+    }
+
+    fn undo(&mut self, loss: SourceLoss) {
+        match loss.bound {
+            LostBound::Hidden => {
+                put(self.hidden.as_mut_slice(), loss.interval, loss.previous);
+                put(self.lows.as_mut_slice(), loss.interval, loss.old_bound);
+            }
+            LostBound::Late => {
+                put(self.late.as_mut_slice(), loss.interval, loss.previous);
+                put(self.highs.as_mut_slice(), loss.interval, loss.old_bound);
+            }
+            LostBound::Initial => {
+                put(self.initial_losses.as_mut_slice(), loss.reader, NOBODY);
+            }
+        }
+        self.set_count(loss.reader, loss.old_count);
+    }
+
+    /// The number of the last loss at the lower bound of the interval, or `NOBODY`.
+    #[inline(always)]
+    pub fn last_hidden(&self, interval: u32) -> u32 {
+        at(self.hidden.as_slice(), interval, NOBODY)
+    }
+
+    /// The number of the last loss at the upper bound of the interval, or `NOBODY`.
+    #[inline(always)]
+    pub fn last_late(&self, interval: u32) -> u32 {
+        at(self.late.as_slice(), interval, NOBODY)
+    }
+
+    /// The number of the loss of the reader's initial value, or `NOBODY`.
+    #[inline(always)]
+    pub fn initial_loss(&self, reader: u32) -> u32 {
+        at(self.initial_losses.as_slice(), reader, NOBODY)
+    }
+
+    /// The loss of this number.
+    #[inline(always)]
+    pub fn loss(&self, number: u32) -> SourceLoss {
+        at(self.losses.as_slice(), number, NO_LOSS)
+    }
+
+    /// Returns whether the initial value was a possible source by program order.
+    pub fn had_initial(&self, reader: u32) -> bool {
+        at(self.is_initial.as_slice(), reader, false)
+    }
+}
+
+impl LatestWrites {
+    /// The last writer of the operation's location that was met, if it is of the operation's process.
+    fn of(&self, log: &NumberedLog, operation: Operation) -> u32 {
+        let writer = at(self.writers.as_slice(), operation.location, NOBODY);
+        if writer != NOBODY && log.operation(writer).process == operation.process {
+            writer
+        } else {
+            NOBODY
+        }
+    }
+}

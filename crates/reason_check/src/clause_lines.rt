@@ -1,0 +1,74 @@
+//! The lines of a certificate of reasons up to its derivation.
+
+ghost use Rattle.std.specs.Prelude.{◌≡◌, OnOk, IfOk, None};
+ghost use Rattle.trace_semantics.specs.Legal.{HasNoSchedule};
+ghost use Rattle.reason_clauses.specs.Tables.{HoldTables};
+ghost use Rattle.reason_check.specs.Kept.{AreKept};
+ghost use Rattle.reason_check.specs.declared.line_clause.LineOutcome.TheVariants.{Refuted};
+
+use crate::line_clause::{LineOutcome, take_line};
+use crate::reasons_fault::ReasonsFault;
+use crate::trace_tables::{TraceTables, tables_of};
+use order_clauses::reason_list::ReasonList;
+use reason_clauses::cause::ReasonRefusal;
+use reason_text::reason_header::cut_header;
+use reason_text::reason_line::read_reason_line;
+use std::alloc::Global;
+use text_lines::lines::cut_line;
+use trace_semantics::trace::Trace;
+
+/// The text of a derivation, and how many lines stand before it.
+#[derive(Drop)]
+pub struct DerivationText<'a> {
+    pub text: &'a [u8],
+    pub before: usize,
+}
+
+/// Reads a line and takes it.
+fn read_and_take<'a>(
+    alloc: Global,
+    trace: &'a Trace,
+    tables: &TraceTables<'a>,
+    line: &'a [u8],
+    list: &mut ReasonList,
+) -> Result<LineOutcome, ReasonRefusal>
+    requires tables { HoldTables trace.now tables.now.writers }
+    requires kept { AreKept trace.now list.old }
+    ensures kept { OnOk result (AreKept trace.now list.new) }
+    ensures refuted { IfOk result (λ taken. taken ≡ Refuted → HasNoSchedule trace.now) }
+{
+    let read = read_reason_line(alloc, &tables.operations, line)?;
+    take_line(alloc, trace, tables, read, list)
+}
+
+/// Adds the clauses of the lines of the certificate's text. The answer is the derivation that follows them; none if a clause is empty, so
+/// that the trace has no legal schedule. Without a line `p` the derivation has no steps.
+pub fn read_clauses<'a>(
+    alloc: Global,
+    trace: &'a Trace,
+    text: &'a [u8],
+    list: &mut ReasonList,
+) -> Result<Option<DerivationText<'a>>, ReasonsFault>
+    requires kept { AreKept trace.now list.old }
+    ensures kept { OnOk result (AreKept trace.now list.new) }
+    ensures refuted { IfOk result (λ end. end ≡ None → HasNoSchedule trace.now) }
+{
+    let mut rest = match cut_header(text) {
+        Ok(rest) => rest,
+        Err(refusal) => return Err(ReasonsFault::of_line(refusal, 1)),
+    };
+    let tables = tables_of(alloc, trace)?;
+    let mut before = 1usize;
+    while let Some((line, after)) = cut_line(rest) {
+        let taken = read_and_take(alloc, trace, &tables, line, list);
+        before += 1;
+        rest = after;
+        match taken {
+            Ok(LineOutcome::More) => {}
+            Ok(LineOutcome::Refuted) => return Ok(None),
+            Ok(LineOutcome::Derivation) => return Ok(Some(DerivationText { text: rest, before })),
+            Err(refusal) => return Err(ReasonsFault::of_line(refusal, before)),
+        }
+    }
+    Ok(Some(DerivationText { text: rest, before }))
+}

@@ -1,0 +1,10 @@
+//! The check of certificates of reasons: the clauses of its lines, and the derivation that refutes them.
+#![tactic(auto)]
+
+mod before_places;
+mod clause_lines;
+mod gathered_pieces;
+mod line_clause;
+pub mod reasons_check;
+pub mod reasons_fault;
+mod trace_tables;

@@ -1,0 +1,187 @@
+//! The clause of a line of a certificate of reasons.
+
+ghost use Rattle.std.specs.Prelude.{◌≡◌, OnOk, IfOk};
+ghost use Rattle.trace_semantics.specs.Legal.{HasNoSchedule};
+ghost use Rattle.order_reasons.specs.Orders.{HoldsOfSchedules};
+ghost use Rattle.order_clauses.specs.Numbered.{named_orders};
+ghost use Rattle.reason_clauses.specs.Tables.{HoldTables};
+ghost use Rattle.reason_check.specs.Kept.{AreKept};
+ghost use Rattle.reason_check.specs.declared.line_clause.LineOutcome.TheVariants.{Refuted};
+
+use crate::before_places::BeforePlaces;
+use crate::gathered_pieces::gather;
+use crate::trace_tables::TraceTables;
+use order_clauses::order_pair::OrderPair;
+use order_clauses::reason_list::{ClauseOutcome, ReasonList};
+use reason_clauses::cause::{ReasonCause, ReasonRefusal};
+use reason_clauses::cycle::cycle_clause;
+use reason_clauses::pair::pair_clause;
+use reason_clauses::source::source_clause;
+use reason_clauses::writer_tables::WriterTables;
+use reason_counting::counting::too_few_sources;
+use reason_text::reason_line::ReasonLine;
+use reason_text::source_piece::SourcePiece;
+use std::alloc::Global;
+use trace_semantics::trace::Trace;
+use writer_table::operation_place::OperationPlace;
+
+/// What came of a line.
+#[derive(Clone, Copy, Debug, PartialEq, Eq)]
+pub enum LineOutcome {
+    /// Further lines are wanted.
+    More,
+    /// Its clause is empty: the trace has no legal schedule.
+    Refuted,
+    /// A derivation follows.
+    Derivation,
+}
+
+/// The refusal of what was to be made a clause, unless it was made.
+fn refuse_outcome(outcome: ClauseOutcome) -> Result<(), ReasonRefusal> {
+    match outcome {
+        ClauseOutcome::Made => Ok(()),
+        ClauseOutcome::AlwaysTrue => Err(ReasonRefusal::For(ReasonCause::AlwaysTrue)),
+        ClauseOutcome::TooManyVariables => {
+            Err(ReasonRefusal::For(ReasonCause::TooManyVariables))
+        }
+    }
+}
+
+/// Appends the clause that one of the orders stands, as it does in each legal schedule. If there are none, no schedule is legal.
+fn add_orders(
+    alloc: Global,
+    trace: &Trace,
+    orders: &[OrderPair],
+    list: &mut ReasonList,
+) -> Result<LineOutcome, ReasonRefusal>
+    requires kept { AreKept trace.now list.old }
+    requires holds { HoldsOfSchedules trace.now (named_orders trace.now orders.now) }
+    ensures kept { OnOk result (AreKept trace.now list.new) }
+    ensures refuted { IfOk result (λ taken. taken ≡ Refuted → HasNoSchedule trace.now) }
+{
+    let outcome = list.add(alloc, orders)?;
+    refuse_outcome(outcome)?;
+    if orders.is_empty() {
+        Ok(LineOutcome::Refuted)
+    } else {
+        Ok(LineOutcome::More)
+    }
+}
+
+/// Adds the clause that the operations do not stand in a cycle.
+fn add_cycle(
+    alloc: Global,
+    trace: &Trace,
+    operations: &[OperationPlace],
+    list: &mut ReasonList,
+) -> Result<LineOutcome, ReasonRefusal>
+    requires kept { AreKept trace.now list.old }
+    ensures kept { OnOk result (AreKept trace.now list.new) }
+    ensures refuted { IfOk result (λ taken. taken ≡ Refuted → HasNoSchedule trace.now) }
+{
+    let mut orders = Vec::new(alloc);
+    cycle_clause(trace, operations, &mut orders)?;
+    add_orders(alloc, trace, orders.as_slice(), list)
+}
+
+/// Adds the clause of a before pair.
+fn add_before(
+    alloc: Global,
+    trace: &Trace,
+    before: &BeforePlaces,
+    pair: OrderPair,
+    list: &mut ReasonList,
+) -> Result<LineOutcome, ReasonRefusal>
+    requires kept { AreKept trace.now list.old }
+    ensures kept { OnOk result (AreKept trace.now list.new) }
+    ensures refuted { IfOk result (λ taken. taken ≡ Refuted → HasNoSchedule trace.now) }
+{
+    let mut orders = Vec::new(alloc);
+    pair_clause(trace, before.place(pair), pair, &mut orders)?;
+    add_orders(alloc, trace, orders.as_slice(), list)
+}
+
+/// Adds the clause that the operation has a source, by pieces.
+fn add_source(
+    alloc: Global,
+    trace: &Trace,
+    writers: &WriterTables,
+    reader: OperationPlace,
+    pieces: &[SourcePiece],
+    list: &mut ReasonList,
+) -> Result<LineOutcome, ReasonRefusal>
+    requires tables { HoldTables trace.now writers.now }
+    requires kept { AreKept trace.now list.old }
+    ensures kept { OnOk result (AreKept trace.now list.new) }
+    ensures refuted { IfOk result (λ taken. taken ≡ Refuted → HasNoSchedule trace.now) }
+{
+    let gathered = gather(alloc, pieces)?;
+    let mut orders = Vec::new(alloc);
+    source_clause(trace, writers, reader, &gathered, &mut orders)?;
+    add_orders(alloc, trace, orders.as_slice(), list)
+}
+
+/// Adds the empty clause, if updates of the location that read the value are more than the sources of it.
+fn add_too_few(
+    alloc: Global,
+    trace: &Trace,
+    location: &[u8],
+    value: u64,
+    list: &mut ReasonList,
+) -> Result<LineOutcome, ReasonRefusal>
+    requires kept { AreKept trace.now list.old }
+    ensures kept { OnOk result (AreKept trace.now list.new) }
+    ensures refuted { IfOk result (λ taken. taken ≡ Refuted → HasNoSchedule trace.now) }
+{
+    too_few_sources(trace, location, value)?;
+    add_orders(alloc, trace, &[], list)
+}
+
+/// Numbers a pair beforehand.
+fn number_pair(
+    trace: &Trace,
+    pair: OrderPair,
+    list: &mut ReasonList,
+) -> Result<LineOutcome, ReasonRefusal>
+    requires kept { AreKept trace.now list.old }
+    ensures kept { OnOk result (AreKept trace.now list.new) }
+    ensures refuted { IfOk result (λ taken. taken ≡ Refuted → HasNoSchedule trace.now) }
+{
+    if pair.is_of_one_process() {
+        return Err(ReasonRefusal::For(ReasonCause::OneProcess));
+    }
+    let outcome = list.number(pair)?;
+    refuse_outcome(outcome)?;
+    Ok(LineOutcome::More)
+}
+
+/// Takes a line: adds the clause that it makes of the trace.
+pub fn take_line(
+    alloc: Global,
+    trace: &Trace,
+    tables: &TraceTables,
+    line: ReasonLine<'_>,
+    list: &mut ReasonList,
+) -> Result<LineOutcome, ReasonRefusal>
+    requires tables { HoldTables trace.now tables.now.writers }
+    requires kept { AreKept trace.now list.old }
+    ensures kept { OnOk result (AreKept trace.now list.new) }
+    ensures refuted { IfOk result (λ taken. taken ≡ Refuted → HasNoSchedule trace.now) }
+{
+    match line {
+        ReasonLine::Skipped => Ok(LineOutcome::More),
+        ReasonLine::Cycle(operations) => add_cycle(alloc, trace, operations.as_slice(), list),
+        ReasonLine::Before(pair) => add_before(alloc, trace, &tables.before, pair, list),
+        ReasonLine::Source(reader, pieces) => add_source(
+            alloc,
+            trace,
+            &tables.writers,
+            reader,
+            pieces.as_slice(),
+            list,
+        ),
+        ReasonLine::TooFew(location, value) => add_too_few(alloc, trace, location, value, list),
+        ReasonLine::Variable(pair) => number_pair(trace, pair, list),
+        ReasonLine::Derivation => Ok(LineOutcome::Derivation),
+    }
+}

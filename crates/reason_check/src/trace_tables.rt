@@ -1,0 +1,32 @@
+//! What lines of a certificate ask of a trace.
+
+ghost use Rattle.std.specs.Prelude.{IfOk};
+ghost use Rattle.reason_clauses.specs.Tables.{HoldTables};
+
+use crate::before_places::BeforePlaces;
+use reason_clauses::writer_tables::WriterTables;
+use reason_text::operation_table::OperationTable;
+use std::alloc::{AllocError, Global};
+use trace_semantics::trace::Trace;
+
+/// The operations, the before pairs and the writers of a trace.
+#[derive(Drop)]
+pub struct TraceTables<'a> {
+    pub operations: OperationTable<'a>,
+    pub before: BeforePlaces,
+    pub writers: WriterTables<'a>,
+}
+
+/// The tables of the trace.
+pub fn tables_of<'a>(alloc: Global, trace: &'a Trace) -> Result<TraceTables<'a>, AllocError>
+    ensures { IfOk result (λ tables. HoldTables trace.now tables.writers) }
+{
+    let operations = OperationTable::of(alloc, trace)?;
+    let before = BeforePlaces::of(alloc, trace, &operations)?;
+    let writers = WriterTables::of(alloc, trace)?;
+    Ok(TraceTables {
+        operations,
+        before,
+        writers,
+    })
+}

@@ -1,0 +1,333 @@
+//! The clause that a reading operation has a source.
+
+ghost use Rattle.std.specs.Prelude.{◌≡◌, ◌≤◌, true, ℕ, List, IfSome, OnOk};
+ghost use Rattle.std.specs.List.{All, Contains};
+ghost use Rattle.trace_semantics.specs.Judgement.{is_held};
+ghost use Rattle.trace_semantics.specs.Operation.{origin_of};
+ghost use Rattle.trace_semantics.specs.Trace.{TraceValue, value_of};
+ghost use Rattle.writer_table.specs.declared.operation_place.OperationPlace.{OperationPlace as Place};
+ghost use Rattle.order_reasons.specs.Orders.{HoldsOfSchedules};
+ghost use Rattle.order_reasons.specs.Sources.{AllowsInitial, AllowsWriter};
+ghost use Rattle.order_clauses.specs.Numbered.{named, named_orders, IsKnown};
+ghost use Rattle.reason_clauses.specs.Barred.{IsPlaceBarred, IsRunBarred, AreRunsBarred, IsStartBarred, AreSourcesBarred};
+ghost use Rattle.reason_clauses.specs.Mains.{IsGivenMain};
+ghost use Rattle.reason_clauses.specs.Numbered.{Grows, IsGivenFront, IsTaken, AreUpTo, at_number};
+ghost use Rattle.reason_clauses.specs.Pieces.{AreGiven};
+ghost use Rattle.reason_clauses.specs.Tables.{HoldTables};
+
+use crate::barring::{MainPiece, bar_process};
+use crate::cause::{ReasonCause, ReasonRefusal};
+use crate::lookups::{is_named, operation_of, want_front, want_witness};
+use crate::orders::push_order;
+use crate::own::{last_to, own_source};
+use crate::pieces::{ProcessPieces, SourcePieces};
+use crate::stretches::{Stretches, no_stretches, stretches_of, stretches_of_one};
+use crate::writer_tables::WriterTables;
+use order_clauses::order_pair::OrderPair;
+use trace_semantics::name::Name;
+use trace_semantics::operation::{Op, OpName, Origin};
+use trace_semantics::trace::Trace;
+use writer_table::operation_place::OperationPlace;
+use writer_table::runs::Run;
+
+/// The origin of the value that the operation reads, as the trace says it.
+fn origin(op: &Op) -> Option<&Origin>
+    ensures { IfSome result (λ said. said.now ≡ origin_of op.now) }
+{
+    match op {
+        Op::Read { origin, .. } => Some(origin),
+        Op::Write { .. } => None,
+        Op::Update { origin, .. } => Some(origin),
+    }
+}
+
+/// Refuses what is no witness among those of the processes.
+fn want_fronts(
+    trace: &Trace,
+    reader: OperationPlace,
+    location: &[u8],
+    value: u64,
+    pieces: &[ProcessPieces],
+) -> Result<(), ReasonRefusal>
+    ensures { OnOk result (IsKnown trace.now reader → All (λ p. IsGivenFront trace.now location.now value reader p.witness) pieces.now) }
+{
+    for piece in pieces {
+        want_front(trace, reader, piece.witness, location, value)?;
+    }
+    Ok(())
+}
+
+/// Refuses a main piece whose witness is none, or whose operation the trace has not.
+fn want_main(
+    trace: &Trace,
+    reader: OperationPlace,
+    location: &[u8],
+    value: u64,
+    main: MainPiece,
+) -> Result<(), ReasonRefusal>
+    ensures { OnOk result (IsKnown trace.now reader → IsGivenMain trace.now location.now value reader main) }
+{
+    match main {
+        MainPiece::Plain => Ok(()),
+        MainPiece::Witness(x) => want_witness(trace, reader, x, location, value),
+        MainPiece::Between(u) => {
+            let _op = operation_of(trace, u)?;
+            Ok(())
+        }
+    }
+}
+
+/// Refuses pieces with a witness that is none, or an operation that the trace has not.
+fn want_pieces(
+    trace: &Trace,
+    reader: OperationPlace,
+    location: &[u8],
+    value: u64,
+    pieces: &SourcePieces,
+) -> Result<(), ReasonRefusal>
+    ensures { OnOk result (IsKnown trace.now reader → AreGiven trace.now location.now value reader pieces.now) }
+{
+    want_fronts(trace, reader, location, value, pieces.processes())?;
+    want_front(trace, reader, pieces.initial(), location, value)?;
+    want_main(trace, reader, location, value, pieces.others())?;
+    Ok(())
+}
+
+/// The stretches of the named operation, if the run has it.
+fn stretches_named(trace: &Trace, name: &OpName, run: &Run, piece: ProcessPieces) -> Stretches
+    ensures taken { (k : ℕ) → IsKnown trace.now (at_number run.now.process k) → Contains run.now.places k → named trace.now (at_number run.now.process k) ≡ name.now → IsTaken result k }
+    ensures most { (n : ℕ) → All (λ p. p ≤ n) run.now.places → AreUpTo result n }
+{
+    let place = u32::from(name.place);
+    let n = OperationPlace {
+        process: run.process,
+        place,
+    };
+    if place != 0 && is_named(trace, n, name) && last_to(&run.places, place) == place {
+        stretches_of_one(place, piece.bound, piece.limit)
+    } else {
+        no_stretches()
+    }
+}
+
+/// The stretches of what a reader may read from in a run, by what is said of where its value comes from.
+fn stretches_allowed(trace: &Trace, origin: &Origin, run: &Run, piece: ProcessPieces) -> Stretches
+    ensures taken { All (λ p. 1 ≤ p) run.now.places → (k : ℕ) → IsKnown trace.now (at_number run.now.process k) → Contains run.now.places k → AllowsWriter origin.now (named trace.now (at_number run.now.process k)) → IsTaken result k }
+    ensures most { (n : ℕ) → All (λ p. p ≤ n) run.now.places → AreUpTo result n }
+{
+    match origin {
+        Origin::Any => stretches_of(&run.places, piece.bound, piece.limit),
+        Origin::Initial => no_stretches(),
+        Origin::Operation(name) => stretches_named(trace, name, run, piece),
+    }
+}
+
+/// Bars the source in the reader's own process, of which this is the place, or 0.
+fn bar_own(
+    trace: &Trace,
+    reader: OperationPlace,
+    own: u32,
+    pieces: &SourcePieces,
+    orders: &mut Vec<OrderPair>,
+) -> Result<(), ReasonRefusal>
+    ensures grows { OnOk result (Grows orders.old.items orders.new.items) }
+    ensures bars { OnOk result (IsPlaceBarred trace.now orders.new.items reader pieces.now (at_number reader.process own)) }
+{
+    trace.recall_invariant();
+    if own == 0 {
+        return Ok(());
+    }
+    let piece = pieces.of_process(reader.process);
+    let s = stretches_of_one(own, piece.bound, piece.limit);
+    bar_process(
+        orders,
+        reader,
+        reader.process,
+        s,
+        piece.witness,
+        pieces.others(),
+    )?;
+    Ok(())
+}
+
+/// Bars the sources in a run.
+fn bar_other(
+    trace: &Trace,
+    reader: OperationPlace,
+    origin: &Origin,
+    run: &Run,
+    pieces: &SourcePieces,
+    orders: &mut Vec<OrderPair>,
+) -> Result<(), ReasonRefusal>
+    ensures grows { OnOk result (Grows orders.old.items orders.new.items) }
+    ensures bars { OnOk result ((own : ℕ) → IsRunBarred trace.now orders.new.items reader origin.now own pieces.now run.now) }
+{
+    trace.recall_invariant();
+    let piece = pieces.of_process(run.process);
+    let s = stretches_allowed(trace, origin, run, piece);
+    bar_process(
+        orders,
+        reader,
+        run.process,
+        s,
+        piece.witness,
+        pieces.others(),
+    )?;
+    Ok(())
+}
+
+/// Bars the sources in a run; in the reader's own process that is the one of this place, or none.
+fn bar_run(
+    trace: &Trace,
+    reader: OperationPlace,
+    origin: &Origin,
+    own: u32,
+    run: &Run,
+    pieces: &SourcePieces,
+    orders: &mut Vec<OrderPair>,
+) -> Result<(), ReasonRefusal>
+    ensures grows { OnOk result (Grows orders.old.items orders.new.items) }
+    ensures bars { OnOk result (IsRunBarred trace.now orders.new.items reader origin.now own pieces.now run.now) }
+{
+    if run.process == reader.process {
+        bar_own(trace, reader, own, pieces, orders)?;
+    } else {
+        bar_other(trace, reader, origin, run, pieces, orders)?;
+    }
+    Ok(())
+}
+
+/// Bars the sources in these runs.
+fn bar_runs(
+    trace: &Trace,
+    reader: OperationPlace,
+    origin: &Origin,
+    own: u32,
+    runs: &[Run],
+    pieces: &SourcePieces,
+    orders: &mut Vec<OrderPair>,
+) -> Result<(), ReasonRefusal>
+    ensures grows { OnOk result (Grows orders.old.items orders.new.items) }
+    ensures bars { OnOk result (AreRunsBarred trace.now orders.new.items reader origin.now own pieces.now runs.now) }
+{
+    for run in runs {
+        bar_run(trace, reader, origin, own, run, pieces, orders)?;
+    }
+    Ok(())
+}
+
+/// The value that this list gives the location.
+fn value_at(values: &[(Name, u64)], location: &[u8]) -> Option<u64>
+    ensures { result ≡ value_of values.now location.now }
+{
+    values
+        .iter()
+        .find(|entry| entry.0.as_bytes() == location)
+        .map(|entry| entry.1)
+}
+
+/// Returns whether this is the value that the list gives the location.
+fn is_value(values: &[(Name, u64)], location: &[u8], value: u64) -> bool
+    ensures { result ≡ is_held (value_of values.now location.now) value }
+{
+    match value_at(values, location) {
+        Some(held) => held == value,
+        None => false,
+    }
+}
+
+/// Returns whether a value may be the initial one, by what is said of it.
+fn is_from_start(origin: &Origin) -> bool
+    ensures { AllowsInitial origin.now → result ≡ true }
+{
+    match origin {
+        Origin::Any => true,
+        Origin::Initial => true,
+        Origin::Operation(_name) => false,
+    }
+}
+
+/// The witness of the pieces against the initial value.
+fn start_witness(pieces: &SourcePieces) -> Option<OperationPlace>
+    ensures { (t : TraceValue) (location : List ℕ) (d : ℕ) (r : Place) → AreGiven t location d r pieces.now → IsGivenFront t location d r result }
+{
+    if pieces.initial().is_some() {
+        return pieces.initial();
+    }
+    match pieces.others() {
+        MainPiece::Witness(x) => Some(x),
+        MainPiece::Plain => None,
+        MainPiece::Between(_between) => None,
+    }
+}
+
+/// Bars the initial value by a witness after the reader, if the reader may read it.
+fn bar_start(
+    trace: &Trace,
+    reader: OperationPlace,
+    location: &[u8],
+    value: u64,
+    origin: &Origin,
+    pieces: &SourcePieces,
+    orders: &mut Vec<OrderPair>,
+) -> Result<(), ReasonRefusal>
+    ensures grows { OnOk result (Grows orders.old.items orders.new.items) }
+    ensures bars { OnOk result (IsStartBarred trace.now orders.new.items reader origin.now pieces.now location.now value) }
+{
+    if !is_from_start(origin) || !is_value(trace.initial(), location, value) {
+        return Ok(());
+    }
+    let Some(x) = start_witness(pieces) else {
+        return Err(ReasonRefusal::For(ReasonCause::InitialLeft));
+    };
+    push_order(orders, reader, x)?;
+    Ok(())
+}
+
+/// Bars all sources of a reader that reads the value at the location.
+fn bar_sources(
+    trace: &Trace,
+    writers: &WriterTables,
+    reader: OperationPlace,
+    location: &[u8],
+    value: u64,
+    origin: &Origin,
+    pieces: &SourcePieces,
+    orders: &mut Vec<OrderPair>,
+) -> Result<(), ReasonRefusal>
+    requires { HoldTables trace.now writers.now }
+    ensures { OnOk result (AreSourcesBarred trace.now orders.new.items reader origin.now pieces.now location.now value) }
+{
+    trace.recall_invariant();
+    let own = own_source(trace, &writers.by_location, reader, location, value, origin)?;
+    let runs = writers.by_value.runs(location, value);
+    bar_runs(trace, reader, origin, own, runs, pieces, orders)?;
+    bar_start(trace, reader, location, value, origin, pieces, orders)?;
+    Ok(())
+}
+
+/// Appends the orders of which one stands, since the reader has a source: the pieces say of each possible one what bars it.
+pub fn source_clause(
+    trace: &Trace,
+    writers: &WriterTables,
+    reader: OperationPlace,
+    pieces: &SourcePieces,
+    orders: &mut Vec<OrderPair>,
+) -> Result<(), ReasonRefusal>
+    requires { HoldTables trace.now writers.now }
+    ensures { OnOk result (HoldsOfSchedules trace.now (named_orders trace.now orders.new.items)) }
+{
+    let op = operation_of(trace, reader)?;
+    let Some(value) = op.value_read() else {
+        return Err(ReasonRefusal::For(ReasonCause::NoReader));
+    };
+    let Some(origin) = origin(op) else {
+        return Err(ReasonRefusal::For(ReasonCause::NoReader));
+    };
+    let location = op.location().as_bytes();
+    want_pieces(trace, reader, location, value, pieces)?;
+    bar_sources(
+        trace, writers, reader, location, value, origin, pieces, orders,
+    )?;
+    Ok(())
+}

@@ -1,0 +1,4 @@
+pub mod Header
+pub mod OperationWord
+pub mod ReasonLine
+pub mod SourcePiece

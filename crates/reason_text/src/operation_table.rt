@@ -1,0 +1,132 @@
+//! Operations of a trace by their names in a certificate.
+
+ghost use Rattle.std.specs.Prelude.{◌≡◌, true, false, Some, None, position, is_some, MatchOption, IfOk, IfErr, IfSome};
+ghost use Rattle.std.specs.List.{before_first, after_first, list_any};
+ghost use Rattle.std.specs.Str.{bytes_eq};
+ghost use Rattle.text_lines.specs.declared.plain_fault.PlainFault.TheVariants.{For};
+ghost use Rattle.trace_semantics.specs.Place.{place_of};
+ghost use Rattle.schedule_text.specs.ScheduleText.{is_dot, is_op_name, name_fault, name_word};
+ghost use Rattle.order_clauses.specs.Numbered.{named, IsKnown};
+ghost use Rattle.reason_clauses.specs.declared.cause.ReasonCause.TheVariants.{BadLine};
+ghost use Rattle.reason_text.specs.OperationWord.{operation_word};
+
+use reason_clauses::cause::{ReasonCause, ReasonRefusal};
+use std::alloc::{AllocError, Global};
+use trace_semantics::name::is_name_word;
+use trace_semantics::name_table::NameTable;
+use trace_semantics::place::read_place;
+use trace_semantics::trace::{Process, Trace};
+use writer_table::operation_place::OperationPlace;
+
+/// Finds operations of a trace by their names.
+#[derive(Drop)]
+pub struct OperationTable<'a> {
+    trace: &'a Trace,
+    numbers: NameTable<'a>,
+}
+
+/// The place of the first dot.
+fn find_dot(word: &[u8]) -> Option<usize>
+    ensures { result ≡ position is_dot word.now }
+{
+    word.iter().position(|byte| *byte == b'.')
+}
+
+/// The bytes before the first dot, and those after it.
+fn cut_at_dot(word: &[u8]) -> Option<(&[u8], &[u8])>
+    ensures { MatchOption result (list_any is_dot word.now ≡ false)
+        (λ cut. (list_any is_dot word.now ≡ true) × (cut.0.now ≡ before_first is_dot word.now) × (cut.1.now ≡ after_first is_dot word.now)) }
+{
+    let dot = find_dot(word)?;
+    Some((&word[..dot], &word[dot + 1..]))
+}
+
+/// The process and the place of the name that the word spells.
+fn read_name(word: &[u8]) -> Option<(&[u8], u16)>
+    ensures { MatchOption result (is_some (name_fault 0 word.now) ≡ true)
+        (λ name. (name_fault 0 word.now ≡ None) × (name.0.now ≡ before_first is_dot word.now) × (place_of (after_first is_dot word.now) ≡ Some name.1)) }
+{
+    let (process, place) = cut_at_dot(word)?;
+    if !is_name_word(process) {
+        return None;
+    }
+    let number = read_place(place)?;
+    Some((process, number))
+}
+
+/// The numbers of the processes by their names.
+fn number_processes<'a>(alloc: Global, trace: &'a Trace) -> Result<NameTable<'a>, AllocError> {
+    let processes = trace.processes();
+    let mut numbers = NameTable::with_capacity(alloc, processes.len())?;
+    for q in 0..processes.len() {
+        numbers.insert(processes[q].name.as_bytes(), q as u64)?;
+    }
+    Ok(numbers)
+}
+
+/// Returns whether this is the name of the process.
+fn is_called(process: &Process, name: &[u8]) -> bool
+    ensures { result ≡ bytes_eq process.now.name name.now }
+{
+    process.name.as_bytes() == name
+}
+
+/// The operation at this place of the process of this number, if that is its name.
+fn operation_at(trace: &Trace, number: u32, process: &[u8], place: u16) -> Option<OperationPlace>
+    ensures { IfSome result (λ n. (named trace.now n ≡ record { process = process.now; place = place }) × IsKnown trace.now n) }
+{
+    trace.recall_invariant();
+    let processes = trace.processes();
+    let q = number as usize;
+    if q >= processes.len() || place == 0 {
+        return None;
+    }
+    if !is_called(&processes[q], process) {
+        return None;
+    }
+    let count = processes[q].operations.as_slice().len();
+    if place as usize > count {
+        return None;
+    }
+    Some(OperationPlace {
+        process: number,
+        place: u32::from(place),
+    })
+}
+
+impl<'a> OperationTable<'a> {
+    ghost use Rattle.trace_semantics.specs.declared.operation.OpName.{OpName};
+
+    /// The table of a trace's operations.
+    pub fn of(alloc: Global, trace: &'a Trace) -> Result<OperationTable<'a>, AllocError>
+        ensures { IfOk result (λ table. table.trace.now ≡ trace.now) }
+    {
+        Ok(OperationTable {
+            trace,
+            numbers: number_processes(alloc, trace)?,
+        })
+    }
+
+    /// The operation of this name.
+    pub fn find(&self, process: &'a [u8], place: u16) -> Option<OperationPlace>
+        ensures { IfSome result (λ n. (named self.now.trace.now n ≡ record { process = process.now; place = place }) × IsKnown self.now.trace.now n) }
+    {
+        let number = u32::try_from(self.numbers.get(process)?).ok()?;
+        operation_at(self.trace, number, process, place)
+    }
+
+    /// The operation that the word names.
+    pub fn operation(&self, word: &'a [u8]) -> Result<OperationPlace, ReasonRefusal>
+        ensures named { IfOk result (λ n. word.now ≡ operation_word self.now.trace.now n) }
+        ensures known { IfOk result (IsKnown self.now.trace.now) }
+        ensures unnamed { IfErr result (λ refusal. refusal ≡ For BadLine → (n : OpName) → is_op_name n ≡ true → word.now ≡ name_word n → ⊥) }
+    {
+        let Some((process, place)) = read_name(word) else {
+            return Err(ReasonRefusal::For(ReasonCause::BadLine));
+        };
+        match self.find(process, place) {
+            Some(operation) => Ok(operation),
+            None => Err(ReasonRefusal::For(ReasonCause::NoOperation)),
+        }
+    }
+}

@@ -1,0 +1,59 @@
+//! Windows: guesses around estimated places.
+
+use crate::estimated_places::EstimatedPlaces;
+use order_propagation::{Propagated, Propagation};
+use std::alloc::AllocError;
+
+/// Guesses that an operation stands before each other whose estimated place is more than the width behind its own, and propagates. The rows
+/// are made anew.
+pub(crate) fn guess_window(
+    order: &mut Propagation<'_>,
+    places: &EstimatedPlaces,
+    width: u32,
+) -> Result<Propagated, AllocError> {
+    let processes = order.log().processes();
+    let steps = processes.wrapping_mul(6).wrapping_add(1);
+    let stride = (width / steps).wrapping_add(1);
+    for first in 0..processes {
+        for second in 0..processes {
+            if first != second {
+                guess_between(order, places, (first, second), (width, stride))?;
+            }
+        }
+    }
+    order.propagate_in_rounds()
+}
+
+/// Guesses the pairs from one process to another. Of operations in a row the pair of each few is enough, as the others follow within a small
+/// part of the width.
+fn guess_between(
+    order: &mut Propagation<'_>,
+    places: &EstimatedPlaces,
+    processes: (u32, u32),
+    sizes: (u32, u32),
+) -> Result<(), AllocError> {
+    let log = order.log();
+    let end = log.length(processes.1).wrapping_add(1);
+    let mut behind: u32 = 1;
+    let mut place: u32 = 1;
+    for _ in 0..log.length(processes.0) {
+        if place > log.length(processes.0) {
+            break;
+        }
+        let first = log.number(processes.0, place);
+        let limit = places.place(first).saturating_add(sizes.0);
+        for _ in behind..end {
+            if places.place(log.number(processes.1, behind)) > limit {
+                break;
+            }
+            behind = behind.wrapping_add(1);
+        }
+        if behind >= end {
+            break;
+        }
+        order.guess(first, log.number(processes.1, behind))?;
+        place = place.saturating_add(sizes.1);
+        order.spend(1);
+    }
+    Ok(())
+}

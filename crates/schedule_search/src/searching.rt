@@ -1,0 +1,387 @@
+//! The search for a schedule: a walk, and then windows and walks.
+
+use crate::counted_cores::{operations_of, takers_of_class};
+use crate::estimated_places::EstimatedPlaces;
+use crate::guessed_windows::guess_window;
+use conflict_analysis::core_of_conflict;
+use numbered_log::Budget;
+use order_propagation::{Propagated, Propagation, TrailMark};
+use order_sets::tables::{at, size};
+use placing_walk::{Deciding, PlacingWalk, WalkEnding};
+use source_counting::{Counted, count_sources, crowded_class};
+use std::alloc::{AllocError, Global};
+
+/// The end of a search.
+#[derive(Clone, Copy, PartialEq, Eq)]
+pub enum SearchEnding {
+    /// There is a schedule.
+    Scheduled,
+    /// The log contradicts itself, without guesses.
+    Refuted,
+    /// Neither was found.
+    Unknown,
+}
+
+/// A window that stands.
+#[derive(Clone, Copy)]
+struct StandingWindow {
+    mark: TrailMark,
+    width: u32,
+}
+
+/// A search for a schedule, and what it has found.
+pub struct ScheduleSearch {
+    /// Windows that stand, each on top of the one before.
+    windows: Vec<StandingWindow>,
+    schedule: Vec<u32>,
+    /// If the log was refuted, the operations that the reasons of that name.
+    core: Option<Vec<u32>>,
+    most_placed: u32,
+}
+
+/// Drops each table, in one call for each exit of a function that owns a search.
+impl Drop for ScheduleSearch {
+    fn drop(self) {
+        let ScheduleSearch {
+            windows: _windows,
+            schedule: _schedule,
+            core: _core,
+            most_placed: _,
+        } = self;
+    }
+}
+
+/// The most windows on top of one another.
+const MOST_WINDOWS: u32 = 12;
+
+/// The conflicts after which a walk gives up that decides only when it is stuck, and one that decides always.
+const FEW_CONFLICTS: u32 = 3000;
+
+const MANY_CONFLICTS: u32 = 200_000;
+
+/// The number of clauses learned last of which a walk that decides always decides a literal first.
+const LAST_CLAUSES: u32 = 5;
+
+impl ScheduleSearch {
+    /// A search that has not begun.
+    pub fn new(alloc: Global) -> ScheduleSearch {
+        ScheduleSearch {
+            windows: Vec::new(alloc),
+            schedule: Vec::new(alloc),
+            core: None,
+            most_placed: 0,
+        }
+    }
+
+    /// The schedule that was found.
+    pub fn schedule(&self) -> &[u32] {
+        self.schedule.as_slice()
+    }
+
+    /// Operations whose part, with all possible sources of its readers, should have no legal schedule; none if nothing was refuted, or if there
+    /// was no room for its reasons.
+    pub fn core(&self) -> Option<&[u32]> {
+        match &self.core {
+            Some(core) => Some(core.as_slice()),
+            None => None,
+        }
+    }
+
+    /// The largest number of operations that a walk has placed.
+    pub fn most_placed(&self) -> u32 {
+        self.most_placed
+    }
+
+    /// Propagates, walks, then tries windows, and then walks again. If many readers have several sources and propagation takes long, it is
+    /// cut, and taken up again behind the windows: most schedules of such logs come of windows, in which it takes less.
+    pub fn run(
+        &mut self,
+        alloc: Global,
+        order: &mut Propagation<'_>,
+    ) -> Result<SearchEnding, AllocError> {
+        if let Some(class) = crowded_class(alloc, order.log(), order.classes())? {
+            self.core = Some(takers_of_class(alloc, order.log(), order.classes(), class)?);
+            return Ok(SearchEnding::Refuted);
+        }
+        let places = EstimatedPlaces::of_equal_pace(alloc, order.log())?;
+        let mut part: u64 = 1;
+        if order.undecided() > order.log().count() / 8 {
+            part = 8;
+        }
+        let rest = keep_all_but(order, part);
+        let propagated = order.propagate_in_rounds()?;
+        give_back(order, rest);
+        match propagated {
+            Propagated::Conflict => {
+                self.core = core_of_conflict(alloc, order)?;
+                return Ok(SearchEnding::Refuted);
+            }
+            Propagated::Spent => {}
+            Propagated::Done => {
+                if self.has_too_few_sources(alloc, order)? {
+                    return Ok(SearchEnding::Refuted);
+                }
+                let found = self.walk_at_first(alloc, order, &places)?;
+                if let Some(ending) = search_ending(found) {
+                    return Ok(ending);
+                }
+            }
+        }
+        let rest = keep_all_but(order, 2);
+        let found = self.try_windows(alloc, order, &places)?;
+        give_back(order, rest);
+        if found == SearchEnding::Scheduled {
+            return Ok(found);
+        }
+        self.walk_at_last(alloc, order, &places)
+    }
+
+    /// Returns whether updates have too few sources, by what the order has dropped, and notes them. That is asked within a small part of the
+    /// budget.
+    fn has_too_few_sources(
+        &mut self,
+        alloc: Global,
+        order: &mut Propagation<'_>,
+    ) -> Result<bool, AllocError> {
+        let steps = order.budget().left() / 32;
+        match count_sources(alloc, order, steps)? {
+            Counted::Enough => Ok(false),
+            Counted::TooFew(takers) => {
+                self.core = Some(operations_of(alloc, order.log(), takers.as_slice())?);
+                Ok(true)
+            }
+        }
+    }
+
+    /// Walks with few decisions if few readers are open, and then with many.
+    fn walk_at_first(
+        &mut self,
+        alloc: Global,
+        order: &mut Propagation<'_>,
+        places: &EstimatedPlaces,
+    ) -> Result<WalkEnding, AllocError> {
+        if order.undecided() <= order.log().count() / 20 {
+            let rows = EstimatedPlaces::of_rows(alloc, order)?;
+            let found = self.walk(alloc, order, &rows, (Deciding::WhenStuck, 3))?;
+            if found != WalkEnding::GivenUp {
+                return Ok(found);
+            }
+        }
+        let learning = Deciding::Always(LAST_CLAUSES);
+        self.walk(alloc, order, places, (learning, 4))
+    }
+
+    /// Makes the rows anew, without guesses, and walks with the rest of the budget.
+    fn walk_at_last(
+        &mut self,
+        alloc: Global,
+        order: &mut Propagation<'_>,
+        places: &EstimatedPlaces,
+    ) -> Result<SearchEnding, AllocError> {
+        match order.propagate_in_rounds()? {
+            Propagated::Conflict => {
+                self.core = core_of_conflict(alloc, order)?;
+                return Ok(SearchEnding::Refuted);
+            }
+            Propagated::Spent => return Ok(SearchEnding::Unknown),
+            Propagated::Done => {}
+        }
+        let learning = Deciding::Always(LAST_CLAUSES.wrapping_mul(4));
+        let found = self.walk(alloc, order, places, (learning, 1))?;
+        match search_ending(found) {
+            Some(ending) => Ok(ending),
+            None => Ok(SearchEnding::Unknown),
+        }
+    }
+
+    /// Walks with this share of the budget, as a part of one, and takes all decisions back.
+    fn walk(
+        &mut self,
+        alloc: Global,
+        order: &mut Propagation<'_>,
+        places: &EstimatedPlaces,
+        manner: (Deciding, u64),
+    ) -> Result<WalkEnding, AllocError> {
+        let rest = keep_all_but(order, manner.1);
+        let mut most = MANY_CONFLICTS;
+        if manner.0 == Deciding::WhenStuck {
+            most = FEW_CONFLICTS;
+        }
+        let mut walk = PlacingWalk::new(alloc, order, places.as_slice(), manner.0, most)?;
+        let ending = walk.run(alloc, order)?;
+        self.most_placed = self.most_placed.max(walk.most_placed());
+        if ending == WalkEnding::Scheduled {
+            self.schedule = Vec::from_slice(alloc, walk.placed())?;
+        }
+        if ending == WalkEnding::Refuted && self.windows.is_empty() {
+            self.core = walk.find_core(alloc, order)?;
+        }
+        order.take_back(0);
+        give_back(order, rest);
+        Ok(ending)
+    }
+
+    /// Makes windows wider until one stands, then places smaller ones on top, and walks in the smallest.
+    fn try_windows(
+        &mut self,
+        alloc: Global,
+        order: &mut Propagation<'_>,
+        places: &EstimatedPlaces,
+    ) -> Result<SearchEnding, AllocError> {
+        let base = order.mark();
+        let narrow = order.log().processes().wrapping_mul(4);
+        let widest = order.log().count().wrapping_mul(2);
+        if !self.widen(order, places, base, (narrow, widest))? {
+            return Ok(SearchEnding::Unknown);
+        }
+        for _ in 0..MOST_WINDOWS {
+            if order.undecided() < order.log().count() / 10 {
+                let rows = EstimatedPlaces::of_rows(alloc, order)?;
+                let found = self.walk(alloc, order, &rows, (Deciding::WhenStuck, 5))?;
+                if found == WalkEnding::Scheduled {
+                    return Ok(SearchEnding::Scheduled);
+                }
+            }
+            if !self.narrow_down(alloc, order)? {
+                break;
+            }
+        }
+        let ending = self.walk_in_windows(alloc, order)?;
+        order.cut_to(base);
+        Ok(ending)
+    }
+
+    /// Tries windows on top of what stands at the mark, from the narrowest, each twice as wide as the one before. Returns whether one stands.
+    fn widen(
+        &mut self,
+        order: &mut Propagation<'_>,
+        places: &EstimatedPlaces,
+        base: TrailMark,
+        widths: (u32, u32),
+    ) -> Result<bool, AllocError> {
+        let mut width = widths.0;
+        for _ in 0..32 {
+            if width >= widths.1 {
+                break;
+            }
+            order.cut_to(base);
+            match guess_window(order, places, width)? {
+                Propagated::Done => {
+                    let mark = order.mark();
+                    self.windows.push(StandingWindow { mark, width })?;
+                    return Ok(true);
+                }
+                Propagated::Spent => break,
+                Propagated::Conflict => {}
+            }
+            width = width.saturating_mul(2);
+        }
+        order.cut_to(base);
+        Ok(false)
+    }
+
+    /// Places a narrower window on top of the last, around the places that its rows give. Returns whether one stands.
+    fn narrow_down(
+        &mut self,
+        alloc: Global,
+        order: &mut Propagation<'_>,
+    ) -> Result<bool, AllocError> {
+        let last = self.last_window(order);
+        let places = EstimatedPlaces::of_rows(alloc, order)?;
+        let least = order.log().processes().wrapping_mul(2);
+        let narrow = (last.width / 32).max(least);
+        let widest = last.width.wrapping_sub(last.width / 4);
+        self.widen(order, &places, last.mark, (narrow, widest))
+    }
+
+    fn last_window(&self, order: &Propagation<'_>) -> StandingWindow {
+        let nothing = StandingWindow {
+            mark: order.mark(),
+            width: 0,
+        };
+        let last = size(self.windows.as_slice()).wrapping_sub(1);
+        at(self.windows.as_slice(), last, nothing)
+    }
+
+    /// Walks in each window that stands, from the narrowest back.
+    fn walk_in_windows(
+        &mut self,
+        alloc: Global,
+        order: &mut Propagation<'_>,
+    ) -> Result<SearchEnding, AllocError> {
+        for _ in 0..MOST_WINDOWS {
+            let window = self.last_window(order);
+            if self.windows.pop().is_none() {
+                break;
+            }
+            order.cut_to(window.mark);
+            match order.propagate_in_rounds()? {
+                Propagated::Spent => break,
+                Propagated::Conflict => {}
+                Propagated::Done => {
+                    if self.walk_both_ways(alloc, order)? {
+                        return Ok(SearchEnding::Scheduled);
+                    }
+                }
+            }
+        }
+        Ok(SearchEnding::Unknown)
+    }
+
+    /// Walks in the window that stands, first with few decisions and then with many. Returns whether there is a schedule.
+    fn walk_both_ways(
+        &mut self,
+        alloc: Global,
+        order: &mut Propagation<'_>,
+    ) -> Result<bool, AllocError> {
+        let rows = EstimatedPlaces::of_rows(alloc, order)?;
+        let found = self.walk(alloc, order, &rows, (Deciding::WhenStuck, 5))?;
+        if found == WalkEnding::Scheduled {
+            return Ok(true);
+        }
+        let learning = Deciding::Always(LAST_CLAUSES);
+        let found = self.walk(alloc, order, &rows, (learning, 4))?;
+        Ok(found == WalkEnding::Scheduled)
+    }
+}
+
+/// Returns whether the log is refuted without guesses, by propagation or by a walk that decides always.
+pub fn is_refuted_by_walk(alloc: Global, order: &mut Propagation<'_>) -> Result<bool, AllocError> {
+    match order.propagate_in_rounds()? {
+        Propagated::Conflict => return Ok(true),
+        Propagated::Spent => return Ok(false),
+        Propagated::Done => {}
+    }
+    let places = EstimatedPlaces::of_equal_pace(alloc, order.log())?;
+    let learning = Deciding::Always(LAST_CLAUSES);
+    let mut walk = PlacingWalk::new(alloc, order, places.as_slice(), learning, MANY_CONFLICTS)?;
+    Ok(walk.run(alloc, order)? == WalkEnding::Refuted)
+}
+
+/// The end of the search if a walk outside of windows has ended like this.
+fn search_ending(found: WalkEnding) -> Option<SearchEnding> {
+    match found {
+        WalkEnding::Scheduled => Some(SearchEnding::Scheduled),
+        WalkEnding::Refuted => Some(SearchEnding::Refuted),
+        WalkEnding::GivenUp => None,
+    }
+}
+
+/// Leaves to the order a share of its budget, as a part of one, and returns the rest.
+fn keep_all_but(order: &mut Propagation<'_>, part: u64) -> Budget {
+    let mut rest = order.budget();
+    let mut steps = rest.left();
+    if part != 0 {
+        steps /= part;
+    }
+    let share = rest.share(steps);
+    order.set_budget(share);
+    rest
+}
+
+/// Gives the rest of the budget back to the order.
+fn give_back(order: &mut Propagation<'_>, rest: Budget) {
+    let mut whole = rest;
+    whole.give_back(order.budget());
+    order.set_budget(whole);
+}

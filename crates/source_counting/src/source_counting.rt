@@ -1,0 +1,235 @@
+//! Counting by a matching of updates and last writes with their possible sources.
+
+use crate::class_counts::takes_source;
+use crate::source_takers::{LastInProcess, initial_of, location_of};
+use numbered_log::NOBODY;
+use order_propagation::Propagation;
+use order_sets::tables::{at, put, size};
+use std::alloc::{AllocError, Global};
+
+/// The result of counting.
+#[derive(Drop)]
+pub enum Counted {
+    /// All have sources, or the budget for it was spent before.
+    Enough,
+    /// These updates, and behind all operations last writes by location, have fewer possible sources together than they are.
+    TooFew(Vec<u32>),
+}
+
+/// A matching of takers, which are updates and last writes, with sources, which are operations and initial values.
+struct SourceAssignment {
+    last: LastInProcess,
+    /// For each taker its source, or `NOBODY`.
+    taken: Vec<u32>,
+    /// For each source its taker, or `NOBODY`.
+    taker: Vec<u32>,
+    /// For each position of a writer one behind which the next free one may stand, found anew as it is asked for.
+    free: Vec<u32>,
+    /// For each source the turn in which it was seen last, and from which taker.
+    turns: Vec<u32>,
+    from: Vec<u32>,
+    turn: u32,
+    /// The takers whose sources were all seen in this turn.
+    seen: Vec<u32>,
+    steps: u64,
+}
+
+/// Drops each table, in one call for each exit of a function that owns a assignment.
+impl Drop for SourceAssignment {
+    fn drop(self) {
+        let SourceAssignment {
+            last: _last,
+            taken: _taken,
+            taker: _taker,
+            free: _free,
+            turns: _turns,
+            from: _from,
+            turn: _,
+            seen: _seen,
+            steps: _,
+        } = self;
+    }
+}
+
+/// Looks for updates and last writes that have too few possible sources, within a share of the order's budget.
+pub fn count_sources(
+    alloc: Global,
+    order: &mut Propagation<'_>,
+    most_steps: u64,
+) -> Result<Counted, AllocError> {
+    let mut assignment = SourceAssignment::new(alloc, order)?;
+    let log = order.log();
+    for location in 0..log.locations() {
+        if assignment.last.begin(location) < assignment.last.end(location)
+            && !assignment.match_taker(order, order.final_reader(location))?
+        {
+            return assignment.too_few(alloc);
+        }
+    }
+    for number in 0..log.count() {
+        if takes_source(log, number) && !assignment.match_taker(order, number)? {
+            return assignment.too_few(alloc);
+        }
+        if assignment.steps > most_steps {
+            break;
+        }
+    }
+    order.spend(assignment.steps);
+    Ok(Counted::Enough)
+}
+
+impl SourceAssignment {
+    fn new(alloc: Global, order: &Propagation<'_>) -> Result<SourceAssignment, AllocError> {
+        let log = order.log();
+        let all = log.count().wrapping_add(log.locations()) as usize;
+        let mut free = Vec::with_capacity(alloc, log.count() as usize)?;
+        for position in 0..log.count().wrapping_add(1) {
+            free.push(position)?;
+        }
+        Ok(SourceAssignment {
+            last: LastInProcess::new(alloc, log)?,
+            taken: vec![in alloc; NOBODY; all]?,
+            taker: vec![in alloc; NOBODY; all]?,
+            free,
+            turns: vec![in alloc; 0; all]?,
+            from: vec![in alloc; NOBODY; all]?,
+            turn: 0,
+            seen: Vec::new(alloc),
+            steps: 0,
+        })
+    }
+
+    fn too_few(&self, alloc: Global) -> Result<Counted, AllocError> {
+        Ok(Counted::TooFew(Vec::from_slice(alloc, self.seen.as_slice())?))
+    }
+
+    /// Finds a source for the taker, if need be by a way along which others change theirs. If there is none, the takers that were seen have too
+    /// few.
+    fn match_taker(&mut self, order: &Propagation<'_>, first: u32) -> Result<bool, AllocError> {
+        self.turn = self.turn.wrapping_add(1);
+        self.seen.clear();
+        self.seen.push(first)?;
+        let mut number: u32 = 0;
+        for _ in 0..size(self.taken.as_slice()) {
+            if number >= size(self.seen.as_slice()) {
+                break;
+            }
+            let taker = at(self.seen.as_slice(), number, NOBODY);
+            number = number.wrapping_add(1);
+            let found = self.look_from(order, taker)?;
+            if found != NOBODY {
+                self.change(first, found);
+                return Ok(true);
+            }
+        }
+        Ok(false)
+    }
+
+    /// Gives the source to the taker from which it was seen, that one's to the taker before, up to the first.
+    fn change(&mut self, first: u32, found: u32) {
+        let mut source = found;
+        for _ in 0..size(self.taken.as_slice()) {
+            let taker = at(self.from.as_slice(), source, NOBODY);
+            let next = at(self.taken.as_slice(), taker, NOBODY);
+            put(self.taken.as_mut_slice(), taker, source);
+            put(self.taker.as_mut_slice(), source, taker);
+            if taker == first || taker == NOBODY {
+                break;
+            }
+            source = next;
+        }
+    }
+
+    /// Sees the possible sources of the taker. Returns one that is free, or `NOBODY`.
+    fn look_from(&mut self, order: &Propagation<'_>, taker: u32) -> Result<u32, AllocError> {
+        if let Some(location) = location_of(order, taker) {
+            return self.look_at_last(order, taker, location);
+        }
+        let location = order.log().operation(taker).location;
+        if order.sources().has_initial(taker) {
+            let found = self.see(initial_of(order, location), taker)?;
+            if found != NOBODY {
+                return Ok(found);
+            }
+        }
+        for run in 0..order.sources().intervals(taker) {
+            let low = order.sources().low(taker, run);
+            let high = order.sources().high(taker, run);
+            let position = self.next_free(order, low, high);
+            if position < high {
+                return self.see(order.classes().writer(position), taker);
+            }
+        }
+        for run in 0..order.sources().intervals(taker) {
+            let low = order.sources().low(taker, run);
+            for position in low..order.sources().high(taker, run) {
+                let found = self.see(order.classes().writer(position), taker)?;
+                if found != NOBODY {
+                    return Ok(found);
+                }
+            }
+        }
+        Ok(NOBODY)
+    }
+
+    /// Sees the possible last writers of the location.
+    fn look_at_last(
+        &mut self,
+        order: &Propagation<'_>,
+        taker: u32,
+        location: u32,
+    ) -> Result<u32, AllocError> {
+        for position in self.last.begin(location)..self.last.end(location) {
+            let writer = self.last.writer(position);
+            let is_possible = order.log().last(location).is_none()
+                || order.may_read(order.final_reader(location), writer);
+            if is_possible {
+                let found = self.see(writer, taker)?;
+                if found != NOBODY {
+                    return Ok(found);
+                }
+            }
+        }
+        Ok(NOBODY)
+    }
+
+    /// Sees a source from the taker. Returns it if it is free; else its taker joins those from which is looked.
+    fn see(&mut self, source: u32, taker: u32) -> Result<u32, AllocError> {
+        self.steps = self.steps.wrapping_add(2);
+        if at(self.turns.as_slice(), source, self.turn) == self.turn {
+            return Ok(NOBODY);
+        }
+        put(self.turns.as_mut_slice(), source, self.turn);
+        put(self.from.as_mut_slice(), source, taker);
+        let other = at(self.taker.as_slice(), source, NOBODY);
+        if other == NOBODY {
+            return Ok(source);
+        }
+        self.seen.push(other)?;
+        Ok(NOBODY)
+    }
+
+    /// The position of a free source, from one up to another, or one behind these. A source that was taken stays so.
+    fn next_free(&mut self, order: &Propagation<'_>, low: u32, high: u32) -> u32 {
+        let mut position = low;
+        for _ in low..high {
+            self.steps = self.steps.wrapping_add(1);
+            if position >= high {
+                break;
+            }
+            let next = at(self.free.as_slice(), position, NOBODY);
+            let writer = order.classes().writer(position);
+            if next != position {
+                let behind = at(self.free.as_slice(), next, next);
+                put(self.free.as_mut_slice(), position, behind);
+                position = next;
+            } else if at(self.taker.as_slice(), writer, NOBODY) != NOBODY {
+                put(self.free.as_mut_slice(), position, position.wrapping_add(1));
+                position = position.wrapping_add(1);
+            } else {
+                break;
+            }
+        }
+        position
+    }
+}

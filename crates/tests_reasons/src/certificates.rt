@@ -1,0 +1,129 @@
+//! Certificates of reasons: some that are accepted, and one for each way to be refused.
+
+use crate::expectations::{ample, expect};
+use lrat_check::lrat_fault::LratCause;
+use lrat_check::refusal::StepFault;
+use reason_check::reasons_check::{AcceptedReasons, check_reasons};
+use reason_check::reasons_fault::ReasonsFault;
+use reason_clauses::cause::ReasonCause;
+use std::alloc::Global;
+use std::process::Abort;
+use trace_text::trace_reader::read_trace;
+
+/// The second process sees the flag and not the data that was written before it.
+const STALE_DATA: &str =
+    "vsc 1\ninit data 0\ninit flag 0\nproc P\nW data 1\nW flag 1\nproc Q\nR flag 1\nR data 0\n";
+
+/// Two pairs that go round.
+const ROUND: &str =
+    "vsc 2\nproc P\nW x 1\nW x 2\nproc Q\nW x 3\nW x 4\nbefore P 2 Q 1\nbefore Q 2 P 1\n";
+
+/// Three acquires and the end want the value 0, and two releases and the beginning leave it.
+const MISSING_RELEASE: &str =
+    "vsc 1\ninit l 0\nfinal l 0\nproc P\nU l 0 1\nW l 0\nU l 0 1\nproc Q\nU l 0 1\nW l 0\n";
+
+/// Asserts what the check of the certificate, without its header, answers for the trace.
+fn assert_checked(
+    rt: &impl Abort,
+    alloc: Global,
+    trace_text: &str,
+    text: &str,
+    wanted: Result<AcceptedReasons, ReasonsFault>,
+    number: usize,
+) {
+    let trace = ample(rt, read_trace(alloc, trace_text.as_bytes()));
+    let found = check_reasons(alloc, &trace, text.as_bytes());
+    expect(rt, found == wanted, number);
+}
+
+/// Certificates of how many clauses are accepted.
+const ACCEPTED: [(&str, &str, usize); 4] = [
+    (
+        STALE_DATA,
+        "vsc-reasons 1\nc P.1 P.2 Q.1 Q.2\ns Q.1\ns Q.2 i P.1\np\n4 0 2 3 1 0\n",
+        3,
+    ),
+    (
+        ROUND,
+        "vsc-reasons 1\nb P.2 Q.1\n\n# and back\nb Q.2 P.1\nc P.1 P.2 Q.1 Q.2\np\n4 0 1 2 3 0\n",
+        3,
+    ),
+    (
+        ROUND,
+        "vsc-reasons 1\nv P.1 Q.1\nb P.2 Q.1\nb Q.2 P.1\nc P.1 P.2 Q.1\nc P.1 Q.1 Q.2\np\n5 0 1 2 4 3 0\n",
+        4,
+    ),
+    (
+        MISSING_RELEASE,
+        "vsc-reasons 1\nN l 0\nwhatever follows\n",
+        1,
+    ),
+];
+
+#[test]
+fn certificates_are_accepted(rt: HostRuntime) {
+    for k in 0..ACCEPTED.len() {
+        let (trace, text, clauses) = ACCEPTED[k];
+        assert_checked(
+            &rt,
+            rt.alloc(),
+            trace,
+            text,
+            Ok(AcceptedReasons { clauses }),
+            k,
+        );
+    }
+}
+
+/// Lines after the header, and what is wrong with which.
+const REFUSED_LINES: [(&str, ReasonCause, usize); 12] = [
+    ("vsc-reasons 2\nN l 0\n", ReasonCause::BadHeader, 1),
+    ("", ReasonCause::BadHeader, 1),
+    ("vsc-reasons 1\n\n# z\nz P.1\n", ReasonCause::BadLine, 4),
+    ("vsc-reasons 1\nc P1\n", ReasonCause::BadLine, 2),
+    ("vsc-reasons 1\nb P.1 Q.1 Q.2\n", ReasonCause::BadLine, 2),
+    ("vsc-reasons 1\nc P.1 P.3\n", ReasonCause::NoOperation, 2),
+    ("vsc-reasons 1\nc P.1\n", ReasonCause::BadCycle, 2),
+    ("vsc-reasons 1\nc P.1 P.2\n", ReasonCause::AlwaysTrue, 2),
+    ("vsc-reasons 1\nb P.1 Q.1\n", ReasonCause::NoPair, 2),
+    ("vsc-reasons 1\nv P.1 P.2\n", ReasonCause::OneProcess, 2),
+    (
+        "vsc-reasons 1\ns Q.1 f P.1 f P.2\n",
+        ReasonCause::SecondPiece,
+        2,
+    ),
+    ("vsc-reasons 1\nN flag 1\n", ReasonCause::EnoughSources, 2),
+];
+
+#[test]
+fn lines_are_refused(rt: HostRuntime) {
+    for k in 0..REFUSED_LINES.len() {
+        let (text, cause, line) = REFUSED_LINES[k];
+        let wanted = Err(ReasonsFault::Line(cause, line));
+        assert_checked(&rt, rt.alloc(), STALE_DATA, text, wanted, k);
+    }
+}
+
+/// Derivations, and what is wrong with them.
+const REFUSED_DERIVATIONS: [(&str, ReasonsFault); 3] = [
+    (
+        "vsc-reasons 1\nc P.1 P.2 Q.1 Q.2\np\n2 0 1\n",
+        ReasonsFault::Lrat(LratCause::Unended, 4),
+    ),
+    (
+        "vsc-reasons 1\nc P.1 P.2 Q.1 Q.2\np\n2 0 1 0\n",
+        ReasonsFault::Step(StepFault::NotUnit, 1),
+    ),
+    (
+        "vsc-reasons 1\nc P.1 P.2 Q.1 Q.2\n",
+        ReasonsFault::Step(StepFault::NoEmptyClause, 1),
+    ),
+];
+
+#[test]
+fn derivations_are_refused(rt: HostRuntime) {
+    for k in 0..REFUSED_DERIVATIONS.len() {
+        let (text, fault) = REFUSED_DERIVATIONS[k];
+        assert_checked(&rt, rt.alloc(), STALE_DATA, text, Err(fault), k);
+    }
+}
