@@ -38,18 +38,19 @@ pub over_kept : (old new : List OrderPair) → IsExtended old new → (literals 
 over_kept old new more literals h = pass_all (is_literal_up_to (length new)) literals (λ z c. over_more (length old) (length new) z (longer old new more) (all_pass (is_literal_up_to (length old)) literals h z c))
 
 pub clause_none : (pairs : List OrderPair) → IsClauseOf pairs [] []
-clause_none pairs = record { over = refl; says = λ order c. absurd (none_in order c) }
+clause_none pairs = record { over = refl; says = λ order c. absurd (none_in order c); only = λ z c. absurd (none_in z c) }
 
 -- the same literals over more variables
 clause_kept : (old new orders : List OrderPair) (literals : List ℤ) → IsExtended old new → IsClauseOf old orders literals → IsClauseOf new orders literals
 clause_kept old new orders literals more h = record {
   over = over_kept old new more literals h.over;
   says = λ order c. (let at = h.says order c in (at.0, at.1, order_same old new more at.0 (all_pass (is_literal_up_to (length old)) literals h.over at.0 at.1) ∙ at.2));
+  only = λ z c. subst (λ o. Contains orders o) (sym (order_same old new more z (all_pass (is_literal_up_to (length old)) literals h.over z c))) (h.only z c);
 }
 
 -- a literal says one more order
 pub clause_next : (old new orders : List OrderPair) (literals after : List ℤ) (order : OrderPair) (z : ℤ) → IsExtended old new → SaysOrder new z order → IsPut literals after z → IsClauseOf old orders literals → IsClauseOf new (orders ++ order ∷ []) after
-clause_next old new orders literals after order z more said put h = record { over = over put; says = λ o c. says put o (Contains-push_cases orders order o c) }
+clause_next old new orders literals after order z more said put h = record { over = over put; says = λ o c. says put o (Contains-push_cases orders order o c); only = λ y c. only y (back put y c) }
   where
     so : IsClauseOf new orders literals
     so = clause_kept old new orders literals more h
@@ -73,3 +74,12 @@ clause_next old new orders literals after order z more said put h = record { ove
     says : IsPut literals after z → (o : OrderPair) → Contains orders o ⊎ (order ≡ o) → (y : ℤ) × Contains after y × (order_of new y ≡ o)
     says p o (inl c) = (let at = so.says o c in (at.0, kept p at.0 at.1, at.2))
     says p o (inr e) = (z, there p, said.says ∙ e)
+
+    -- a literal of the new ones is an old one or the one that was put
+    back : IsPut literals after z → (y : ℤ) → Contains after y → Contains literals y ⊎ (z ≡ y)
+    back (inl (same, there_before)) y c = inl (subst (λ l. Contains l y) same c)
+    back (inr longer_by) y c = Contains-push_cases literals z y (subst (λ l. Contains l y) longer_by c)
+
+    only : (y : ℤ) → Contains literals y ⊎ (z ≡ y) → Contains (orders ++ order ∷ []) (order_of new y)
+    only y (inl d) = Contains-append_left orders (order ∷ []) (order_of new y) (so.only y d)
+    only y (inr e) = subst (λ x. Contains (orders ++ order ∷ []) (order_of new x)) e (subst (λ o. Contains (orders ++ order ∷ []) o) (sym said.says) (Contains-push orders order))

@@ -1,3 +1,4 @@
+pub mod Appended
 pub mod ClauseOf
 pub mod Literals
 pub mod Numbered

@@ -80,11 +80,13 @@ impl ReasonList {
     ghost use Rattle.trace_semantics.specs.Trace.{TraceValue};
     ghost use Rattle.order_reasons.specs.Orders.{HoldsOfSchedules};
     ghost use Rattle.order_clauses.specs.Numbered.{named_orders};
+    ghost use Rattle.order_clauses.specs.Appended.{HasSameClauses, IsAppended};
     ghost use Rattle.order_clauses.specs.ReasonList.{HoldReasons};
 
     /// No clauses yet.
     pub fn new(alloc: Global) -> ReasonList
-        ensures { (t : TraceValue) → HoldReasons t result.variables result.clauses.items }
+        ensures none { result.clauses.items ≡ [] }
+        ensures hold { (t : TraceValue) → HoldReasons t result.variables result.clauses.items }
     {
         ReasonList {
             variables: OrderVariables::new(alloc),
@@ -94,13 +96,16 @@ impl ReasonList {
     }
 
     /// The number of clauses.
-    pub fn count(&self) -> usize {
+    pub fn count(&self) -> usize
+        ensures { result ≡ length self.now.clauses.items }
+    {
         self.clauses.len()
     }
 
     /// Appends the clause that one of the orders stands.
     pub fn add(&mut self, alloc: Global, orders: &[OrderPair]) -> Result<ClauseOutcome, AllocError>
-        ensures { OnOk result ((t : TraceValue) → HoldsOfSchedules t (named_orders t orders.now) → HoldReasons t self.old.variables self.old.clauses.items → HoldReasons t self.new.variables self.new.clauses.items) }
+        ensures appended { IfOk result (λ outcome. outcome ≡ Made → IsAppended self.old self.new orders.now) }
+        ensures hold { OnOk result ((t : TraceValue) → HoldsOfSchedules t (named_orders t orders.now) → HoldReasons t self.old.variables self.old.clauses.items → HoldReasons t self.new.variables self.new.clauses.items) }
     {
         let mut literals = Vec::with_capacity(alloc, orders.len())?;
         let outcome = put_orders(&mut self.variables, &mut self.places, &mut literals, orders)?;
@@ -113,7 +118,8 @@ impl ReasonList {
 
     /// Numbers the pair of the order, if it has no variable yet. No clause changes.
     pub fn number(&mut self, order: OrderPair) -> Result<ClauseOutcome, AllocError>
-        ensures { OnOk result ((t : TraceValue) → HoldReasons t self.old.variables self.old.clauses.items → HoldReasons t self.new.variables self.new.clauses.items) }
+        ensures same { OnOk result (HasSameClauses self.old self.new) }
+        ensures hold { OnOk result ((t : TraceValue) → HoldReasons t self.old.variables self.old.clauses.items → HoldReasons t self.new.variables self.new.clauses.items) }
     {
         match self.variables.literal(order)? {
             Some(_literal) => Ok(ClauseOutcome::Made),
