@@ -9,16 +9,19 @@ ghost use Rattle.reason_check.specs.Kept.{AreKept};
 ghost use Rattle.reason_check.specs.declared.line_clause.LineOutcome.TheVariants.{Refuted};
 
 use crate::before_places::BeforePlaces;
-use crate::gathered_pieces::gather;
+use crate::gathered_pieces::{gather, gather_late, gather_waiters};
 use crate::trace_tables::TraceTables;
 use order_clauses::order_pair::OrderPair;
 use order_clauses::reason_list::{ClauseOutcome, ReasonList};
 use reason_clauses::cause::{ReasonCause, ReasonRefusal};
 use reason_clauses::cycle::cycle_clause;
+use reason_clauses::last::last_clause;
 use reason_clauses::pair::pair_clause;
 use reason_clauses::source::source_clause;
 use reason_clauses::writer_tables::WriterTables;
 use reason_counting::counting::too_few_sources;
+use reason_counting::waiting::waiting_clause;
+use reason_text::member_part::MemberPart;
 use reason_text::reason_line::ReasonLine;
 use reason_text::source_piece::SourcePiece;
 use std::alloc::Global;
@@ -121,6 +124,45 @@ fn add_source(
     add_orders(alloc, trace, orders.as_slice(), list)
 }
 
+/// Adds the clause that the location has a last writer, by pieces.
+fn add_last(
+    alloc: Global,
+    trace: &Trace,
+    writers: &WriterTables,
+    location: &[u8],
+    pieces: &[SourcePiece],
+    list: &mut ReasonList,
+) -> Result<LineOutcome, ReasonRefusal>
+    requires tables { HoldTables trace.now writers.now }
+    requires kept { AreKept trace.now list.old }
+    ensures kept { OnOk result (AreKept trace.now list.new) }
+    ensures refuted { IfOk result (λ taken. taken ≡ Refuted → HasNoSchedule trace.now) }
+{
+    let gathered = gather_late(alloc, pieces)?;
+    let mut orders = Vec::new(alloc);
+    last_clause(trace, writers, location, &gathered, &mut orders)?;
+    add_orders(alloc, trace, orders.as_slice(), list)
+}
+
+/// Adds the clause that of operations of which each waits for one of them one comes first.
+fn add_waiting(
+    alloc: Global,
+    trace: &Trace,
+    writers: &WriterTables,
+    parts: &[MemberPart<'_>],
+    list: &mut ReasonList,
+) -> Result<LineOutcome, ReasonRefusal>
+    requires tables { HoldTables trace.now writers.now }
+    requires kept { AreKept trace.now list.old }
+    ensures kept { OnOk result (AreKept trace.now list.new) }
+    ensures refuted { IfOk result (λ taken. taken ≡ Refuted → HasNoSchedule trace.now) }
+{
+    let waiters = gather_waiters(alloc, parts)?;
+    let mut orders = Vec::new(alloc);
+    waiting_clause(alloc, trace, writers, waiters.as_slice(), &mut orders)?;
+    add_orders(alloc, trace, orders.as_slice(), list)
+}
+
 /// Adds the empty clause, if updates of the location that read the value are more than the sources of it.
 fn add_too_few(
     alloc: Global,
@@ -180,6 +222,17 @@ pub fn take_line(
             pieces.as_slice(),
             list,
         ),
+        ReasonLine::Last(location, pieces) => add_last(
+            alloc,
+            trace,
+            &tables.writers,
+            location,
+            pieces.as_slice(),
+            list,
+        ),
+        ReasonLine::Waiting(parts) => {
+            add_waiting(alloc, trace, &tables.writers, parts.as_slice(), list)
+        }
         ReasonLine::TooFew(location, value) => add_too_few(alloc, trace, location, value, list),
         ReasonLine::Variable(pair) => number_pair(trace, pair, list),
         ReasonLine::Derivation => Ok(LineOutcome::Derivation),

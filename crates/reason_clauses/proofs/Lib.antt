@@ -1,4 +1,5 @@
 pub mod CycleLemmas
+pub mod LastLemmas
 pub mod MakerLemmas
 pub mod NumberLemmas
 pub mod NumberedLemmas

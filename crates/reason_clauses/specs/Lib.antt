@@ -1,6 +1,7 @@
 pub mod Barred
 pub mod Cause
 pub mod Cycle
+pub mod LastBarred
 pub mod Mains
 pub mod Makers
 pub mod Numbered

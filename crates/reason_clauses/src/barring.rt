@@ -87,7 +87,7 @@ fn bar_front(
         return Ok(());
     }
     let Some(x) = witness else {
-        return Err(ReasonRefusal::For(ReasonCause::NoPiece));
+        return Err(ReasonRefusal::For(ReasonCause::NoWitness));
     };
     bar_up_to(orders, reader, process, s.hidden, x)?;
     Ok(())

@@ -14,8 +14,6 @@ pub enum ReasonCause {
     NoWitness,
     /// The witness is the source that it is to hide.
     HidesItself,
-    /// A piece wants a witness, and none is given.
-    NoPiece,
     /// The reader may read the initial value, and no piece takes it.
     InitialLeft,
     /// A cycle is too short, or has a step from an operation to itself.
@@ -36,6 +34,12 @@ pub enum ReasonCause {
     OneProcess,
     /// A second piece where there may be one: of one kind for a process, for the initial value, or for all others.
     SecondPiece,
+    /// No operation writes the location, and its final value is the initial one, or none.
+    NoWriter,
+    /// An operation may be the last writer, and no piece takes it.
+    LastLeft,
+    /// An operation may come before all of those that wait.
+    SourceBefore,
 }
 
 /// Why a line makes no clause: a cause, or that memory ran out.
@@ -54,7 +58,6 @@ impl FaultCause for ReasonCause {
             ReasonCause::NoReader => 3,
             ReasonCause::NoWitness => 4,
             ReasonCause::HidesItself => 5,
-            ReasonCause::NoPiece => 6,
             ReasonCause::InitialLeft => 7,
             ReasonCause::BadCycle => 8,
             ReasonCause::NoPair => 9,
@@ -65,6 +68,9 @@ impl FaultCause for ReasonCause {
             ReasonCause::BadLine => 14,
             ReasonCause::OneProcess => 15,
             ReasonCause::SecondPiece => 16,
+            ReasonCause::NoWriter => 17,
+            ReasonCause::LastLeft => 18,
+            ReasonCause::SourceBefore => 19,
         }
     }
 
@@ -74,7 +80,6 @@ impl FaultCause for ReasonCause {
             ReasonCause::NoReader => "NoReader",
             ReasonCause::NoWitness => "NoWitness",
             ReasonCause::HidesItself => "HidesItself",
-            ReasonCause::NoPiece => "NoPiece",
             ReasonCause::InitialLeft => "InitialLeft",
             ReasonCause::BadCycle => "BadCycle",
             ReasonCause::NoPair => "NoPair",
@@ -85,6 +90,9 @@ impl FaultCause for ReasonCause {
             ReasonCause::BadLine => "BadLine",
             ReasonCause::OneProcess => "OneProcess",
             ReasonCause::SecondPiece => "SecondPiece",
+            ReasonCause::NoWriter => "NoWriter",
+            ReasonCause::LastLeft => "LastLeft",
+            ReasonCause::SourceBefore => "SourceBefore",
         }
     }
 }

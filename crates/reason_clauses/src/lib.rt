@@ -4,8 +4,10 @@
 pub mod barring;
 pub mod cause;
 pub mod cycle;
-mod lookups;
-mod orders;
+pub mod held_at;
+pub mod last;
+pub mod lookups;
+pub mod orders;
 mod own;
 pub mod pair;
 pub mod pieces;

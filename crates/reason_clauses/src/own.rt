@@ -27,6 +27,14 @@ fn last_of_first(places: &[u32], count: usize) -> u32
     if count == 0 { 0 } else { places[count - 1] }
 }
 
+/// The last of the places, or 0.
+pub fn last_of(places: &RisingPlaces) -> u32
+    ensures { (k : ℕ) → Contains places.now k → k ≤ result }
+{
+    let slice = places.as_slice();
+    last_of_first(slice, slice.len())
+}
+
 /// The last of the places up to the bound, or 0.
 pub fn last_to(places: &RisingPlaces, bound: u32) -> u32
     ensures above { (k : ℕ) → Contains places.now k → k ≤ bound → k ≤ result }

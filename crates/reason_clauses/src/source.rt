@@ -2,9 +2,8 @@
 
 ghost use Rattle.std.specs.Prelude.{◌≡◌, ◌≤◌, true, ℕ, List, IfSome, OnOk};
 ghost use Rattle.std.specs.List.{All, Contains};
-ghost use Rattle.trace_semantics.specs.Judgement.{is_held};
 ghost use Rattle.trace_semantics.specs.Operation.{origin_of};
-ghost use Rattle.trace_semantics.specs.Trace.{TraceValue, value_of};
+ghost use Rattle.trace_semantics.specs.Trace.{TraceValue};
 ghost use Rattle.writer_table.specs.declared.operation_place.OperationPlace.{OperationPlace as Place};
 ghost use Rattle.order_reasons.specs.Orders.{HoldsOfSchedules};
 ghost use Rattle.order_reasons.specs.Sources.{AllowsInitial, AllowsWriter};
@@ -17,6 +16,7 @@ ghost use Rattle.reason_clauses.specs.Tables.{HoldTables};
 
 use crate::barring::{MainPiece, bar_process};
 use crate::cause::{ReasonCause, ReasonRefusal};
+use crate::held_at::is_held_at;
 use crate::lookups::{is_named, operation_of, want_front, want_witness};
 use crate::orders::push_order;
 use crate::own::{last_to, own_source};
@@ -24,7 +24,6 @@ use crate::pieces::{ProcessPieces, SourcePieces};
 use crate::stretches::{Stretches, no_stretches, stretches_of, stretches_of_one};
 use crate::writer_tables::WriterTables;
 use order_clauses::order_pair::OrderPair;
-use trace_semantics::name::Name;
 use trace_semantics::operation::{Op, OpName, Origin};
 use trace_semantics::trace::Trace;
 use writer_table::operation_place::OperationPlace;
@@ -216,26 +215,6 @@ fn bar_runs(
     Ok(())
 }
 
-/// The value that this list gives the location.
-fn value_at(values: &[(Name, u64)], location: &[u8]) -> Option<u64>
-    ensures { result ≡ value_of values.now location.now }
-{
-    values
-        .iter()
-        .find(|entry| entry.0.as_bytes() == location)
-        .map(|entry| entry.1)
-}
-
-/// Returns whether this is the value that the list gives the location.
-fn is_value(values: &[(Name, u64)], location: &[u8], value: u64) -> bool
-    ensures { result ≡ is_held (value_of values.now location.now) value }
-{
-    match value_at(values, location) {
-        Some(held) => held == value,
-        None => false,
-    }
-}
-
 /// Returns whether a value may be the initial one, by what is said of it.
 fn is_from_start(origin: &Origin) -> bool
     ensures { AllowsInitial origin.now → result ≡ true }
@@ -274,7 +253,7 @@ fn bar_start(
     ensures grows { OnOk result (Grows orders.old.items orders.new.items) }
     ensures bars { OnOk result (IsStartBarred trace.now orders.new.items reader origin.now pieces.now location.now value) }
 {
-    if !is_from_start(origin) || !is_value(trace.initial(), location, value) {
+    if !is_from_start(origin) || !is_held_at(trace.initial(), location, value) {
         return Ok(());
     }
     let Some(x) = start_witness(pieces) else {

@@ -9,9 +9,9 @@ ghost use Rattle.reason_clauses.specs.declared.cause.ReasonCause.TheVariants.{En
 ghost use Rattle.reason_counting.specs.Counts.{needs_of, sources_of, AreTooFew, AreEnough};
 ghost use Rattle.reason_counting.specs.Tallies.{IsTallyOfTrace};
 
-use crate::held_at::is_held_at;
 use crate::tally::{Tally, tally_of};
 use reason_clauses::cause::{ReasonCause, ReasonRefusal};
+use reason_clauses::held_at::is_held_at;
 use trace_semantics::trace::Trace;
 
 /// Returns whether the location is written and ends with the value.

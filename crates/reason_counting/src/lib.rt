@@ -1,6 +1,6 @@
-//! Clauses by counting, and by waiting.
+//! Makers of clauses over orders of many operations at once: by counting, and by waiting.
 #![tactic(auto)]
 
 pub mod counting;
-mod held_at;
 mod tally;
+pub mod waiting;

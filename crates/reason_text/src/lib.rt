@@ -2,6 +2,7 @@
 #![tactic(auto)]
 
 mod line_words;
+pub mod member_part;
 pub mod operation_table;
 pub mod reason_header;
 pub mod reason_line;

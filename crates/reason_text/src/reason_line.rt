@@ -6,6 +6,7 @@ ghost use Rattle.trace_semantics.specs.Trace.{TraceValue};
 ghost use Rattle.reason_text.specs.ReasonLine.{IsReasonLine};
 
 use crate::line_words::{cut_operation, is_kind, read_operations, read_pair, read_value, want_end};
+use crate::member_part::{MemberPart, read_parts};
 use crate::operation_table::OperationTable;
 use crate::source_piece::{SourcePiece, read_pieces};
 use order_clauses::order_pair::OrderPair;
@@ -28,8 +29,12 @@ pub enum ReasonLine<'a> {
     Variable(OrderPair),
     /// `s R ..`: the operation has a source, and the pieces say what bars each possible one.
     Source(OperationPlace, Vec<SourcePiece>),
+    /// `l A ..`: the location has a last writer, and the pieces say what bars each possible one.
+    Last(&'a [u8], Vec<SourcePiece>),
     /// `N A D`: updates of the location that read the value are more than the sources of it.
     TooFew(&'a [u8], u64),
+    /// `w ..`: none of the operations can be the first of them.
+    Waiting(Vec<MemberPart<'a>>),
     /// `p`: a derivation follows.
     Derivation,
 }
@@ -64,6 +69,21 @@ fn read_source<'a>(
     Ok(ReasonLine::Source(reader, pieces))
 }
 
+/// Reads a location and pieces.
+fn read_last<'a>(
+    alloc: Global,
+    table: &OperationTable<'a>,
+    line: &'a [u8],
+) -> Result<ReasonLine<'a>, ReasonRefusal>
+    ensures { IfOk result (IsReasonLine table.now.trace.now (codes "l" ∷ words_of line.now)) }
+{
+    let Some((location, rest)) = cut_word(line) else {
+        return Err(ReasonRefusal::For(ReasonCause::BadLine));
+    };
+    let pieces = read_pieces(alloc, table, rest)?;
+    Ok(ReasonLine::Last(location, pieces))
+}
+
 /// Reads a line that is not skipped, by its first word and what follows it.
 fn read_kind<'a>(
     alloc: Global,
@@ -84,6 +104,12 @@ fn read_kind<'a>(
     }
     if is_kind(kind, "s") {
         return read_source(alloc, table, rest);
+    }
+    if is_kind(kind, "l") {
+        return read_last(alloc, table, rest);
+    }
+    if is_kind(kind, "w") {
+        return Ok(ReasonLine::Waiting(read_parts(alloc, table, rest)?));
     }
     if is_kind(kind, "N") {
         return read_too_few(rest);

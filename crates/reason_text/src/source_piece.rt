@@ -83,7 +83,7 @@ fn cut_single<'a>(
 }
 
 /// The piece that the word begins, and what follows it in the line.
-fn cut_piece<'a>(
+pub fn cut_piece<'a>(
     table: &OperationTable<'a>,
     kind: &'a [u8],
     rest: &'a [u8],

@@ -90,12 +90,11 @@ const CERT: [CertCause; 10] = [
     CertCause::Derivation,
 ];
 
-const REASONS: [ReasonCause; 15] = [
+const REASONS: [ReasonCause; 17] = [
     ReasonCause::NoOperation,
     ReasonCause::NoReader,
     ReasonCause::NoWitness,
     ReasonCause::HidesItself,
-    ReasonCause::NoPiece,
     ReasonCause::InitialLeft,
     ReasonCause::BadCycle,
     ReasonCause::NoPair,
@@ -106,6 +105,9 @@ const REASONS: [ReasonCause; 15] = [
     ReasonCause::BadLine,
     ReasonCause::OneProcess,
     ReasonCause::SecondPiece,
+    ReasonCause::NoWriter,
+    ReasonCause::LastLeft,
+    ReasonCause::SourceBefore,
 ];
 
 const SEARCH: [SearchCause; 2] = [SearchCause::Cut, SearchCause::NoThread];

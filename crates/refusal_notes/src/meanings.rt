@@ -159,12 +159,11 @@ impl Explained for ReasonCause {
                 "a witness writes the location or reads another value there, and is not the reader itself"
             }
             ReasonCause::HidesItself => "the witness is the source that it is to hide",
-            ReasonCause::NoPiece => "a piece wants a witness, and none is given",
             ReasonCause::InitialLeft => {
                 "the reader may read the initial value, and no piece takes it"
             }
             ReasonCause::BadCycle => {
-                "a cycle has an operation or more, and no step from an operation to itself"
+                "a cycle has an operation or more, and no step from an operation to itself; none waits for itself"
             }
             ReasonCause::NoPair => {
                 "no before line of the trace puts the first operation before the second"
@@ -177,6 +176,13 @@ impl Explained for ReasonCause {
             ReasonCause::OneProcess => "both operations of a variable are of one process",
             ReasonCause::SecondPiece => {
                 "a second piece for a process, for the initial value, or for all others"
+            }
+            ReasonCause::NoWriter => {
+                "nobody writes the location, and its final value is the initial one, or none"
+            }
+            ReasonCause::LastLeft => "an operation may be the last writer, and no piece takes it",
+            ReasonCause::SourceBefore => {
+                "an operation that is waited for may come before all of those that wait"
             }
         }
     }

@@ -295,7 +295,7 @@ fn lists_all(alloc: Global) -> bool {
         .iter()
         .filter(|byte| **byte == b'\n')
         .count();
-    notes.as_slice().starts_with(first) && count == 76
+    notes.as_slice().starts_with(first) && count == 78
 }
 
 #[test]

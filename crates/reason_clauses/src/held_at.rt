@@ -8,7 +8,7 @@ use trace_semantics::held_value::is_held;
 use trace_semantics::name::Name;
 
 /// The value that the list gives the location, if it gives one.
-fn value_at(values: &[(Name, u64)], location: &[u8]) -> Option<u64>
+pub fn value_at(values: &[(Name, u64)], location: &[u8]) -> Option<u64>
     ensures { result ≡ value_of values.now location.now }
 {
     values

@@ -1,0 +1,226 @@
+//! The clause that a location has a last writer.
+
+ghost use Rattle.std.specs.Prelude.{◌≡◌, ◌≢◌, ◌⊎◌, true, false, ℕ, List, [], Some, IfSome, OnOk};
+ghost use Rattle.std.specs.List.{All};
+ghost use Rattle.trace_semantics.specs.Trace.{TraceValue, value_of};
+ghost use Rattle.order_reasons.specs.Orders.{HoldsOfSchedules};
+ghost use Rattle.order_clauses.specs.Numbered.{named_orders};
+ghost use Rattle.reason_clauses.specs.LastBarred.{DoesHideLate, IsGivenLate, AreGivenLate, IsLastRunBarred, AreLastRunsBarred, MayBeFinal, HasWriter, witness_of};
+ghost use Rattle.reason_clauses.specs.Numbered.{Grows};
+ghost use Rattle.reason_clauses.specs.Tables.{HoldTables};
+
+use crate::barring::MainPiece;
+use crate::cause::{ReasonCause, ReasonRefusal};
+use crate::held_at::{is_held_at, value_at};
+use crate::lookups::{are_same, operation_of};
+use crate::orders::push_order;
+use crate::own::last_of;
+use crate::pieces::{ProcessPieces, SourcePieces};
+use crate::writer_tables::WriterTables;
+use order_clauses::order_pair::OrderPair;
+use restriction::left_value::left_at;
+use trace_semantics::operation::Op;
+use trace_semantics::trace::Trace;
+use writer_table::operation_place::OperationPlace;
+use writer_table::runs::Run;
+
+/// Returns whether the operation writes the location, or reads another value there than the final one, if there is one.
+fn hides_late(op: &Op, location: &[u8], final_value: Option<u64>) -> bool
+    ensures { result ≡ true → DoesHideLate location.now final_value op.now }
+{
+    if op.location().as_bytes() != location {
+        return false;
+    }
+    if op.written_value().is_some() {
+        return true;
+    }
+    let Some(value) = final_value else {
+        return false;
+    };
+    match op.value_read() {
+        Some(read) => read != value,
+        None => false,
+    }
+}
+
+/// Refuses an operation that is no witness against a last writer of the location.
+fn want_late(
+    trace: &Trace,
+    witness: OperationPlace,
+    location: &[u8],
+    final_value: Option<u64>,
+) -> Result<(), ReasonRefusal>
+    ensures { OnOk result (value_of trace.now.final_values location.now ≡ final_value → IsGivenLate trace.now location.now witness) }
+{
+    let op = operation_of(trace, witness)?;
+    if !hides_late(op, location, final_value) {
+        return Err(ReasonRefusal::For(ReasonCause::NoWitness));
+    }
+    Ok(())
+}
+
+/// The same, if an operation is given.
+fn want_late_front(
+    trace: &Trace,
+    witness: Option<OperationPlace>,
+    location: &[u8],
+    final_value: Option<u64>,
+) -> Result<(), ReasonRefusal>
+    ensures { OnOk result (value_of trace.now.final_values location.now ≡ final_value → IfSome witness (IsGivenLate trace.now location.now)) }
+{
+    match witness {
+        Some(x) => want_late(trace, x, location, final_value),
+        None => Ok(()),
+    }
+}
+
+/// Refuses what is no witness among those of the processes.
+fn want_late_fronts(
+    trace: &Trace,
+    pieces: &[ProcessPieces],
+    location: &[u8],
+    final_value: Option<u64>,
+) -> Result<(), ReasonRefusal>
+    ensures { OnOk result (value_of trace.now.final_values location.now ≡ final_value → All (λ p. IfSome p.witness (IsGivenLate trace.now location.now)) pieces.now) }
+{
+    for piece in pieces {
+        want_late_front(trace, piece.witness, location, final_value)?;
+    }
+    Ok(())
+}
+
+/// The witness of the main piece, if it has one.
+fn main_witness(pieces: &SourcePieces) -> Option<OperationPlace>
+    ensures { result ≡ witness_of pieces.now.main }
+{
+    match pieces.others() {
+        MainPiece::Witness(x) => Some(x),
+        MainPiece::Plain => None,
+        MainPiece::Between(_between) => None,
+    }
+}
+
+/// Refuses pieces with a witness that is none.
+fn want_late_pieces(
+    trace: &Trace,
+    pieces: &SourcePieces,
+    location: &[u8],
+    final_value: Option<u64>,
+) -> Result<(), ReasonRefusal>
+    ensures { OnOk result (value_of trace.now.final_values location.now ≡ final_value → AreGivenLate trace.now location.now pieces.now) }
+{
+    want_late_fronts(trace, pieces.processes(), location, final_value)?;
+    want_late_front(trace, main_witness(pieces), location, final_value)?;
+    Ok(())
+}
+
+/// The witness of the piece that takes this place of the process, if one does.
+fn late_witness(pieces: &SourcePieces, process: u32, place: u32) -> Option<OperationPlace>
+    ensures { (t : TraceValue) (location : List ℕ) → AreGivenLate t location pieces.now → IfSome result (IsGivenLate t location) }
+{
+    let piece = pieces.of_process(process);
+    if place <= piece.bound {
+        return piece.witness;
+    }
+    main_witness(pieces)
+}
+
+/// Returns whether the value may be the final one.
+fn may_be_final(final_value: Option<u64>, left: u64) -> bool
+    ensures { result ≡ false → MayBeFinal final_value left → ⊥ }
+{
+    match final_value {
+        Some(value) => value == left,
+        None => true,
+    }
+}
+
+/// Bars what may be the last writer in a run: the last of the run, if it leaves the final value or there is none.
+fn bar_last(
+    trace: &Trace,
+    location: &[u8],
+    final_value: Option<u64>,
+    run: &Run,
+    pieces: &SourcePieces,
+    orders: &mut Vec<OrderPair>,
+) -> Result<(), ReasonRefusal>
+    ensures grows { OnOk result (Grows orders.old.items orders.new.items) }
+    ensures bars { OnOk result (value_of trace.now.final_values location.now ≡ final_value → IsLastRunBarred trace.now orders.new.items location.now pieces.now run.now) }
+    ensures writes { OnOk result (HasWriter trace.now location.now) }
+{
+    trace.recall_invariant();
+    let bound = OperationPlace {
+        process: run.process,
+        place: last_of(&run.places),
+    };
+    let op = operation_of(trace, bound)?;
+    let Some(left) = left_at(op, location) else {
+        return Err(ReasonRefusal::For(ReasonCause::NoOperation));
+    };
+    if !may_be_final(final_value, left) {
+        return Ok(());
+    }
+    let Some(x) = late_witness(pieces, run.process, bound.place) else {
+        return Err(ReasonRefusal::For(ReasonCause::LastLeft));
+    };
+    if are_same(x, bound) {
+        return Err(ReasonRefusal::For(ReasonCause::HidesItself));
+    }
+    push_order(orders, x, bound)?;
+    Ok(())
+}
+
+/// Bars what may be the last writer in these runs.
+fn bar_lasts(
+    trace: &Trace,
+    location: &[u8],
+    final_value: Option<u64>,
+    runs: &[Run],
+    pieces: &SourcePieces,
+    orders: &mut Vec<OrderPair>,
+) -> Result<(), ReasonRefusal>
+    ensures bars { OnOk result (value_of trace.now.final_values location.now ≡ final_value → AreLastRunsBarred trace.now orders.new.items location.now pieces.now runs.now) }
+    ensures writes { OnOk result ((runs.now ≡ []) ⊎ HasWriter trace.now location.now) }
+{
+    for run in runs {
+        bar_last(trace, location, final_value, run, pieces, orders)?;
+    }
+    Ok(())
+}
+
+/// Refuses a location whose final value is the initial one, or that has none.
+fn want_lost(trace: &Trace, location: &[u8], final_value: Option<u64>) -> Result<(), ReasonRefusal>
+    ensures { OnOk result ((d : ℕ) × (final_value ≡ Some d) × (value_of trace.now.initial location.now ≢ Some d)) }
+{
+    let Some(value) = final_value else {
+        return Err(ReasonRefusal::For(ReasonCause::NoWriter));
+    };
+    if is_held_at(trace.initial(), location, value) {
+        return Err(ReasonRefusal::For(ReasonCause::NoWriter));
+    }
+    Ok(())
+}
+
+/// Appends the orders of which one stands, since the location has a last writer: the pieces say of each possible one what bars it. There are
+/// none if no operation writes the location and its final value is not its initial one.
+pub fn last_clause(
+    trace: &Trace,
+    writers: &WriterTables,
+    location: &[u8],
+    pieces: &SourcePieces,
+    orders: &mut Vec<OrderPair>,
+) -> Result<(), ReasonRefusal>
+    requires { HoldTables trace.now writers.now }
+    ensures { OnOk result (HoldsOfSchedules trace.now (named_orders trace.now orders.new.items)) }
+{
+    trace.recall_invariant();
+    let final_value = value_at(trace.final_values(), location);
+    want_late_pieces(trace, pieces, location, final_value)?;
+    let runs = writers.by_location.runs(location, 0);
+    if runs.is_empty() {
+        want_lost(trace, location, final_value)?;
+        return Ok(());
+    }
+    bar_lasts(trace, location, final_value, runs, pieces, orders)?;
+    Ok(())
+}

@@ -1,0 +1,6 @@
+use Rattle.std.proofs.Common.{take}
+use Rattle.reason_counting.specs.WaitingSet.{HoldMembers, operations_of}
+use Rattle.reason_counting.proofs.waiting.first_waiting.Given as goal
+
+abbrev pub invariant-loop-k : goal.invariant-loop-k
+invariant-loop-k l = HoldMembers (operations_of (take l.k l.waiters)) l.first.items
