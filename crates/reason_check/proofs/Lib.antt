@@ -1,1 +1,3 @@
+pub mod LawLemmas
+pub mod LineLemmas
 pub mod ReadSoFar

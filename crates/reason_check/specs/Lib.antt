@@ -1,1 +1,4 @@
-pub mod Kept
+pub mod Accepted
+pub mod LineClauses
+pub mod Reading
+pub mod Taken

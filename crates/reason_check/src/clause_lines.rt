@@ -1,10 +1,9 @@
 //! The lines of a certificate of reasons up to its derivation.
 
-ghost use Rattle.std.specs.Prelude.{◌≡◌, OnOk, IfOk, None};
-ghost use Rattle.trace_semantics.specs.Legal.{HasNoSchedule};
+ghost use Rattle.std.specs.Prelude.{◌≡◌, [], IfOk};
+ghost use Rattle.text_lines.specs.Words.{words_of};
 ghost use Rattle.reason_clauses.specs.Tables.{HoldTables};
-ghost use Rattle.reason_check.specs.Kept.{AreKept};
-ghost use Rattle.reason_check.specs.declared.line_clause.LineOutcome.TheVariants.{Refuted};
+ghost use Rattle.reason_check.specs.Reading.{IsReadAndTaken, IsReadUpTo};
 
 use crate::line_clause::{LineOutcome, take_line};
 use crate::reasons_fault::ReasonsFault;
@@ -32,10 +31,9 @@ fn read_and_take<'a>(
     line: &'a [u8],
     list: &mut ReasonList,
 ) -> Result<LineOutcome, ReasonRefusal>
-    requires tables { HoldTables trace.now tables.now.writers }
-    requires kept { AreKept trace.now list.old }
-    ensures kept { OnOk result (AreKept trace.now list.new) }
-    ensures refuted { IfOk result (λ taken. taken ≡ Refuted → HasNoSchedule trace.now) }
+    requires operations { tables.now.operations.trace.now ≡ trace.now }
+    requires writers { HoldTables trace.now tables.now.writers }
+    ensures { IfOk result (IsReadAndTaken trace.now (words_of line.now) list.old list.new) }
 {
     let read = read_reason_line(alloc, &tables.operations, line)?;
     take_line(alloc, trace, tables, read, list)
@@ -49,9 +47,8 @@ pub fn read_clauses<'a>(
     text: &'a [u8],
     list: &mut ReasonList,
 ) -> Result<Option<DerivationText<'a>>, ReasonsFault>
-    requires kept { AreKept trace.now list.old }
-    ensures kept { OnOk result (AreKept trace.now list.new) }
-    ensures refuted { IfOk result (λ end. end ≡ None → HasNoSchedule trace.now) }
+    requires { list.old.clauses.items ≡ [] }
+    ensures { IfOk result (IsReadUpTo trace.now text.now list.new) }
 {
     let mut rest = match cut_header(text) {
         Ok(rest) => rest,

@@ -4,6 +4,7 @@
 mod before_places;
 mod clause_lines;
 mod gathered_pieces;
+pub mod laws;
 mod line_clause;
 pub mod reasons_check;
 pub mod reasons_fault;

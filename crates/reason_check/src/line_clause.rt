@@ -1,12 +1,17 @@
 //! The clause of a line of a certificate of reasons.
 
-ghost use Rattle.std.specs.Prelude.{◌≡◌, OnOk, IfOk};
-ghost use Rattle.trace_semantics.specs.Legal.{HasNoSchedule};
+ghost use Rattle.std.specs.Prelude.{◌≡◌, ◌≢◌, [], map, OnOk, IfOk};
+ghost use Rattle.order_clauses.specs.Appended.{HasSameClauses, IsAppended};
+ghost use Rattle.order_clauses.specs.Numbered.{named};
+ghost use Rattle.order_clauses.specs.declared.reason_list.ClauseOutcome.TheVariants.{Made};
 ghost use Rattle.order_reasons.specs.Orders.{HoldsOfSchedules};
-ghost use Rattle.order_clauses.specs.Numbered.{named_orders};
+ghost use Rattle.order_reasons.specs.Reasons.{IsPairClause};
+ghost use Rattle.order_reasons.specs.Sources.{IsSourceClause};
+ghost use Rattle.reason_clauses.specs.Made.{IsCycleOf, IsLastOf};
 ghost use Rattle.reason_clauses.specs.Tables.{HoldTables};
-ghost use Rattle.reason_check.specs.Kept.{AreKept};
-ghost use Rattle.reason_check.specs.declared.line_clause.LineOutcome.TheVariants.{Refuted};
+ghost use Rattle.reason_counting.specs.Counts.{AreTooFew};
+ghost use Rattle.reason_check.specs.Taken.{HasNext, IsPassed, IsTaken};
+ghost use Rattle.reason_check.specs.declared.line_clause.LineOutcome.TheVariants.{Derivation, Refuted};
 
 use crate::before_places::BeforePlaces;
 use crate::gathered_pieces::{gather, gather_late, gather_waiters};
@@ -40,7 +45,9 @@ pub enum LineOutcome {
 }
 
 /// The refusal of what was to be made a clause, unless it was made.
-fn refuse_outcome(outcome: ClauseOutcome) -> Result<(), ReasonRefusal> {
+fn refuse_outcome(outcome: ClauseOutcome) -> Result<(), ReasonRefusal>
+    ensures { OnOk result (outcome ≡ Made) }
+{
     match outcome {
         ClauseOutcome::Made => Ok(()),
         ClauseOutcome::AlwaysTrue => Err(ReasonRefusal::For(ReasonCause::AlwaysTrue)),
@@ -50,17 +57,14 @@ fn refuse_outcome(outcome: ClauseOutcome) -> Result<(), ReasonRefusal> {
     }
 }
 
-/// Appends the clause that one of the orders stands, as it does in each legal schedule. If there are none, no schedule is legal.
+/// Appends the clause that one of the orders stands. If there are none, no schedule is legal.
 fn add_orders(
     alloc: Global,
-    trace: &Trace,
     orders: &[OrderPair],
     list: &mut ReasonList,
 ) -> Result<LineOutcome, ReasonRefusal>
-    requires kept { AreKept trace.now list.old }
-    requires holds { HoldsOfSchedules trace.now (named_orders trace.now orders.now) }
-    ensures kept { OnOk result (AreKept trace.now list.new) }
-    ensures refuted { IfOk result (λ taken. taken ≡ Refuted → HasNoSchedule trace.now) }
+    ensures appended { OnOk result (IsAppended list.old list.new orders.now) }
+    ensures outcome { IfOk result (λ outcome. (outcome ≡ Refuted → orders.now ≡ []) × (outcome ≢ Derivation)) }
 {
     let outcome = list.add(alloc, orders)?;
     refuse_outcome(outcome)?;
@@ -78,13 +82,11 @@ fn add_cycle(
     operations: &[OperationPlace],
     list: &mut ReasonList,
 ) -> Result<LineOutcome, ReasonRefusal>
-    requires kept { AreKept trace.now list.old }
-    ensures kept { OnOk result (AreKept trace.now list.new) }
-    ensures refuted { IfOk result (λ taken. taken ≡ Refuted → HasNoSchedule trace.now) }
+    ensures { IfOk result (HasNext trace.now (IsCycleOf trace.now (map (named trace.now) operations.now)) list.old list.new) }
 {
     let mut orders = Vec::new(alloc);
     cycle_clause(trace, operations, &mut orders)?;
-    add_orders(alloc, trace, orders.as_slice(), list)
+    add_orders(alloc, orders.as_slice(), list)
 }
 
 /// Adds the clause of a before pair.
@@ -95,13 +97,11 @@ fn add_before(
     pair: OrderPair,
     list: &mut ReasonList,
 ) -> Result<LineOutcome, ReasonRefusal>
-    requires kept { AreKept trace.now list.old }
-    ensures kept { OnOk result (AreKept trace.now list.new) }
-    ensures refuted { IfOk result (λ taken. taken ≡ Refuted → HasNoSchedule trace.now) }
+    ensures { IfOk result (HasNext trace.now (λ clause. IsPairClause trace.now clause (named trace.now pair.first) (named trace.now pair.second)) list.old list.new) }
 {
     let mut orders = Vec::new(alloc);
     pair_clause(trace, before.place(pair), pair, &mut orders)?;
-    add_orders(alloc, trace, orders.as_slice(), list)
+    add_orders(alloc, orders.as_slice(), list)
 }
 
 /// Adds the clause that the operation has a source, by pieces.
@@ -114,14 +114,12 @@ fn add_source(
     list: &mut ReasonList,
 ) -> Result<LineOutcome, ReasonRefusal>
     requires tables { HoldTables trace.now writers.now }
-    requires kept { AreKept trace.now list.old }
-    ensures kept { OnOk result (AreKept trace.now list.new) }
-    ensures refuted { IfOk result (λ taken. taken ≡ Refuted → HasNoSchedule trace.now) }
+    ensures { IfOk result (HasNext trace.now (λ clause. IsSourceClause trace.now clause (named trace.now reader)) list.old list.new) }
 {
     let gathered = gather(alloc, pieces)?;
     let mut orders = Vec::new(alloc);
     source_clause(trace, writers, reader, &gathered, &mut orders)?;
-    add_orders(alloc, trace, orders.as_slice(), list)
+    add_orders(alloc, orders.as_slice(), list)
 }
 
 /// Adds the clause that the location has a last writer, by pieces.
@@ -134,14 +132,12 @@ fn add_last(
     list: &mut ReasonList,
 ) -> Result<LineOutcome, ReasonRefusal>
     requires tables { HoldTables trace.now writers.now }
-    requires kept { AreKept trace.now list.old }
-    ensures kept { OnOk result (AreKept trace.now list.new) }
-    ensures refuted { IfOk result (λ taken. taken ≡ Refuted → HasNoSchedule trace.now) }
+    ensures { IfOk result (HasNext trace.now (IsLastOf trace.now location.now) list.old list.new) }
 {
     let gathered = gather_late(alloc, pieces)?;
     let mut orders = Vec::new(alloc);
     last_clause(trace, writers, location, &gathered, &mut orders)?;
-    add_orders(alloc, trace, orders.as_slice(), list)
+    add_orders(alloc, orders.as_slice(), list)
 }
 
 /// Adds the clause that of operations of which each waits for one of them one comes first.
@@ -153,14 +149,12 @@ fn add_waiting(
     list: &mut ReasonList,
 ) -> Result<LineOutcome, ReasonRefusal>
     requires tables { HoldTables trace.now writers.now }
-    requires kept { AreKept trace.now list.old }
-    ensures kept { OnOk result (AreKept trace.now list.new) }
-    ensures refuted { IfOk result (λ taken. taken ≡ Refuted → HasNoSchedule trace.now) }
+    ensures { IfOk result (HasNext trace.now (HoldsOfSchedules trace.now) list.old list.new) }
 {
     let waiters = gather_waiters(alloc, parts)?;
     let mut orders = Vec::new(alloc);
     waiting_clause(alloc, trace, writers, waiters.as_slice(), &mut orders)?;
-    add_orders(alloc, trace, orders.as_slice(), list)
+    add_orders(alloc, orders.as_slice(), list)
 }
 
 /// Adds the empty clause, if updates of the location that read the value are more than the sources of it.
@@ -171,23 +165,18 @@ fn add_too_few(
     value: u64,
     list: &mut ReasonList,
 ) -> Result<LineOutcome, ReasonRefusal>
-    requires kept { AreKept trace.now list.old }
-    ensures kept { OnOk result (AreKept trace.now list.new) }
-    ensures refuted { IfOk result (λ taken. taken ≡ Refuted → HasNoSchedule trace.now) }
+    ensures { IfOk result (HasNext trace.now (λ clause. (clause ≡ []) × AreTooFew trace.now location.now value) list.old list.new) }
 {
     too_few_sources(trace, location, value)?;
-    add_orders(alloc, trace, &[], list)
+    add_orders(alloc, &[], list)
 }
 
 /// Numbers a pair beforehand.
 fn number_pair(
-    trace: &Trace,
     pair: OrderPair,
     list: &mut ReasonList,
 ) -> Result<LineOutcome, ReasonRefusal>
-    requires kept { AreKept trace.now list.old }
-    ensures kept { OnOk result (AreKept trace.now list.new) }
-    ensures refuted { IfOk result (λ taken. taken ≡ Refuted → HasNoSchedule trace.now) }
+    ensures { IfOk result (IsPassed list.old list.new) }
 {
     if pair.is_of_one_process() {
         return Err(ReasonRefusal::For(ReasonCause::OneProcess));
@@ -206,9 +195,7 @@ pub fn take_line(
     list: &mut ReasonList,
 ) -> Result<LineOutcome, ReasonRefusal>
     requires tables { HoldTables trace.now tables.now.writers }
-    requires kept { AreKept trace.now list.old }
-    ensures kept { OnOk result (AreKept trace.now list.new) }
-    ensures refuted { IfOk result (λ taken. taken ≡ Refuted → HasNoSchedule trace.now) }
+    ensures { IfOk result (IsTaken trace.now line list.old list.new) }
 {
     match line {
         ReasonLine::Skipped => Ok(LineOutcome::More),
@@ -234,7 +221,7 @@ pub fn take_line(
             add_waiting(alloc, trace, &tables.writers, parts.as_slice(), list)
         }
         ReasonLine::TooFew(location, value) => add_too_few(alloc, trace, location, value, list),
-        ReasonLine::Variable(pair) => number_pair(trace, pair, list),
+        ReasonLine::Variable(pair) => number_pair(pair, list),
         ReasonLine::Derivation => Ok(LineOutcome::Derivation),
     }
 }

@@ -1,16 +1,17 @@
 //! The check of a certificate of reasons.
 
-ghost use Rattle.std.specs.Prelude.{OnOk};
+ghost use Rattle.std.specs.Prelude.{IfOk, OnOk};
 ghost use Rattle.trace_semantics.specs.Legal.{HasNoSchedule};
-ghost use Rattle.trace_semantics.specs.Trace.{TraceValue};
-ghost use Rattle.reason_check.specs.Kept.{AreKept, AreOver};
+ghost use Rattle.reason_check.specs.Accepted.{IsAcceptedReasons};
+ghost use Rattle.reason_check.specs.Reading.{IsDerivationFor};
+ghost use Rattle.reason_check.specs.Taken.{AreOver};
 
 use crate::clause_lines::{DerivationText, read_clauses};
+use crate::laws::accepted_has_no_schedule;
 use crate::reasons_fault::ReasonsFault;
 use lrat_check::checker::check;
 use lrat_check::lrat_reader::read_lrat;
 use order_clauses::reason_list::ReasonList;
-use order_reasons::laws::unsatisfiable_has_no_schedule;
 use std::alloc::Global;
 use trace_semantics::trace::Trace;
 
@@ -28,9 +29,8 @@ fn check_derivation(
     derivation: DerivationText<'_>,
 ) -> Result<(), ReasonsFault>
     requires { AreOver list }
-    ensures { OnOk result ((t : TraceValue) → AreKept t list → HasNoSchedule t) }
+    ensures { OnOk result (IsDerivationFor list.clauses.items derivation.text.now) }
 {
-    unsatisfiable_has_no_schedule();
     let steps = match read_lrat(alloc, derivation.text) {
         Ok(steps) => steps,
         Err(fault) => return Err(ReasonsFault::of_lrat(fault, derivation.before)),
@@ -41,14 +41,17 @@ fn check_derivation(
 }
 
 /// Checks that the certificate shows that the trace has no legal schedule. Nothing of it is taken on trust: each line makes a clause
-/// that holds in each legal schedule, or is refused, and the derivation is checked against these clauses.
+/// that follows from the trace, or is refused, and the derivation is checked against these clauses.
 pub fn check_reasons<'a>(
     alloc: Global,
     trace: &'a Trace,
     text: &'a [u8],
 ) -> Result<AcceptedReasons, ReasonsFault>
-    ensures { OnOk result (HasNoSchedule trace.now) }
+    ensures accepted { IfOk result (λ reasons. IsAcceptedReasons trace.now text.now reasons.clauses) }
+    ensures sound { OnOk result (HasNoSchedule trace.now) }
 {
+    accepted_has_no_schedule();
+    trace.recall_invariant();
     let mut list = ReasonList::new(alloc);
     let end = read_clauses(alloc, trace, text, &mut list)?;
     let clauses = list.count();

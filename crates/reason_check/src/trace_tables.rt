@@ -1,6 +1,6 @@
 //! What lines of a certificate ask of a trace.
 
-ghost use Rattle.std.specs.Prelude.{IfOk};
+ghost use Rattle.std.specs.Prelude.{◌≡◌, IfOk};
 ghost use Rattle.reason_clauses.specs.Tables.{HoldTables};
 
 use crate::before_places::BeforePlaces;
@@ -19,7 +19,8 @@ pub struct TraceTables<'a> {
 
 /// The tables of the trace.
 pub fn tables_of<'a>(alloc: Global, trace: &'a Trace) -> Result<TraceTables<'a>, AllocError>
-    ensures { IfOk result (λ tables. HoldTables trace.now tables.writers) }
+    ensures operations { IfOk result (λ tables. tables.operations.trace.now ≡ trace.now) }
+    ensures writers { IfOk result (λ tables. HoldTables trace.now tables.writers) }
 {
     let operations = OperationTable::of(alloc, trace)?;
     let before = BeforePlaces::of(alloc, trace, &operations)?;

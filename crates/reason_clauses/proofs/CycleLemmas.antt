@@ -11,7 +11,8 @@ use Rattle.order_reasons.specs.Orders.{HoldsOfSchedules}
 use Rattle.order_reasons.specs.Reasons.{TurnsSteps}
 use Rattle.order_reasons.proofs.OrderReasons.{cycle_holds}
 use Rattle.reason_clauses.specs.Cycle.{IsTurned}
-use Rattle.reason_clauses.specs.Numbered.{Grows, MakesSay}
+use Rattle.reason_clauses.specs.Made.{Makes, IsCycleOf}
+use Rattle.reason_clauses.specs.Numbered.{AreIn, Grows, MakesSay}
 use Rattle.reason_clauses.proofs.NumberLemmas.{numbers_apart}
 
 pub turned_more : (t : TraceValue) (old new : List OrderPair) (u v : OperationPlace) → Grows old new → IsTurned t old u v → IsTurned t new u v
@@ -36,19 +37,20 @@ turned_next t old new ops n grows so at j less =
       | inr (inr high) ↦ absurd (omega (arith, less, high))
     ]
 
-module _ (t : TraceValue) (new : List OrderPair) (first : OperationPlace) (known : IsKnown t first) where
-  abbrev clause : List (OpName × OpName)
-  clause = named_orders t new
-
+module _ (t : TraceValue) (new : List OrderPair) (clause : List (OpName × OpName)) (all : AreIn t new clause) (first : OperationPlace) (known : IsKnown t first) where
   steps : (u : OperationPlace) (rest : List OperationPlace) → ((j : ℕ) → j < suc (length rest) → IsTurned t new (get_or (u ∷ rest) j nowhere) (get_or (u ∷ rest) (suc j) first)) → TurnsSteps t clause (named t first) (named t u) (map (named t) rest)
-  steps u [] h = let at = h 0 (omega arith) in (at.other known, at.known.1, at.says clause (λ p c. c) known)
+  steps u [] h = let at = h 0 (omega arith) in (at.other known, at.known.1, at.says clause all known)
   steps u (v ∷ rest) h =
       let at = h 0 (omega arith) in
       let next = h 1 (omega arith) in
-      (at.other next.known, at.known.1, at.says clause (λ p c. c) next.known, steps v rest (λ j low. h (suc j) (omega (arith, low))))
+      (at.other next.known, at.known.1, at.says clause all next.known, steps v rest (λ j low. h (suc j) (omega (arith, low))))
+
+pub turned_cycle : (t : TraceValue) (new : List OrderPair) (ops : List OperationPlace) → (length ops ≡ 0 → ⊥) → AreTurned t new ops (length ops) → Makes t new (IsCycleOf t (map (named t) ops))
+turned_cycle t new [] some so clause all = absurd (some refl)
+turned_cycle t new (u ∷ rest) some so clause all =
+    steps t new clause all u (so 0 (omega arith)).known u rest (λ j low. (let next : j + 1 ≡ suc j = omega arith in subst (λ i. IsTurned t new (get_or (u ∷ rest) j nowhere) (get_or (u ∷ rest) i u)) next (so j low)))
 
 pub turned_holds : (t : TraceValue) (new : List OrderPair) (ops : List OperationPlace) → (length ops ≡ 0 → ⊥) → AreTurned t new ops (length ops) → HoldsOfSchedules t (named_orders t new)
 turned_holds t new [] some so names legal = absurd (some refl)
 turned_holds t new (u ∷ rest) some so names legal =
-    cycle_holds t names legal.interleaving (named_orders t new) (named t u) (map (named t) rest)
-    (steps t new u (so 0 (omega arith)).known u rest (λ j low. (let next : j + 1 ≡ suc j = omega arith in subst (λ i. IsTurned t new (get_or (u ∷ rest) j nowhere) (get_or (u ∷ rest) i u)) next (so j low))))
+    cycle_holds t names legal.interleaving (named_orders t new) (named t u) (map (named t) rest) (turned_cycle t new (u ∷ rest) some so (named_orders t new) (λ p c. c))

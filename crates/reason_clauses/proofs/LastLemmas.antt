@@ -18,13 +18,14 @@ use Rattle.writer_table.specs.declared.runs.Run.{Run}
 use Rattle.writer_table.specs.declared.trace_writers.TraceWriters.{TraceWriters}
 use Rattle.writer_table.specs.Writers.{HoldsWriters, runs_at}
 use Rattle.order_reasons.specs.Orders.{HoldsOfSchedules}
-use Rattle.order_reasons.specs.Sources.{IsLastBarred, BarsLastWriters, IsLostFinal}
+use Rattle.order_reasons.specs.Sources.{IsLastBarred, IsLastClause, IsLostFinal}
 use Rattle.order_reasons.proofs.SourceReasons.{last_writers_barred, lost_final}
 use Rattle.order_clauses.specs.declared.order_pair.OrderPair.{OrderPair}
 use Rattle.order_clauses.specs.Numbered.{named, named_orders, IsKnown}
 use Rattle.reason_clauses.specs.declared.pieces.ProcessPieces.{ProcessPieces}
 use Rattle.reason_clauses.specs.declared.pieces.SourcePieces.{SourcePieces}
 use Rattle.reason_clauses.specs.LastBarred.{DoesHideLate, MayBeFinal, IsGivenLate, AreGivenLate, HasWriter, IsLastRunBarred, AreLastRunsBarred}
+use Rattle.reason_clauses.specs.Made.{Makes, IsLastOf}
 use Rattle.reason_clauses.specs.Makers.{read_by, IsNumberOf}
 use Rattle.reason_clauses.specs.Numbered.{AreIn, Grows, MakesSay, at_number}
 use Rattle.reason_clauses.proofs.MakerLemmas.{number_known}
@@ -120,32 +121,28 @@ module _ (t : TraceValue) (ok : IsTrace t) (writers : TraceWriters) (holds : Hol
       let found = in_table t ok writers holds n location e at.low (subst (λ x. value_left_at t location x ≡ Some e) (sym at.named_so) leaves) in
       (found.0, subst (λ l. Contains l found.0) (holds.alike location e 0 kind) found.1, (at.place + 1, found.3, ap (λ q. named t (at_number q (at.place + 1))) found.2 ∙ at.named_so))
 
-  -- where each that may be the last writer is barred the clause holds
-  pub lasts_hold : (new : List OrderPair) (pieces : SourcePieces) → AreGivenLate t location pieces → AreLastRunsBarred t new location pieces (runs_at writers location 0) → HasWriter t location → HoldsOfSchedules t (named_orders t new)
-  lasts_hold new pieces given runs has names legal =
-      elim (last_writers_barred t names legal (named_orders t new) location (λ s. ⊥) bars) [
-        | inl holds_it ↦ holds_it
-        | inr at ↦ absurd (at.2)
-      ]
+  -- a clause that has the new orders bars each that may be the last writer
+  pub lasts_made : (new : List OrderPair) (pieces : SourcePieces) → AreGivenLate t location pieces → AreLastRunsBarred t new location pieces (runs_at writers location 0) → HasWriter t location → Makes t new (IsLastOf t location)
+  lasts_made new pieces given runs has clause all = inl bars
     where
-      by_run : (w : OpName) (e : ℕ) → value_left_at t location w ≡ Some e → MayBeFinal (value_of t.final_values location) e → IsLastBarred t (named_orders t new) location w
+      by_run : (w : OpName) (e : ℕ) → value_left_at t location w ≡ Some e → MayBeFinal (value_of t.final_values location) e → IsLastBarred t clause location w
       by_run w e leaves final_one =
           let found = in_runs w e leaves in
           let run = found.0 in
           let k = found.2.0 in
           let same = found.2.2 in
-          subst (λ x. IsLastBarred t (named_orders t new) location x) same
-          (runs run found.1 (named_orders t new) (λ p c. c) given (all_known run found.1) k e found.2.1 (subst (λ x. value_left_at t location x ≡ Some e) (sym same) leaves) final_one)
+          subst (λ x. IsLastBarred t clause location x) same
+          (runs run found.1 clause all given (all_known run found.1) k e found.2.1 (subst (λ x. value_left_at t location x ≡ Some e) (sym same) leaves) final_one)
         where
           all_known : (run : Run) → Contains (runs_at writers location 0) run → (k : ℕ) → Contains run.places k → IsKnown t (at_number run.process k)
           all_known run listed = table_known t ok writers holds location 0 run listed
 
-      bars : BarsLastWriters t (named_orders t new) location (λ s. ⊥)
+      bars : IsLastClause t clause location
       bars = record { writer = has.0; writes = has.1; writers = λ w e leaves final_one. inl (by_run w e leaves final_one) }
 
   -- no operation writes the location, and it ends with another value than it begins with
-  pub lost_holds : (new : List OrderPair) (last : Option ℕ) → value_of t.final_values location ≡ last → (d : ℕ) × (last ≡ Some d) × (value_of t.initial location ≡ Some d → ⊥) → runs_at writers location 0 ≡ [] → HoldsOfSchedules t (named_orders t new)
-  lost_holds new last is (d, e, other) empty names legal = absurd (lost_final t names legal [] location lost)
+  pub lost_made : (new : List OrderPair) (last : Option ℕ) → value_of t.final_values location ≡ last → (d : ℕ) × (last ≡ Some d) × (value_of t.initial location ≡ Some d → ⊥) → runs_at writers location 0 ≡ [] → Makes t new (IsLastOf t location)
+  lost_made new last is (d, e, other) empty clause all = inr lost
     where
       silent : (w : OpName) (o : Option ℕ) → value_left_at t location w ≡ o → value_left_at t location w ≡ None
       silent w None h = h
@@ -153,3 +150,14 @@ module _ (t : TraceValue) (ok : IsTrace t) (writers : TraceWriters) (holds : Hol
 
       lost : IsLostFinal t location
       lost = record { value = d; final_value = is ∙ e; initial = other; unwritten = λ w. silent w (value_left_at t location w) refl }
+
+  -- such a clause holds
+  pub last_holds : (new : List OrderPair) → Makes t new (IsLastOf t location) → HoldsOfSchedules t (named_orders t new)
+  last_holds new made names legal =
+      elim (made (named_orders t new) (λ p c. c)) [
+        | inl bars ↦ (elim (last_writers_barred t names legal (named_orders t new) location (λ s. ⊥) bars) [
+          | inl holds_it ↦ holds_it
+          | inr at ↦ absurd (at.2)
+        ])
+        | inr lost ↦ absurd (lost_final t names legal [] location lost)
+      ]

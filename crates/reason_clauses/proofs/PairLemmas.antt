@@ -9,6 +9,8 @@ use Rattle.order_clauses.specs.declared.order_pair.OrderPair.{OrderPair}
 use Rattle.order_clauses.specs.Numbered.{named, named_orders, IsKnown}
 use Rattle.order_reasons.specs.Orders.{HoldsOfSchedules}
 use Rattle.order_reasons.proofs.OrderReasons.{pair_stands}
+use Rattle.order_reasons.specs.Reasons.{IsPairClause}
+use Rattle.reason_clauses.specs.Made.{Makes}
 use Rattle.reason_clauses.specs.Numbered.{MakesSay}
 use Rattle.reason_clauses.proofs.NumberLemmas.{name_at}
 
@@ -16,7 +18,9 @@ use Rattle.reason_clauses.proofs.NumberLemmas.{name_at}
 pub is_name_of : (t : TraceValue) (n : OperationPlace) (p : Process) (name : OpName) → n.process < length t.processes → get_or t.processes n.process p ≡ p → p.name ≡ name.process → n.place ≡ name.place → named t n ≡ name
 is_name_of t n p name low at called place = λ i. record { process = (name_at t.processes n.process p low at ∙ called) i; place = place i }
 
-pub pair_holds_by : (t : TraceValue) (new : List OrderPair) (m n : OperationPlace) (pair : OpName × OpName) → Contains t.before pair → named t m ≡ pair.0 → named t n ≡ pair.1 → IsKnown t m → IsKnown t n → MakesSay new m n → HoldsOfSchedules t (named_orders t new)
-pair_holds_by t new m n pair listed first second m_known n_known says names legal =
-    pair_stands t names legal.interleaving (named_orders t new) (named t m) (named t n)
-    (subst (λ (p : OpName × OpName). Contains t.before p) (λ i. (sym first i, sym second i)) listed, says t (named_orders t new) (λ p c. c) m_known n_known)
+pub pair_made : (t : TraceValue) (new : List OrderPair) (m n : OperationPlace) (pair : OpName × OpName) → Contains t.before pair → named t m ≡ pair.0 → named t n ≡ pair.1 → IsKnown t m → IsKnown t n → MakesSay new m n → Makes t new (λ clause. IsPairClause t clause (named t m) (named t n))
+pair_made t new m n pair listed first second m_known n_known says clause all =
+    (subst (λ (p : OpName × OpName). Contains t.before p) (λ i. (sym first i, sym second i)) listed, says t clause all m_known n_known)
+
+pub pair_holds_by : (t : TraceValue) (new : List OrderPair) (m n : OperationPlace) → Makes t new (λ clause. IsPairClause t clause (named t m) (named t n)) → HoldsOfSchedules t (named_orders t new)
+pair_holds_by t new m n made names legal = pair_stands t names legal.interleaving (named_orders t new) (named t m) (named t n) (made (named_orders t new) (λ p c. c))

@@ -20,7 +20,7 @@ use Rattle.writer_table.specs.declared.runs.Run.{Run}
 use Rattle.writer_table.specs.declared.trace_writers.TraceWriters.{TraceWriters}
 use Rattle.writer_table.specs.Writers.{HoldsWriters, runs_at}
 use Rattle.order_reasons.specs.Orders.{HoldsOfSchedules}
-use Rattle.order_reasons.specs.Sources.{AllowsWriter, IsBarred, BarsSources}
+use Rattle.order_reasons.specs.Sources.{AllowsWriter, IsBarred, IsSourceClause}
 use Rattle.order_reasons.proofs.SourceReasons.{sources_barred}
 use Rattle.order_clauses.specs.declared.order_pair.OrderPair.{OrderPair}
 use Rattle.order_clauses.specs.Numbered.{named, named_orders, IsKnown}
@@ -29,6 +29,7 @@ use Rattle.reason_clauses.specs.declared.pieces.ProcessPieces.{ProcessPieces}
 use Rattle.reason_clauses.specs.declared.pieces.SourcePieces.{SourcePieces}
 use Rattle.reason_clauses.specs.declared.stretches.Stretches.{Stretches}
 use Rattle.reason_clauses.specs.Barred.{IsPlaceBarred, IsKnownRun, IsRunBarred, AreRunsBarred, IsStartBarred, AreSourcesBarred}
+use Rattle.reason_clauses.specs.Made.{Makes}
 use Rattle.reason_clauses.specs.Mains.{IsGivenMain}
 use Rattle.reason_clauses.specs.Makers.{IsNumberOf}
 use Rattle.reason_clauses.specs.Numbered.{AreIn, Grows, MakesSay, at_number, IsGivenFront, IsTaken, AreUpTo, AreTaken, BarsPlaces}
@@ -160,32 +161,27 @@ start_by t new r x origin pieces location d witness front e says clause all know
     let is = front given x e in
     record { witness = named t x; witnesses = is.1; other = is.2; says = says t clause all known is.0 }
 
+-- a clause that has the new orders bars all sources
+pub sources_made : (t : TraceValue) (new : List OrderPair) (r : OperationPlace) (op : Op) (d : ℕ) (pieces : SourcePieces) → IsNumberOf t r op → value_read op ≡ Some d → (IsKnown t r → AreGiven t (location_of op) d r pieces) → AreSourcesBarred t new r (origin_of op) pieces (location_of op) d →
+    Makes t new (λ clause. IsSourceClause t clause (named t r))
+sources_made t new r op d pieces number reads given barred clause all = record {
+  op = op;
+  value = d;
+  known = number.1;
+  reads = reads;
+  writers = λ w leaves allowed. inl (barred.writers clause all (number_known t r op number) (given (number_known t r op number)) w leaves allowed);
+  initial = λ held allowed. inl (barred.initial clause all (number_known t r op number) (given (number_known t r op number)) held allowed);
+}
+
+pub source_at : (t : TraceValue) (new : List OrderPair) (r : OperationPlace) (op : Op) (d : ℕ) (location : List ℕ) (origin : Origin) (pieces : SourcePieces) → location ≡ location_of op → origin ≡ origin_of op → IsNumberOf t r op → value_read op ≡ Some d → (IsKnown t r → AreGiven t location d r pieces) →
+    AreSourcesBarred t new r origin pieces location d → Makes t new (λ clause. IsSourceClause t clause (named t r))
+source_at t new r op d location origin pieces place said number reads given barred =
+    sources_made t new r op d pieces number reads (subst (λ l. IsKnown t r → AreGiven t l d r pieces) place given) (subst (λ l. AreSourcesBarred t new r (origin_of op) pieces l d) place (subst (λ o. AreSourcesBarred t new r o pieces location d) said barred))
+
 -- where all sources are barred the clause holds
-pub source_holds : (t : TraceValue) (new : List OrderPair) (r : OperationPlace) (op : Op) (d : ℕ) (pieces : SourcePieces) → IsNumberOf t r op → value_read op ≡ Some d → (IsKnown t r → AreGiven t (location_of op) d r pieces) → AreSourcesBarred t new r (origin_of op) pieces (location_of op) d →
-    HoldsOfSchedules t (named_orders t new)
-source_holds t new r op d pieces number reads given barred names legal =
-    elim (sources_barred t names legal (named_orders t new) (named t r) (λ s. ⊥) bars) [
+pub source_holds : (t : TraceValue) (new : List OrderPair) (r : OperationPlace) → Makes t new (λ clause. IsSourceClause t clause (named t r)) → HoldsOfSchedules t (named_orders t new)
+source_holds t new r made names legal =
+    elim (sources_barred t names legal (named_orders t new) (named t r) (λ s. ⊥) (made (named_orders t new) (λ p c. c))) [
       | inl holds ↦ holds
       | inr at ↦ absurd (at.1)
     ]
-  where
-    known : IsKnown t r
-    known = number_known t r op number
-
-    whole : AreIn t new (named_orders t new)
-    whole p c = c
-
-    bars : BarsSources t (named_orders t new) (named t r) (λ s. ⊥)
-    bars = record {
-      op = op;
-      value = d;
-      known = number.1;
-      reads = reads;
-      writers = λ w leaves allowed. inl (barred.writers (named_orders t new) whole known (given known) w leaves allowed);
-      initial = λ held allowed. inl (barred.initial (named_orders t new) whole known (given known) held allowed);
-    }
-
-pub source_at : (t : TraceValue) (new : List OrderPair) (r : OperationPlace) (op : Op) (d : ℕ) (location : List ℕ) (origin : Origin) (pieces : SourcePieces) → location ≡ location_of op → origin ≡ origin_of op → IsNumberOf t r op → value_read op ≡ Some d → (IsKnown t r → AreGiven t location d r pieces) →
-    AreSourcesBarred t new r origin pieces location d → HoldsOfSchedules t (named_orders t new)
-source_at t new r op d location origin pieces place said number reads given barred =
-    source_holds t new r op d pieces number reads (subst (λ l. IsKnown t r → AreGiven t l d r pieces) place given) (subst (λ l. AreSourcesBarred t new r (origin_of op) pieces l d) place (subst (λ o. AreSourcesBarred t new r o pieces location d) said barred))

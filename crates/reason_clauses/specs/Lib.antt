@@ -2,6 +2,7 @@ pub mod Barred
 pub mod Cause
 pub mod Cycle
 pub mod LastBarred
+pub mod Made
 pub mod Mains
 pub mod Makers
 pub mod Numbered

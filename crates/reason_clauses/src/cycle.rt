@@ -1,11 +1,12 @@
 //! The clause that operations do not stand in a cycle.
 
-ghost use Rattle.std.specs.Prelude.{◌≡◌, ◌<◌, ◌+◌, OnOk, length, slice_index_or};
+ghost use Rattle.std.specs.Prelude.{◌≡◌, ◌<◌, ◌+◌, OnOk, length, map, slice_index_or};
 ghost use Rattle.order_reasons.specs.Orders.{HoldsOfSchedules};
-ghost use Rattle.order_clauses.specs.Numbered.{named_orders};
+ghost use Rattle.order_clauses.specs.Numbered.{named, named_orders};
 ghost use Rattle.order_clauses.specs.OrderVariables.{nowhere};
 ghost use Rattle.reason_clauses.specs.Numbered.{Grows};
 ghost use Rattle.reason_clauses.specs.Cycle.{IsTurned};
+ghost use Rattle.reason_clauses.specs.Made.{Makes, IsCycleOf};
 
 use crate::cause::{ReasonCause, ReasonRefusal};
 use crate::lookups::{are_same, operation_of};
@@ -60,7 +61,8 @@ pub fn cycle_clause(
     operations: &[OperationPlace],
     orders: &mut Vec<OrderPair>,
 ) -> Result<(), ReasonRefusal>
-    ensures { OnOk result (HoldsOfSchedules trace.now (named_orders trace.now orders.new.items)) }
+    ensures made { OnOk result (Makes trace.now orders.new.items (IsCycleOf trace.now (map (named trace.now) operations.now))) }
+    ensures holds { OnOk result (HoldsOfSchedules trace.now (named_orders trace.now orders.new.items)) }
 {
     let count = operations.len();
     if count == 0 {

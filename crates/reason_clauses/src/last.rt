@@ -6,6 +6,7 @@ ghost use Rattle.trace_semantics.specs.Trace.{TraceValue, value_of};
 ghost use Rattle.order_reasons.specs.Orders.{HoldsOfSchedules};
 ghost use Rattle.order_clauses.specs.Numbered.{named_orders};
 ghost use Rattle.reason_clauses.specs.LastBarred.{DoesHideLate, IsGivenLate, AreGivenLate, IsLastRunBarred, AreLastRunsBarred, MayBeFinal, HasWriter, witness_of};
+ghost use Rattle.reason_clauses.specs.Made.{Makes, IsLastOf};
 ghost use Rattle.reason_clauses.specs.Numbered.{Grows};
 ghost use Rattle.reason_clauses.specs.Tables.{HoldTables};
 
@@ -211,7 +212,8 @@ pub fn last_clause(
     orders: &mut Vec<OrderPair>,
 ) -> Result<(), ReasonRefusal>
     requires { HoldTables trace.now writers.now }
-    ensures { OnOk result (HoldsOfSchedules trace.now (named_orders trace.now orders.new.items)) }
+    ensures made { OnOk result (Makes trace.now orders.new.items (IsLastOf trace.now location.now)) }
+    ensures holds { OnOk result (HoldsOfSchedules trace.now (named_orders trace.now orders.new.items)) }
 {
     trace.recall_invariant();
     let final_value = value_at(trace.final_values(), location);

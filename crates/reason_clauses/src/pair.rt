@@ -2,7 +2,9 @@
 
 ghost use Rattle.std.specs.Prelude.{OnOk};
 ghost use Rattle.order_reasons.specs.Orders.{HoldsOfSchedules};
-ghost use Rattle.order_clauses.specs.Numbered.{named_orders};
+ghost use Rattle.order_reasons.specs.Reasons.{IsPairClause};
+ghost use Rattle.order_clauses.specs.Numbered.{named, named_orders};
+ghost use Rattle.reason_clauses.specs.Made.{Makes};
 
 use crate::cause::{ReasonCause, ReasonRefusal};
 use crate::lookups::{is_named, operation_of};
@@ -18,7 +20,8 @@ pub fn pair_clause(
     order: OrderPair,
     orders: &mut Vec<OrderPair>,
 ) -> Result<(), ReasonRefusal>
-    ensures { OnOk result (HoldsOfSchedules trace.now (named_orders trace.now orders.new.items)) }
+    ensures made { OnOk result (Makes trace.now orders.new.items (λ clause. IsPairClause trace.now clause (named trace.now order.first) (named trace.now order.second))) }
+    ensures holds { OnOk result (HoldsOfSchedules trace.now (named_orders trace.now orders.new.items)) }
 {
     let _first = operation_of(trace, order.first)?;
     let _second = operation_of(trace, order.second)?;

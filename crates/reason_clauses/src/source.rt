@@ -6,9 +6,10 @@ ghost use Rattle.trace_semantics.specs.Operation.{origin_of};
 ghost use Rattle.trace_semantics.specs.Trace.{TraceValue};
 ghost use Rattle.writer_table.specs.declared.operation_place.OperationPlace.{OperationPlace as Place};
 ghost use Rattle.order_reasons.specs.Orders.{HoldsOfSchedules};
-ghost use Rattle.order_reasons.specs.Sources.{AllowsInitial, AllowsWriter};
+ghost use Rattle.order_reasons.specs.Sources.{AllowsInitial, AllowsWriter, IsSourceClause};
 ghost use Rattle.order_clauses.specs.Numbered.{named, named_orders, IsKnown};
 ghost use Rattle.reason_clauses.specs.Barred.{IsPlaceBarred, IsRunBarred, AreRunsBarred, IsStartBarred, AreSourcesBarred};
+ghost use Rattle.reason_clauses.specs.Made.{Makes};
 ghost use Rattle.reason_clauses.specs.Mains.{IsGivenMain};
 ghost use Rattle.reason_clauses.specs.Numbered.{Grows, IsGivenFront, IsTaken, AreUpTo, at_number};
 ghost use Rattle.reason_clauses.specs.Pieces.{AreGiven};
@@ -294,7 +295,8 @@ pub fn source_clause(
     orders: &mut Vec<OrderPair>,
 ) -> Result<(), ReasonRefusal>
     requires { HoldTables trace.now writers.now }
-    ensures { OnOk result (HoldsOfSchedules trace.now (named_orders trace.now orders.new.items)) }
+    ensures made { OnOk result (Makes trace.now orders.new.items (λ clause. IsSourceClause trace.now clause (named trace.now reader))) }
+    ensures holds { OnOk result (HoldsOfSchedules trace.now (named_orders trace.now orders.new.items)) }
 {
     let op = operation_of(trace, reader)?;
     let Some(value) = op.value_read() else {
