@@ -114,7 +114,7 @@ some_writer runs P some (inr h) = h
 
 module _ (t : TraceValue) (ok : IsTrace t) (writers : TraceWriters) (holds : HoldsWriters t writers) (kind : writers.classes.by_value ≡ false) (location : List ℕ) where
   -- what writes the location is in the table
-  in_runs : (w : OpName) (e : ℕ) → value_left_at t location w ≡ Some e → (run : Run) × Contains (runs_at writers location 0) run × ((k : ℕ) × Contains run.places k × (named t (at_number run.process k) ≡ w))
+  pub in_runs : (w : OpName) (e : ℕ) → value_left_at t location w ≡ Some e → (run : Run) × Contains (runs_at writers location 0) run × ((k : ℕ) × Contains run.places k × (named t (at_number run.process k) ≡ w))
   in_runs w e leaves =
       let at = writes_by_number t location w e leaves in
       let n = at_number at.number (at.place + 1) in

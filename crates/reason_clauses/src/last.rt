@@ -102,7 +102,7 @@ fn main_witness(pieces: &SourcePieces) -> Option<OperationPlace>
 }
 
 /// Refuses pieces with a witness that is none.
-fn want_late_pieces(
+pub fn want_late_pieces(
     trace: &Trace,
     pieces: &SourcePieces,
     location: &[u8],
@@ -116,7 +116,7 @@ fn want_late_pieces(
 }
 
 /// The witness of the piece that takes this place of the process, if one does.
-fn late_witness(pieces: &SourcePieces, process: u32, place: u32) -> Option<OperationPlace>
+pub fn late_witness(pieces: &SourcePieces, process: u32, place: u32) -> Option<OperationPlace>
     ensures { (t : TraceValue) (location : List ℕ) → AreGivenLate t location pieces.now → IfSome result (IsGivenLate t location) }
 {
     let piece = pieces.of_process(process);
@@ -127,7 +127,7 @@ fn late_witness(pieces: &SourcePieces, process: u32, place: u32) -> Option<Opera
 }
 
 /// Returns whether the value may be the final one.
-fn may_be_final(final_value: Option<u64>, left: u64) -> bool
+pub fn may_be_final(final_value: Option<u64>, left: u64) -> bool
     ensures { result ≡ false → MayBeFinal final_value left → ⊥ }
 {
     match final_value {

@@ -8,7 +8,7 @@ pub mod held_at;
 pub mod last;
 pub mod lookups;
 pub mod orders;
-mod own;
+pub mod own;
 pub mod pair;
 pub mod pieces;
 pub mod source;

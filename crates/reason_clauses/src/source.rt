@@ -31,7 +31,7 @@ use writer_table::operation_place::OperationPlace;
 use writer_table::runs::Run;
 
 /// The origin of the value that the operation reads, as the trace says it.
-fn origin(op: &Op) -> Option<&Origin>
+pub fn origin(op: &Op) -> Option<&Origin>
     ensures { IfSome result (λ said. said.now ≡ origin_of op.now) }
 {
     match op {
@@ -78,7 +78,7 @@ fn want_main(
 }
 
 /// Refuses pieces with a witness that is none, or an operation that the trace has not.
-fn want_pieces(
+pub fn want_pieces(
     trace: &Trace,
     reader: OperationPlace,
     location: &[u8],
@@ -111,7 +111,7 @@ fn stretches_named(trace: &Trace, name: &OpName, run: &Run, piece: ProcessPieces
 }
 
 /// The stretches of what a reader may read from in a run, by what is said of where its value comes from.
-fn stretches_allowed(trace: &Trace, origin: &Origin, run: &Run, piece: ProcessPieces) -> Stretches
+pub fn stretches_allowed(trace: &Trace, origin: &Origin, run: &Run, piece: ProcessPieces) -> Stretches
     ensures taken { All (λ p. 1 ≤ p) run.now.places → (k : ℕ) → IsKnown trace.now (at_number run.now.process k) → Contains run.now.places k → AllowsWriter origin.now (named trace.now (at_number run.now.process k)) → IsTaken result k }
     ensures most { (n : ℕ) → All (λ p. p ≤ n) run.now.places → AreUpTo result n }
 {
@@ -217,7 +217,7 @@ fn bar_runs(
 }
 
 /// Returns whether a value may be the initial one, by what is said of it.
-fn is_from_start(origin: &Origin) -> bool
+pub fn is_from_start(origin: &Origin) -> bool
     ensures { AllowsInitial origin.now → result ≡ true }
 {
     match origin {

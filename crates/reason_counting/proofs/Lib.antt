@@ -1,3 +1,4 @@
 pub mod CountLemmas
+pub mod LeftLemmas
 pub mod TallyLemmas
 pub mod WaitLemmas

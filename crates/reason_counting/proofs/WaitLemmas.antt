@@ -1,27 +1,31 @@
 -- Operations of which each waits for one of them are a waiting set.
-use Rattle.std.proofs.Common.{◌≡◌, ◌⊎◌, ◌<◌, ◌≤◌, ◌+◌, ℕ, zero, suc, List, [], ◌∷◌, ◌++◌, map, length, get_or, set, take, take_all, refl, ap, sym, ◌∙◌, arith, inl, inr, subst, append_assoc}
+use Rattle.std.proofs.Common.{◌≡◌, ◌⊎◌, ◌<◌, ◌≤◌, ◌+◌, ℕ, List, [], ◌∷◌, ◌++◌, map, length, get_or, set, take, take_all, true, false, refl, ap, sym, ◌∙◌, arith, inl, inr, subst}
 use Rattle.std.specs.Prelude.{IsSome}
 use Rattle.std.specs.List.{Contains}
 use Rattle.std.proofs.lemmas.Bool.{cases_order}
-use Rattle.std.proofs.lemmas.List.{get_or_default, get_or-set_same, get_or-set_other, length-append, map-append, take_more}
-use Rattle.std.proofs.lemmas.List.Elements.{Contains-append_left}
+use Rattle.std.proofs.lemmas.List.{get_or_default, get_or-set_same, get_or-set_other, map-append, take_more}
+use Rattle.std.proofs.lemmas.List.Elements.{All-contains, Contains-append_left}
 use Rattle.trace_semantics.specs.declared.operation.OpName.{OpName}
-use Rattle.trace_semantics.specs.Interleaving.{StandsBefore}
-use Rattle.trace_semantics.specs.Legal.{IsLegal}
+use Rattle.trace_semantics.specs.Operation.{location_of}
 use Rattle.trace_semantics.specs.Trace.{TraceValue, IsTrace, operation_at}
-use Rattle.trace_semantics.proofs.ElementLemmas.{head_in, in_middle, placed, from_map, to_map}
-use Rattle.restriction.proofs.StandLemmas.{stands_front}
+use Rattle.trace_semantics.proofs.ElementLemmas.{in_middle, from_map, to_map}
+use Rattle.forced_order.specs.Order.{IsInProgramOrder}
 use Rattle.writer_table.specs.declared.operation_place.OperationPlace.{OperationPlace}
+use Rattle.writer_table.specs.declared.trace_writers.TraceWriters.{TraceWriters}
 use Rattle.order_clauses.specs.declared.order_pair.OrderPair.{OrderPair}
-use Rattle.order_clauses.specs.Numbered.{named, named_order, named_orders, IsKnown}
-use Rattle.order_reasons.specs.Orders.{HoldsIn, HoldsOfSchedules}
-use Rattle.order_reasons.specs.Waiting.{IsBehindOne}
-use Rattle.order_reasons.proofs.OrderReasons.{said, up_before, either}
+use Rattle.order_clauses.specs.Numbered.{named, IsKnown}
+use Rattle.order_reasons.specs.Reasons.{IsUpTo}
+use Rattle.order_reasons.specs.Sources.{LeftBy, InitialAt, IsBarred, IsInitialBarred, BarsSources}
+use Rattle.order_reasons.specs.Waiting.{ComesLater, ForOperation, ForSource, IsBehindOne, IsWaitingClause, Waits}
 use Rattle.reason_clauses.specs.Numbered.{AreIn, Grows, MakesSay, at_number}
 use Rattle.reason_clauses.proofs.NumberLemmas.{numbers_apart}
 use Rattle.reason_clauses.proofs.NumberedLemmas.{up_to}
+use Rattle.reason_clauses.proofs.OwnLemmas.{left_known}
+use Rattle.reason_counting.specs.declared.left_sources.LeftSources.{LeftSources}
+use Rattle.reason_counting.specs.declared.left_sources.LeftStretch.{LeftStretch}
 use Rattle.reason_counting.specs.declared.waiting.Waiter.{Waiter}
-use Rattle.reason_counting.specs.WaitingSet.{HoldMembers, IsKept, AreKept, MustWait, operations_of}
+use Rattle.reason_counting.specs.Left.{IsLeft, IsLeftBy}
+use Rattle.reason_counting.specs.WaitingSet.{AreBehind, HoldMembers, IsStretchBehind, MustWait, operations_of}
 
 -- one member more, of which the table says nothing, or whose place it has
 pub members_more : (members : List OperationPlace) (n : OperationPlace) (first : List ℕ) → HoldMembers members first → HoldMembers (members ++ n ∷ []) first
@@ -55,55 +59,46 @@ behind_member t members first n place h e some low known z_known =
 
 -- an operation that waits for another one, which is a member or comes after one
 pub waits_for : (t : TraceValue) → IsTrace t → (members : List OperationPlace) (new : List OrderPair) (x y : OperationPlace) → (x ≡ y → ⊥) → IsKnown t x → IsKnown t y → IsBehindOne t (map (named t) members) (named t y) → MakesSay new x y → MustWait t new members x
-waits_for t ok members new x y other x_known y_known (z, c, up) says = (
-  x_known,
-  λ clause all names legal.
-      elim (either t names legal.interleaving clause (named t x) (named t y) (λ same. other (numbers_apart t ok x y x_known y_known same)) x_known.1 y_known.1) [
-        | inl s ↦ inl (said t names legal.interleaving clause (named t x) (named t y) (says t clause all x_known y_known) s)
-        | inr s ↦ inr (z, c, up_before t names legal.interleaving clause z (named t y) (named t x) up s)
-      ],
-)
+waits_for t ok members new x y other x_known y_known behind says clause all =
+    ForOperation (named t y) (λ same. other (numbers_apart t ok x y x_known y_known same)) x_known.1 behind (says t clause all x_known y_known)
 
--- a reader, of which each order of its source clause is kept, or says that an operation stands before it that is a member or comes after one
-pub waits_for_source : (t : TraceValue) (members : List OperationPlace) (new orders : List OrderPair) (r : OperationPlace) → IsKnown t r → HoldsOfSchedules t (named_orders t orders) → AreKept t new members r orders → MustWait t new members r
-waits_for_source t members new orders r known holds kept = (known, λ clause all names legal. from clause all names legal (holds names legal))
-  where
-    by_order : (clause : List (OpName × OpName)) → AreIn t new clause → (names : List OpName) → IsLegal t names → (order : OrderPair) → StandsBefore names (named t order.first) (named t order.second) → IsKept t new members r order →
-        HoldsIn names clause ⊎ ((z : OpName) × Contains (map (named t) members) z × StandsBefore names z (named t r))
-    by_order clause all names legal order s (inl c) = inl (named t order.first, named t order.second, all (named_order t order) c, s)
-    by_order clause all names legal order s (inr (e, behind)) =
-        inr (behind.0, behind.1, up_before t names legal.interleaving clause behind.0 (named t order.first) (named t r) behind.2 (subst (λ (k : OperationPlace). StandsBefore names (named t order.first) (named t k)) e s))
+up_over : (t : TraceValue) (x y z : OpName) → IsUpTo t x y → IsUpTo t y z → IsUpTo t x z
+up_over t x y z (inl e) h = subst (λ k. IsUpTo t k z) (sym e) h
+up_over t x y z (inr h) (inl e) = inr (subst (λ k. IsInProgramOrder t x k) e h)
+up_over t x y z (inr h) (inr k) = inr (record { first = h.first; second = k.second; process = h.process ∙ k.process; lower = (let one = h.lower in let two = k.lower in omega (arith, one, two)) })
 
-    from : (clause : List (OpName × OpName)) → AreIn t new clause → (names : List OpName) → IsLegal t names → HoldsIn names (named_orders t orders) → HoldsIn names clause ⊎ ((z : OpName) × Contains (map (named t) members) z × StandsBefore names z (named t r))
-    from clause all names legal (m, n, c, s) =
-        let at = from_map (named_order t) orders (m, n) c in
-        by_order clause all names legal at.0 (subst (λ (p : OpName × OpName). StandsBefore names p.0 p.1) (sym at.2) s) (kept at.0 at.1)
+-- what is left of a reader's sources comes later
+left_later : (t : TraceValue) (writers : TraceWriters) (members : List OperationPlace) (location : List ℕ) (left : List LeftStretch) (w : OpName) → IsSome (operation_at t w) → AreBehind t members left → IsLeftBy t writers location left w → IsBehindOne t (map (named t) members) w
+left_later t writers members location left w known behind by =
+    let at = All-contains (λ (x : LeftStretch). IsStretchBehind t members x) left by.stretch behind by.kept in
+    let n = at_number by.stretch.process by.stretch.first in
+    let m = at_number by.run.process by.place in
+    let m_known : IsKnown t m = (subst (λ q. q < length t.processes) by.process at.0.0, subst (λ x. IsSome (operation_at t x)) (sym by.named_so) known) in
+    let up : IsUpTo t (named t n) w = subst (λ x. IsUpTo t (named t n) x) by.named_so (up_to t n m at.0 m_known by.process by.least) in
+    (at.1.0, at.1.1, up_over t at.1.0 (named t n) w at.1.2 up)
 
-pub kept_more : (t : TraceValue) (old new : List OrderPair) (members : List OperationPlace) (r : OperationPlace) (order : OrderPair) → Grows old new → IsKept t old members r order → IsKept t new members r order
-kept_more t old new members r order grows (inl c) = inl (grows t (named_orders t new) (λ p d. d) (named_order t order) c)
-kept_more t old new members r order grows (inr h) = inr h
+or_later : (B : Type 0) (P Q : Type 0) → (P → Q) → B ⊎ P → B ⊎ Q
+or_later B P Q f (inl b) = inl b
+or_later B P Q f (inr h) = inr (f h)
 
-pub kept_here : (t : TraceValue) (old : List OrderPair) (members : List OperationPlace) (r : OperationPlace) (order : OrderPair) → IsKept t (old ++ order ∷ []) members r order
-kept_here t old members r order = inl (to_map (named_order t) (old ++ order ∷ []) order (in_middle old order []))
-
--- the first n of these are kept
-abbrev pub AreFirstKept : TraceValue → List OrderPair → List OperationPlace → OperationPlace → List OrderPair → ℕ → Type 0
-AreFirstKept t new members r orders n = (j : ℕ) (d : OrderPair) → j < n → IsKept t new members r (get_or orders j d)
-
-pub kept_next : (t : TraceValue) (old new : List OrderPair) (members : List OperationPlace) (r : OperationPlace) (orders : List OrderPair) (n : ℕ) (order : OrderPair) → Grows old new → AreFirstKept t old members r orders n → n < length orders →
-    IsKept t new members r (get_or orders n order) → AreFirstKept t new members r orders (n + 1)
-kept_next t old new members r orders n order grows so low h j d less =
-    elim (cases_order j n) [
-      | inl e ↦ subst (λ (o : OrderPair). IsKept t new members r o) (sym (ap (λ i. get_or orders i d) e ∙ get_or_default orders n d order low)) h
-      | inr (inl lower) ↦ kept_more t old new members r (get_or orders j d) grows (so j d lower)
-      | inr (inr higher) ↦ absurd (omega (arith, less, higher))
-    ]
-
-pub all_kept : (t : TraceValue) (new : List OrderPair) (members : List OperationPlace) (r : OperationPlace) (orders : List OrderPair) (n : ℕ) → length orders ≤ n → AreFirstKept t new members r orders n → AreKept t new members r orders
-all_kept t new members r orders n most so order (j, low, e) = subst (λ (o : OrderPair). IsKept t new members r o) e (so j order (omega (arith, most, low)))
+-- a reader whose sources are barred, or left and not first
+pub waits_for_source : (t : TraceValue) (writers : TraceWriters) (members : List OperationPlace) (new : List OrderPair) (r : OperationPlace) (left : LeftSources) → left.is_initial_left ≡ false → AreBehind t members left.stretches.items →
+    ((clause : List (OpName × OpName)) → AreIn t new clause → BarsSources t clause (named t r) (IsLeft t writers left)) → MustWait t new members r
+waits_for_source t writers members new r left none behind bars clause all =
+    let b = bars clause all in
+    ForSource (record {
+      op = b.op;
+      value = b.value;
+      known = b.known;
+      reads = b.reads;
+      writers = λ w leaves allowed. or_later (IsBarred t clause (location_of b.op) b.value (named t r) w) (IsLeft t writers left (LeftBy w)) (ComesLater t (map (named t) members) (LeftBy w))
+          (left_later t writers members left.location.now left.stretches.items w (left_known t (location_of b.op) b.value w leaves) behind) (b.writers w leaves allowed);
+      initial = λ held allowed. or_later (IsInitialBarred t clause (location_of b.op) b.value (named t r)) (IsLeft t writers left (InitialAt (location_of b.op))) (ComesLater t (map (named t) members) (InitialAt (location_of b.op)))
+          (λ h. absurd (let is = h.0 in let clash : true ≡ false = sym is ∙ none in cc)) (b.initial held allowed);
+    })
 
 pub waits_more : (t : TraceValue) (old new : List OrderPair) (members : List OperationPlace) (x : OperationPlace) → Grows old new → MustWait t old members x → MustWait t new members x
-waits_more t old new members x grows h = (h.0, λ clause all. h.1 clause (grows t clause all))
+waits_more t old new members x grows h clause all = h clause (grows t clause all)
 
 -- the first n of these wait
 abbrev pub AreWaiting : TraceValue → List OrderPair → List Waiter → ℕ → Type 0
@@ -124,33 +119,15 @@ members_next waiters n waiter first low h =
 pub members_all : (waiters : List Waiter) (n : ℕ) (first : List ℕ) → length waiters ≤ n → HoldMembers (operations_of (take n waiters)) first → HoldMembers (operations_of waiters) first
 members_all waiters n first most h = subst (λ l. HoldMembers (operations_of l) first) (take_all n waiters most) h
 
--- the first of the members in the schedule has none before it, so the clause holds
-module _ (t : TraceValue) (names : List OpName) (legal : IsLegal t names) (clause : List (OpName × OpName)) (members : List OpName)
-    (known : (x : OpName) → Contains members x → IsSome (operation_at t x)) (earlier : (x : OpName) → Contains members x → HoldsIn names clause ⊎ ((z : OpName) × Contains members z × StandsBefore names z x)) where
-  descend : (k : ℕ) (x : OpName) (front back : List OpName) → names ≡ front ++ x ∷ back → length front < k → Contains members x → HoldsIn names clause
-  descend zero x front back parts less c = absurd (omega (arith, less))
-  descend (suc k) x front back parts less c =
-      elim (earlier x c) [
-        | inl holds ↦ holds
-        | inr (z, d, s) ↦ (
-            let at = placed front z (stands_front names legal.interleaving.once front x back z parts s) in
-            let long : length front ≡ length at.front + suc (length at.back) = ap length at.parts ∙ length-append at.front (z ∷ at.back) in
-            descend k z at.front (at.back ++ x ∷ back) (parts ∙ ap (λ l. l ++ x ∷ back) at.parts ∙ append_assoc at.front (z ∷ at.back) (x ∷ back)) (omega (arith, less, long)) d)
-      ]
-
-  pub from_one : (x : OpName) → Contains members x → HoldsIn names clause
-  from_one x c =
-      let at = placed names x (legal.interleaving.each x (known x c)) in
-      descend (suc (length at.front)) x at.front at.back at.parts (omega arith) c
-
-pub waiting_holds : (t : TraceValue) (new : List OrderPair) (waiters : List Waiter) → (length waiters ≡ 0 → ⊥) → AreWaiting t new waiters (length waiters) → HoldsOfSchedules t (named_orders t new)
-waiting_holds t new [] some so names legal = absurd (some refl)
-waiting_holds t new (first ∷ rest) some so names legal = from_one t names legal (named_orders t new) (map (named t) (operations_of (first ∷ rest))) (λ x c. (member x c).0) (λ x c. (member x c).1) (named t first.operation) (head_in (named t first.operation) (map (named t) (operations_of rest)))
+-- the members are some, and each waits
+pub waiting_by : (t : TraceValue) (new : List OrderPair) (waiters : List Waiter) → (length waiters ≡ 0 → ⊥) → AreWaiting t new waiters (length waiters) → (clause : List (OpName × OpName)) → AreIn t new clause → IsWaitingClause t clause (map (named t) (operations_of waiters))
+waiting_by t new [] some so clause all = absurd (some refl)
+waiting_by t new (first ∷ rest) some so clause all = record { some = λ e. absurd (cc); each = member }
   where
-    member : (x : OpName) → Contains (map (named t) (operations_of (first ∷ rest))) x → IsSome (operation_at t x) × (HoldsIn names (named_orders t new) ⊎ ((z : OpName) × Contains (map (named t) (operations_of (first ∷ rest))) z × StandsBefore names z x))
+    member : (x : OpName) → Contains (map (named t) (operations_of (first ∷ rest))) x → Waits t clause (map (named t) (operations_of (first ∷ rest))) x
     member x c =
         let at = from_map (named t) (operations_of (first ∷ rest)) x c in
         let waiter = from_map (λ (w : Waiter). w.operation) (first ∷ rest) at.0 at.1 in
         let index = waiter.1 in
         let waits : MustWait t new (operations_of (first ∷ rest)) at.0 = subst (λ (k : OperationPlace). MustWait t new (operations_of (first ∷ rest)) k) (ap (λ (w : Waiter). w.operation) index.2 ∙ waiter.2) (so index.0 waiter.0 index.1) in
-        subst (λ y. IsSome (operation_at t y) × (HoldsIn names (named_orders t new) ⊎ ((z : OpName) × Contains (map (named t) (operations_of (first ∷ rest))) z × StandsBefore names z y))) at.2 (waits.0.1, waits.1 (named_orders t new) (λ p d. d) names legal)
+        subst (λ y. Waits t clause (map (named t) (operations_of (first ∷ rest))) y) at.2 (waits clause all)

@@ -1,3 +1,4 @@
 pub mod Counts
+pub mod Left
 pub mod Tallies
 pub mod WaitingSet

@@ -2,5 +2,6 @@
 #![tactic(auto)]
 
 pub mod counting;
+pub mod left_sources;
 mod tally;
 pub mod waiting;

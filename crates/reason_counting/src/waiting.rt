@@ -1,22 +1,22 @@
 //! The clause that of some operations one comes first.
 
-ghost use Rattle.std.specs.Prelude.{◌≡◌, ◌∷◌, ◌++◌, [], true, List, ℕ, map, OnOk, IfOk, slice_index_or};
-ghost use Rattle.std.specs.List.{Contains};
+ghost use Rattle.std.specs.Prelude.{◌≡◌, ◌∷◌, ◌++◌, [], List, map, OnOk, IfOk, slice_index_or};
 ghost use Rattle.writer_table.specs.declared.operation_place.OperationPlace.{OperationPlace as Place};
 ghost use Rattle.order_clauses.specs.Numbered.{named, named_orders, IsKnown};
 ghost use Rattle.order_reasons.specs.Orders.{HoldsOfSchedules};
-ghost use Rattle.order_reasons.specs.Waiting.{IsBehindOne};
+ghost use Rattle.order_reasons.specs.Waiting.{IsBehindOne, IsWaitingClause};
+ghost use Rattle.reason_clauses.specs.Made.{Makes};
 ghost use Rattle.reason_clauses.specs.Numbered.{Grows};
 ghost use Rattle.reason_clauses.specs.Tables.{HoldTables};
-ghost use Rattle.reason_counting.specs.WaitingSet.{HoldMembers, IsKept, AreKept, MustWait, operations_of};
+ghost use Rattle.reason_counting.specs.WaitingSet.{AreBehind, HoldMembers, IsStretchBehind, MustWait, operations_of};
 
+use crate::left_sources::{LeftStretch, left_sources};
 use order_clauses::order_pair::OrderPair;
-use reason_clauses::barring::MainPiece;
+use order_reasons::laws::one_comes_first;
 use reason_clauses::cause::{ReasonCause, ReasonRefusal};
 use reason_clauses::lookups::{are_same, operation_of};
 use reason_clauses::orders::push_order;
 use reason_clauses::pieces::SourcePieces;
-use reason_clauses::source::source_clause;
 use reason_clauses::writer_tables::WriterTables;
 use std::alloc::{AllocError, Global};
 use trace_semantics::trace::Trace;
@@ -110,49 +110,31 @@ fn wait_for_operation(
     Ok(())
 }
 
-/// Returns whether the order says of a source that no piece takes that it stands before the reader.
-fn is_left(order: OrderPair, reader: OperationPlace, pieces: &SourcePieces) -> bool
-    ensures { result ≡ true → order.second ≡ reader }
-{
-    let limit = pieces.of_process(order.first.process).limit;
-    order.second == reader && (limit == 0 || order.first.place < limit)
-}
-
-/// Appends the order, unless it says that a source which no piece takes stands before the reader. Such a source may not come before
-/// all of the waiting set.
-fn keep_order(
+/// Refuses a stretch whose operations may come before all of the waiting set.
+fn want_stretch_behind(
     trace: &Trace,
     first: &[u32],
-    reader: OperationPlace,
-    pieces: &SourcePieces,
-    order: OrderPair,
-    orders: &mut Vec<OrderPair>,
+    stretch: LeftStretch,
 ) -> Result<(), ReasonRefusal>
-    ensures grows { OnOk result (Grows orders.old.items orders.new.items) }
-    ensures kept { OnOk result ((members : List Place) → HoldMembers members first.now → IsKept trace.now orders.new.items members reader order) }
+    ensures { OnOk result ((members : List Place) → HoldMembers members first.now → IsStretchBehind trace.now members stretch) }
 {
-    if is_left(order, reader, pieces) {
-        want_behind(trace, first, order.first)?;
-        return Ok(());
-    }
-    orders.push(order)?;
-    Ok(())
+    let n = OperationPlace {
+        process: stretch.process,
+        place: stretch.first,
+    };
+    want_behind(trace, first, n)
 }
 
-/// Does so with each of these orders.
-fn keep_orders(
+/// Refuses stretches of which one's operations may come before all of the waiting set.
+fn want_all_behind(
     trace: &Trace,
     first: &[u32],
-    reader: OperationPlace,
-    pieces: &SourcePieces,
-    said: &[OrderPair],
-    orders: &mut Vec<OrderPair>,
+    stretches: &[LeftStretch],
 ) -> Result<(), ReasonRefusal>
-    ensures grows { OnOk result (Grows orders.old.items orders.new.items) }
-    ensures kept { OnOk result ((members : List Place) → HoldMembers members first.now → AreKept trace.now orders.new.items members reader said.now) }
+    ensures { OnOk result ((members : List Place) → HoldMembers members first.now → AreBehind trace.now members stretches.now) }
 {
-    for k in 0..said.len() {
-        keep_order(trace, first, reader, pieces, said[k], orders)?;
+    for stretch in stretches {
+        want_stretch_behind(trace, first, *stretch)?;
     }
     Ok(())
 }
@@ -171,13 +153,11 @@ fn wait_for_source(
     ensures grows { OnOk result (Grows orders.old.items orders.new.items) }
     ensures waits { OnOk result ((members : List Place) → HoldMembers members first.now → MustWait trace.now orders.new.items members reader) }
 {
-    if pieces.others() != MainPiece::Plain {
-        return Err(ReasonRefusal::For(ReasonCause::BadLine));
+    let left = left_sources(alloc, trace, writers, reader, pieces, orders)?;
+    if left.is_initial_left {
+        return Err(ReasonRefusal::For(ReasonCause::InitialLeft));
     }
-    let _op = operation_of(trace, reader)?;
-    let mut said = Vec::new(alloc);
-    source_clause(trace, writers, reader, pieces, &mut said)?;
-    keep_orders(trace, first, reader, pieces, said.as_slice(), orders)?;
+    want_all_behind(trace, first, left.stretches.as_slice())?;
     Ok(())
 }
 
@@ -223,8 +203,10 @@ pub fn waiting_clause(
     orders: &mut Vec<OrderPair>,
 ) -> Result<(), ReasonRefusal>
     requires { HoldTables trace.now writers.now }
-    ensures { OnOk result (HoldsOfSchedules trace.now (named_orders trace.now orders.new.items)) }
+    ensures made { OnOk result (Makes trace.now orders.new.items (λ clause. IsWaitingClause trace.now clause (map (named trace.now) (operations_of waiters.now)))) }
+    ensures holds { OnOk result (HoldsOfSchedules trace.now (named_orders trace.now orders.new.items)) }
 {
+    one_comes_first();
     let count = waiters.len();
     if count == 0 {
         return Err(ReasonRefusal::For(ReasonCause::BadLine));

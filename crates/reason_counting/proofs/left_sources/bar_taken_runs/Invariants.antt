@@ -1,0 +1,7 @@
+use Rattle.std.proofs.Common.{take}
+use Rattle.reason_clauses.specs.Numbered.{Grows}
+use Rattle.reason_counting.specs.Left.{AreRunsLeft}
+use Rattle.reason_counting.proofs.left_sources.bar_taken_runs.Given as goal
+
+abbrev pub invariant-loop-run : goal.invariant-loop-run
+invariant-loop-run l = Grows l.fn.orders.items l.orders.items × AreRunsLeft l.trace l.orders.items l.left.items l.value l.reader l.origin l.own l.pieces (take l.run-index l.runs)

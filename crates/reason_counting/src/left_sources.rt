@@ -1,0 +1,284 @@
+//! What pieces leave of the sources of a reader.
+
+ghost use Rattle.std.specs.Prelude.{◌≡◌, ℕ, List, OnOk, IfOk};
+ghost use Rattle.trace_semantics.specs.declared.operation.OpName.{OpName};
+ghost use Rattle.order_clauses.specs.Numbered.{named};
+ghost use Rattle.order_reasons.specs.Sources.{BarsSources};
+ghost use Rattle.reason_clauses.specs.Numbered.{Grows, AreIn, AreTaken, BarsPlaces, IsGivenFront, at_number};
+ghost use Rattle.reason_clauses.specs.Mains.{IsGivenMain};
+ghost use Rattle.reason_clauses.specs.Tables.{HoldTables};
+ghost use Rattle.reason_clauses.specs.declared.barring.MainPiece.TheVariants.{Plain};
+ghost use Rattle.reason_counting.specs.Left.{AreMore, AreRunsLeft, AreSourcesLeft, IsLeft, IsMainLeft, IsPlaceLeft, IsRunLeft, IsStartLeft, without_main};
+
+use order_clauses::order_pair::OrderPair;
+use reason_clauses::barring::{MainPiece, bar_process};
+use reason_clauses::cause::{ReasonCause, ReasonRefusal};
+use reason_clauses::held_at::is_held_at;
+use reason_clauses::lookups::operation_of;
+use reason_clauses::orders::push_order;
+use reason_clauses::own::own_source;
+use reason_clauses::pieces::SourcePieces;
+use reason_clauses::source::{is_from_start, origin, stretches_allowed, want_pieces};
+use reason_clauses::stretches::{Stretches, stretches_of_one};
+use reason_clauses::writer_tables::WriterTables;
+use std::alloc::{AllocError, Global};
+use trace_semantics::operation::Origin;
+use trace_semantics::trace::Trace;
+use writer_table::operation_place::OperationPlace;
+use writer_table::runs::Run;
+
+/// Writers of a value in one process, from the first place to the last.
+#[derive(Clone, Copy, Debug, PartialEq, Eq)]
+pub struct LeftStretch {
+    pub process: u32,
+    pub value: u64,
+    pub first: u32,
+    pub last: u32,
+}
+
+/// What pieces leave of the sources at a location.
+#[derive(Drop)]
+pub struct LeftSources<'a> {
+    pub location: &'a [u8],
+    pub stretches: Vec<LeftStretch>,
+    /// Whether the initial value is a source that no piece takes.
+    pub is_initial_left: bool,
+}
+
+/// Keeps the main stretch of the process, if it has one.
+fn keep_main(
+    left: &mut Vec<LeftStretch>,
+    value: u64,
+    process: u32,
+    s: Stretches,
+) -> Result<(), AllocError>
+    ensures more { OnOk result (AreMore left.old.items left.new.items) }
+    ensures kept { OnOk result (IsMainLeft left.new.items value process s) }
+{
+    if s.first == 0 {
+        return Ok(());
+    }
+    left.push(LeftStretch {
+        process,
+        value,
+        first: s.first,
+        last: s.last,
+    })?;
+    Ok(())
+}
+
+/// Bars what a piece takes of a process, and keeps the main stretch.
+fn bar_taken(
+    orders: &mut Vec<OrderPair>,
+    reader: OperationPlace,
+    value: u64,
+    process: u32,
+    s: Stretches,
+    witness: Option<OperationPlace>,
+    left: &mut Vec<LeftStretch>,
+) -> Result<(), ReasonRefusal>
+    ensures grows { OnOk result (Grows orders.old.items orders.new.items) }
+    ensures more { OnOk result (AreMore left.old.items left.new.items) }
+    ensures bars { OnOk result (BarsPlaces orders.new.items reader process (λ t location d. IsGivenFront t location d reader witness × IsGivenMain t location d reader Plain) (AreTaken (without_main s))) }
+    ensures kept { OnOk result (IsMainLeft left.new.items value process s) }
+{
+    let taken = Stretches {
+        hidden: s.hidden,
+        later: s.later,
+        first: 0,
+        last: 0,
+    };
+    bar_process(orders, reader, process, taken, witness, MainPiece::Plain)?;
+    keep_main(left, value, process, s)?;
+    Ok(())
+}
+
+/// Bars the source in the reader's own process, of which this is the place, or 0, or keeps it.
+fn bar_taken_own(
+    trace: &Trace,
+    reader: OperationPlace,
+    value: u64,
+    own: u32,
+    pieces: &SourcePieces,
+    orders: &mut Vec<OrderPair>,
+    left: &mut Vec<LeftStretch>,
+) -> Result<(), ReasonRefusal>
+    ensures grows { OnOk result (Grows orders.old.items orders.new.items) }
+    ensures more { OnOk result (AreMore left.old.items left.new.items) }
+    ensures bars { OnOk result (IsPlaceLeft trace.now orders.new.items left.new.items value reader pieces.now (at_number reader.process own)) }
+{
+    trace.recall_invariant();
+    if own == 0 {
+        return Ok(());
+    }
+    let piece = pieces.of_process(reader.process);
+    let s = stretches_of_one(own, piece.bound, piece.limit);
+    bar_taken(
+        orders,
+        reader,
+        value,
+        reader.process,
+        s,
+        piece.witness,
+        left,
+    )?;
+    Ok(())
+}
+
+/// Bars the sources in a run that a piece takes, and keeps the others.
+fn bar_taken_other(
+    trace: &Trace,
+    reader: OperationPlace,
+    value: u64,
+    origin: &Origin,
+    run: &Run,
+    pieces: &SourcePieces,
+    orders: &mut Vec<OrderPair>,
+    left: &mut Vec<LeftStretch>,
+) -> Result<(), ReasonRefusal>
+    ensures grows { OnOk result (Grows orders.old.items orders.new.items) }
+    ensures more { OnOk result (AreMore left.old.items left.new.items) }
+    ensures bars { OnOk result ((own : ℕ) → IsRunLeft trace.now orders.new.items left.new.items value reader origin.now own pieces.now run.now) }
+{
+    trace.recall_invariant();
+    let piece = pieces.of_process(run.process);
+    let s = stretches_allowed(trace, origin, run, piece);
+    bar_taken(orders, reader, value, run.process, s, piece.witness, left)?;
+    Ok(())
+}
+
+/// The same; in the reader's own process that is the source at this place, or none.
+fn bar_taken_run(
+    trace: &Trace,
+    reader: OperationPlace,
+    value: u64,
+    origin: &Origin,
+    own: u32,
+    run: &Run,
+    pieces: &SourcePieces,
+    orders: &mut Vec<OrderPair>,
+    left: &mut Vec<LeftStretch>,
+) -> Result<(), ReasonRefusal>
+    ensures grows { OnOk result (Grows orders.old.items orders.new.items) }
+    ensures more { OnOk result (AreMore left.old.items left.new.items) }
+    ensures bars { OnOk result (IsRunLeft trace.now orders.new.items left.new.items value reader origin.now own pieces.now run.now) }
+{
+    if run.process == reader.process {
+        bar_taken_own(trace, reader, value, own, pieces, orders, left)?;
+    } else {
+        bar_taken_other(trace, reader, value, origin, run, pieces, orders, left)?;
+    }
+    Ok(())
+}
+
+/// Bars the sources in these runs that a piece takes, and keeps the others.
+fn bar_taken_runs(
+    trace: &Trace,
+    reader: OperationPlace,
+    value: u64,
+    origin: &Origin,
+    own: u32,
+    runs: &[Run],
+    pieces: &SourcePieces,
+    orders: &mut Vec<OrderPair>,
+    left: &mut Vec<LeftStretch>,
+) -> Result<(), ReasonRefusal>
+    ensures grows { OnOk result (Grows orders.old.items orders.new.items) }
+    ensures bars { OnOk result (AreRunsLeft trace.now orders.new.items left.new.items value reader origin.now own pieces.now runs.now) }
+{
+    for run in runs {
+        bar_taken_run(
+            trace, reader, value, origin, own, run, pieces, orders, left,
+        )?;
+    }
+    Ok(())
+}
+
+/// Bars the initial value, if the reader may read it and a piece takes it. Returns whether it is left.
+fn bar_taken_start(
+    trace: &Trace,
+    reader: OperationPlace,
+    location: &[u8],
+    value: u64,
+    origin: &Origin,
+    pieces: &SourcePieces,
+    orders: &mut Vec<OrderPair>,
+) -> Result<bool, ReasonRefusal>
+    ensures grows { OnOk result (Grows orders.old.items orders.new.items) }
+    ensures bars { IfOk result (λ is_left. IsStartLeft trace.now orders.new.items is_left reader origin.now pieces.now location.now value) }
+{
+    if !is_from_start(origin) || !is_held_at(trace.initial(), location, value) {
+        return Ok(false);
+    }
+    let Some(x) = pieces.initial() else {
+        return Ok(true);
+    };
+    push_order(orders, reader, x)?;
+    Ok(false)
+}
+
+/// Bars the sources of a reader of the value at the location that a piece takes, and keeps the others. Returns whether the initial value is left.
+fn bar_taken_sources(
+    trace: &Trace,
+    writers: &WriterTables,
+    reader: OperationPlace,
+    location: &[u8],
+    value: u64,
+    origin: &Origin,
+    pieces: &SourcePieces,
+    orders: &mut Vec<OrderPair>,
+    left: &mut Vec<LeftStretch>,
+) -> Result<bool, ReasonRefusal>
+    requires { HoldTables trace.now writers.now }
+    ensures grows { OnOk result (Grows orders.old.items orders.new.items) }
+    ensures bars { IfOk result (λ is_left. AreSourcesLeft trace.now writers.now.by_value orders.new.items left.new.items is_left reader origin.now pieces.now location.now value) }
+{
+    trace.recall_invariant();
+    let own = own_source(trace, &writers.by_location, reader, location, value, origin)?;
+    let runs = writers.by_value.runs(location, value);
+    bar_taken_runs(
+        trace, reader, value, origin, own, runs, pieces, orders, left,
+    )?;
+    bar_taken_start(trace, reader, location, value, origin, pieces, orders)
+}
+
+/// Appends what bars the sources of the reader that a piece takes, and returns the others.
+pub fn left_sources<'a>(
+    alloc: Global,
+    trace: &'a Trace,
+    writers: &WriterTables,
+    reader: OperationPlace,
+    pieces: &SourcePieces,
+    orders: &mut Vec<OrderPair>,
+) -> Result<LeftSources<'a>, ReasonRefusal>
+    requires { HoldTables trace.now writers.now }
+    ensures grows { OnOk result (Grows orders.old.items orders.new.items) }
+    ensures bars { IfOk result (λ left. (clause : List (OpName × OpName)) → AreIn trace.now orders.new.items clause → BarsSources trace.now clause (named trace.now reader) (IsLeft trace.now writers.now.by_value left)) }
+{
+    let op = operation_of(trace, reader)?;
+    let Some(value) = op.value_read() else {
+        return Err(ReasonRefusal::For(ReasonCause::NoReader));
+    };
+    let Some(origin) = origin(op) else {
+        return Err(ReasonRefusal::For(ReasonCause::NoReader));
+    };
+    let location = op.location().as_bytes();
+    want_pieces(trace, reader, location, value, pieces)?;
+    let mut stretches = Vec::new(alloc);
+    let is_initial_left = bar_taken_sources(
+        trace,
+        writers,
+        reader,
+        location,
+        value,
+        origin,
+        pieces,
+        orders,
+        &mut stretches,
+    )?;
+    Ok(LeftSources {
+        location,
+        stretches,
+        is_initial_left,
+    })
+}
