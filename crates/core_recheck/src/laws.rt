@@ -3,13 +3,15 @@
 //! A law's body is empty, or calls other laws: what it says is proved in the folder of its name in `proofs/laws`, or needs no
 //! answer. Who calls it has what it says in proofs; the call does nothing when run.
 
-ghost use Rattle.std.specs.Prelude.{ℕ, List, Result};
+ghost use Rattle.std.specs.Prelude.{◌≡◌, true, ℕ, List, Result};
 ghost use Rattle.core_recheck.specs.CoreRecheck.{IsAcceptedOf};
 ghost use Rattle.cube_jobs.specs.Options.{OptionsValue};
 ghost use Rattle.cube_tree.specs.CubeTree.{leaves};
 ghost use Rattle.part_report.specs.PartRecheckEngine.{IsSaidByPart};
+ghost use Rattle.reason_text.specs.Header.{begins_reasons};
+ghost use Rattle.survey_verdict.specs.declared.surveyed.ReasonCertificate.{ReasonCertificate};
 ghost use Rattle.survey_verdict.specs.declared.surveyed.RefutedCore.{RefutedCore};
-ghost use Rattle.survey_verdict.specs.declared.surveyed.Surveyed.TheVariants.{Decided, Refuted};
+ghost use Rattle.survey_verdict.specs.declared.surveyed.Surveyed.TheVariants.{Decided, Reasoned, Refuted};
 ghost use Rattle.survey_verdict.specs.Surveyed.{IsSurveyed, core_names, survey_certificate};
 ghost use Rattle.trace_decision.specs.declared.decision.Decision.TheVariants.{Inconsistent};
 ghost use Rattle.trace_decision.specs.declared.refutation.Refutation.{Refutation};
@@ -18,7 +20,7 @@ ghost use Rattle.trace_semantics.specs.Trace.{TraceValue, IsTrace};
 ghost use Rattle.trace_text.specs.TraceText.{SpellsTrace};
 ghost use Rattle.verdict_report.specs.Admitted.{Admits};
 ghost use Rattle.verdict_report.specs.declared.fault.Fault.{Fault};
-ghost use Rattle.verdict_report.specs.RecheckEngine.{IsSaidOfCertificate};
+ghost use Rattle.verdict_report.specs.RecheckEngine.{AreRefutedByReasons, IsSaidOfCertificate};
 
 use survey_verdict::laws::core_names_spell;
 use trace_decision::laws::certificate_is_accepted;
@@ -56,3 +58,10 @@ pub fn core_is_rechecked()
     core_names_spell();
     part_is_one();
 }
+
+/// The certificate of reasons that is written of a trace refutes it with the text of the trace, and `recheck` takes it for one of reasons.
+pub fn reasons_are_rechecked()
+    ensures { (options : OptionsValue) (t : TraceValue) (reasons : ReasonCertificate) (trace_text : List ℕ) →
+        IsTrace t → SpellsTrace trace_text t → IsSurveyed options t (Reasoned reasons) →
+        AreRefutedByReasons trace_text (survey_certificate (Reasoned reasons)) reasons.clauses × (begins_reasons (survey_certificate (Reasoned reasons)) ≡ true) }
+{}

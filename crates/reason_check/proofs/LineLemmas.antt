@@ -3,13 +3,13 @@ use Rattle.std.proofs.Common.{◌≡◌, ◌⊎◌, ℕ, suc, ℤ, pos, negsuc, 
 use Rattle.std.specs.Prelude.{not}
 use Rattle.std.specs.List.{AllZip, Contains, filter, list_all}
 use Rattle.std.proofs.lemmas.Bool.{and_parts, and_from, cond-true, cond-false}
+use Rattle.std.proofs.lemmas.List.Elements.{filter-append}
 use Rattle.std.proofs.lemmas.List.Folds.{list_all-append}
 use Rattle.dimacs.specs.Literal.{is_literal_up_to, is_clause_up_to}
 use Rattle.trace_semantics.specs.declared.operation.OpName.{OpName}
-use Rattle.trace_semantics.specs.Legal.{IsLegal}
 use Rattle.trace_semantics.specs.Trace.{TraceValue}
 use Rattle.trace_semantics.proofs.ElementLemmas.{all_pass, pass_all, from_map, to_map, head_in, none_in}
-use Rattle.order_reasons.specs.Orders.{HoldsOfSchedules, order_said, orders_said}
+use Rattle.order_reasons.specs.Orders.{order_said, orders_said}
 use Rattle.order_clauses.specs.Appended.{HasSameClauses, IsAppended}
 use Rattle.order_clauses.specs.ClauseOf.{IsClauseOf}
 use Rattle.order_clauses.specs.Numbered.{named_order, named_orders}
@@ -37,18 +37,12 @@ module _ {A B : Type 0} (R : A → B → Type 0) where
   zip_push (a ∷ xs) (b ∷ ys) x y h k = (h.0, zip_push xs ys x y h.1 k)
 
 module _ {A : Type 0} (p : A → Bool) where
-  filter_at : (z : A) (kept more : List A) (b : Bool) → cond {A = List A} b (z ∷ (kept ++ more)) (kept ++ more) ≡ cond {A = List A} b (z ∷ kept) kept ++ more
-  filter_at z kept more true = refl
-  filter_at z kept more false = refl
-
   -- one more that passes, and one that does not
-  pub filter_more : (xs : List A) (x : A) → p x ≡ true → filter p (xs ++ x ∷ []) ≡ filter p xs ++ x ∷ []
-  filter_more [] x h = cond-true (p x) (x ∷ []) [] h
-  filter_more (z ∷ xs) x h = ap (λ l. cond {A = List A} (p z) (z ∷ l) l) (filter_more xs x h) ∙ filter_at z (filter p xs) (x ∷ []) (p z)
+  filter_next : (xs : List A) (x : A) → p x ≡ true → filter p (xs ++ x ∷ []) ≡ filter p xs ++ x ∷ []
+  filter_next xs x h = filter-append p xs (x ∷ []) ∙ ap (λ l. filter p xs ++ l) (cond-true (p x) (x ∷ []) [] h)
 
-  pub filter_passed : (xs : List A) (x : A) → p x ≡ false → filter p (xs ++ x ∷ []) ≡ filter p xs
-  filter_passed [] x h = cond-false (p x) (x ∷ []) [] h
-  filter_passed (z ∷ xs) x h = ap (λ l. cond {A = List A} (p z) (z ∷ l) l) (filter_passed xs x h)
+  filter_passed : (xs : List A) (x : A) → p x ≡ false → filter p (xs ++ x ∷ []) ≡ filter p xs
+  filter_passed xs x h = filter-append p xs (x ∷ []) ∙ ap (λ l. filter p xs ++ l) (cond-false (p x) (x ∷ []) [] h) ∙ append-nil (filter p xs)
 
 module _ (t : TraceValue) where
   -- what a literal says, by names
@@ -101,14 +95,10 @@ module _ (t : TraceValue) where
     goes_on = came.1;
   }
 
-  -- a clause that has orders of which one stands holds
-  pub holds_more : (orders : List OrderPair) → HoldsOfSchedules t (named_orders t orders) → Makes t orders (HoldsOfSchedules t)
-  holds_more orders holds clause all names legal = let at = holds names legal in (at.0, at.1, all (at.0, at.1) at.2, at.3)
-
-  abbrev Made : List OrderPair → ReasonLine → List ℤ → Type 0
+  abbrev pub Made : List OrderPair → ReasonLine → List ℤ → Type 0
   Made variables line literals = IsClauseOfLine t line (orders_said (named_pairs t variables) literals)
 
-  abbrev speaks : ReasonLine → Bool
+  abbrev pub speaks : ReasonLine → Bool
   speaks line = not (is_silent line)
 
   -- a line that makes a clause is not silent
@@ -140,7 +130,7 @@ module _ (t : TraceValue) where
   made_next lines line old new outcome h next = record {
     over = subst (λ (l : List (List ℤ)). list_all (is_clause_up_to (length new.variables)) l ≡ true) (sym next.appended)
         (list_all-append (is_clause_up_to (length new.variables)) old.clauses.items (next.clause ∷ []) ∙ and_from _ _ (kept_over old.variables new.variables next.extended old.clauses.items h.over) (and_from _ true next.over refl));
-    made = subst (λ (ls : List ReasonLine). AllZip (Made new.variables) ls new.clauses.items) (sym (filter_more speaks lines line (clause_speaks line (orders_said (named_pairs t new.variables) next.clause) next.is)))
+    made = subst (λ (ls : List ReasonLine). AllZip (Made new.variables) ls new.clauses.items) (sym (filter_next speaks lines line (clause_speaks line (orders_said (named_pairs t new.variables) next.clause) next.is)))
         (subst (λ (l : List (List ℤ)). AllZip (Made new.variables) (filter speaks lines ++ line ∷ []) l) (sym next.appended)
         (zip_push (Made new.variables) (filter speaks lines) old.clauses.items line next.clause (kept_made old.variables new.variables next.extended (filter speaks lines) old.clauses.items h.over h.made) next.is));
   }

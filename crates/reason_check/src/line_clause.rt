@@ -4,12 +4,12 @@ ghost use Rattle.std.specs.Prelude.{◌≡◌, ◌≢◌, [], map, OnOk, IfOk};
 ghost use Rattle.order_clauses.specs.Appended.{HasSameClauses, IsAppended};
 ghost use Rattle.order_clauses.specs.Numbered.{named};
 ghost use Rattle.order_clauses.specs.declared.reason_list.ClauseOutcome.TheVariants.{Made};
-ghost use Rattle.order_reasons.specs.Orders.{HoldsOfSchedules};
 ghost use Rattle.order_reasons.specs.Reasons.{IsPairClause};
 ghost use Rattle.order_reasons.specs.Sources.{IsSourceClause};
 ghost use Rattle.reason_clauses.specs.Made.{IsCycleOf, IsLastOf};
 ghost use Rattle.reason_clauses.specs.Tables.{HoldTables};
 ghost use Rattle.reason_counting.specs.Counts.{AreTooFew};
+ghost use Rattle.reason_check.specs.LineClauses.{IsWaitingOf};
 ghost use Rattle.reason_check.specs.Taken.{HasNext, IsPassed, IsTaken};
 ghost use Rattle.reason_check.specs.declared.line_clause.LineOutcome.TheVariants.{Derivation, Refuted};
 
@@ -149,7 +149,7 @@ fn add_waiting(
     list: &mut ReasonList,
 ) -> Result<LineOutcome, ReasonRefusal>
     requires tables { HoldTables trace.now writers.now }
-    ensures { IfOk result (HasNext trace.now (HoldsOfSchedules trace.now) list.old list.new) }
+    ensures { IfOk result (HasNext trace.now (IsWaitingOf trace.now) list.old list.new) }
 {
     let waiters = gather_waiters(alloc, parts)?;
     let mut orders = Vec::new(alloc);

@@ -4,7 +4,7 @@ ghost use Rattle.std.specs.Prelude.{◌≡◌, ◌<◌, false, true, length, IfO
 ghost use Rattle.text_lines.specs.Words.{words_of};
 ghost use Rattle.text_lines.specs.declared.plain_fault.PlainFault.TheVariants.{For};
 ghost use Rattle.reason_clauses.specs.declared.cause.ReasonCause.TheVariants.{BadHeader};
-ghost use Rattle.reason_text.specs.Header.{is_header, begins_reasons};
+ghost use Rattle.reason_text.specs.Header.{is_header, begins_reasons, HasHeader};
 
 use reason_clauses::cause::{ReasonCause, ReasonRefusal};
 use text_lines::lines::cut_line;
@@ -39,6 +39,7 @@ pub fn begins_reasons(text: &[u8]) -> bool
 /// The text after the first line, which has to be the header.
 pub fn cut_header(text: &[u8]) -> Result<&[u8], ReasonRefusal>
     ensures headed { IfOk result (λ rest. begins_reasons text.now ≡ true) }
+    ensures lines { IfOk result (λ rest. HasHeader text.now rest.now) }
     ensures shorter { IfOk result (λ rest. length rest.now < length text.now) }
     ensures faulty { IfErr result (λ refusal. (refusal ≡ For BadHeader) × (begins_reasons text.now ≡ false)) }
 {

@@ -145,9 +145,8 @@ pub record CertifiesWhole (options : OptionsValue) (trace : SourceRun) (cert : S
   pub few_left : operation_count (kept_trace value) ≤ 160
   pub unrefuted : IsUnrefutedChoice options value (operation_names value)
 
--- The source handed out the text of a trace that has no legal schedule. One sink took the text of a certificate of reasons, and another the
--- report on it, which no other answer has. That the certificate was accepted for the trace is no part of this: which texts are accepted is
--- not defined here.
+-- The source handed out the text of a trace that has no legal schedule. One sink took the text of a certificate of reasons that is accepted
+-- of the trace, and another the report on it, which tells how many clauses it has.
 pub record CertifiesReasons (trace : SourceRun) (cert out : SinkRun) : Type 0 where
   pub text : List ℕ
   pub handed : HandsOut trace text

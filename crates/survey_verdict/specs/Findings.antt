@@ -1,6 +1,7 @@
 -- What follows from what a surveyor finds.
 use Rattle.std.specs.Prelude.{◌≡◌, ◌⊎◌, ⊤, ℕ, min, List, Option, Some, None}
 use Rattle.cube_jobs.specs.Options.{OptionsValue}
+use Rattle.reason_check.specs.Accepted.{IsAcceptedReasons}
 use Rattle.surveyor.specs.declared.Extent.{Extent}
 use Rattle.surveyor.specs.declared.Finding.{Finding}
 use Rattle.surveyor.specs.declared.Finding.TheVariants.{Core, Nothing, Reasons, Schedule}
@@ -18,10 +19,10 @@ abbrev pub IsJudged : TraceValue → List OpName → Option (List OpName) → Ty
 IsJudged t names (Some schedule) = (schedule ≡ names) × IsLegal t schedule
 IsJudged t names None = IsLegal t names → ⊥
 
--- if a certificate of reasons is accepted, with some number of clauses, the trace has no legal schedule
-abbrev pub IsAcceptedSome : TraceValue → Option ℕ → Type 0
-IsAcceptedSome t (Some clauses) = HasNoSchedule t
-IsAcceptedSome t None = ⊤
+-- the text is a certificate of reasons of this many clauses that is accepted of the trace, which so has no legal schedule; of none nothing is said
+abbrev pub IsAcceptedSome : TraceValue → List ℕ → Option ℕ → Type 0
+IsAcceptedSome t text (Some clauses) = IsAcceptedReasons t text clauses × HasNoSchedule t
+IsAcceptedSome t text None = ⊤
 
 -- what is decided is this core
 abbrev pub HasCore : List OpName → Surveyed → Type 0

@@ -12,6 +12,7 @@ use Rattle.part_text.specs.PartText.{part_text}
 use Rattle.reducer.specs.Reduced.{HasReduceFault, IsReduced, ReducedValue}
 use Rattle.reducer.specs.Reduction.{kept_trace}
 use Rattle.reducer.specs.declared.reduce_fault.ReduceCause.{ReduceCause}
+use Rattle.reason_check.specs.Accepted.{IsAcceptedReasons}
 use Rattle.schedule_text.specs.ScheduleWritten.{canonical_schedule}
 use Rattle.surveyor.specs.declared.Extent.{Extent}
 use Rattle.trace_semantics.specs.declared.operation.OpName.{OpName}
@@ -81,11 +82,12 @@ abbrev pub IsRefutedChoice : OptionsValue → TraceValue → List OpName → Opt
 IsRefutedChoice options t names (Some core) = (core.names ≡ names) × IsRefutedCore options t core
 IsRefutedChoice options t names None = IsUnrefutedChoice options t names
 
--- A certificate of reasons that was accepted for the trace, so that the trace has no legal schedule. The names are those of operations of the
--- trace, in the trace's order, as many as are said to be named, or none. Which texts are accepted is not defined here.
+-- The text is a certificate of reasons that is accepted of the trace, of as many clauses as are told, so that the trace has no legal schedule.
+-- The names are those of operations of the trace, in the trace's order, as many as are said to be named, or none.
 pub record IsReasoned (t : TraceValue) (reasons : ReasonCertificate) : Type 0 where
   pub in_order : reasons.names ≡ core_of t reasons.names
   pub counted : (reasons.names ≡ []) ⊎ (reasons.operations ≡ length reasons.names)
+  pub accepted : IsAcceptedReasons t reasons.text.items reasons.clauses
   pub none_legal : HasNoSchedule t
 
 -- a search of the whole trace need not decide it: too many operations are left, or a search with these options can leave cubes open; this is
@@ -94,7 +96,7 @@ abbrev pub IsLeftOpen : OptionsValue → TraceValue → Type 0
 IsLeftOpen options t = IsTooLong t ⊎ ((cubes : List (List ℤ)) × IsDecided options t (Unknown cubes))
 
 -- What is decided is so: it is a legal schedule of the whole trace; or the part of the core is refuted, and the trace has no legal schedule; or
--- a certificate of reasons was accepted for the trace, and it has none; or the whole trace is refuted, of which no more than 160 operations are
+-- a certificate of reasons is accepted of the trace, and it has none; or the whole trace is refuted, of which no more than 160 operations are
 -- left, and a search with these options need not refute the part of all its operations; or nothing is said, a search of the whole trace need not
 -- say more, and no more operations are said to be placed
 -- than it has.

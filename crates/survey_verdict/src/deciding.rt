@@ -1,6 +1,7 @@
 //! From what a survey finds to what is decided.
 ghost use Rattle.std.specs.Prelude.{◌≡◌, ◌⊎◌, ◌≤◌, [], IfOk, length};
 ghost use Rattle.cube_jobs.specs.Options.{OptionsValue};
+ghost use Rattle.reason_check.specs.Accepted.{IsAcceptedReasons};
 ghost use Rattle.reducer.specs.Reduction.{kept_trace};
 ghost use Rattle.survey_verdict.specs.Findings.{FollowsFrom, FollowsFromSome, IsAcceptedSome, IsDecidedWhole, IsJudged, IsShownBy};
 ghost use Rattle.survey_verdict.specs.Surveyed.{IsDecidedIfShort, IsReducedIfSmall, IsRefutedChoice, IsReasoned, IsRefutedIfShort, IsSurveyed, core_of, refutation_in};
@@ -267,7 +268,7 @@ fn shown_by_core<R: Threads + Wait + Sync, G: Gate + Sync>(
 
 /// The number of clauses of the certificate of reasons, if it is accepted for the trace.
 fn accepted_clauses(alloc: Global, trace: &Trace, text: &[u8]) -> Result<Option<usize>, AllocError>
-    ensures { IfOk result (IsAcceptedSome trace.now) }
+    ensures { IfOk result (IsAcceptedSome trace.now text.now) }
 {
     match check_reasons(alloc, trace, text) {
         Ok(accepted) => Ok(Some(accepted.clauses)),
@@ -290,7 +291,8 @@ fn with_names(
     text: Vec<u8>,
     clauses: usize,
 ) -> Result<ReasonCertificate, AllocError>
-    requires { HasNoSchedule trace.now }
+    requires accepted { IsAcceptedReasons trace.now text.items clauses }
+    requires none_legal { HasNoSchedule trace.now }
     ensures reasoned { IfOk result (IsReasoned trace.now) }
     ensures same { IfOk result (λ reasons. reasons.text ≡ text) }
 {

@@ -101,9 +101,9 @@ shown_either trace trace_text cert_text (Cubes count) handed said result = shown
 shown_either trace trace_text cert_text (Clauses count) handed said (Ok status) = record {
   text = trace_text;
   handed = handed;
-  value = said.1.some.value;
-  is_trace = said.1.some.is_trace;
-  spelled = said.1.some.spelled;
+  value = said.1.value;
+  is_trace = said.1.is_trace;
+  spelled = said.1.spelled;
   no_schedule = said.1.no_schedule;
 }
 shown_either trace trace_text cert_text (Clauses count) handed said (Err fault) = tt

@@ -7,6 +7,7 @@ use Rattle.certificate.specs.Rechecked.{IsRechecked, HasRecheckFault}
 use Rattle.certificate.specs.declared.cert_fault.CertCause.{CertCause}
 use Rattle.certificate.specs.declared.certificate.Certificate.{Certificate}
 use Rattle.clause_blocks.specs.Clauses.{clauses_of}
+use Rattle.reason_check.specs.Accepted.{IsAcceptedReasons}
 use Rattle.reason_text.specs.Header.{begins_reasons}
 use Rattle.reducer.specs.Reduced.{ReducedValue}
 use Rattle.reducer.specs.Reduction.{kept_trace}
@@ -84,33 +85,38 @@ rechecked_line count = codes "ACCEPTED cubes=" ++ (decimal count ++ codes "\n")
 abbrev pub rechecked_status : ℕ → Status
 rechecked_status count = Yes
 
--- the text spells a trace, and if it is refuted, one that has no legal schedule
+-- the text spells a trace
 pub record SpellsSomeTrace (text : List ℕ) : Type 0 where
   pub value : TraceValue
   pub is_trace : IsTrace value
   pub spelled : SpellsTrace text value
 
-pub record SpellsRefuted (text : List ℕ) : Type 0 where
-  pub some : SpellsSomeTrace text
-  pub no_schedule : HasNoSchedule some.value
+-- the first text spells a trace, of which the second, a certificate of reasons of this many clauses, is accepted; so the trace has no legal
+-- schedule
+pub record AreRefutedByReasons (trace_text cert_text : List ℕ) (count : ℕ) : Type 0 where
+  pub value : TraceValue
+  pub is_trace : IsTrace value
+  pub spelled : SpellsTrace trace_text value
+  pub accepted : IsAcceptedReasons value cert_text count
+  pub no_schedule : HasNoSchedule value
 
 -- What is said of a trace's text and a certificate of reasons, if it is accepted, or the trace or the certificate is refused. A trace may have
--- any length, and an accepted certificate shows that it has no legal schedule.
-abbrev pub IsSaidOfReasons : List ℕ → Result ℕ Fault → Type 0
-IsSaidOfReasons trace_text (Ok count) = SpellsRefuted trace_text
-IsSaidOfReasons trace_text (Err OutOfMemory) = ⊤
-IsSaidOfReasons trace_text (Err (Trace cause line)) = HasTraceFault trace_text cause line
-IsSaidOfReasons trace_text (Err (Reasons cause line)) = SpellsSomeTrace trace_text
-IsSaidOfReasons trace_text (Err (Lrat cause line)) = SpellsSomeTrace trace_text
-IsSaidOfReasons trace_text (Err (Check fault step)) = SpellsSomeTrace trace_text
-IsSaidOfReasons trace_text (Err fault) = ⊥
+-- any length.
+abbrev pub IsSaidOfReasons : List ℕ → List ℕ → Result ℕ Fault → Type 0
+IsSaidOfReasons trace_text cert_text (Ok count) = AreRefutedByReasons trace_text cert_text count
+IsSaidOfReasons trace_text cert_text (Err OutOfMemory) = ⊤
+IsSaidOfReasons trace_text cert_text (Err (Trace cause line)) = HasTraceFault trace_text cause line
+IsSaidOfReasons trace_text cert_text (Err (Reasons cause line)) = SpellsSomeTrace trace_text
+IsSaidOfReasons trace_text cert_text (Err (Lrat cause line)) = SpellsSomeTrace trace_text
+IsSaidOfReasons trace_text cert_text (Err (Check fault step)) = SpellsSomeTrace trace_text
+IsSaidOfReasons trace_text cert_text (Err fault) = ⊥
 
 -- what is said of a trace and a certificate, which has reasons if its first line is their header, and else a tree
 abbrev pub IsSaidOfEither : List ℕ → List ℕ → Result CertificateSize Fault → Type 0
 IsSaidOfEither trace_text cert_text (Ok (Cubes count)) = (begins_reasons cert_text ≡ false) × IsSaidOfCertificate trace_text cert_text (Ok count)
-IsSaidOfEither trace_text cert_text (Ok (Clauses count)) = (begins_reasons cert_text ≡ true) × IsSaidOfReasons trace_text (Ok count)
+IsSaidOfEither trace_text cert_text (Ok (Clauses count)) = (begins_reasons cert_text ≡ true) × IsSaidOfReasons trace_text cert_text (Ok count)
 IsSaidOfEither trace_text cert_text (Err fault) =
-    MatchBool (begins_reasons cert_text) (IsSaidOfReasons trace_text (Err fault)) (IsSaidOfCertificate trace_text cert_text (Err fault))
+    MatchBool (begins_reasons cert_text) (IsSaidOfReasons trace_text cert_text (Err fault)) (IsSaidOfCertificate trace_text cert_text (Err fault))
 
 -- the line of a certificate of reasons
 abbrev pub clauses_line : ℕ → List ℕ

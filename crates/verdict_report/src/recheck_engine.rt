@@ -76,7 +76,7 @@ fn recheck_either(
 
 /// Of how many clauses the reasons are that the second text spells, and that refute the trace of the first.
 fn recheck_reasons(alloc: Global, trace_text: &[u8], cert_text: &[u8]) -> Result<usize, Fault>
-    ensures { IsSaidOfReasons trace_text.now result }
+    ensures { IsSaidOfReasons trace_text.now cert_text.now result }
 {
     let trace = read_trace(alloc, trace_text)?;
     let accepted = check_reasons(alloc, &trace, cert_text)?;
