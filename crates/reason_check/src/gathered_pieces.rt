@@ -3,7 +3,7 @@
 use reason_clauses::barring::MainPiece;
 use reason_clauses::cause::{ReasonCause, ReasonRefusal};
 use reason_clauses::pieces::SourcePieces;
-use reason_counting::waiting::{Awaited, Waiter};
+use reason_counting::waiting::{WaitsFor, Waiter};
 use reason_text::member_part::MemberPart;
 use reason_text::source_piece::SourcePiece;
 use std::alloc::{AllocError, Global};
@@ -76,7 +76,7 @@ pub fn gather_late(alloc: Global, listed: &[SourcePiece]) -> Result<SourcePieces
 fn reader(alloc: Global, operation: OperationPlace) -> Waiter {
     Waiter {
         operation,
-        awaited: Awaited::Source(SourcePieces::new(alloc)),
+        awaited: WaitsFor::Source(SourcePieces::new(alloc)),
     }
 }
 
@@ -87,8 +87,8 @@ fn take_piece_of_last(waiters: &mut Vec<Waiter>, piece: SourcePiece) -> Result<(
         return Err(ReasonRefusal::For(ReasonCause::BadLine));
     }
     match &mut waiters[count - 1].awaited {
-        Awaited::Operation(_other) => Err(ReasonRefusal::For(ReasonCause::BadLine)),
-        Awaited::Source(pieces) => take_first(pieces, piece),
+        WaitsFor::Operation(_other) => Err(ReasonRefusal::For(ReasonCause::BadLine)),
+        WaitsFor::Source(pieces) => take_first(pieces, piece),
     }
 }
 
@@ -106,7 +106,7 @@ fn take_waiting(
         MemberPart::Waits(pair) => {
             waiters.push(Waiter {
                 operation: pair.first,
-                awaited: Awaited::Operation(pair.second),
+                awaited: WaitsFor::Operation(pair.second),
             })?;
             Ok(())
         }

@@ -51,6 +51,10 @@ pub stretch_here : (left : List LeftStretch) (value process : ℕ) (s : Stretche
 stretch_here left value process s k some low high =
     (record { process = process; value = value; first = s.first; last = s.last }, in_middle left (record { process = process; value = value; first = s.first; last = s.last }) [], refl, refl, low, high)
 
+-- the place that was appended is left
+pub one_here : (left : List LeftStretch) (value process place : ℕ) → IsLeftAt (left ++ (record { process = process; value = value; first = place; last = place }) ∷ []) value process place
+one_here left value process place = (record { process = process; value = value; first = place; last = place }, in_middle left (record { process = process; value = value; first = place; last = place }) [], refl, refl, omega arith, omega arith)
+
 module _ (t : TraceValue) (ok : IsTrace t) (new : List OrderPair) (left : List LeftStretch) (value : ℕ) (r : OperationPlace) (pieces : SourcePieces) where
   -- a place up to n that a stretch takes is barred, or it is left
   place_left : (q n place : ℕ) (s : Stretches) (piece : ProcessPieces) → BarsPlaces new r q (λ u l v. IsGivenFront u l v r piece.witness × IsGivenMain u l v r Plain) (AreTaken (without_main s)) → Contains pieces.processes.items piece ⊎ (piece.witness ≡ None) → IsMainLeft left value q s →
@@ -85,7 +89,7 @@ module _ (t : TraceValue) (ok : IsTrace t) (new : List OrderPair) (left : List L
 left_more : (old new : List LeftStretch) (value process place : ℕ) → AreMore old new → IsLeftAt old value process place → IsLeftAt new value process place
 left_more old new value process place more (x, c, rest) = (x, more x c, rest)
 
-either_more : (B : Type 0) (old new : List LeftStretch) (value process place : ℕ) → AreMore old new → B ⊎ IsLeftAt old value process place → B ⊎ IsLeftAt new value process place
+pub either_more : (B : Type 0) (old new : List LeftStretch) (value process place : ℕ) → AreMore old new → B ⊎ IsLeftAt old value process place → B ⊎ IsLeftAt new value process place
 either_more B old new value process place more (inl b) = inl b
 either_more B old new value process place more (inr h) = inr (left_more old new value process place more h)
 

@@ -1,4 +1,5 @@
 pub mod CountLemmas
+pub mod EndLemmas
 pub mod LeftLemmas
 pub mod TallyLemmas
 pub mod WaitLemmas

@@ -1,4 +1,5 @@
 pub mod Counts
 pub mod Left
+pub mod LeftEnds
 pub mod Tallies
 pub mod WaitingSet

@@ -24,7 +24,7 @@ use writer_table::operation_place::OperationPlace;
 
 /// Why an operation is not the first of its waiting set.
 #[derive(Drop)]
-pub enum Awaited {
+pub enum WaitsFor {
     /// This operation, which is not first, stands before it.
     Operation(OperationPlace),
     /// It reads, and its sources that no piece takes are not first.
@@ -35,7 +35,7 @@ pub enum Awaited {
 #[derive(Drop)]
 pub struct Waiter {
     pub operation: OperationPlace,
-    pub awaited: Awaited,
+    pub awaited: WaitsFor,
 }
 
 /// Keeps the place of the operation, if it is the first of its process.
@@ -175,11 +175,11 @@ fn wait_for(
     ensures waits { OnOk result ((members : List Place) → HoldMembers members first.now → MustWait trace.now orders.new.items members waiter.now.operation) }
 {
     match &waiter.awaited {
-        Awaited::Operation(other) => {
+        WaitsFor::Operation(other) => {
             wait_for_operation(trace, first, waiter.operation, *other, orders)?;
             Ok(())
         }
-        Awaited::Source(pieces) => {
+        WaitsFor::Source(pieces) => {
             wait_for_source(
                 alloc,
                 trace,

@@ -22,6 +22,14 @@ const ROUND: &str =
 const MISSING_RELEASE: &str =
     "vsc 1\ninit l 0\nfinal l 0\nproc P\nU l 0 1\nW l 0\nU l 0 1\nproc Q\nU l 0 1\nW l 0\n";
 
+/// The end of x wants the second write, and then a read of the first one comes too late.
+const LATE_READ: &str =
+    "vsc 1\ninit x 0\nfinal x 5\nproc P\nW x 4\nW x 5\nW f 1\nproc Q\nR f 1\nR x 4\n";
+
+/// Each process reads what the other one writes afterwards, and nobody writes z, which ends with another value than it begins with.
+const THIN_AIR: &str =
+    "vsc 1\ninit z 0\nfinal z 1\nproc P\nR x 1\nW y 1\nproc Q\nR y 1\nW x 1\n";
+
 /// Asserts what the check of the certificate, without its header, answers for the trace.
 fn assert_checked(
     rt: &impl Abort,
@@ -37,7 +45,7 @@ fn assert_checked(
 }
 
 /// Certificates of how many clauses are accepted.
-const ACCEPTED: [(&str, &str, usize); 4] = [
+const ACCEPTED: [(&str, &str, usize); 8] = [
     (
         STALE_DATA,
         "vsc-reasons 1\nc P.1 P.2 Q.1 Q.2\ns Q.1\ns Q.2 i P.1\np\n4 0 2 3 1 0\n",
@@ -57,6 +65,18 @@ const ACCEPTED: [(&str, &str, usize); 4] = [
         MISSING_RELEASE,
         "vsc-reasons 1\nN l 0\nwhatever follows\n",
         1,
+    ),
+    (
+        LATE_READ,
+        "vsc-reasons 1\nl x h Q.2 P.2\nl x H Q.2\ns Q.1\nc P.2 P.3 Q.1 Q.2\np\n5 0 1 3 4 0\n",
+        4,
+    ),
+    (THIN_AIR, "vsc-reasons 1\nl z\n", 1),
+    (THIN_AIR, "vsc-reasons 1\nw r P.1 r Q.1\n", 1),
+    (
+        THIN_AIR,
+        "vsc-reasons 1\nw m P.1 Q.2 r Q.1\ns P.1\np\n3 0 1 2 0\n",
+        2,
     ),
 ];
 
@@ -94,6 +114,33 @@ const REFUSED_LINES: [(&str, ReasonCause, usize); 12] = [
     ),
     ("vsc-reasons 1\nN flag 1\n", ReasonCause::EnoughSources, 2),
 ];
+
+/// Lines of a last writer and of operations that wait, and why they are refused.
+const REFUSED_ENDS: [(&str, ReasonCause); 11] = [
+    ("l", ReasonCause::BadLine),
+    ("l x f P.2", ReasonCause::BadLine),
+    ("l x", ReasonCause::LastLeft),
+    ("l x h Q.1 P.2", ReasonCause::NoWitness),
+    ("l x H P.2", ReasonCause::HidesItself),
+    ("l nobody", ReasonCause::NoWriter),
+    ("w", ReasonCause::BadLine),
+    ("w r Q.2 H P.2", ReasonCause::BadLine),
+    ("w m Q.1 Q.1", ReasonCause::BadCycle),
+    ("w m Q.2 P.1 m P.2 Q.2", ReasonCause::SourceBefore),
+    ("w r Q.1", ReasonCause::SourceBefore),
+];
+
+#[test]
+fn ends_and_waiting_are_refused(rt: HostRuntime) {
+    for k in 0..REFUSED_ENDS.len() {
+        let (line, cause) = REFUSED_ENDS[k];
+        let Ok(text) = format!(in rt.alloc(); "vsc-reasons 1\n{line}\n") else {
+            panic!(rt; "there is no memory");
+        };
+        let wanted = Err(ReasonsFault::Line(cause, 2));
+        assert_checked(&rt, rt.alloc(), LATE_READ, &text, wanted, k);
+    }
+}
 
 #[test]
 fn lines_are_refused(rt: HostRuntime) {
