@@ -52,6 +52,18 @@ def untracked(root):
     return (listed(root, "--others", "--exclude-standard") or []) if listed(root) else []
 
 
+def commit(root):
+    """The commit that is checked out, and whether a file that git tracks is another than there; the empty text without git."""
+
+    def git(*words):
+        return subprocess.run(["git", "-c", "safe.directory=*", "-C", root, *words], stdout=subprocess.PIPE, stderr=subprocess.DEVNULL)
+
+    head = git("rev-parse", "--verify", "HEAD") if listed(root) else None
+    if head is None or head.returncode:
+        return ""
+    return head.stdout.decode("ascii").strip() + (", with changes" if git("status", "--porcelain", "--untracked-files=no").stdout else "")
+
+
 def kit_logic():
     """The logic that the kit names, as `logic dac8..`, or all that it says of itself if it names none."""
     said = subprocess.run(["rt", "version"], check=True, stdout=subprocess.PIPE).stdout

@@ -18,7 +18,7 @@ use crate::verify_command::new_verify_command;
 use clap::Command;
 use std::alloc::{AllocError, Global};
 
-const VERSION: &str = "0.1.0";
+const VERSION: &str = "0.2.0 (rattle-kit-13f logic dac8208d650f15bf)";
 
 const ABOUT: &str = "Checks memory traces against sequential consistency: whether one order of all
 operations explains what each process read.";
