@@ -78,11 +78,15 @@ class Row:
         return [os.path.join(folder, word) for word in WRITTEN if word in self.command.split()]
 
     def left_by_refusal(self, opened):
-        """What the files that the command writes hold after a refusal, if nothing was written and so many of them were opened: a certificate of
-        `verify` was emptied then, and all others are as they were."""
+        """What the files that the command writes hold if nothing was written and so many of them were opened: a certificate of `verify` was emptied
+        then, and all others are as they were."""
         words = [word for word in WRITTEN if word in self.command.split()]
         empties = [self.command.startswith("verify") and word == "CERT" and number < opened for number, word in enumerate(words)]
         return tuple(b"" if is_emptied else EARLIER for is_emptied in empties)
+
+    def left_untouched(self):
+        """What the files that the command writes hold after a report that has nothing for them."""
+        return self.left_by_refusal(len(self.written))
 
     def words(self, program, folder):
         """The command line, with the texts as files in the folder."""
@@ -109,7 +113,7 @@ class Row:
         if not self.written or not self.printed.startswith(b"INCONSISTENT operations="):
             return False
         report = b"INCONSISTENT " + re.search(rb"cubes=\d+\n", self.printed).group()
-        return ended == Ended(1, report, self.told, (self.written[0], b"", b""))
+        return ended == Ended(1, report, self.told, (self.written[0], EARLIER, EARLIER))
 
     def opened(self, ended):
         """The cubes that a report leaves open, or None where it is no such report."""
@@ -130,7 +134,7 @@ class Row:
         """Whether it is a report of open cubes that is true: each is one of the tree, and those with a legal schedule are there."""
         cubes = self.opened(ended)
         is_true = cubes is not None and set(self.with_schedule) <= set(cubes) <= set(self.cubes)
-        return is_true and not any(ended.files)
+        return is_true and ended.files == self.left_untouched()
 
     def starts_threads(self):
         """Whether the command may start threads: a single cube, or a single worker, needs none."""
@@ -157,7 +161,7 @@ class Row:
             self.written = ended.files
             if self.printed is None and ended.out:
                 self.printed = ended.out
-            if ended != self.wanted() or (any(ended.files) and self.status != 1):
+            if ended != self.wanted() or (self.status != 1 and ended.files != self.left_untouched()):
                 return told(ended)
             if not paths or self.status != 1:
                 return None

@@ -11,8 +11,8 @@ pub record HostCalls (H Input Output : Type 0) : Type 1 where
   pub makes : H → List ℕ → Bool → Output → H → Type 0
   -- that was tried, and failed
   pub fails_to_make : H → List ℕ → H → Type 0
-  -- the file was given back, after a report or, if this is false, after a refusal
-  pub closes : H → Output → Bool → H → Type 0
+  -- the file was given back
+  pub closes : H → Output → H → Type 0
   -- it was reported that an engine which decides traces is run with this search
   pub searches : H → SearchRequest → H → Type 0
   -- the host was asked whether the files at these paths are the same one, and this is what it said

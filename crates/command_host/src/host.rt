@@ -30,7 +30,7 @@ pub trait Host<'p> {
         ensures failures { Self.Input.failures result ≡ 0 };
 
     /// Makes the file at this path, or opens the one that is there, to be written in place of what it has. That is lost at once with
-    /// `is_emptied`, and else when something is written, or when the file is given back after a report.
+    /// `is_emptied`, and else when something is written.
     fn create(&mut self, path: &'p str, is_emptied: bool) -> Result<Self::Output, Failed>
         ensures makes { IfOk result (λ file. calls.makes self.old path.now is_emptied file self.new) }
         ensures path { IfOk result (λ file. Self.Output.path file ≡ path.now) }
@@ -38,10 +38,9 @@ pub trait Host<'p> {
         ensures failures { IfOk result (λ file. Self.Output.failures file ≡ 0) }
         ensures failed { OnErr result (calls.fails_to_make self.old path.now self.new) };
 
-    /// Takes back a file that is written: after a report, so that it has what was written to it and nothing else, or after a refusal, so that
-    /// a file to which nothing was written is as it was.
-    fn close(&mut self, file: Self::Output, is_reported: bool)
-        ensures { calls.closes self.old file is_reported self.new };
+    /// Takes back a file that was to be written.
+    fn close(&mut self, file: Self::Output)
+        ensures { calls.closes self.old file self.new };
 
     /// Returns whether what is written at the first path would be the file that the second one names, also if it is still to be made.
     fn is_same_file(&mut self, first: &str, second: &str) -> bool

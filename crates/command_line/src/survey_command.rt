@@ -27,7 +27,7 @@ The answer is one of
         they make up, and so TRACE, has no legal schedule, as M proofs show;
     INCONSISTENT cubes=M alone: no core was found, but a search refuted TRACE;
     UNKNOWN placed=N undecided=M: nothing is shown, and the survey came so far.
-A FILE is made or emptied first, and stays empty if nothing belongs there.
+A FILE is made first, or stays as it was if nothing belongs there.
 
 Example, which can be pasted:
     printf 'vsc 1\\nproc P\\nW x 1\\nW y 1\\nproc Q\\nR y 1\\nR x 2\\n' > whole.trace

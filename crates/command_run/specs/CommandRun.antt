@@ -1,7 +1,7 @@
 -- What a command does: the engine that it runs, on which files and with which options, what its standard streams take, and its exit
 -- status.
 use Rattle.std.specs.Borrow.{Bor}
-use Rattle.std.specs.Prelude.{◌≡◌, ◌||◌, ◌==◌, ◌⊎◌, ◌≤◌, ℕ, Bool, false, true, not, List, [], ◌∷◌, Option, None, Some, Result, Ok, Err, IfSome, is_ok, is_some}
+use Rattle.std.specs.Prelude.{◌≡◌, ◌||◌, ◌⊎◌, ◌≤◌, ℕ, Bool, false, true, not, List, [], ◌∷◌, Option, None, Some, Result, Ok, Err, IfSome, is_some}
 use Rattle.clap.specs.Words.{takes}
 use Rattle.clap.specs.declared.error.kind.ErrorKind.{ErrorKind}
 use Rattle.clap.specs.declared.error.kind.ErrorKind.TheVariants.{OutOfMemory as NoMemoryToRead}
@@ -105,7 +105,7 @@ pub record RunsWithCertificate {H I O : Type 0} (calls : HostCalls H I O) (read 
   pub searches : calls.searches opened search searched
   pub runs : IsRunOfCertifiedVerify file (wrote.run before after) out outcome
   pub left_open : outcome ≡ Ok Unknown → TellsOpen search.options file out
-  pub closes : calls.closes searched after (is_ok outcome) to
+  pub closes : calls.closes searched after to
 
 -- that, or the file for the certificate could not be made: then nothing was read, and nothing written
 abbrev pub RunsCertified : {H I O : Type 0} → HostCalls H I O → SourceView I → SinkView O → H → List ℕ → List ℕ → SearchRequest → SinkRun → Result Status Fault → H → Type 0
@@ -140,7 +140,7 @@ pub record CertifiesSurveyed {H I O : Type 0} (calls : HostCalls H I O) (read : 
   pub runs : IsRunOfCertifiedSurvey file cert names part out outcome
   pub left_open : outcome ≡ Ok Unknown → TellsExtent search.options file out
 
--- the file at this path was made or opened, this was done with it, and it was given back, after a report or a refusal
+-- the file at this path was made or opened, this was done with it, and it was given back
 pub record MakesFile {H I O : Type 0} (calls : HostCalls H I O) (wrote : SinkView O) (from : H) (path : List ℕ) (Does : H → SinkRun → H → Type 0) (outcome : Result Status Fault) (to : H) : Type 0 where
   pub before : O
   pub after : O
@@ -151,7 +151,7 @@ pub record MakesFile {H I O : Type 0} (calls : HostCalls H I O) (wrote : SinkVie
   pub path_is : wrote.path after ≡ path
   pub done : H
   pub does : Does made (wrote.run before after) done
-  pub closes : calls.closes done after (is_ok outcome) to
+  pub closes : calls.closes done after to
 
 -- that, or it could not be made: then nothing else was done, and the other sinks took nothing; or there is no path, and this was done with
 -- a sink that keeps nothing and does not fail
@@ -281,12 +281,8 @@ EndsAsked false calls read wrote from line out err status to = EndsRun calls rea
 abbrev pub Draws : ℕ → SinkRun → Type 0
 Draws status file = ((status ≤ 1) × Adds file) ⊎ ((2 ≤ status) × TakesNothing file)
 
--- a status of a report, and not of a refusal or a fault of the device
-abbrev pub is_reported : ℕ → Bool
-is_reported status = not (status == 2 || status == 4)
-
 -- The file at this path was made or opened, and then the line was run as without a picture: with the same status, and the same texts on the
--- standard streams. Then its outcome was drawn into this file and no other, and it was given back, after a report or a refusal.
+-- standard streams. Then its outcome was drawn into this file and no other, and it was given back.
 pub record EndsWithPicture {H I O : Type 0} (calls : HostCalls H I O) (read : SourceView I) (wrote : SinkView O) (terminal : Bool) (from : H) (path : List ℕ) (asked : CommandLine) (out err : SinkRun) (status : ℕ) (to : H) : Type 0 where
   pub before : O
   pub after : O
@@ -298,7 +294,7 @@ pub record EndsWithPicture {H I O : Type 0} (calls : HostCalls H I O) (read : So
   pub ran : H
   pub ends : EndsAsked (is_explained terminal asked.explains) calls read wrote made asked.line out err status ran
   pub draws : Draws status (wrote.run before after)
-  pub closes : calls.closes ran after (is_reported status) to
+  pub closes : calls.closes ran after to
 
 -- standard error took the line of a refusal, and then an explanation
 pub record ExplainsFault (err : SinkRun) (fault : Fault) : Type 0 where

@@ -3,3 +3,4 @@ pub mod Clashes
 pub mod CommandRun
 pub mod ExitStatus
 pub mod Inputs
+pub mod Spelling

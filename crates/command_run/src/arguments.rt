@@ -1,7 +1,8 @@
 //! The words of a command line, and why there are none.
-ghost use Rattle.std.specs.Prelude.{◌≡◌, IfOk, map, string_bytes};
+ghost use Rattle.std.specs.Prelude.{◌≡◌, IfOk, map, option_map, string_bytes};
 ghost use Rattle.command_run.specs.ArgumentFault.{line_of};
 ghost use Rattle.command_run.specs.CommandRun.{Takes};
+ghost use Rattle.command_run.specs.Spelling.{spelled, spelled_out};
 ghost use Rattle.verdict_report.specs.Runs.{sink_run};
 
 use crate::telling::{NO_MEMORY, REFUSED};
@@ -17,13 +18,35 @@ pub enum ArgumentFault {
     OutOfMemory,
 }
 
-/// The texts as words.
+/// The flag that says what the word says, the word itself if it is not `--explain=WHEN`, and nothing in place of `--explain=auto`. The
+/// contracts of the kit's `clap` have no option whose value can be left out.
+fn spelled(word: &str) -> Option<&str>
+    ensures { option_map (λ word. word.now) result ≡ spelled word.now }
+{
+    match word {
+        "--explain=always" => Some("--explain"),
+        "--explain=never" => Some("--no-explain"),
+        "--explain=auto" => None,
+        _ => Some(word),
+    }
+}
+
+/// The texts as words for `clap`, in which flags stand for `--explain=WHEN`.
 pub fn words_of<'t>(alloc: Global, texts: &'t Vec<String>) -> Result<Vec<&'t str>, AllocError>
-    ensures { IfOk result (λ words. map (λ word. word.now) words.items ≡ map string_bytes texts.now.items) }
+    ensures { IfOk result (λ words. map (λ word. word.now) words.items ≡ spelled_out (map string_bytes texts.now.items)) }
 {
     let mut words = Vec::with_capacity(alloc, texts.len())?;
+    let mut may_be_option = true;
     for text in texts {
-        words.push(text.as_str())?;
+        let word = text.as_str();
+        if word == "--" {
+            may_be_option = false;
+        }
+        if !may_be_option {
+            words.push(word)?;
+        } else if let Some(option) = spelled(word) {
+            words.push(option)?;
+        }
     }
     Ok(words)
 }

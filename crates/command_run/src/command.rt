@@ -12,7 +12,7 @@ use crate::clash::{clash_of, print_clash};
 use crate::engine_runs::run_engine;
 use crate::explaining::{explain_outcome, explain_unmade};
 use crate::kept_run::KeptRun;
-use crate::picturing::{draw_outcome, is_reported};
+use crate::picturing::draw_outcome;
 use crate::telling::{DEVICE, tell_fault, tell_line_fault, tell_outcome};
 use command_host::{FailedFile, Host, Recalls};
 use command_line::{CommandLine, Explains, Line, read_line};
@@ -201,7 +201,7 @@ fn run_with_picture<
         &mut kept,
     );
     draw_outcome(alloc, asked.line, status, &kept, &mut file);
-    host.close(file, is_reported(status));
+    host.close(file);
     status
 }
 

@@ -238,7 +238,7 @@ fn certify_file<'p, R: Threads + Wait + Sync, G: Gate + Sync, H: Host<'p>, W: Si
     );
     kept.first = trace.into_text();
     kept.certificate_length = Some(file.taken());
-    host.close(file.into_sink(), outcome.is_ok());
+    host.close(file.into_sink());
     outcome
 }
 

@@ -1,10 +1,9 @@
 //! The picture of an answer.
 ghost use Rattle.std.specs.Prelude.{◌≡◌};
-ghost use Rattle.command_run.specs.CommandRun.{Adds, Draws, Takes, is_reported};
+ghost use Rattle.command_run.specs.CommandRun.{Adds, Draws, Takes};
 ghost use Rattle.verdict_report.specs.Runs.{sink_run};
 
 use crate::kept_run::KeptRun;
-use crate::telling::{DEVICE, REFUSED};
 use command_line::Line;
 use dimacs::{Sink, write_whole};
 use picture::draw_verdict;
@@ -91,11 +90,4 @@ pub(crate) fn draw_outcome<W: Sink>(
     if status <= 1 {
         draw_answer(alloc, line, status == 0, kept, file);
     }
-}
-
-/// Returns whether the status is one of a report, and not of a refusal or a fault of the device.
-pub(crate) fn is_reported(status: u8) -> bool
-    ensures { result ≡ is_reported status }
-{
-    !(status == REFUSED || status == DEVICE)
 }

@@ -251,7 +251,7 @@ fn part_in_file<
     let outcome = certify_opened(
         alloc, rt, progress, host, trace, search, cert, names, &mut made, out, kept,
     );
-    host.close(made, outcome.is_ok());
+    host.close(made);
     outcome
 }
 
@@ -344,7 +344,7 @@ fn names_in_file<'p, R: Threads + Wait + Sync, G: Gate + Sync, H: Host<'p>, C: S
     let outcome = with_part(
         alloc, rt, progress, host, trace, part, search, cert, &mut file, out, kept,
     );
-    host.close(file, outcome.is_ok());
+    host.close(file);
     outcome
 }
 
@@ -431,7 +431,7 @@ fn cert_in_file<'p, R: Threads + Wait + Sync, G: Gate + Sync, H: Host<'p>, W: Si
     let outcome = with_names(
         alloc, rt, progress, host, trace, names, part, search, &mut file, out, kept,
     );
-    host.close(file, outcome.is_ok());
+    host.close(file);
     outcome
 }
 

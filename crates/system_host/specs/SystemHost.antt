@@ -17,7 +17,7 @@ system_calls = record {
   opens = λ from path file to. (path_of file ≡ path) × HasNotFailed from to;
   makes = λ from path emptied file to. (path_to file ≡ path) × HasNotFailed from to;
   fails_to_make = λ from path to. to.failures.count ≡ from.failures.count + 1;
-  closes = λ from file reported to. HasNotFailed from to;
+  closes = λ from file to. HasNotFailed from to;
   compares = λ from first second same to. HasNotFailed from to;
   searches = λ from search to. HasNotFailed from to;
 }

@@ -78,11 +78,7 @@ impl<'a> Host<'a> for SystemHost<'a> {
         }
     }
 
-    fn close(&mut self, mut file: FileSink<'a>, is_reported: bool) {
-        if is_reported {
-            // A file that cannot be emptied now could be opened before; what failed of it is kept for an explanation.
-            let _ = file.clear();
-        }
+    fn close(&mut self, file: FileSink<'a>) {
         if let Some(failed) = file.failed() {
             self.failed = Some(failed);
         }

@@ -12,7 +12,7 @@ memory_calls = record {
   opens = λ from path file to. to ≡ from;
   makes = λ from path emptied file to. to ≡ from;
   fails_to_make = λ from path to. to ≡ from;
-  closes = λ from file reported to. to.made ≡ Some file.stream;
+  closes = λ from file to. to.made ≡ Some file.stream;
   compares = λ from first second same to. (same ≡ false) × (to ≡ from);
   searches = λ from search to. to.searched ≡ Some search;
 }

@@ -89,7 +89,7 @@ impl<'p> Host<'p> for MemoryHost<'p> {
         }
     }
 
-    fn close(&mut self, file: AtPath<'p, MemorySink>, _is_reported: bool) {
+    fn close(&mut self, file: AtPath<'p, MemorySink>) {
         let AtPath { path: _, stream } = file;
         self.made = Some(stream);
     }

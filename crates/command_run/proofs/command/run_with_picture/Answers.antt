@@ -13,5 +13,5 @@ returns-clause-ends g c = inr (record {
   ran = c.run_asked-status.new.host;
   ends = c.run_asked-status.ensures.ends;
   draws = c.draw_outcome.ensures.drawn;
-  closes = rw (← c.is_reported.ensures) c.close.ensures;
+  closes = c.close.ensures;
 })

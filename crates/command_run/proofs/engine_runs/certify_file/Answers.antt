@@ -29,5 +29,5 @@ returns g c =
           (subst (λ before. IsRunOfCertifiedVerify trace (sink_run written failures before c.certify-outcome.new.cert.sink) out c.certify-outcome.result) c.counting-file.ensures
           c.certify-outcome.ensures.run);
       left_open = c.certify-outcome.ensures.unknown;
-      closes = rw (← c.is_ok.ensures.value) c.close.ensures;
+      closes = c.close.ensures;
     })

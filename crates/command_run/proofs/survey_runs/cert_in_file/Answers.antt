@@ -12,5 +12,5 @@ returns g c = inr (record {
   path_is = c.with_names-outcome.ensures.same_cert ∙ c.in-Ok.ensures.path;
   done = c.with_names-outcome.new.host;
   does = c.with_names-outcome.ensures.runs;
-  closes = rw (← c.is_ok.ensures.value) c.close.ensures;
+  closes = c.close.ensures;
 })

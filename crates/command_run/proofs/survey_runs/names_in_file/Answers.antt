@@ -12,5 +12,5 @@ returns-clause-runs g c = inr (record {
   path_is = c.with_part-outcome.ensures.same_names ∙ c.in-Ok.ensures.path;
   done = c.with_part-outcome.new.host;
   does = c.with_part-outcome.ensures.runs;
-  closes = rw (← c.is_ok.ensures.value) c.close.ensures;
+  closes = c.close.ensures;
 })

@@ -12,5 +12,5 @@ returns-clause-runs g c = inr (record {
   path_is = c.certify_opened-outcome.ensures.same_part ∙ c.in-Ok.ensures.path;
   done = c.certify_opened-outcome.new.host;
   does = c.certify_opened-outcome.ensures.runs;
-  closes = rw (← c.is_ok.ensures.value) c.close.ensures;
+  closes = c.close.ensures;
 })
