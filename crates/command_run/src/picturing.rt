@@ -35,7 +35,7 @@ fn picture_of(alloc: Global, line: Line<'_>, is_consistent: bool, bytes: &[u8]) 
     let Ok(trace) = read_trace(alloc, bytes) else {
         return Vec::new(alloc);
     };
-    match draw_verdict(alloc, &trace, &surveyor, is_consistent) {
+    match draw_verdict(alloc, bytes, &trace, &surveyor, is_consistent) {
         Ok(picture) => picture,
         Err(_) => Vec::new(alloc),
     }

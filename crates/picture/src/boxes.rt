@@ -2,6 +2,7 @@
 
 use crate::operation_text::BoxText;
 use crate::placement::{Placement, text_width};
+use crate::shown_names::ShownNames;
 use crate::svg_text::SvgText;
 use drawn_order::{FoundOrder, PictureItem};
 use std::alloc::{AllocError, Global};
@@ -53,6 +54,7 @@ fn draw_box(
     placement: &Placement<'_>,
     class: &[u8],
     item: &PictureItem<'_>,
+    names: ShownNames<'_>,
     has_position: bool,
 ) -> Result<(), AllocError> {
     let edges = placement.edges_of(item);
@@ -61,7 +63,7 @@ fn draw_box(
     svg.attribute(b"width", edges.width());
     svg.attribute(b"height", edges.height());
     svg.add(&[b"/>\n"]);
-    let text = BoxText::of(alloc, item, has_position)?;
+    let text = BoxText::of(alloc, item, names, has_position)?;
     let baseline = edges.middle().saturating_add(4);
     draw_text(svg, &text, edges.center(), baseline);
     Ok(())
@@ -74,12 +76,13 @@ pub(crate) fn draw_boxes(
     placement: &Placement<'_>,
     items: &[PictureItem<'_>],
     found: &FoundOrder,
+    names: ShownNames<'_>,
     has_position: bool,
 ) -> Result<(), AllocError> {
     for number in 0..items.len() {
         let item = &items[number];
         let class = class_of(found, item, number);
-        draw_box(alloc, svg, placement, class, item, has_position)?;
+        draw_box(alloc, svg, placement, class, item, names, has_position)?;
     }
     Ok(())
 }

@@ -6,6 +6,7 @@ use crate::legend::{LEGEND_STEP, LegendEntries, draw_legend};
 use crate::placement::{MARGIN, Placement};
 use crate::reasons::ReasonLines;
 use crate::routes::Lanes;
+use crate::shown_names::ShownNames;
 use crate::style::begin_document;
 use crate::subject::{PictureSubject, count_all};
 use crate::svg_text::SvgText;
@@ -24,6 +25,7 @@ const SENTENCE_STEP: u64 = 18;
 #[derive(Clone, Copy)]
 pub(crate) struct Content<'p, 't> {
     pub trace: &'t Trace,
+    pub names: ShownNames<'p>,
     pub subject: PictureSubject,
     pub items: &'p [PictureItem<'t>],
     pub found: &'p FoundOrder,
@@ -149,15 +151,23 @@ impl Content<'_, '_> {
         let has_position = self.subject.is_in_order();
         draw_titles(svg, placement);
         self.draw_arrows(alloc, svg, placement)?;
-        draw_boxes(alloc, svg, placement, self.items, self.found, has_position)
+        draw_boxes(
+            alloc,
+            svg,
+            placement,
+            self.items,
+            self.found,
+            self.names,
+            has_position,
+        )
     }
 
     /// Draws the picture.
     pub fn draw(&self, alloc: Global) -> Result<Vec<u8>, AllocError> {
         let is_schedule = self.subject.is_in_order();
-        let placement = Placement::of(alloc, self.items, self.trace, is_schedule)?;
+        let placement = Placement::of(alloc, self.items, self.trace, self.names, is_schedule)?;
         let entries = LegendEntries::of(self.items, self.found, is_schedule);
-        let reasons = ReasonLines::of(alloc, self.items, self.found)?;
+        let reasons = ReasonLines::of(alloc, self.items, self.found, self.names)?;
         let legend = placement.bottom().saturating_add(20);
         let words = legend.saturating_add(entries.count().saturating_mul(LEGEND_STEP));
         let sentences = reasons.lines.len() as u64;

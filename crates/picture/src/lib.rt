@@ -13,6 +13,7 @@ mod operation_text;
 mod placement;
 mod reasons;
 mod routes;
+mod shown_names;
 mod style;
 mod subject;
 mod svg_text;

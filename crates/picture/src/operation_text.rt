@@ -1,5 +1,6 @@
 //! What is written into a box.
 
+use crate::shown_names::ShownNames;
 use drawn_order::PictureItem;
 use note_text::decimal;
 use std::alloc::{AllocError, Global};
@@ -25,12 +26,16 @@ fn append(text: &mut Vec<u8>, words: &[&[u8]]) -> Result<(), AllocError> {
 }
 
 /// Appends where an operation reads from by its line.
-fn append_origin(text: &mut Vec<u8>, origin: &Origin) -> Result<(), AllocError> {
+fn append_origin(
+    text: &mut Vec<u8>,
+    origin: &Origin,
+    names: ShownNames<'_>,
+) -> Result<(), AllocError> {
     match origin {
         Origin::Any => Ok(()),
         Origin::Initial => append(text, &[b" from init"]),
         Origin::Operation(name) => {
-            let place = decimal(name.place as u64);
+            let place = decimal(names.place_of(name));
             append(
                 text,
                 &[b" from ", name.process.as_bytes(), b" ", place.as_slice()],
@@ -51,7 +56,11 @@ fn append_access(
 }
 
 /// Appends the operation as its line in a trace.
-fn append_operation(text: &mut Vec<u8>, op: &Op) -> Result<(), AllocError> {
+fn append_operation(
+    text: &mut Vec<u8>,
+    op: &Op,
+    names: ShownNames<'_>,
+) -> Result<(), AllocError> {
     match op {
         Op::Read {
             location,
@@ -59,7 +68,7 @@ fn append_operation(text: &mut Vec<u8>, op: &Op) -> Result<(), AllocError> {
             origin,
         } => {
             append_access(text, b"R", location.as_bytes(), *value)?;
-            append_origin(text, origin)
+            append_origin(text, origin, names)
         }
         Op::Write { location, value } => append_access(text, b"W", location.as_bytes(), *value),
         Op::Update {
@@ -71,7 +80,7 @@ fn append_operation(text: &mut Vec<u8>, op: &Op) -> Result<(), AllocError> {
             append_access(text, b"U", location.as_bytes(), *read)?;
             let left = decimal(*left);
             append(text, &[b" ", left.as_slice()])?;
-            append_origin(text, origin)
+            append_origin(text, origin, names)
         }
     }
 }
@@ -91,6 +100,7 @@ impl BoxText {
     pub fn of(
         alloc: Global,
         item: &PictureItem<'_>,
+        names: ShownNames<'_>,
         has_position: bool,
     ) -> Result<BoxText, AllocError> {
         let mut position = Vec::new(alloc);
@@ -102,9 +112,9 @@ impl BoxText {
                     let number = decimal((item.row as u64).saturating_add(1));
                     append(&mut position, &[number.as_slice(), b" "])?;
                 }
-                let place = decimal(item.number.place as u64);
+                let place = decimal(names.place_of_item(item));
                 append(&mut name, &[item.process, b".", place.as_slice(), b" "])?;
-                append_operation(&mut words, op)?;
+                append_operation(&mut words, op, names)?;
             }
             None => append_value(&mut words, item)?,
         }

@@ -1,6 +1,7 @@
 //! The places of the boxes of a picture, in pixels.
 
 use crate::operation_text::BoxText;
+use crate::shown_names::ShownNames;
 use drawn_order::{PictureItem, count_rows};
 use std::alloc::{AllocError, Global};
 use trace_semantics::trace::Trace;
@@ -88,12 +89,13 @@ fn width_of(
     items: &[PictureItem<'_>],
     column: usize,
     title: &[u8],
+    names: ShownNames<'_>,
     has_position: bool,
 ) -> Result<u64, AllocError> {
     let mut most: u64 = 0;
     for item in items {
         if item.column == column {
-            let text = BoxText::of(alloc, item, has_position)?;
+            let text = BoxText::of(alloc, item, names, has_position)?;
             most = most.max(text.length()).max(title.len() as u64);
         }
     }
@@ -109,6 +111,7 @@ impl<'t> Placement<'t> {
         alloc: Global,
         items: &[PictureItem<'t>],
         trace: &'t Trace,
+        names: ShownNames<'_>,
         has_position: bool,
     ) -> Result<Placement<'t>, AllocError> {
         let mut columns = Vec::new(alloc);
@@ -117,7 +120,7 @@ impl<'t> Placement<'t> {
         let mut right = MARGIN;
         for number in 0..trace.processes().len().saturating_add(2) {
             let title = title_of(trace, number);
-            let width = width_of(alloc, items, number, title, has_position)?;
+            let width = width_of(alloc, items, number, title, names, has_position)?;
             columns.push(PictureColumn { title, left, width })?;
             if width > 0 {
                 right = left.saturating_add(width);

@@ -1,6 +1,7 @@
 //! Sentences that say why the arrows of a contradiction are there.
 
 use crate::arrows::is_shown;
+use crate::shown_names::ShownNames;
 use drawn_order::{
     ArrowKind, DerivedBy, DerivedRule, Exclusion, FoundOrder, PictureItem, WhyExcluded, cycle_of,
 };
@@ -25,6 +26,7 @@ pub(crate) struct ReasonLines {
 struct Told<'p, 't> {
     items: &'p [PictureItem<'t>],
     found: &'p FoundOrder,
+    names: ShownNames<'p>,
 }
 
 /// The mark that stands before a reason, after this number of others.
@@ -47,7 +49,7 @@ impl Told<'_, '_> {
             Some(item) if item.is_initial() => text.add(&[b"the initial value"]),
             Some(item) if item.is_final() => text.add(&[b"the final value"]),
             Some(item) => {
-                let place = decimal(item.number.place as u64);
+                let place = decimal(self.names.place_of_item(item));
                 text.add(&[item.process, b".", place.as_slice()]);
             }
             None => {}
@@ -322,8 +324,13 @@ impl ReasonLines {
         alloc: Global,
         items: &[PictureItem<'_>],
         found: &FoundOrder,
+        names: ShownNames<'_>,
     ) -> Result<ReasonLines, AllocError> {
-        let told = Told { items, found };
+        let told = Told {
+            items,
+            found,
+            names,
+        };
         let mut reasons = ReasonLines {
             lines: Vec::new(alloc),
         };

@@ -2,6 +2,7 @@
 
 use crate::drawing::Content;
 use crate::message::{NothingDrawn, draw_message};
+use crate::shown_names::ShownNames;
 use crate::subject::{MAX_DRAWN, PictureSubject, count_all};
 use drawn_order::{
     DrawnChoice, DrawnPart, PartTrace, items_of_schedule, order_of_schedule, too_few_sources,
@@ -14,6 +15,7 @@ use trace_semantics::judgement::Judgement;
 use trace_semantics::operation::OpName;
 use trace_semantics::schedule::Schedule;
 use trace_semantics::trace::Trace;
+use verdict_notes::ShownPlaces;
 
 /// The most operations of a trace that is drawn whole where no core of it is found.
 const MAX_OF_WHOLE: u64 = 60;
@@ -22,6 +24,7 @@ const MAX_OF_WHOLE: u64 = 60;
 fn draw_schedule(
     alloc: Global,
     part: PartTrace<'_>,
+    places: &ShownPlaces,
     names: Vec<OpName>,
 ) -> Result<Vec<u8>, AllocError> {
     let schedule = Schedule::new(names);
@@ -32,6 +35,10 @@ fn draw_schedule(
     let found = order_of_schedule(alloc, part, items.as_slice())?;
     let content = Content {
         trace: part.trace,
+        names: ShownNames {
+            trace: part.trace,
+            places,
+        },
         subject: PictureSubject::InOrder,
         items: items.as_slice(),
         found: &found,
@@ -43,6 +50,7 @@ fn draw_schedule(
 fn draw_choice(
     alloc: Global,
     part: PartTrace<'_>,
+    places: &ShownPlaces,
     subject: PictureSubject,
     choice: &mut DrawnChoice,
 ) -> Result<Vec<u8>, AllocError> {
@@ -54,6 +62,10 @@ fn draw_choice(
     let found = drawn.saturate(alloc)?;
     let content = Content {
         trace: part.trace,
+        names: ShownNames {
+            trace: part.trace,
+            places,
+        },
         subject,
         items: drawn.items.as_slice(),
         found: &found,
@@ -62,43 +74,50 @@ fn draw_choice(
 }
 
 /// Draws operations that need more sources than there are, or else the trace whole, if it is small.
-fn draw_whole(alloc: Global, part: PartTrace<'_>) -> Result<Vec<u8>, AllocError> {
+fn draw_whole(
+    alloc: Global,
+    part: PartTrace<'_>,
+    places: &ShownPlaces,
+) -> Result<Vec<u8>, AllocError> {
     if let Some(mut choice) = too_few_sources(alloc, part.trace)? {
-        return draw_choice(alloc, part, PictureSubject::TooFew, &mut choice);
+        return draw_choice(alloc, part, places, PictureSubject::TooFew, &mut choice);
     }
     if count_all(part.trace) > MAX_OF_WHOLE {
         return draw_message(alloc, NothingDrawn::NoCore);
     }
     let mut choice = DrawnChoice::of_all(alloc, part.trace)?;
-    draw_choice(alloc, part, PictureSubject::Whole, &mut choice)
+    draw_choice(alloc, part, places, PictureSubject::Whole, &mut choice)
 }
 
 /// Draws what the survey finds, or says why it is not drawn.
 fn draw_finding(
     alloc: Global,
     part: PartTrace<'_>,
+    places: &ShownPlaces,
     finding: Finding,
     is_consistent: bool,
 ) -> Result<Vec<u8>, AllocError> {
     match finding {
-        Finding::Schedule(names) if is_consistent => draw_schedule(alloc, part, names),
+        Finding::Schedule(names) if is_consistent => draw_schedule(alloc, part, places, names),
         Finding::Core(names) if !is_consistent => {
             let mut choice = DrawnChoice::of_names(alloc, part.trace, names.as_slice())?;
-            draw_choice(alloc, part, PictureSubject::Core, &mut choice)
+            draw_choice(alloc, part, places, PictureSubject::Core, &mut choice)
         }
         _ if is_consistent => draw_message(alloc, NothingDrawn::NoSchedule),
-        _ => draw_whole(alloc, part),
+        _ => draw_whole(alloc, part, places),
     }
 }
 
 /// The picture of a verdict: of a schedule that the survey finds if the trace is consistent, and else of operations that contradict each
-/// other, or of the whole trace if none are found and it is small. If there is nothing to be drawn, the picture says why.
+/// other, or of the whole trace if none are found and it is small. If there is nothing to be drawn, the picture says why. Operations are
+/// named as notes name them, by the text, which spells the trace.
 ///
 /// # Errors
 ///
 /// `AllocError` if memory runs out.
 pub fn draw_verdict<S: Surveyor>(
     alloc: Global,
+    text: &[u8],
     trace: &Trace,
     surveyor: &S,
     is_consistent: bool,
@@ -108,10 +127,11 @@ pub fn draw_verdict<S: Surveyor>(
         return draw_message(alloc, NothingDrawn::LongSchedule(count));
     }
     let Overview { finding, extent: _ } = surveyor.survey(alloc, trace)?;
+    let places = ShownPlaces::of_comments(alloc, text)?;
     let forced = ForcedOrder::of_trace(alloc, trace)?;
     let part = PartTrace {
         trace,
         forced: &forced,
     };
-    draw_finding(alloc, part, finding, is_consistent)
+    draw_finding(alloc, part, &places, finding, is_consistent)
 }
