@@ -56,11 +56,7 @@ fn append_access(
 }
 
 /// Appends the operation as its line in a trace.
-fn append_operation(
-    text: &mut Vec<u8>,
-    op: &Op,
-    names: ShownNames<'_>,
-) -> Result<(), AllocError> {
+fn append_operation(text: &mut Vec<u8>, op: &Op, names: ShownNames<'_>) -> Result<(), AllocError> {
     match op {
         Op::Read {
             location,

@@ -1,4 +1,6 @@
 //! The picture of a verdict.
+ghost use Rattle.trace_semantics.specs.Judgement.{IsJudgement};
+ghost use Rattle.trace_semantics.specs.declared.judgement.Judgement.TheVariants.{Legal};
 
 use crate::drawing::Content;
 use crate::message::{NothingDrawn, draw_message};
@@ -20,17 +22,15 @@ use verdict_notes::ShownPlaces;
 /// The most operations of a trace that is drawn whole where no core of it is found.
 const MAX_OF_WHOLE: u64 = 60;
 
-/// Draws the schedule, if it is legal.
-fn draw_schedule(
+/// Draws the schedule, which was judged legal.
+fn draw_legal(
     alloc: Global,
     part: PartTrace<'_>,
     places: &ShownPlaces,
-    names: Vec<OpName>,
-) -> Result<Vec<u8>, AllocError> {
-    let schedule = Schedule::new(names);
-    if judge(alloc, part.trace, &schedule)? != Judgement::Legal {
-        return draw_message(alloc, NothingDrawn::NoSchedule);
-    }
+    schedule: &Schedule,
+) -> Result<Vec<u8>, AllocError>
+    requires { IsJudgement part.trace.now schedule.now Legal }
+{
     let items = items_of_schedule(alloc, part.trace, schedule.names())?;
     let found = order_of_schedule(alloc, part, items.as_slice())?;
     let content = Content {
@@ -44,6 +44,20 @@ fn draw_schedule(
         found: &found,
     };
     content.draw(alloc)
+}
+
+/// Draws the schedule, if it is legal.
+fn draw_schedule(
+    alloc: Global,
+    part: PartTrace<'_>,
+    places: &ShownPlaces,
+    names: Vec<OpName>,
+) -> Result<Vec<u8>, AllocError> {
+    let schedule = Schedule::new(names);
+    match judge(alloc, part.trace, &schedule)? {
+        Judgement::Legal => draw_legal(alloc, part, places, &schedule),
+        Judgement::Illegal(_, _) => draw_message(alloc, NothingDrawn::NoSchedule),
+    }
 }
 
 /// Draws operations that have no legal schedule, if they are not too many.
