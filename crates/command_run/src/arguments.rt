@@ -20,7 +20,7 @@ pub enum ArgumentFault {
 
 /// The flag that says what the word says, the word itself if it is not `--explain=WHEN`, and nothing in place of `--explain=auto`. The
 /// contracts of the kit's `clap` have no option whose value can be left out.
-fn spelled(word: &str) -> Option<&str>
+fn spelled_option(word: &str) -> Option<&str>
     ensures { option_map (λ word. word.now) result ≡ spelled word.now }
 {
     match word {
@@ -44,7 +44,7 @@ pub fn words_of<'t>(alloc: Global, texts: &'t Vec<String>) -> Result<Vec<&'t str
         }
         if !may_be_option {
             words.push(word)?;
-        } else if let Some(option) = spelled(word) {
+        } else if let Some(option) = spelled_option(word) {
             words.push(option)?;
         }
     }
