@@ -1,3 +1,4 @@
+pub mod AcceptedLemmas
 pub mod LawLemmas
 pub mod LineLemmas
 pub mod ReadSoFar

@@ -1,11 +1,12 @@
 -- What comes of a line keeps what the clauses of a list are.
 use Rattle.std.proofs.Common.{◌≡◌, ◌⊎◌, ℕ, suc, ℤ, pos, negsuc, List, [], ◌∷◌, ◌++◌, Bool, true, false, refl, ap, sym, ◌∙◌, inl, inr, subst, map, length, append-nil}
-use Rattle.std.specs.Prelude.{not}
+use Rattle.std.specs.Prelude.{◌≢◌, not, Result, Ok, Err, OnOk, IfOk}
 use Rattle.std.specs.List.{AllZip, Contains, filter, list_all}
 use Rattle.std.proofs.lemmas.Bool.{and_parts, and_from, cond-true, cond-false}
 use Rattle.std.proofs.lemmas.List.Elements.{filter-append}
 use Rattle.std.proofs.lemmas.List.Folds.{list_all-append}
 use Rattle.dimacs.specs.Literal.{is_literal_up_to, is_clause_up_to}
+use Rattle.text_lines.specs.declared.plain_fault.PlainFault.{PlainFault}
 use Rattle.trace_semantics.specs.declared.operation.OpName.{OpName}
 use Rattle.trace_semantics.specs.Trace.{TraceValue}
 use Rattle.trace_semantics.proofs.ElementLemmas.{all_pass, pass_all, from_map, to_map, head_in, none_in}
@@ -18,15 +19,21 @@ use Rattle.order_clauses.specs.ReasonList.{named_pairs}
 use Rattle.order_clauses.specs.declared.order_pair.OrderPair.{OrderPair}
 use Rattle.order_clauses.specs.declared.reason_list.ReasonList.{ReasonList}
 use Rattle.order_clauses.proofs.ClauseLemmas.{order_same, over_kept}
+use Rattle.reason_clauses.specs.declared.cause.ReasonCause.{ReasonCause}
 use Rattle.reason_clauses.specs.Made.{Makes}
 use Rattle.reason_clauses.specs.Numbered.{AreIn}
 use Rattle.reason_counting.specs.Counts.{AreTooFew}
+use Rattle.reason_text.specs.ReasonLine.{IsReasonLine}
 use Rattle.reason_text.specs.declared.reason_line.ReasonLine.{ReasonLine}
 use Rattle.reason_text.specs.declared.reason_line.ReasonLine.TheVariants.{Skipped, Cycle, Before, Variable, Source, Last, TooFew, Waiting, Derivation as DerivationLine}
 use Rattle.reason_check.specs.LineClauses.{IsClauseOfLine, MakeClauses, is_silent}
-use Rattle.reason_check.specs.Taken.{AreOver, AreMade, HasNext}
+use Rattle.reason_check.specs.Reading.{IsReadAndTaken}
+use Rattle.reason_check.specs.Taken.{AreMade, HasNext, IsPassed, IsTaken}
 use Rattle.reason_check.specs.declared.line_clause.LineOutcome.{LineOutcome}
 use Rattle.reason_check.specs.declared.line_clause.LineOutcome.TheVariants.{Refuted, Derivation}
+
+abbrev pub ReasonRefusal : Type 0
+ReasonRefusal = PlainFault ReasonCause
 
 module _ {A B : Type 0} (R : A → B → Type 0) where
   -- two lists side by side, with one more
@@ -94,6 +101,31 @@ module _ (t : TraceValue) where
     ended = λ e. no_literals new.variables orders h.clause h.says none;
     goes_on = came.1;
   }
+
+  module _ (Is : List (OpName × OpName) → Type 0) (old new : ReasonList) where
+    -- the same of what may be refused
+    pub next_if_made : (orders : List OrderPair) → Makes t orders Is → (result : Result LineOutcome ReasonRefusal) → OnOk result (IsAppended old new orders) → IfOk result (λ outcome. (outcome ≡ Refuted → orders ≡ []) × (outcome ≢ Derivation)) → IfOk result (HasNext t Is old new)
+    next_if_made orders made (Ok outcome) appended came = next_of Is old new orders outcome made appended came
+    next_if_made orders made (Err refusal) appended came = tt
+
+    -- a clause of this kind is one of the line
+    pub taken_if_next : (line : ReasonLine) → ((clause : List (OpName × OpName)) → Is clause → IsClauseOfLine t line clause) → (result : Result LineOutcome ReasonRefusal) → IfOk result (HasNext t Is old new) → IfOk result (IsTaken t line old new)
+    taken_if_next line kind (Ok outcome) next = inl (record { clause = next.clause; appended = next.appended; extended = next.extended; over = next.over; is = kind (orders_said (named_pairs t new.variables) next.clause) next.is; ended = next.ended; goes_on = next.goes_on })
+    taken_if_next line kind (Err refusal) next = tt
+
+  pub next_if_empty : (location : List ℕ) (value : ℕ) (old new : ReasonList) (orders : List OrderPair) → orders ≡ [] → AreTooFew t location value → (result : Result LineOutcome ReasonRefusal) → OnOk result (IsAppended old new orders) → IfOk result (λ outcome. (outcome ≡ Refuted → orders ≡ []) × (outcome ≢ Derivation)) → IfOk result (HasNext t (λ clause. (clause ≡ []) × AreTooFew t location value) old new)
+  next_if_empty location value old new orders none few (Ok outcome) appended came = next_empty location value old new orders outcome none few appended came
+  next_if_empty location value old new orders none few (Err refusal) appended came = tt
+
+  -- a pair got a number
+  pub taken_if_passed : (line : ReasonLine) (old new : ReasonList) → is_silent line ≡ true → (result : Result LineOutcome ReasonRefusal) → IfOk result (IsPassed old new) → IfOk result (IsTaken t line old new)
+  taken_if_passed line old new silent (Ok outcome) passed = inr (inl (silent, passed))
+  taken_if_passed line old new silent (Err refusal) passed = tt
+
+  -- the line was read
+  pub read_if_taken : (words : List (List ℕ)) (line : ReasonLine) (old new : ReasonList) → IsReasonLine t words line → (result : Result LineOutcome ReasonRefusal) → IfOk result (IsTaken t line old new) → IfOk result (IsReadAndTaken t words old new)
+  read_if_taken words line old new is (Ok outcome) taken = record { line = line; read = is; taken = taken }
+  read_if_taken words line old new is (Err refusal) taken = tt
 
   abbrev pub Made : List OrderPair → ReasonLine → List ℤ → Type 0
   Made variables line literals = IsClauseOfLine t line (orders_said (named_pairs t variables) literals)

@@ -40,6 +40,26 @@ fn check_derivation(
     Ok(())
 }
 
+/// Reads the lines of the certificate, and checks the derivation that follows, unless one of their clauses is empty.
+fn read_and_check<'a>(
+    alloc: Global,
+    trace: &'a Trace,
+    text: &'a [u8],
+) -> Result<AcceptedReasons, ReasonsFault>
+    ensures { IfOk result (λ reasons. IsAcceptedReasons trace.now text.now reasons.clauses) }
+{
+    let mut list = ReasonList::new(alloc);
+    let end = read_clauses(alloc, trace, text, &mut list)?;
+    let clauses = list.count();
+    match end {
+        Some(derivation) => {
+            check_derivation(alloc, list, derivation)?;
+            Ok(AcceptedReasons { clauses })
+        }
+        None => Ok(AcceptedReasons { clauses }),
+    }
+}
+
 /// Checks that the certificate shows that the trace has no legal schedule. Nothing of it is taken on trust: each line makes a clause
 /// that follows from the trace, or is refused, and the derivation is checked against these clauses.
 pub fn check_reasons<'a>(
@@ -52,11 +72,6 @@ pub fn check_reasons<'a>(
 {
     accepted_has_no_schedule();
     trace.recall_invariant();
-    let mut list = ReasonList::new(alloc);
-    let end = read_clauses(alloc, trace, text, &mut list)?;
-    let clauses = list.count();
-    if let Some(derivation) = end {
-        check_derivation(alloc, list, derivation)?;
-    }
-    Ok(AcceptedReasons { clauses })
+    let reasons = read_and_check(alloc, trace, text)?;
+    Ok(reasons)
 }

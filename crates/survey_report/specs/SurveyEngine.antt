@@ -146,7 +146,7 @@ pub record CertifiesWhole (options : OptionsValue) (trace : SourceRun) (cert : S
   pub unrefuted : IsUnrefutedChoice options value (operation_names value)
 
 -- The source handed out the text of a trace that has no legal schedule. One sink took the text of a certificate of reasons that is accepted
--- of the trace, and another the report on it, which tells how many clauses it has.
+-- of the trace, and another the report on it, which says how many clauses it has.
 pub record CertifiesReasons (trace : SourceRun) (cert out : SinkRun) : Type 0 where
   pub text : List ℕ
   pub handed : HandsOut trace text

@@ -82,7 +82,7 @@ abbrev pub IsRefutedChoice : OptionsValue → TraceValue → List OpName → Opt
 IsRefutedChoice options t names (Some core) = (core.names ≡ names) × IsRefutedCore options t core
 IsRefutedChoice options t names None = IsUnrefutedChoice options t names
 
--- The text is a certificate of reasons that is accepted of the trace, of as many clauses as are told, so that the trace has no legal schedule.
+-- The text is a certificate of reasons that is accepted of the trace, of this number of clauses, so that the trace has no legal schedule.
 -- The names are those of operations of the trace, in the trace's order, as many as are said to be named, or none.
 pub record IsReasoned (t : TraceValue) (reasons : ReasonCertificate) : Type 0 where
   pub in_order : reasons.names ≡ core_of t reasons.names
