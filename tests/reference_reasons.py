@@ -343,6 +343,14 @@ def last_clause(trace, clause, location, pieces):
             hide(clause, pieces.main[1], w, None)
 
 
+def left_ends(trace, clause, location, pieces):
+    """Says what bars the last writers that a piece takes; the others."""
+    lasts = last_writers(trace, location, pieces)
+    if not trace.writers(location):
+        raise Refused("NoWriter")
+    return [w for last in lasts for w in take(clause, pieces, None, last)]
+
+
 def members_of(parts, kinds):
     """The members, each with its pieces, of which the kinds are those that its own kind has."""
     members = []
@@ -363,18 +371,16 @@ def counting_clause(trace, clause, parts):
         raise Refused("SecondPiece")
     left = set()
     for kind, (member,), pieces in members:
+        if kind == "r" and trace.op(member)[0] != "U":
+            raise Refused("NoReader")
         if kind == "r":
             rest, initial = left_sources(trace, clause, member, pieces)
-            if trace.op(member)[0] != "U":
-                raise Refused("NoReader")
             left.update(rest + [("init", trace.op(member)[1])] * initial)
-            continue
-        lasts = last_writers(trace, member, pieces)
-        if not trace.writers(member):
-            raise Refused("NoWriter")
-        for last in lasts:
-            left.update(take(clause, pieces, None, last))
-    if len(members) <= len(left):
+        else:
+            left.update(left_ends(trace, clause, member, pieces))
+        if len(members) <= len(left):
+            raise Refused("EnoughSources")
+    if not members:
         raise Refused("EnoughSources")
 
 
@@ -593,7 +599,9 @@ def lines_of(text):
 
 
 def read_clause(trace, words, active, variables):
-    """Adds the clause of a line, or numbers a pair."""
+    """Adds the clause of a line, or numbers a pair. The program does not know lines `n` yet."""
+    if words[0] == "n":
+        raise Refused("BadLine")
     if words[0] == "v":
         rest = Words(trace, words[1:])
         pair = rest.pair()

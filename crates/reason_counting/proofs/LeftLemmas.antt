@@ -87,7 +87,7 @@ module _ (t : TraceValue) (ok : IsTrace t) (new : List OrderPair) (left : List L
       least j c = (known_named t (named t (at_number run.process j)) (runs j c).1).least
 
 left_more : (old new : List LeftStretch) (value process place : ℕ) → AreMore old new → IsLeftAt old value process place → IsLeftAt new value process place
-left_more old new value process place more (x, c, rest) = (x, more x c, rest)
+left_more old new value process place more (x, c, value_is, process_is, least, most) = (x, more x c, value_is, process_is, least, most)
 
 pub either_more : (B : Type 0) (old new : List LeftStretch) (value process place : ℕ) → AreMore old new → B ⊎ IsLeftAt old value process place → B ⊎ IsLeftAt new value process place
 either_more B old new value process place more (inl b) = inl b

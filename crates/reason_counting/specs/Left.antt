@@ -67,8 +67,8 @@ pub record IsLeftBy (t : TraceValue) (writers : TraceWriters) (location : List �
   pub named_so : named t (at_number run.process place) ≡ w
 
 -- each clause that has the new orders bars each source of r that reads d at the location, or it is left
-pub record AreSourcesLeft (t : TraceValue) (writers : TraceWriters) (new : List OrderPair) (left : List LeftStretch) (is_initial_left : Bool) (r : OperationPlace) (origin : Origin) (pieces : SourcePieces) (location : List ℕ) (d : ℕ) : Type 0 where
-  pub writers : (clause : List (OpName × OpName)) → AreIn t new clause → IsKnown t r → AreGiven t location d r pieces → (w : OpName) → value_left_at t location w ≡ Some d → AllowsWriter origin w → IsBarred t clause location d (named t r) w ⊎ IsLeftBy t writers location left w
+pub record AreSourcesLeft (t : TraceValue) (table : TraceWriters) (new : List OrderPair) (left : List LeftStretch) (is_initial_left : Bool) (r : OperationPlace) (origin : Origin) (pieces : SourcePieces) (location : List ℕ) (d : ℕ) : Type 0 where
+  pub writers : (clause : List (OpName × OpName)) → AreIn t new clause → IsKnown t r → AreGiven t location d r pieces → (w : OpName) → value_left_at t location w ≡ Some d → AllowsWriter origin w → IsBarred t clause location d (named t r) w ⊎ IsLeftBy t table location left w
   pub initial : IsStartLeft t new is_initial_left r origin pieces location d
 
 -- the source is among those that are left

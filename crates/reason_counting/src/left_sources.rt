@@ -239,7 +239,8 @@ fn bar_taken_sources(
     bar_taken_runs(
         trace, reader, value, origin, own, runs, pieces, orders, left,
     )?;
-    bar_taken_start(trace, reader, location, value, origin, pieces, orders)
+    let is_left = bar_taken_start(trace, reader, location, value, origin, pieces, orders)?;
+    Ok(is_left)
 }
 
 /// Appends what bars the sources of the reader that a piece takes, and returns the others.

@@ -2,7 +2,6 @@
 #![tactic(auto)]
 
 pub mod counting;
-pub mod left_ends;
 pub mod left_sources;
 mod tally;
 pub mod waiting;

@@ -26,7 +26,7 @@ const MISSING_RELEASE: &str =
 const LATE_READ: &str =
     "vsc 1\ninit x 0\nfinal x 5\nproc P\nW x 4\nW x 5\nW f 1\nproc Q\nR f 1\nR x 4\n";
 
-/// Each process reads what the other one writes afterwards, and nobody writes z, which ends with another value than it begins with.
+/// Each process reads what the other one writes afterwards, and no operation writes z, which ends with another value than it begins with.
 const THIN_AIR: &str =
     "vsc 1\ninit z 0\nfinal z 1\nproc P\nR x 1\nW y 1\nproc Q\nR y 1\nW x 1\n";
 
