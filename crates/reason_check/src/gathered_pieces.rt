@@ -3,7 +3,7 @@
 use reason_clauses::barring::MainPiece;
 use reason_clauses::cause::{ReasonCause, ReasonRefusal};
 use reason_clauses::pieces::SourcePieces;
-use reason_counting::waiting::{WaitsFor, Waiter};
+use reason_counting::waiting::{Waiter, WaitsFor};
 use reason_text::member_part::MemberPart;
 use reason_text::source_piece::SourcePiece;
 use std::alloc::{AllocError, Global};

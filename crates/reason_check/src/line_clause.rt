@@ -172,10 +172,7 @@ fn add_too_few(
 }
 
 /// Numbers a pair beforehand.
-fn number_pair(
-    pair: OrderPair,
-    list: &mut ReasonList,
-) -> Result<LineOutcome, ReasonRefusal>
+fn number_pair(pair: OrderPair, list: &mut ReasonList) -> Result<LineOutcome, ReasonRefusal>
     ensures { IfOk result (IsPassed list.old list.new) }
 {
     if pair.is_of_one_process() {

@@ -111,7 +111,12 @@ fn stretches_named(trace: &Trace, name: &OpName, run: &Run, piece: ProcessPieces
 }
 
 /// The stretches of what a reader may read from in a run, by what is said of where its value comes from.
-pub fn stretches_allowed(trace: &Trace, origin: &Origin, run: &Run, piece: ProcessPieces) -> Stretches
+pub fn stretches_allowed(
+    trace: &Trace,
+    origin: &Origin,
+    run: &Run,
+    piece: ProcessPieces,
+) -> Stretches
     ensures taken { All (λ p. 1 ≤ p) run.now.places → (k : ℕ) → IsKnown trace.now (at_number run.now.process k) → Contains run.now.places k → AllowsWriter origin.now (named trace.now (at_number run.now.process k)) → IsTaken result k }
     ensures most { (n : ℕ) → All (λ p. p ≤ n) run.now.places → AreUpTo result n }
 {

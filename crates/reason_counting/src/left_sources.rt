@@ -187,9 +187,7 @@ fn bar_taken_runs(
     ensures bars { OnOk result (AreRunsLeft trace.now orders.new.items left.new.items value reader origin.now own pieces.now runs.now) }
 {
     for run in runs {
-        bar_taken_run(
-            trace, reader, value, origin, own, run, pieces, orders, left,
-        )?;
+        bar_taken_run(trace, reader, value, origin, own, run, pieces, orders, left)?;
     }
     Ok(())
 }

@@ -27,8 +27,7 @@ const LATE_READ: &str =
     "vsc 1\ninit x 0\nfinal x 5\nproc P\nW x 4\nW x 5\nW f 1\nproc Q\nR f 1\nR x 4\n";
 
 /// Each process reads what the other one writes afterwards, and no operation writes z, which ends with another value than it begins with.
-const THIN_AIR: &str =
-    "vsc 1\ninit z 0\nfinal z 1\nproc P\nR x 1\nW y 1\nproc Q\nR y 1\nW x 1\n";
+const THIN_AIR: &str = "vsc 1\ninit z 0\nfinal z 1\nproc P\nR x 1\nW y 1\nproc Q\nR y 1\nW x 1\n";
 
 /// Asserts what the check of the certificate, without its header, answers for the trace.
 fn assert_checked(
