@@ -15,6 +15,7 @@ use Rattle.lrat_check.specs.declared.derivation.Step.{Step}
 use Rattle.lrat_check.specs.declared.derivation.Step.TheVariants.{Addition, Deletion}
 use Rattle.lrat_check.proofs.SoundLemmas.{no_model, formula_no_zero}
 use Rattle.order_reasons.specs.Orders.{HoldsOfSchedules, orders_said}
+use Rattle.order_reasons.specs.Sources.{IsSourceClause}
 use Rattle.order_reasons.proofs.OrderReasons.{cycle_holds, pair_stands}
 use Rattle.order_reasons.proofs.WaitReasons.{first_waits}
 use Rattle.order_reasons.proofs.ScheduleModel.{no_schedule as unsatisfiable}
@@ -42,7 +43,7 @@ steps_of_clauses (Deletion first ids ∷ steps) h = steps_of_clauses steps (and_
 module _ (t : TraceValue) (ok : IsTrace t) where
   cycle_turned : (names : List OpName) (clause : List (OpName × OpName)) → IsCycleOf t names clause → HoldsOfSchedules t clause
   cycle_turned [] clause h = absurd h
-  cycle_turned (first ∷ rest) clause h schedule legal = cycle_holds t schedule legal.interleaving clause first rest h
+  cycle_turned (first ∷ rest) clause h = λ schedule legal. cycle_holds t schedule legal.interleaving clause first rest h
 
   last_barred : (location : List ℕ) (clause : List (OpName × OpName)) → IsLastOf t location clause → HoldsOfSchedules t clause
   last_barred location clause (inl bars) schedule legal =
@@ -52,20 +53,23 @@ module _ (t : TraceValue) (ok : IsTrace t) where
       ]
   last_barred location clause (inr lost) schedule legal = absurd (lost_final t schedule legal [] location lost)
 
+  source_barred : (r : OpName) (clause : List (OpName × OpName)) → IsSourceClause t clause r → HoldsOfSchedules t clause
+  source_barred r clause h schedule legal =
+      elim (sources_barred t schedule legal clause r (λ s. ⊥) h) [
+        | inl holds ↦ holds
+        | inr at ↦ absurd (at.1)
+      ]
+
   -- the clause of a line holds in each legal schedule
   clause_holds : (line : ReasonLine) (clause : List (OpName × OpName)) → IsClauseOfLine t line clause → HoldsOfSchedules t clause
   clause_holds Skipped clause h = absurd h
   clause_holds (Cycle operations) clause h = cycle_turned (map (named t) operations.items) clause h
-  clause_holds (Before pair) clause h schedule legal = pair_stands t schedule legal.interleaving clause (named t pair.first) (named t pair.second) h
+  clause_holds (Before pair) clause h = λ schedule legal. pair_stands t schedule legal.interleaving clause (named t pair.first) (named t pair.second) h
   clause_holds (Variable pair) clause h = absurd h
-  clause_holds (Source reader pieces) clause h schedule legal =
-      elim (sources_barred t schedule legal clause (named t reader) (λ s. ⊥) h) [
-        | inl holds ↦ holds
-        | inr at ↦ absurd (at.1)
-      ]
+  clause_holds (Source reader pieces) clause h = source_barred (named t reader) clause h
   clause_holds (Last location pieces) clause h = last_barred location.now clause h
   clause_holds (TooFew location value) clause h = subst (λ (l : List (OpName × OpName)). HoldsOfSchedules t l) (sym h.0) (too_few t ok location.now value h.1)
-  clause_holds (Waiting parts) clause h schedule legal = first_waits t schedule legal clause h.0 h.1
+  clause_holds (Waiting parts) clause h = λ schedule legal. first_waits t schedule legal clause h.0 h.1
   clause_holds Derivation clause h = absurd h
 
   -- so does each clause of the lines
@@ -84,9 +88,9 @@ module _ (t : TraceValue) (text : List ℕ) (count : ℕ) (ok : IsTrace t) (acce
   holds = each_holds t ok accepted.variables (filter (speaks t) accepted.lines) accepted.clauses accepted.made
 
   refuted : EndsEmpty accepted.clauses ⊎ HasDerivation accepted.clauses accepted.rest → HasNoSchedule t
-  refuted (inl (others, e)) schedule legal =
+  refuted (inl (others, e)) = λ schedule legal. (
       let at = holds [] (subst (λ (l : List (List ℤ)). Contains l []) (sym e) (in_middle others [] [])) schedule legal in
-      none_in (at.0, at.1) at.2
+      none_in (at.0, at.1) at.2)
   refuted (inr d) =
       let none : HasNoModelIn accepted.clauses [] = no_model accepted.clauses [] d.steps (formula_no_zero (length accepted.variables) accepted.clauses accepted.over) refl (steps_of_clauses d.steps d.derived.written) d.accepted in
       unsatisfiable t (named_pairs t accepted.variables) accepted.clauses (all_from (λ (l : List ℤ). HoldsOfSchedules t (orders_said (named_pairs t accepted.variables) l)) accepted.clauses holds) none

@@ -192,7 +192,7 @@ pub fn take_line(
     list: &mut ReasonList,
 ) -> Result<LineOutcome, ReasonRefusal>
     requires tables { HoldTables trace.now tables.now.writers }
-    ensures { IfOk result (IsTaken trace.now line list.old list.new) }
+    ensures { IfOk result (IsTaken trace.now line.entry list.old list.new) }
 {
     match line {
         ReasonLine::Skipped => Ok(LineOutcome::More),

@@ -29,7 +29,7 @@ fn check_derivation(
     derivation: DerivationText<'_>,
 ) -> Result<(), ReasonsFault>
     requires { AreOver list }
-    ensures { OnOk result (IsDerivationFor list.clauses.items derivation.text.now) }
+    ensures { OnOk result (IsDerivationFor list.clauses.items derivation.entry.text.now) }
 {
     let steps = match read_lrat(alloc, derivation.text) {
         Ok(steps) => steps,

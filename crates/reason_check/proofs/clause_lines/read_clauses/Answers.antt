@@ -1,0 +1,48 @@
+use Rattle.std.proofs.Common.{◌≡◌, ℕ, List, ◌∷◌, sym, ◌∙◌, subst, arith}
+use Rattle.text_lines.specs.Lines.{lines_of}
+use Rattle.text_lines.specs.Words.{words_of}
+use Rattle.reason_check.specs.Reading.{IsReadAndTaken, IsReadTo}
+use Rattle.reason_check.specs.declared.line_clause.LineOutcome.{LineOutcome}
+use Rattle.reason_check.specs.declared.line_clause.LineOutcome.TheVariants.{More, Refuted, Derivation}
+use Rattle.reason_check.proofs.ReadSoFar.{read_none, next_read, ends_empty, begins_behind}
+use Rattle.reason_check.proofs.clause_lines.read_clauses.Goals as goal
+
+pub loop-line-init : goal.loop-line-init
+loop-line-init c = record {
+  read = read_none c.args.trace.now c.args.text.now c.args.list.now c.in-Ok.ensures.lines.header (lines_of c.in-Ok.rest.now) c.in-Ok.ensures.lines.lines c.in-Ok.ensures.lines.headed c.requires;
+  behind = let less = c.in-Ok.ensures.shorter in omega (arith, less);
+}
+
+pub loop-line-preserved : goal.loop-line-preserved
+loop-line-preserved c =
+    let t = c.args.trace.now in
+    let text = c.args.text.now in
+    let new = c.read_and_take-taken.new.list in
+    let h : IsReadTo t text c.loop-line.list (c.in-Some.line.now ∷ lines_of c.in-Some.after.now) = subst (λ (l : List (List ℕ)). IsReadTo t text c.loop-line.list l) c.in-Some.ensures.lines c.loop-line.invariant.read in
+    let taken : IsReadAndTaken t (words_of c.in-Some.line.now) c.loop-line.list new c.in-Ok-More.field-0 = rw c.in-Ok-More.is at c.read_and_take-taken.ensures in
+    record {
+      read = next_read t text c.loop-line.list new c.in-Some.line.now (lines_of c.in-Some.after.now) c.in-Ok-More.field-0 (λ e. (let clash : More ≡ Derivation = sym c.in-Ok-More.field-0-is ∙ e in cc)) h taken;
+      behind = let most = c.loop-line.invariant.behind in let less = c.in-Some.ensures.shorter in omega (arith, most, less);
+    }
+
+pub returns-in-Ok-Refuted : goal.returns-in-Ok-Refuted
+returns-in-Ok-Refuted c =
+    let t = c.args.trace.now in
+    let text = c.args.text.now in
+    let new = c.read_and_take-taken.new.list in
+    let h : IsReadTo t text c.loop-line.list (c.in-Some.line.now ∷ lines_of c.in-Some.after.now) = subst (λ (l : List (List ℕ)). IsReadTo t text c.loop-line.list l) c.in-Some.ensures.lines c.loop-line.invariant.read in
+    let taken : IsReadAndTaken t (words_of c.in-Some.line.now) c.loop-line.list new c.in-Ok-Refuted.field-0 = rw c.in-Ok-Refuted.is at c.read_and_take-taken.ensures in
+    let refuted : IsReadAndTaken t (words_of c.in-Some.line.now) c.loop-line.list new Refuted = subst (λ (o : LineOutcome). IsReadAndTaken t (words_of c.in-Some.line.now) c.loop-line.list new o) c.in-Ok-Refuted.field-0-is taken in (
+      lines_of c.in-Some.after.now,
+      next_read t text c.loop-line.list new c.in-Some.line.now (lines_of c.in-Some.after.now) Refuted (λ e. (let clash : Refuted ≡ Derivation = e in cc)) h refuted,
+      ends_empty t text c.loop-line.list new (words_of c.in-Some.line.now) refuted,
+    )
+
+pub returns-in-Ok-Derivation : goal.returns-in-Ok-Derivation
+returns-in-Ok-Derivation c =
+    let t = c.args.trace.now in
+    let text = c.args.text.now in
+    let new = c.read_and_take-taken.new.list in
+    let h : IsReadTo t text c.loop-line.list (c.in-Some.line.now ∷ lines_of c.in-Some.after.now) = subst (λ (l : List (List ℕ)). IsReadTo t text c.loop-line.list l) c.in-Some.ensures.lines c.loop-line.invariant.read in
+    let taken : IsReadAndTaken t (words_of c.in-Some.line.now) c.loop-line.list new c.in-Ok-Derivation.field-0 = rw c.in-Ok-Derivation.is at c.read_and_take-taken.ensures in
+    begins_behind t text c.loop-line.list new c.in-Some.line.now c.in-Some.after.now h (subst (λ (o : LineOutcome). IsReadAndTaken t (words_of c.in-Some.line.now) c.loop-line.list new o) c.in-Ok-Derivation.field-0-is taken)
