@@ -20,8 +20,9 @@ loop-line-preserved c =
     let new = c.read_and_take-taken.new.list in
     let h : IsReadTo t text c.loop-line.list (c.in-Some.line.now ∷ lines_of c.in-Some.after.now) = subst (λ (l : List (List ℕ)). IsReadTo t text c.loop-line.list l) c.in-Some.ensures.lines c.loop-line.invariant.read in
     let taken : IsReadAndTaken t (words_of c.in-Some.line.now) c.loop-line.list new c.in-Ok-More.field-0 = rw c.in-Ok-More.is at c.read_and_take-taken.ensures in
+    let same : c.in-Ok-More.field-0 ≡ More = rw c.in-Ok-More.is at c.in-Ok-More.field-0-is in
     record {
-      read = next_read t text c.loop-line.list new c.in-Some.line.now (lines_of c.in-Some.after.now) c.in-Ok-More.field-0 (λ e. (let clash : More ≡ Derivation = sym c.in-Ok-More.field-0-is ∙ e in cc)) h taken;
+      read = next_read t text c.loop-line.list new c.in-Some.line.now (lines_of c.in-Some.after.now) c.in-Ok-More.field-0 (λ e. (let clash : More ≡ Derivation = sym same ∙ e in cc)) h taken;
       behind = let most = c.loop-line.invariant.behind in let less = c.in-Some.ensures.shorter in omega (arith, most, less);
     }
 
@@ -32,7 +33,8 @@ returns-in-Ok-Refuted c =
     let new = c.read_and_take-taken.new.list in
     let h : IsReadTo t text c.loop-line.list (c.in-Some.line.now ∷ lines_of c.in-Some.after.now) = subst (λ (l : List (List ℕ)). IsReadTo t text c.loop-line.list l) c.in-Some.ensures.lines c.loop-line.invariant.read in
     let taken : IsReadAndTaken t (words_of c.in-Some.line.now) c.loop-line.list new c.in-Ok-Refuted.field-0 = rw c.in-Ok-Refuted.is at c.read_and_take-taken.ensures in
-    let refuted : IsReadAndTaken t (words_of c.in-Some.line.now) c.loop-line.list new Refuted = subst (λ (o : LineOutcome). IsReadAndTaken t (words_of c.in-Some.line.now) c.loop-line.list new o) c.in-Ok-Refuted.field-0-is taken in (
+    let same : c.in-Ok-Refuted.field-0 ≡ Refuted = rw c.in-Ok-Refuted.is at c.in-Ok-Refuted.field-0-is in
+    let refuted : IsReadAndTaken t (words_of c.in-Some.line.now) c.loop-line.list new Refuted = subst (λ (o : LineOutcome). IsReadAndTaken t (words_of c.in-Some.line.now) c.loop-line.list new o) same taken in (
       lines_of c.in-Some.after.now,
       next_read t text c.loop-line.list new c.in-Some.line.now (lines_of c.in-Some.after.now) Refuted (λ e. (let clash : Refuted ≡ Derivation = e in cc)) h refuted,
       ends_empty t text c.loop-line.list new (words_of c.in-Some.line.now) refuted,
@@ -45,4 +47,5 @@ returns-in-Ok-Derivation c =
     let new = c.read_and_take-taken.new.list in
     let h : IsReadTo t text c.loop-line.list (c.in-Some.line.now ∷ lines_of c.in-Some.after.now) = subst (λ (l : List (List ℕ)). IsReadTo t text c.loop-line.list l) c.in-Some.ensures.lines c.loop-line.invariant.read in
     let taken : IsReadAndTaken t (words_of c.in-Some.line.now) c.loop-line.list new c.in-Ok-Derivation.field-0 = rw c.in-Ok-Derivation.is at c.read_and_take-taken.ensures in
-    begins_behind t text c.loop-line.list new c.in-Some.line.now c.in-Some.after.now h (subst (λ (o : LineOutcome). IsReadAndTaken t (words_of c.in-Some.line.now) c.loop-line.list new o) c.in-Ok-Derivation.field-0-is taken)
+    let same : c.in-Ok-Derivation.field-0 ≡ Derivation = rw c.in-Ok-Derivation.is at c.in-Ok-Derivation.field-0-is in
+    begins_behind t text c.loop-line.list new c.in-Some.line.now c.in-Some.after.now h (subst (λ (o : LineOutcome). IsReadAndTaken t (words_of c.in-Some.line.now) c.loop-line.list new o) same taken)
