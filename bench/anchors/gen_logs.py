@@ -240,6 +240,24 @@ def messages(seed, processes, size, channels, stale):
     return initial, {}, logs
 
 
+def locks(seed, processes, size, modulus, missing):
+    """A lock, taken by an update of 0 to 1 and given back by a write of 0. Between them a counter is read and written, modulo so many values if
+    this is not 0; with `None` there is none. `missing`: one release is not in the log, though the lock was taken again."""
+    rng = Rng(seed)
+    logs = [[] for _ in range(processes)]
+    sections = size // (2 if modulus is None else 4)
+    lost = sections // 2 + rng.below(sections // 4) if missing else -1
+    for k in range(sections):
+        log = logs[rng.below(processes)]
+        log.append(("U", "l", 0, 1))
+        if modulus is not None:
+            log.append(("R", "c", k % modulus if modulus else k))
+            log.append(("W", "c", (k + 1) % modulus if modulus else k + 1))
+        if k != lost:
+            log.append(("W", "l", 0))
+    return {"c": 0, "l": 0}, {"l": 0}, logs
+
+
 def logs_of(size, seed, values, rounds):
     """The name and the trace of each log of this size."""
     for processes, locations in ROUND_SHAPES if rounds else SHAPES:
