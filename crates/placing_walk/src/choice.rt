@@ -18,10 +18,10 @@ const LOSS: i64 = 3000;
 /// The gain of each reader that waits for the new value.
 const GAIN: i64 = 1500;
 
-/// The cost of a place that is this number of operations behind.
+/// The cost of a place that is this number of operations behind, or all of them if there are fewer.
 const PROGRESS: i64 = 2000;
 
-const PROGRESS_LENGTH: i64 = 4096;
+const PROGRESS_LENGTH: u32 = 4096;
 
 impl PlacingWalk {
     /// The next operation: a plain read that can come, since it changes nothing for others, or else a writer.
@@ -75,7 +75,8 @@ impl PlacingWalk {
         if is_open {
             worth = worth.wrapping_sub(OPEN);
         }
-        worth.wrapping_sub(estimate.wrapping_mul(PROGRESS) / PROGRESS_LENGTH)
+        let length = log.count().clamp(1, PROGRESS_LENGTH) as i64;
+        worth.wrapping_sub(estimate.wrapping_mul(PROGRESS) / length)
     }
 
     /// The gain by a reader that waits for the value of the writer.

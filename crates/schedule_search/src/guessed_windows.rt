@@ -25,7 +25,7 @@ pub(crate) fn guess_window(
 }
 
 /// Guesses the pairs from one process to another. Of operations in a row the pair of each few is enough, as the others follow within a small
-/// part of the width.
+/// part of the width. An operation whose next one is guessed to stand before the same one says nothing more.
 fn guess_between(
     order: &mut Propagation<'_>,
     places: &EstimatedPlaces,
@@ -51,8 +51,14 @@ fn guess_between(
         if behind >= end {
             break;
         }
-        order.guess(first, log.number(processes.1, behind))?;
         place = place.saturating_add(sizes.1);
+        let second = log.number(processes.1, behind);
+        let next = log.number(processes.0, place);
+        if place > log.length(processes.0)
+            || places.place(second) <= places.place(next).saturating_add(sizes.0)
+        {
+            order.guess(first, second)?;
+        }
         order.spend(1);
     }
     Ok(())

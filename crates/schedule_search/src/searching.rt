@@ -62,6 +62,40 @@ const MANY_CONFLICTS: u32 = 200_000;
 /// The number of clauses learned last of which a walk that decides always decides a literal first.
 const LAST_CLAUSES: u32 = 5;
 
+/// How far from its front a walk that decides always looks at readers.
+const REACH: u32 = 20;
+
+/// How wide a window is that is tried after all others, in fourths of the first that stood.
+const OTHER_WIDTHS: [u32; 5] = [6, 8, 3, 12, 16];
+
+/// How a walk goes about it.
+#[derive(Clone, Copy)]
+struct Manner {
+    deciding: Deciding,
+    /// How far from its front it looks at readers, or 0 for all.
+    reach: u32,
+    /// Its share of the budget, as a part of one.
+    part: u64,
+}
+
+/// A walk with few decisions.
+fn when_stuck(part: u64) -> Manner {
+    Manner {
+        deciding: Deciding::WhenStuck,
+        reach: 0,
+        part,
+    }
+}
+
+/// A walk that decides always, with so many of the clauses that were learned last.
+fn learning(clauses: u32, reach: u32, part: u64) -> Manner {
+    Manner {
+        deciding: Deciding::Always(clauses),
+        reach,
+        part,
+    }
+}
+
 impl ScheduleSearch {
     /// A search that has not begun.
     pub fn new(alloc: Global) -> ScheduleSearch {
@@ -127,7 +161,7 @@ impl ScheduleSearch {
                 }
             }
         }
-        let rest = keep_all_but(order, 2);
+        let rest = keep_a_fourth(order);
         let found = self.try_windows(alloc, order, &places)?;
         give_back(order, rest);
         if found == SearchEnding::Scheduled {
@@ -162,13 +196,12 @@ impl ScheduleSearch {
     ) -> Result<WalkEnding, AllocError> {
         if order.undecided() <= order.log().count() / 20 {
             let rows = EstimatedPlaces::of_rows(alloc, order)?;
-            let found = self.walk(alloc, order, &rows, (Deciding::WhenStuck, 3))?;
+            let found = self.walk(alloc, order, &rows, when_stuck(3))?;
             if found != WalkEnding::GivenUp {
                 return Ok(found);
             }
         }
-        let learning = Deciding::Always(LAST_CLAUSES);
-        self.walk(alloc, order, places, (learning, 4))
+        self.walk(alloc, order, places, learning(LAST_CLAUSES, REACH, 32))
     }
 
     /// Makes the rows anew, without guesses, and walks with the rest of the budget.
@@ -186,8 +219,11 @@ impl ScheduleSearch {
             Propagated::Spent => return Ok(SearchEnding::Unknown),
             Propagated::Done => {}
         }
-        let learning = Deciding::Always(LAST_CLAUSES.wrapping_mul(4));
-        let found = self.walk(alloc, order, places, (learning, 1))?;
+        let found = self.walk(alloc, order, places, learning(LAST_CLAUSES, REACH, 2))?;
+        if let Some(ending) = search_ending(found) {
+            return Ok(ending);
+        }
+        let found = self.walk(alloc, order, places, learning(20, 60, 1))?;
         match search_ending(found) {
             Some(ending) => Ok(ending),
             None => Ok(SearchEnding::Unknown),
@@ -200,14 +236,15 @@ impl ScheduleSearch {
         alloc: Global,
         order: &mut Propagation<'_>,
         places: &EstimatedPlaces,
-        manner: (Deciding, u64),
+        manner: Manner,
     ) -> Result<WalkEnding, AllocError> {
-        let rest = keep_all_but(order, manner.1);
+        let rest = keep_all_but(order, manner.part);
         let mut most = MANY_CONFLICTS;
-        if manner.0 == Deciding::WhenStuck {
+        if manner.deciding == Deciding::WhenStuck {
             most = FEW_CONFLICTS;
         }
-        let mut walk = PlacingWalk::new(alloc, order, places.as_slice(), manner.0, most)?;
+        order.set_reach(manner.reach);
+        let mut walk = PlacingWalk::new(alloc, order, places.as_slice(), manner.deciding, most)?;
         let ending = walk.run(alloc, order)?;
         self.most_placed = self.most_placed.max(walk.most_placed());
         if ending == WalkEnding::Scheduled {
@@ -216,6 +253,7 @@ impl ScheduleSearch {
         if ending == WalkEnding::Refuted && self.windows.is_empty() {
             self.core = walk.find_core(alloc, order)?;
         }
+        order.set_reach(0);
         order.take_back(0);
         give_back(order, rest);
         Ok(ending)
@@ -237,7 +275,7 @@ impl ScheduleSearch {
         for _ in 0..MOST_WINDOWS {
             if order.undecided() < order.log().count() / 10 {
                 let rows = EstimatedPlaces::of_rows(alloc, order)?;
-                let found = self.walk(alloc, order, &rows, (Deciding::WhenStuck, 5))?;
+                let found = self.walk(alloc, order, &rows, when_stuck(5))?;
                 if found == WalkEnding::Scheduled {
                     return Ok(SearchEnding::Scheduled);
                 }
@@ -246,7 +284,11 @@ impl ScheduleSearch {
                 break;
             }
         }
-        let ending = self.walk_in_windows(alloc, order)?;
+        let first = at(self.windows.as_slice(), 0, self.last_window(order)).width;
+        let mut ending = self.walk_in_windows(alloc, order)?;
+        if ending != SearchEnding::Scheduled {
+            ending = self.walk_in_others(alloc, order, places, (base, first))?;
+        }
         order.cut_to(base);
         Ok(ending)
     }
@@ -303,7 +345,7 @@ impl ScheduleSearch {
         at(self.windows.as_slice(), last, nothing)
     }
 
-    /// Walks in each window that stands, from the narrowest back.
+    /// Walks in each window that stands, from the narrowest back, and last with a longer look ahead.
     fn walk_in_windows(
         &mut self,
         alloc: Global,
@@ -311,6 +353,7 @@ impl ScheduleSearch {
     ) -> Result<SearchEnding, AllocError> {
         for _ in 0..MOST_WINDOWS {
             let window = self.last_window(order);
+            let part = (size(self.windows.as_slice()) as u64).saturating_add(2);
             if self.windows.pop().is_none() {
                 break;
             }
@@ -319,7 +362,7 @@ impl ScheduleSearch {
                 Propagated::Spent => break,
                 Propagated::Conflict => {}
                 Propagated::Done => {
-                    if self.walk_both_ways(alloc, order)? {
+                    if self.walk_both_ways(alloc, order, part)? {
                         return Ok(SearchEnding::Scheduled);
                     }
                 }
@@ -333,15 +376,41 @@ impl ScheduleSearch {
         &mut self,
         alloc: Global,
         order: &mut Propagation<'_>,
+        part: u64,
     ) -> Result<bool, AllocError> {
         let rows = EstimatedPlaces::of_rows(alloc, order)?;
-        let found = self.walk(alloc, order, &rows, (Deciding::WhenStuck, 5))?;
+        let found = self.walk(alloc, order, &rows, when_stuck(part))?;
         if found == WalkEnding::Scheduled {
             return Ok(true);
         }
-        let learning = Deciding::Always(LAST_CLAUSES);
-        let found = self.walk(alloc, order, &rows, (learning, 4))?;
+        let found = self.walk(alloc, order, &rows, learning(LAST_CLAUSES, REACH, part))?;
         Ok(found == WalkEnding::Scheduled)
+    }
+
+    /// Walks in windows of other widths than that of the first that stood: which one holds a schedule that is soon found is luck.
+    fn walk_in_others(
+        &mut self,
+        alloc: Global,
+        order: &mut Propagation<'_>,
+        places: &EstimatedPlaces,
+        first: (TrailMark, u32),
+    ) -> Result<SearchEnding, AllocError> {
+        for fourths in OTHER_WIDTHS {
+            order.cut_to(first.0);
+            let width = (first.1 / 4).saturating_mul(fourths);
+            match guess_window(order, places, width)? {
+                Propagated::Spent => break,
+                Propagated::Conflict => {}
+                Propagated::Done => {
+                    let rows = EstimatedPlaces::of_rows(alloc, order)?;
+                    let manner = learning(LAST_CLAUSES, REACH, 3);
+                    if self.walk(alloc, order, &rows, manner)? == WalkEnding::Scheduled {
+                        return Ok(SearchEnding::Scheduled);
+                    }
+                }
+            }
+        }
+        Ok(SearchEnding::Unknown)
     }
 }
 
@@ -375,6 +444,15 @@ fn keep_all_but(order: &mut Propagation<'_>, part: u64) -> Budget {
         steps /= part;
     }
     let share = rest.share(steps);
+    order.set_budget(share);
+    rest
+}
+
+/// Leaves to the order three fourths of its budget, and returns the rest.
+fn keep_a_fourth(order: &mut Propagation<'_>) -> Budget {
+    let mut rest = order.budget();
+    let steps = rest.left();
+    let share = rest.share(steps.saturating_sub(steps / 4));
     order.set_budget(share);
     rest
 }

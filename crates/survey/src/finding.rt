@@ -4,6 +4,7 @@ ghost use Rattle.std.specs.Prelude.{◌≤◌, IfOk};
 use crate::another::make_smaller;
 use crate::counting_first::counted_reasons;
 use crate::given_order::GivenOrder;
+use crate::local_reads::ReducedLog;
 use crate::purse::Purse;
 use crate::reading::{log_of, names_of};
 use crate::shrinking::Core;
@@ -31,6 +32,9 @@ struct Walked {
     /// The readers that have more than one possible source.
     undecided: u32,
 }
+
+/// The looks at entries of tables that are one step.
+const LOOKS: u64 = 4;
 
 /// The progress of a survey that has taken no step.
 const NO_EXTENT: Extent = Extent {
@@ -71,13 +75,13 @@ impl BySaturation {
     {
         let log = log_of(alloc, trace)?;
         let mut purse = Purse::new(self.budget);
-        let mut budget = Budget::new(purse.left());
+        let mut budget = Budget::new(purse.left().saturating_mul(LOOKS));
         let walked = walk_over(alloc, &log, &mut budget)?;
-        purse.settle(budget.left());
-        let spent = purse.taken();
-        let mut budget = Budget::new(purse.left());
+        purse.settle(budget.left() / LOOKS);
+        let spent = purse.taken().saturating_mul(LOOKS);
+        let mut budget = Budget::new(purse.left().saturating_mul(LOOKS));
         let finding = finding_of(alloc, trace, &log, walked.numbers, spent, &mut budget)?;
-        purse.settle(budget.left());
+        purse.settle(budget.left() / LOOKS);
         Ok(Overview {
             finding,
             extent: Extent {
@@ -116,13 +120,14 @@ fn finding_of(
 /// not made smaller is often too large to be refuted.
 fn walk_over(alloc: Global, log: &NumberedLog, budget: &mut Budget) -> Result<Walked, AllocError> {
     let kept = budget.share(budget.left() / 4);
-    let mut order = Propagation::new(alloc, log, *budget)?;
+    let reduced = ReducedLog::of(alloc, log)?;
+    let mut order = Propagation::new(alloc, &reduced.log, *budget)?;
     let mut search = ScheduleSearch::new(alloc);
     let ending = search.run(alloc, &mut order)?;
     *budget = order.budget();
     budget.give_back(kept);
     Ok(Walked {
-        numbers: numbers_of(alloc, &search, ending)?,
+        numbers: numbers_of(alloc, log, &reduced, &search, ending)?,
         placed: search.most_placed(),
         undecided: undecided_of(&order),
     })
@@ -142,15 +147,17 @@ fn undecided_of(order: &Propagation<'_>) -> u32 {
 /// The finding of a search that has ended so.
 fn numbers_of(
     alloc: Global,
+    log: &NumberedLog,
+    reduced: &ReducedLog,
     search: &ScheduleSearch,
     ending: SearchEnding,
 ) -> Result<NumberedFinding, AllocError> {
     if ending == SearchEnding::Scheduled {
-        let schedule = Vec::from_slice(alloc, search.schedule())?;
+        let schedule = reduced.expand(alloc, log, search.schedule())?;
         return Ok(NumberedFinding::Schedule(schedule));
     }
     match search.core() {
-        Some(core) => Ok(NumberedFinding::Core(Vec::from_slice(alloc, core)?)),
+        Some(core) => Ok(NumberedFinding::Core(reduced.in_whole(alloc, core)?)),
         None => Ok(NumberedFinding::Nothing),
     }
 }

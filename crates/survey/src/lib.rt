@@ -9,6 +9,7 @@ mod contradiction;
 mod counting_first;
 mod finding;
 mod given_order;
+mod local_reads;
 mod part;
 mod purse;
 mod reading;

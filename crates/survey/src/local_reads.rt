@@ -1,0 +1,137 @@
+//! A log without the reads that repeat what their process has just seen: they can follow it at once in each schedule, and say nothing new.
+
+use numbered_log::{NumberedLog, NumberedOrigin, NumberedPair, Operation};
+use order_sets::tables::{at, put, size};
+use std::alloc::{AllocError, Global};
+
+/// A log without repeated local reads.
+pub struct ReducedLog {
+    pub log: NumberedLog,
+    /// For each of its operations its number in the whole.
+    numbers: Vec<u32>,
+}
+
+/// Drops both tables, in one call for each exit of a function that owns a log.
+impl Drop for ReducedLog {
+    fn drop(self) {
+        let ReducedLog {
+            log: _log,
+            numbers: _numbers,
+        } = self;
+    }
+}
+
+/// The value that the location holds for the process behind the operation.
+fn value_seen(operation: Operation) -> u64 {
+    if operation.writes {
+        operation.left
+    } else {
+        operation.needed
+    }
+}
+
+/// For each operation whether an origin or a pair names it.
+fn named(alloc: Global, log: &NumberedLog) -> Result<Vec<bool>, AllocError> {
+    let mut is_named = vec![in alloc; false; log.count() as usize]?;
+    for number in 0..log.count() {
+        if let NumberedOrigin::Operation(origin) = log.operation(number).origin {
+            put(is_named.as_mut_slice(), origin, true);
+        }
+    }
+    for pair in log.pairs() {
+        put(is_named.as_mut_slice(), pair.first, true);
+        put(is_named.as_mut_slice(), pair.second, true);
+    }
+    Ok(is_named)
+}
+
+/// Returns whether the operation is a plain read of what the one before it in its process has left or read.
+fn repeats(log: &NumberedLog, number: u32) -> bool {
+    let operation = log.operation(number);
+    if operation.place <= 1 || !operation.reads || operation.writes {
+        return false;
+    }
+    let previous = log.operation(number.wrapping_sub(1));
+    matches!(operation.origin, NumberedOrigin::Any)
+        && previous.location == operation.location
+        && value_seen(previous) == operation.needed
+}
+
+impl ReducedLog {
+    /// The log without its repeated local reads, of which those stay that something names.
+    pub fn of(alloc: Global, log: &NumberedLog) -> Result<ReducedLog, AllocError> {
+        let is_named = named(alloc, log)?;
+        let mut reduced = ReducedLog {
+            log: NumberedLog::new(alloc, log.locations())?,
+            numbers: Vec::new(alloc),
+        };
+        let mut renamed = vec![in alloc; 0; log.count() as usize]?;
+        for process in 0..log.processes() {
+            for place in 1..log.length(process).wrapping_add(1) {
+                let number = log.number(process, place);
+                if at(is_named.as_slice(), number, true) || !repeats(log, number) {
+                    let kept = size(reduced.numbers.as_slice());
+                    put(renamed.as_mut_slice(), number, kept);
+                    reduced.numbers.push(number)?;
+                    reduced.log.add_operation(log.operation(number))?;
+                }
+            }
+            reduced.log.end_process()?;
+        }
+        reduced.rename(log, renamed.as_slice())?;
+        Ok(reduced)
+    }
+
+    /// Takes over values, origins and pairs, by the new numbers.
+    fn rename(&mut self, log: &NumberedLog, renamed: &[u32]) -> Result<(), AllocError> {
+        for location in 0..log.locations() {
+            self.log.set_initial(location, log.initial(location));
+            self.log.set_last(location, log.last(location));
+        }
+        for number in 0..self.log.count() {
+            if let NumberedOrigin::Operation(origin) = self.log.operation(number).origin {
+                let kept = at(renamed, origin, origin);
+                self.log.set_origin(number, NumberedOrigin::Operation(kept));
+            }
+        }
+        for pair in log.pairs() {
+            self.log.add_pair(NumberedPair {
+                first: at(renamed, pair.first, pair.first),
+                second: at(renamed, pair.second, pair.second),
+            })?;
+        }
+        Ok(())
+    }
+
+    /// The numbers in the whole of some operations.
+    pub fn in_whole(&self, alloc: Global, operations: &[u32]) -> Result<Vec<u32>, AllocError> {
+        let mut whole = Vec::with_capacity(alloc, operations.len())?;
+        for operation in operations {
+            whole.push(at(self.numbers.as_slice(), *operation, 0))?;
+        }
+        Ok(whole)
+    }
+
+    /// The schedule of the whole in which each read that was left out follows the operation before it at once.
+    pub fn expand(
+        &self,
+        alloc: Global,
+        log: &NumberedLog,
+        schedule: &[u32],
+    ) -> Result<Vec<u32>, AllocError> {
+        let mut whole = Vec::with_capacity(alloc, log.count() as usize)?;
+        for operation in schedule {
+            let number = at(self.numbers.as_slice(), *operation, 0);
+            let process = log.operation(number).process;
+            let mut end = log.start(process).wrapping_add(log.length(process));
+            let kept = self.log.operation(*operation);
+            if kept.place < self.log.length(kept.process) {
+                end = at(self.numbers.as_slice(), operation.wrapping_add(1), end);
+            }
+            for following in number..end {
+                whole.push(following)?;
+            }
+        }
+        Ok(whole)
+    }
+}
