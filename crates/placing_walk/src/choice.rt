@@ -75,7 +75,7 @@ impl PlacingWalk {
         if is_open {
             worth = worth.wrapping_sub(OPEN);
         }
-        let length = log.count().clamp(1, PROGRESS_LENGTH) as i64;
+        let length = log.count().min(PROGRESS_LENGTH).max(1) as i64;
         worth.wrapping_sub(estimate.wrapping_mul(PROGRESS) / length)
     }
 

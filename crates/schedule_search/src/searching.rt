@@ -65,8 +65,25 @@ const LAST_CLAUSES: u32 = 5;
 /// How far from its front a walk that decides always looks at readers.
 const REACH: u32 = 20;
 
-/// How wide a window is that is tried after all others, in fourths of the first that stood.
-const OTHER_WIDTHS: [u32; 5] = [6, 8, 3, 12, 16];
+/// The same of the last walk, which has the most of the budget.
+const MORE_CLAUSES: u32 = 20;
+
+const LONG_REACH: u32 = 60;
+
+/// The number of windows that are tried after all others.
+const OTHER_WINDOWS: u32 = 5;
+
+/// The width of the window that is tried as the one of this number after all others, given that of the first that stood.
+fn other_width(number: u32, first: u32) -> u32 {
+    let fourths: u32 = match number {
+        0 => 6,
+        1 => 8,
+        2 => 3,
+        3 => 12,
+        _ => 16,
+    };
+    (first / 4).saturating_mul(fourths)
+}
 
 /// How a walk goes about it.
 #[derive(Clone, Copy)]
@@ -223,7 +240,8 @@ impl ScheduleSearch {
         if let Some(ending) = search_ending(found) {
             return Ok(ending);
         }
-        let found = self.walk(alloc, order, places, learning(20, 60, 1))?;
+        let manner = learning(MORE_CLAUSES, LONG_REACH, 1);
+        let found = self.walk(alloc, order, places, manner)?;
         match search_ending(found) {
             Some(ending) => Ok(ending),
             None => Ok(SearchEnding::Unknown),
@@ -395,10 +413,9 @@ impl ScheduleSearch {
         places: &EstimatedPlaces,
         first: (TrailMark, u32),
     ) -> Result<SearchEnding, AllocError> {
-        for fourths in OTHER_WIDTHS {
+        for number in 0..OTHER_WINDOWS {
             order.cut_to(first.0);
-            let width = (first.1 / 4).saturating_mul(fourths);
-            match guess_window(order, places, width)? {
+            match guess_window(order, places, other_width(number, first.1))? {
                 Propagated::Spent => break,
                 Propagated::Conflict => {}
                 Propagated::Done => {

@@ -24,10 +24,14 @@ const LEAST_FOR_ANOTHER: u64 = 4_000_000;
 /// The operations of a core beyond which its part may be too large to be refuted.
 const LARGE: u32 = 40;
 
-/// The steps that the search for others may take: about as many as found the core, or half of what is left if that is large.
-fn steps_for_another(core: &Core<'_>, spent: u64, budget: &Budget) -> u64 {
+/// The number of steps that the search for others may take in any case if the core is large.
+const LEAST_FOR_LARGE: u64 = 60_000_000;
+
+/// The steps that the search for others may take: about as many as found the core, or some. A large core is worth more of them, since its
+/// part may be too large to be refuted.
+fn steps_for_another(core: &Core<'_>, spent: u64) -> u64 {
     if core.count() > LARGE {
-        budget.left() / 2
+        spent.max(LEAST_FOR_LARGE)
     } else {
         spent.max(LEAST_FOR_ANOTHER)
     }
@@ -63,7 +67,7 @@ pub fn make_smaller<'a>(
     spent: u64,
     budget: &mut Budget,
 ) -> Result<(), AllocError> {
-    let steps = steps_for_another(core, spent, budget);
+    let steps = steps_for_another(core, spent);
     let mut share = budget.share(steps);
     apart_from_each(alloc, forced, core, &mut share)?;
     // With a small budget the share is all of it, and the core could not be made smaller with nothing left.
