@@ -11,9 +11,6 @@ impl<'a> Propagation<'a> {
     /// More stands before the operation.
     #[inline(always)]
     pub(crate) fn wake_raised(&mut self, number: u32, operation: Operation, has_news: bool) {
-        if self.is_out_of_reach(operation) {
-            return;
-        }
         if operation.reads && has_news {
             self.agenda.add(number);
         }
@@ -25,9 +22,6 @@ impl<'a> Propagation<'a> {
     /// More stands after the operation.
     #[inline(always)]
     pub(crate) fn wake_lowered(&mut self, number: u32, operation: Operation, has_news: bool) {
-        if self.is_out_of_reach(operation) {
-            return;
-        }
         if operation.reads && self.sources.has_several(number) {
             self.agenda.add(number);
         }
@@ -44,7 +38,7 @@ impl<'a> Propagation<'a> {
 
     /// Wakes the readers that have the writer at an end of their interval, all of them or those of several sources: what lies within an
     /// interval says nothing.
-    pub(crate) fn wake_readers(&mut self, writer: u32, all: bool) {
+    fn wake_readers(&mut self, writer: u32, all: bool) {
         let class = self.classes.class_of(writer);
         let begin = self.readers.begin(class);
         let end = self.readers.end(class);
@@ -143,7 +137,7 @@ impl<'a> Propagation<'a> {
         let (low, high) = self.ends_at(position, writer);
         let own = self.classes.position_of(writer);
         if low < high && (low == own || high.wrapping_sub(1) == own) {
-            self.wake(reader);
+            self.agenda.add(reader);
         }
     }
 }

@@ -18,10 +18,10 @@ const LOSS: i64 = 3000;
 /// The gain of each reader that waits for the new value.
 const GAIN: i64 = 1500;
 
-/// The cost of a place that is this number of operations behind, or all of them if there are fewer.
+/// The cost of a place that is this number of operations behind.
 const PROGRESS: i64 = 2000;
 
-const PROGRESS_LENGTH: u32 = 4096;
+const PROGRESS_LENGTH: i64 = 4096;
 
 impl PlacingWalk {
     /// The next operation: a plain read that can come, since it changes nothing for others, or else a writer.
@@ -75,8 +75,7 @@ impl PlacingWalk {
         if is_open {
             worth = worth.wrapping_sub(OPEN);
         }
-        let length = log.count().min(PROGRESS_LENGTH).max(1) as i64;
-        worth.wrapping_sub(estimate.wrapping_mul(PROGRESS) / length)
+        worth.wrapping_sub(estimate.wrapping_mul(PROGRESS) / PROGRESS_LENGTH)
     }
 
     /// The gain by a reader that waits for the value of the writer.

@@ -37,15 +37,12 @@ impl PlacingWalk {
                 }
             }
         }
-        if order.pairs().count() != before || order.has_waiting() {
+        if order.pairs().count() != before {
             match self.clauses.propagate(order)? {
-                Propagated::Done => {}
+                Propagated::Done => self.heed(order, NOBODY),
                 Propagated::Spent => return Ok(Some(WalkEnding::GivenUp)),
                 Propagated::Conflict => return self.resolve(order),
             }
-        }
-        if order.pairs().count() != before {
-            self.heed(order, NOBODY);
             let is_next = operation.place == self.memory.front(operation.process);
             if !is_next || self.awaited_by(order, operation.process) != Awaited::Nothing {
                 return Ok(None);
@@ -167,7 +164,7 @@ impl PlacingWalk {
 
     /// Takes back what is not placed in the order of all pairs, with all behind it; if the walk decides always, also what was placed after the
     /// decisions that were undone.
-    pub(crate) fn heed(&mut self, order: &mut Propagation<'_>, target: u32) {
+    pub(crate) fn heed(&mut self, order: &Propagation<'_>, target: u32) {
         let log = order.log();
         let mut left = self.memory.count();
         if self.deciding != Deciding::WhenStuck {
@@ -182,20 +179,9 @@ impl PlacingWalk {
             }
         }
         self.heeded = order.pairs().count();
-        self.take_back(order, left);
-        if self.deciding == Deciding::WhenStuck {
-            self.memory.note_sources(order);
-        }
-        self.change_all(log.processes());
-    }
-
-    /// Takes operations back, the last first, until this number is placed.
-    fn take_back(&mut self, order: &mut Propagation<'_>, left: u32) {
-        let log = order.log();
         self.memory.take_back(log, left);
-        for process in 0..log.processes() {
-            order.set_front(process, self.memory.front(process));
-        }
+        self.memory.note_sources(order);
+        self.change_all(log.processes());
     }
 
     /// Goes on if no operation can come next: an order is decided by which processes stop to wait for one another, or it is a conflict.
@@ -221,7 +207,7 @@ impl PlacingWalk {
         if self.restarts > MOST_RESTARTS {
             return Ok(Some(WalkEnding::GivenUp));
         }
-        self.take_back(order, 0);
+        self.memory.take_back(order.log(), 0);
         self.change_all(order.log().processes());
         Ok(None)
     }

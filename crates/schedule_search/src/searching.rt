@@ -62,13 +62,8 @@ const MANY_CONFLICTS: u32 = 200_000;
 /// The number of clauses learned last of which a walk that decides always decides a literal first.
 const LAST_CLAUSES: u32 = 5;
 
-/// How far from its front a walk that decides always looks at readers.
-const REACH: u32 = 20;
-
-/// The same of the last walk, which has the most of the budget.
+/// The same of the last walk.
 const MORE_CLAUSES: u32 = 20;
-
-const LONG_REACH: u32 = 60;
 
 /// The number of windows that are tried after all others.
 const OTHER_WINDOWS: u32 = 5;
@@ -89,8 +84,6 @@ fn other_width(number: u32, first: u32) -> u32 {
 #[derive(Clone, Copy)]
 struct Manner {
     deciding: Deciding,
-    /// How far from its front it looks at readers, or 0 for all.
-    reach: u32,
     /// Its share of the budget, as a part of one.
     part: u64,
 }
@@ -99,16 +92,14 @@ struct Manner {
 fn when_stuck(part: u64) -> Manner {
     Manner {
         deciding: Deciding::WhenStuck,
-        reach: 0,
         part,
     }
 }
 
 /// A walk that decides always, with so many of the clauses that were learned last.
-fn learning(clauses: u32, reach: u32, part: u64) -> Manner {
+fn learning(clauses: u32, part: u64) -> Manner {
     Manner {
         deciding: Deciding::Always(clauses),
-        reach,
         part,
     }
 }
@@ -218,7 +209,7 @@ impl ScheduleSearch {
                 return Ok(found);
             }
         }
-        self.walk(alloc, order, places, learning(LAST_CLAUSES, REACH, 32))
+        self.walk(alloc, order, places, learning(LAST_CLAUSES, 32))
     }
 
     /// Makes the rows anew, without guesses, and walks with the rest of the budget.
@@ -236,11 +227,7 @@ impl ScheduleSearch {
             Propagated::Spent => return Ok(SearchEnding::Unknown),
             Propagated::Done => {}
         }
-        let found = self.walk(alloc, order, places, learning(LAST_CLAUSES, REACH, 2))?;
-        if let Some(ending) = search_ending(found) {
-            return Ok(ending);
-        }
-        let manner = learning(MORE_CLAUSES, LONG_REACH, 1);
+        let manner = learning(MORE_CLAUSES, 1);
         let found = self.walk(alloc, order, places, manner)?;
         match search_ending(found) {
             Some(ending) => Ok(ending),
@@ -261,7 +248,6 @@ impl ScheduleSearch {
         if manner.deciding == Deciding::WhenStuck {
             most = FEW_CONFLICTS;
         }
-        order.set_reach(manner.reach);
         let mut walk = PlacingWalk::new(alloc, order, places.as_slice(), manner.deciding, most)?;
         let ending = walk.run(alloc, order)?;
         self.most_placed = self.most_placed.max(walk.most_placed());
@@ -271,7 +257,6 @@ impl ScheduleSearch {
         if ending == WalkEnding::Refuted && self.windows.is_empty() {
             self.core = walk.find_core(alloc, order)?;
         }
-        order.set_reach(0);
         order.take_back(0);
         give_back(order, rest);
         Ok(ending)
@@ -308,6 +293,8 @@ impl ScheduleSearch {
             ending = self.walk_in_others(alloc, order, places, (base, first))?;
         }
         order.cut_to(base);
+        // What a walk in a window refutes rests on guesses.
+        self.core = None;
         Ok(ending)
     }
 
@@ -363,7 +350,7 @@ impl ScheduleSearch {
         at(self.windows.as_slice(), last, nothing)
     }
 
-    /// Walks in each window that stands, from the narrowest back, and last with a longer look ahead.
+    /// Walks in each window that stands, from the narrowest back.
     fn walk_in_windows(
         &mut self,
         alloc: Global,
@@ -401,7 +388,7 @@ impl ScheduleSearch {
         if found == WalkEnding::Scheduled {
             return Ok(true);
         }
-        let found = self.walk(alloc, order, &rows, learning(LAST_CLAUSES, REACH, part))?;
+        let found = self.walk(alloc, order, &rows, learning(LAST_CLAUSES, part))?;
         Ok(found == WalkEnding::Scheduled)
     }
 
@@ -420,7 +407,7 @@ impl ScheduleSearch {
                 Propagated::Conflict => {}
                 Propagated::Done => {
                     let rows = EstimatedPlaces::of_rows(alloc, order)?;
-                    let manner = learning(LAST_CLAUSES, REACH, 3);
+                    let manner = learning(LAST_CLAUSES, 3);
                     if self.walk(alloc, order, &rows, manner)? == WalkEnding::Scheduled {
                         return Ok(SearchEnding::Scheduled);
                     }
