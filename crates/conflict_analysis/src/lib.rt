@@ -15,3 +15,5 @@ mod way_search;
 pub use analysis::{Analysis, Backjump};
 pub use conflict_core::core_of_conflict;
 pub use learned_clauses::{LearnedClauses, Literal};
+pub use pair_cycle::pairs_of_cycle;
+pub use way_search::{WayQuestion, WaySearch};

@@ -27,7 +27,7 @@ impl Drop for PassedFronts {
 }
 
 /// The numbers of the pairs of a cycle that the pairs make with program order; none if there is no cycle.
-pub(crate) fn pairs_of_cycle(
+pub fn pairs_of_cycle(
     alloc: Global,
     order: &Propagation<'_>,
 ) -> Result<Vec<u32>, AllocError> {

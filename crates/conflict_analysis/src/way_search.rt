@@ -8,14 +8,14 @@ use std::alloc::{AllocError, Global};
 
 /// What is asked for: why the first operation stands before the second by pairs that are older than a time.
 #[derive(Clone, Copy)]
-pub(crate) struct WayQuestion {
-    pub(crate) first: u32,
-    pub(crate) second: u32,
-    pub(crate) time: Time,
+pub struct WayQuestion {
+    pub first: u32,
+    pub second: u32,
+    pub time: Time,
 }
 
 /// A search for a way with the fewest pairs that are not used yet.
-pub(crate) struct WaySearch {
+pub struct WaySearch {
     /// The number of the search at hand, by which each operation that it has met is known.
     turn: u32,
     turns: Vec<u32>,
@@ -48,7 +48,7 @@ impl Drop for WaySearch {
 }
 
 impl WaySearch {
-    pub(crate) fn new(alloc: Global, operations: u32) -> Result<WaySearch, AllocError> {
+    pub fn new(alloc: Global, operations: u32) -> Result<WaySearch, AllocError> {
         let count = operations as usize;
         Ok(WaySearch {
             turn: 0,
@@ -63,29 +63,29 @@ impl WaySearch {
     }
 
     /// The number of pairs of the way that was found.
-    pub(crate) fn pairs(&self) -> u32 {
+    pub fn pairs(&self) -> u32 {
         size(self.way.as_slice())
     }
 
     /// The pair of the way that has this number.
-    pub(crate) fn pair(&self, number: u32) -> u32 {
+    pub fn pair(&self, number: u32) -> u32 {
         at(self.way.as_slice(), number, NOBODY)
     }
 
     /// The number of steps since it was last asked, which goes on.
-    pub(crate) fn steps(&self) -> u64 {
+    pub fn steps(&self) -> u64 {
         self.steps
     }
 
     /// The number of steps since it was last asked.
-    pub(crate) fn take_steps(&mut self) -> u64 {
+    pub fn take_steps(&mut self) -> u64 {
         let steps = self.steps;
         self.steps = 0;
         steps
     }
 
     /// Finds a way. Pairs that are marked cost nothing, and neither do those of no decision if these need no reason.
-    pub(crate) fn find(
+    pub fn find(
         &mut self,
         order: &Propagation<'_>,
         question: WayQuestion,

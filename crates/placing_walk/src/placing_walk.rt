@@ -135,6 +135,11 @@ impl PlacingWalk {
         Ok(core)
     }
 
+    /// The clauses that were learned.
+    pub fn clauses(&self) -> &LearnedClauses {
+        &self.clauses
+    }
+
     /// Places one operation after the other. Those are taken back that break an order which is decided or follows.
     pub fn run(
         &mut self,

@@ -3,7 +3,7 @@
 use crate::counted_cores::{operations_of, takers_of_class};
 use crate::estimated_places::EstimatedPlaces;
 use crate::guessed_windows::guess_window;
-use conflict_analysis::core_of_conflict;
+use conflict_analysis::{LearnedClauses, core_of_conflict};
 use numbered_log::Budget;
 use order_propagation::{Propagated, Propagation, TrailMark};
 use order_sets::tables::{at, size};
@@ -36,6 +36,12 @@ pub struct ScheduleSearch {
     schedule: Vec<u32>,
     /// If the log was refuted, the operations that the reasons of that name.
     core: Option<Vec<u32>>,
+    /// The clauses that all walks without guesses have learned, in their order: what they left as pairs of no decision stays in the order.
+    learned: Option<LearnedClauses>,
+    /// Whether the order has guesses.
+    is_guessing: bool,
+    /// If counting by the order has refuted it, the updates and last writes that have too few sources.
+    takers: Option<Vec<u32>>,
     most_placed: u32,
 }
 
@@ -46,6 +52,9 @@ impl Drop for ScheduleSearch {
             windows: _windows,
             schedule: _schedule,
             core: _core,
+            learned: _learned,
+            takers: _takers,
+            is_guessing: _,
             most_placed: _,
         } = self;
     }
@@ -111,6 +120,9 @@ impl ScheduleSearch {
             windows: Vec::new(alloc),
             schedule: Vec::new(alloc),
             core: None,
+            learned: None,
+            takers: None,
+            is_guessing: false,
             most_placed: 0,
         }
     }
@@ -125,6 +137,22 @@ impl ScheduleSearch {
     pub fn core(&self) -> Option<&[u32]> {
         match &self.core {
             Some(core) => Some(core.as_slice()),
+            None => None,
+        }
+    }
+
+    /// The clauses that walks have learned of the log, in their order; none if nothing was walked over.
+    pub fn learned(&self) -> Option<&LearnedClauses> {
+        match &self.learned {
+            Some(learned) => Some(learned),
+            None => None,
+        }
+    }
+
+    /// The updates and last writes by which counting has refuted the log, after the order had dropped sources; none if it has not.
+    pub fn takers(&self) -> Option<&[u32]> {
+        match &self.takers {
+            Some(takers) => Some(takers.as_slice()),
             None => None,
         }
     }
@@ -170,7 +198,9 @@ impl ScheduleSearch {
             }
         }
         let rest = keep_a_fourth(order);
+        self.is_guessing = true;
         let found = self.try_windows(alloc, order, &places)?;
+        self.is_guessing = false;
         give_back(order, rest);
         if found == SearchEnding::Scheduled {
             return Ok(found);
@@ -190,6 +220,7 @@ impl ScheduleSearch {
             Counted::Enough => Ok(false),
             Counted::TooFew(takers) => {
                 self.core = Some(operations_of(alloc, order.log(), takers.as_slice())?);
+                self.takers = Some(takers);
                 Ok(true)
             }
         }
@@ -254,12 +285,33 @@ impl ScheduleSearch {
         if ending == WalkEnding::Scheduled {
             self.schedule = Vec::from_slice(alloc, walk.placed())?;
         }
-        if ending == WalkEnding::Refuted && self.windows.is_empty() {
-            self.core = walk.find_core(alloc, order)?;
+        if !self.is_guessing {
+            self.keep_learned(alloc, order, &walk)?;
+            if ending == WalkEnding::Refuted {
+                self.core = walk.find_core(alloc, order)?;
+            }
         }
         order.take_back(0);
         give_back(order, rest);
         Ok(ending)
+    }
+
+    /// Keeps the clauses that the walk has learned, behind those of the walks before it.
+    fn keep_learned(
+        &mut self,
+        alloc: Global,
+        order: &Propagation<'_>,
+        walk: &PlacingWalk,
+    ) -> Result<(), AllocError> {
+        let mut learned = match self.learned.take() {
+            Some(learned) => learned,
+            None => LearnedClauses::new(alloc, order.log().count())?,
+        };
+        for number in 0..walk.clauses().count() {
+            learned.add(walk.clauses().literals(number))?;
+        }
+        self.learned = Some(learned);
+        Ok(())
     }
 
     /// Makes windows wider until one stands, then places smaller ones on top, and walks in the smallest.

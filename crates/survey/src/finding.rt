@@ -3,6 +3,7 @@ ghost use Rattle.std.specs.Prelude.{◌≤◌, IfOk};
 
 use crate::another::make_smaller;
 use crate::counting_first::counted_reasons;
+use crate::engine_reasons::{TraceCertificate, certificate_of};
 use crate::given_order::GivenOrder;
 use crate::local_reads::ReducedLog;
 use crate::purse::Purse;
@@ -10,6 +11,7 @@ use crate::reading::{log_of, names_of};
 use crate::shrinking::Core;
 use numbered_log::{Budget, NumberedLog};
 use order_propagation::Propagation;
+use order_sets::tables::size;
 use schedule_search::{ScheduleSearch, SearchEnding};
 use std::alloc::{AllocError, Global};
 use surveyor::{Extent, Finding, Overview, Surveyor};
@@ -23,10 +25,27 @@ enum NumberedFinding {
     Nothing,
 }
 
+/// The finding, by names.
+#[derive(Drop)]
+struct NamedFinding {
+    finding: Finding,
+    /// Whether it is a schedule, or a core that the survey has refuted and whose part is decided by its formula.
+    is_shown: bool,
+}
+
+/// A core that was made smaller, and whether it is refuted in what the survey makes of its part.
+#[derive(Drop)]
+struct SmallCore {
+    operations: Vec<u32>,
+    is_refuted: bool,
+}
+
 /// A walk's end, and how far it came.
 #[derive(Drop)]
 struct Walked {
     numbers: NumberedFinding,
+    /// The certificate of the contradiction, if there is one.
+    certificate: Option<TraceCertificate>,
     /// The most operations that were placed.
     placed: u32,
     /// The readers that have more than one possible source.
@@ -35,6 +54,9 @@ struct Walked {
 
 /// The looks at entries of tables that are one step.
 const LOOKS: u64 = 4;
+
+/// The most operations of a part that is decided by its formula.
+const MAX_OF_FORMULA: u32 = 160;
 
 /// The progress of a survey that has taken no step.
 const NO_EXTENT: Extent = Extent {
@@ -80,13 +102,20 @@ impl BySaturation {
         purse.settle(budget.left() / LOOKS);
         let spent = purse.taken().saturating_mul(LOOKS);
         let mut budget = Budget::new(purse.left().saturating_mul(LOOKS));
-        let finding = finding_of(alloc, trace, &log, walked.numbers, spent, &mut budget)?;
+        let Walked {
+            numbers,
+            certificate,
+            placed,
+            undecided,
+        } = walked;
+        let found = finding_of(alloc, trace, &log, numbers, spent, &mut budget)?;
         purse.settle(budget.left() / LOOKS);
+        let finding = found.or_certificate(alloc, trace, &log, certificate)?;
         Ok(Overview {
             finding,
             extent: Extent {
-                placed: walked.placed,
-                undecided: walked.undecided,
+                placed,
+                undecided,
                 steps: purse.taken(),
             },
         })
@@ -101,18 +130,46 @@ fn finding_of(
     numbers: NumberedFinding,
     spent: u64,
     budget: &mut Budget,
-) -> Result<Finding, AllocError> {
+) -> Result<NamedFinding, AllocError> {
     match numbers {
         NumberedFinding::Schedule(operations) => {
             let names = names_of(alloc, trace, log, operations.as_slice())?;
-            Ok(Finding::Schedule(names))
+            Ok(NamedFinding {
+                finding: Finding::Schedule(names),
+                is_shown: true,
+            })
         }
         NumberedFinding::Core(operations) => {
             let core = smallest_core(alloc, log, operations, spent, budget)?;
-            let names = names_of(alloc, trace, log, core.as_slice())?;
-            Ok(Finding::Core(names))
+            let names = names_of(alloc, trace, log, core.operations.as_slice())?;
+            Ok(NamedFinding {
+                finding: Finding::Core(names),
+                is_shown: core.is_refuted && size(core.operations.as_slice()) <= MAX_OF_FORMULA,
+            })
         }
-        NumberedFinding::Nothing => Ok(Finding::Nothing),
+        NumberedFinding::Nothing => Ok(NamedFinding {
+            finding: Finding::Nothing,
+            is_shown: false,
+        }),
+    }
+}
+
+impl NamedFinding {
+    /// The finding, or the text of the certificate in place of nothing or of a core whose part is hardly refuted.
+    fn or_certificate(
+        self,
+        alloc: Global,
+        trace: &Trace,
+        log: &NumberedLog,
+        certificate: Option<TraceCertificate>,
+    ) -> Result<Finding, AllocError> {
+        let NamedFinding { finding, is_shown } = self;
+        match certificate {
+            Some(certificate) if !is_shown => {
+                Ok(Finding::Reasons(certificate.text(alloc, trace, log)?))
+            }
+            _ => Ok(finding),
+        }
     }
 }
 
@@ -124,10 +181,15 @@ fn walk_over(alloc: Global, log: &NumberedLog, budget: &mut Budget) -> Result<Wa
     let mut order = Propagation::new(alloc, &reduced.log, *budget)?;
     let mut search = ScheduleSearch::new(alloc);
     let ending = search.run(alloc, &mut order)?;
+    let mut certificate = None;
+    if ending == SearchEnding::Refuted {
+        certificate = certificate_of(alloc, &reduced, &mut order, &search)?;
+    }
     *budget = order.budget();
     budget.give_back(kept);
     Ok(Walked {
         numbers: numbers_of(alloc, log, &reduced, &search, ending)?,
+        certificate,
         placed: search.most_placed(),
         undecided: undecided_of(&order),
     })
@@ -170,7 +232,7 @@ fn smallest_core(
     operations: Vec<u32>,
     spent: u64,
     budget: &mut Budget,
-) -> Result<Vec<u32>, AllocError> {
+) -> Result<SmallCore, AllocError> {
     let forced = GivenOrder::new(alloc, log, budget)?;
     smallest_core_of(alloc, &forced, operations, spent, budget)
 }
@@ -182,30 +244,36 @@ fn smallest_core_of<'a>(
     operations: Vec<u32>,
     spent: u64,
     budget: &mut Budget,
-) -> Result<Vec<u32>, AllocError> {
+) -> Result<SmallCore, AllocError> {
     let mut core = Core::new(alloc, forced, operations)?;
-    make_smallest(alloc, forced, &mut core, spent, budget)?;
-    Vec::from_slice(alloc, core.operations())
+    let is_refuted = make_smallest(alloc, forced, &mut core, spent, budget)?;
+    Ok(SmallCore {
+        operations: Vec::from_slice(alloc, core.operations())?,
+        is_refuted,
+    })
 }
 
-/// Makes the core smaller, after it was completed so that saturation or a walk refutes it.
+/// Makes the core smaller, after it was completed so that saturation or a walk refutes it. Returns whether one does.
 fn make_smallest<'a>(
     alloc: Global,
     forced: &'a GivenOrder<'a>,
     core: &mut Core<'a>,
     spent: u64,
     budget: &mut Budget,
-) -> Result<(), AllocError> {
+) -> Result<bool, AllocError> {
     if forced.is_cyclic() {
-        return core.add_writers(budget);
+        core.add_writers(budget)?;
+        return Ok(true);
     }
     core.complete(budget)?;
     if core.is_refuted(budget)? {
-        return make_smaller(alloc, forced, core, spent, budget);
+        make_smaller(alloc, forced, core, spent, budget)?;
+        return Ok(true);
     }
     core.refute_by_walks();
     if core.is_refuted(budget)? {
-        return core.shrink(budget);
+        core.shrink(budget)?;
+        return Ok(true);
     }
-    Ok(())
+    Ok(false)
 }

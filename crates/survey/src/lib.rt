@@ -7,6 +7,7 @@
 mod another;
 mod contradiction;
 mod counting_first;
+mod engine_reasons;
 mod finding;
 mod given_order;
 mod local_reads;

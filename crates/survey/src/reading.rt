@@ -1,6 +1,7 @@
 //! A trace as a log of numbers, and names by number.
 
 use numbered_log::{NOBODY, NumberedLog, NumberedOrigin, NumberedPair, Operation};
+use order_certificate::{LogNames, NamedPlace};
 use order_sets::tables::{at, size};
 use std::alloc::{AllocError, Global};
 use trace_semantics::name::Name;
@@ -194,4 +195,48 @@ pub fn names_of(
         }
     }
     Ok(names)
+}
+
+/// The names of the log that is made of the trace, of its operations those of these numbers.
+pub fn log_names<'a>(
+    alloc: Global,
+    trace: &'a Trace,
+    log: &NumberedLog,
+    operations: &[u32],
+) -> Result<LogNames<'a>, AllocError> {
+    let locations = locations_of(alloc, trace)?;
+    let mut names = LogNames {
+        processes: Vec::new(alloc),
+        locations: Vec::new(alloc),
+        operations: Vec::new(alloc),
+    };
+    for number in operations {
+        let operation = log.operation(*number);
+        names.operations.push(NamedPlace {
+            process: operation.process,
+            place: operation.place,
+        })?;
+    }
+    for process in trace.processes() {
+        names.processes.push(process.name.as_bytes())?;
+        for op in process.operations.as_slice() {
+            add_location(&mut names, &locations, op.location())?;
+        }
+    }
+    for value in trace.final_values() {
+        add_location(&mut names, &locations, &value.0)?;
+    }
+    Ok(names)
+}
+
+/// Adds the name of the location that comes next.
+fn add_location<'a>(
+    names: &mut LogNames<'a>,
+    locations: &Locations<'_>,
+    name: &'a Name,
+) -> Result<(), AllocError> {
+    if number_in(&locations.table, name) == size(names.locations.as_slice()) {
+        names.locations.push(name.as_bytes())?;
+    }
+    Ok(())
 }

@@ -2,7 +2,7 @@
 
 use crate::expectations::{ample, expect};
 use crate::lying_surveyors::{Liar, Lie};
-use crate::traces::{HAND_OFF, after_many_writes, counted_lock, with_many_writes};
+use crate::traces::{HAND_OFF, after_many_writes, counted_lock, ring, with_many_writes};
 use cube_jobs::{OpenGate, Options};
 use dimacs::MemorySink;
 use std::alloc::Global;
@@ -103,6 +103,25 @@ fn certifies_the_whole_without_a_core(rt: HostRuntime) {
         BACK.as_bytes(),
         found.certificate.as_slice(),
         15,
+    );
+}
+
+// A core of 180 operations has no part that a formula decides, so the certificate is one of reasons, and accepted for the whole.
+#[test]
+fn certifies_the_whole_by_reasons(rt: HostRuntime) {
+    let survey = BySaturation { budget: 20_000_000 };
+    let trace = ample(&rt, ring(rt.alloc()));
+    let found = texts_of(rt.alloc(), &rt, trace.as_str(), &survey, Status::No, 18);
+    let header: &[u8] = b"vsc-reasons 1\n";
+    expect(&rt, found.certificate.as_slice().starts_with(header), 18);
+    expect(&rt, found.names.as_slice().is_empty(), 18);
+    expect(&rt, found.part.as_slice().is_empty(), 18);
+    assert_accepts(
+        rt.alloc(),
+        &rt,
+        trace.as_bytes(),
+        found.certificate.as_slice(),
+        19,
     );
 }
 

@@ -44,3 +44,22 @@ pub fn counted_lock(alloc: Global) -> Result<String, AllocError> {
     }
     Ok(text)
 }
+
+/// Sixty processes in a ring, of which each reads what the one before it writes twice, and then writes twice itself: none can read first. All
+/// of its operations are needed for that, so no part of 160 operations shows it.
+pub fn ring(alloc: Global) -> Result<String, AllocError> {
+    let mut text = String::new(alloc);
+    text.push_str("vsc 1\n")?;
+    for number in 0u8..60 {
+        let line = format!(in alloc; "init m{number} 0\n")?;
+        text.push_str(line.as_str())?;
+    }
+    for number in 0u8..60 {
+        let before = if number == 0 { 59 } else { number - 1 };
+        let lines = format!(in alloc;
+            "proc P{number}\nR m{before} 1\nW m{number} 1\nW m{number} 1\n"
+        )?;
+        text.push_str(lines.as_str())?;
+    }
+    Ok(text)
+}

@@ -1,0 +1,352 @@
+//! The explanation of a conflict, from it backwards to what a derivation may begin with.
+
+use crate::derivation_steps::{DerivationHint, DerivationSteps};
+use crate::hint_list::HintList;
+use crate::marked_pairs::MarkedPairs;
+use crate::numbered_lines::NumberedLines;
+use crate::order_facts::OrderFacts;
+use crate::stuck_heads::StuckHeads;
+use conflict_analysis::{LearnedClauses, Literal, WayQuestion, WaySearch, pairs_of_cycle};
+use numbered_log::NOBODY;
+use order_propagation::{Conflict, Propagation};
+use order_sets::tables::{at, size};
+use possible_sources::Time;
+use std::alloc::{AllocError, Global};
+
+/// What was derived: a pair, or the conflict if that is `NOBODY`. It follows from the facts at these places of the list by the clause of the
+/// hint, or by the facts alone.
+#[derive(Clone, Copy)]
+pub(crate) struct DerivedPair {
+    pub(crate) pair: u32,
+    pub(crate) hint: Option<DerivationHint>,
+    pub(crate) begin: u32,
+    pub(crate) end: u32,
+}
+
+/// Nothing derived.
+pub(crate) const NOTHING_DERIVED: DerivedPair = DerivedPair {
+    pair: NOBODY,
+    hint: None,
+    begin: 0,
+    end: 0,
+};
+
+/// Explanations of conflicts, one after the other, with the lines and steps that all of them need.
+pub(crate) struct Explanation {
+    pub(crate) alloc: Global,
+    search: WaySearch,
+    pub(crate) lines: NumberedLines,
+    pub(crate) steps: DerivationSteps,
+    pub(crate) facts: OrderFacts,
+    pub(crate) marks: MarkedPairs,
+    pub(crate) hints: HintList,
+    /// What the conflict at hand follows from, the last first.
+    pub(crate) derived: Vec<DerivedPair>,
+    /// The facts of all that is derived.
+    pub(crate) fact_numbers: Vec<u32>,
+    /// For each learned clause its step.
+    pub(crate) clause_steps: Vec<u32>,
+    /// Whether each pair of no decision has a step of its own, since many clauses rest on it.
+    pub(crate) has_units: bool,
+    /// The reader's sources at a time, of each interval: where it begins and ends.
+    pub(crate) lows: Vec<u32>,
+    pub(crate) highs: Vec<u32>,
+    /// Whether something has no line.
+    pub(crate) is_lost: bool,
+    pub(crate) looked: u64,
+}
+
+/// Drops each table, in one call for each exit of a function that owns explanations.
+impl Drop for Explanation {
+    fn drop(self) {
+        let Explanation {
+            alloc: _,
+            search: _search,
+            lines: _lines,
+            steps: _steps,
+            facts: _facts,
+            marks: _marks,
+            hints: _hints,
+            derived: _derived,
+            fact_numbers: _fact_numbers,
+            clause_steps: _clause_steps,
+            has_units: _,
+            lows: _lows,
+            highs: _highs,
+            is_lost: _,
+            looked: _,
+        } = self;
+    }
+}
+
+impl Explanation {
+    /// No explanation, for a log of this number of operations.
+    pub(crate) fn new(
+        alloc: Global,
+        operations: u32,
+        has_units: bool,
+    ) -> Result<Explanation, AllocError> {
+        Ok(Explanation {
+            alloc,
+            search: WaySearch::new(alloc, operations)?,
+            lines: NumberedLines::new(alloc)?,
+            steps: DerivationSteps::new(alloc)?,
+            facts: OrderFacts::new(alloc)?,
+            marks: MarkedPairs::new(alloc),
+            hints: HintList::new(alloc),
+            derived: Vec::new(alloc),
+            fact_numbers: Vec::new(alloc),
+            clause_steps: Vec::new(alloc),
+            has_units,
+            lows: Vec::new(alloc),
+            highs: Vec::new(alloc),
+            is_lost: false,
+            looked: 0,
+        })
+    }
+
+    /// Forgets the last conflict.
+    pub(crate) fn begin(&mut self) {
+        self.marks.clear();
+        self.facts.clear();
+        self.derived.clear();
+        self.fact_numbers.clear();
+        self.is_lost = false;
+    }
+
+    /// Explains the conflict of the order, and derives the clause of these literals from it. Returns its step; none if a reason has no line,
+    /// if there is no room, or if the budget is spent before.
+    pub(crate) fn explain(
+        &mut self,
+        order: &mut Propagation<'_>,
+        clauses: &LearnedClauses,
+        literals: &[Literal],
+    ) -> Result<Option<u32>, AllocError> {
+        self.begin();
+        self.ask_conflict(order, clauses)?;
+        self.finish(order, clauses, literals)
+    }
+
+    /// Explains that these updates and last writes have too few possible sources, and derives the empty clause from it.
+    pub(crate) fn explain_takers(
+        &mut self,
+        order: &mut Propagation<'_>,
+        clauses: &LearnedClauses,
+        takers: &[u32],
+    ) -> Result<Option<u32>, AllocError> {
+        self.begin();
+        self.lines.begin(b'n')?;
+        for taker in takers {
+            if *taker < order.log().count() {
+                self.lines.letter(b'r')?;
+                self.lines.operation(*taker)?;
+            } else {
+                self.lines.letter(b'l')?;
+                let location = taker.wrapping_sub(order.log().count());
+                self.lines.location(location)?;
+            }
+            self.add_pieces(order, *taker, order.later())?;
+        }
+        let hint = self.finish_line()?;
+        self.note_derived(NOBODY, hint)?;
+        self.finish(order, clauses, &[])
+    }
+
+    /// Explains that none of these operations can come first, and derives the clause of these literals from it.
+    pub(crate) fn explain_stuck(
+        &mut self,
+        order: &mut Propagation<'_>,
+        clauses: &LearnedClauses,
+        heads: &StuckHeads,
+        literals: &[Literal],
+    ) -> Result<Option<u32>, AllocError> {
+        self.begin();
+        self.ask_stuck(order, heads)?;
+        self.finish(order, clauses, literals)
+    }
+
+    /// Goes back from what was asked, and derives the clause of these literals.
+    pub(crate) fn finish(
+        &mut self,
+        order: &mut Propagation<'_>,
+        clauses: &LearnedClauses,
+        literals: &[Literal],
+    ) -> Result<Option<u32>, AllocError> {
+        self.ask_reasons(order, clauses)?;
+        let steps = self.search.take_steps().saturating_add(self.looked);
+        self.looked = 0;
+        order.spend(steps);
+        if self.is_lost || self.lines.is_full() || self.steps.is_full() {
+            return Ok(None);
+        }
+        let step = self.derive(order, literals)?;
+        Ok(Some(step))
+    }
+
+    /// Asks why the order is in conflict.
+    fn ask_conflict(
+        &mut self,
+        order: &Propagation<'_>,
+        clauses: &LearnedClauses,
+    ) -> Result<(), AllocError> {
+        match order.conflict() {
+            Conflict::Cycle(pair) => {
+                let hint = self.ask_reason(order, clauses, pair)?;
+                if pair.first != pair.second {
+                    self.ask(order, pair.second, pair.first, pair.time)?;
+                }
+                self.note_derived(NOBODY, hint)
+            }
+            Conflict::NoSource(reader) => {
+                self.begin_sources(order, reader, order.later())?;
+                let hint = self.finish_line()?;
+                self.note_derived(NOBODY, hint)
+            }
+            Conflict::CyclicPairs => self.ask_cycle(order, clauses),
+            Conflict::None => {
+                self.is_lost = true;
+                Ok(())
+            }
+        }
+    }
+
+    /// Asks for the pairs of a cycle. A pair of one process that turns program order round is the conflict by itself.
+    fn ask_cycle(
+        &mut self,
+        order: &Propagation<'_>,
+        clauses: &LearnedClauses,
+    ) -> Result<(), AllocError> {
+        let cycle = pairs_of_cycle(self.alloc, order)?;
+        for number in cycle.as_slice() {
+            let pair = order.pairs().pair(*number);
+            if order.log().operation(pair.first).process
+                == order.log().operation(pair.second).process
+            {
+                let hint = self.ask_reason(order, clauses, pair)?;
+                return self.note_derived(NOBODY, hint);
+            }
+        }
+        self.add_cycle(order, cycle.as_slice())
+    }
+
+    /// Notes that the pairs, of which the last comes first, are a cycle. Two that are each other turned round need no line for that.
+    fn add_cycle(&mut self, order: &Propagation<'_>, cycle: &[u32]) -> Result<(), AllocError> {
+        self.lines.begin(b'c')?;
+        let begin = order
+            .pairs()
+            .pair(at(cycle, size(cycle).wrapping_sub(1), NOBODY))
+            .first;
+        let mut operations: u32 = 0;
+        let mut last = NOBODY;
+        for place in (0..size(cycle)).rev() {
+            let number = at(cycle, place, NOBODY);
+            self.marks.mark(number)?;
+            let pair = order.pairs().pair(number);
+            if pair.first != last {
+                self.lines.operation(pair.first)?;
+                operations = operations.wrapping_add(1);
+            }
+            if place > 0 || pair.second != begin {
+                self.lines.operation(pair.second)?;
+                operations = operations.wrapping_add(1);
+            }
+            last = pair.second;
+        }
+        if operations <= 2 {
+            return self.note_derived(NOBODY, None);
+        }
+        let hint = self.finish_line()?;
+        self.note_derived(NOBODY, hint)
+    }
+
+    /// Finishes the line at hand.
+    pub(crate) fn finish_line(&mut self) -> Result<Option<DerivationHint>, AllocError> {
+        let line = self.lines.finish()?;
+        Ok(Some(DerivationHint::Line(line)))
+    }
+
+    /// Notes that the pair, or the conflict, follows from the facts that were asked since something was noted.
+    pub(crate) fn note_derived(
+        &mut self,
+        pair: u32,
+        hint: Option<DerivationHint>,
+    ) -> Result<(), AllocError> {
+        let last = size(self.derived.as_slice()).wrapping_sub(1);
+        let begin = at(self.derived.as_slice(), last, NOTHING_DERIVED).end;
+        let end = size(self.fact_numbers.as_slice());
+        self.derived.push(DerivedPair {
+            pair,
+            hint,
+            begin,
+            end,
+        })?;
+        Ok(())
+    }
+
+    /// Asks why each marked pair was added, the last first.
+    fn ask_reasons(
+        &mut self,
+        order: &Propagation<'_>,
+        clauses: &LearnedClauses,
+    ) -> Result<(), AllocError> {
+        for number in (0..self.marks.highest().wrapping_add(1)).rev() {
+            self.looked = self.looked.wrapping_add(1);
+            if self.is_lost || self.search.steps() > order.budget().left() {
+                self.is_lost = true;
+                break;
+            }
+            let pair = order.pairs().pair(number);
+            if self.marks.is_open(number) && !Explanation::is_assumed(order, pair) {
+                let hint = self.ask_reason(order, clauses, pair)?;
+                self.note_derived(number, hint)?;
+            }
+        }
+        Ok(())
+    }
+
+    /// Asks why the first operation stands before the second, by pairs that are older than the time.
+    pub(crate) fn ask(
+        &mut self,
+        order: &Propagation<'_>,
+        first: u32,
+        second: u32,
+        time: Time,
+    ) -> Result<(), AllocError> {
+        let earlier = order.log().operation(first);
+        let later = order.log().operation(second);
+        if earlier.process == later.process && earlier.place <= later.place {
+            return Ok(());
+        }
+        let question = WayQuestion {
+            first,
+            second,
+            time,
+        };
+        let mut fact = self.facts.find(question);
+        if fact == NOBODY {
+            fact = self.find_way(order, question)?;
+        }
+        self.fact_numbers.push(fact)?;
+        Ok(())
+    }
+
+    /// Finds a way that answers the question, and marks its pairs.
+    fn find_way(
+        &mut self,
+        order: &Propagation<'_>,
+        question: WayQuestion,
+    ) -> Result<u32, AllocError> {
+        let begin = self.facts.end();
+        self.search
+            .find(order, question, self.marks.as_slice(), true)?;
+        for number in (0..self.search.pairs()).rev() {
+            let pair = self.search.pair(number);
+            self.facts.add_pair(pair)?;
+            self.marks.mark(pair)?;
+        }
+        if begin == self.facts.end() {
+            self.is_lost = true;
+        }
+        self.facts.add(question, begin)
+    }
+}

@@ -1,0 +1,71 @@
+//! The hints of one step, each once.
+
+use crate::derivation_steps::DerivationHint;
+use order_sets::tables::{at, put, size};
+use std::alloc::{AllocError, Global};
+
+/// The hints of the step at hand.
+pub(crate) struct HintList {
+    hints: Vec<DerivationHint>,
+    /// For each line and each step the turn in which it was added last.
+    line_turns: Vec<u32>,
+    step_turns: Vec<u32>,
+    turn: u32,
+}
+
+/// Drops each table, in one call for each exit of a function that owns a list.
+impl Drop for HintList {
+    fn drop(self) {
+        let HintList {
+            hints: _hints,
+            line_turns: _line_turns,
+            step_turns: _step_turns,
+            turn: _,
+        } = self;
+    }
+}
+
+/// Notes that the number comes up in this turn. Returns whether it came up before.
+fn note(turns: &mut Vec<u32>, number: u32, turn: u32) -> Result<bool, AllocError> {
+    for _ in size(turns.as_slice())..number.saturating_add(1) {
+        turns.push(0)?;
+    }
+    let is_old = at(turns.as_slice(), number, turn) == turn;
+    put(turns.as_mut_slice(), number, turn);
+    Ok(is_old)
+}
+
+impl HintList {
+    /// No hint.
+    pub(crate) fn new(alloc: Global) -> HintList {
+        HintList {
+            hints: Vec::new(alloc),
+            line_turns: Vec::new(alloc),
+            step_turns: Vec::new(alloc),
+            turn: 0,
+        }
+    }
+
+    /// Begins the hints of another step.
+    pub(crate) fn begin(&mut self) {
+        self.hints.clear();
+        self.turn = self.turn.wrapping_add(1);
+    }
+
+    /// Adds the hint, unless the step has it.
+    pub(crate) fn add(&mut self, hint: DerivationHint) -> Result<(), AllocError> {
+        let is_old = match hint {
+            DerivationHint::Line(number) => note(&mut self.line_turns, number, self.turn)?,
+            DerivationHint::Step(number) => note(&mut self.step_turns, number, self.turn)?,
+        };
+        if !is_old {
+            self.hints.push(hint)?;
+        }
+        Ok(())
+    }
+
+    /// The hints.
+    pub(crate) fn as_slice(&self) -> &[DerivationHint] {
+        self.hints.as_slice()
+    }
+}

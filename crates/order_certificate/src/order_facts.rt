@@ -1,0 +1,156 @@
+//! Facts: that one operation stands before another by a way of older pairs.
+
+use conflict_analysis::WayQuestion;
+use numbered_log::NOBODY;
+use order_sets::tables::{at, put, size};
+use possible_sources::Time;
+use std::alloc::{AllocError, Global};
+
+/// That the first operation of the question stands before the second, with the places of the pairs of a way among those of all ways, and the
+/// line of the cycle that says it, or `NOBODY`.
+#[derive(Clone, Copy)]
+pub(crate) struct OrderFact {
+    pub(crate) question: WayQuestion,
+    pub(crate) begin: u32,
+    pub(crate) end: u32,
+    pub(crate) line: u32,
+}
+
+/// No fact.
+const NO_FACT: OrderFact = OrderFact {
+    question: WayQuestion {
+        first: NOBODY,
+        second: NOBODY,
+        time: Time::START,
+    },
+    begin: 0,
+    end: 0,
+    line: NOBODY,
+};
+
+/// A fact that was found in this turn.
+#[derive(Clone, Copy)]
+struct FoundFact {
+    fact: u32,
+    turn: u32,
+}
+
+/// The number of facts that are found again, which is a power of two.
+const KEPT_FACTS: u32 = 1 << 14;
+
+/// The facts of one explanation.
+pub(crate) struct OrderFacts {
+    facts: Vec<OrderFact>,
+    /// The pairs of all ways.
+    ways: Vec<u32>,
+    found: Vec<FoundFact>,
+    turn: u32,
+}
+
+/// Drops each table, in one call for each exit of a function that owns facts.
+impl Drop for OrderFacts {
+    fn drop(self) {
+        let OrderFacts {
+            facts: _facts,
+            ways: _ways,
+            found: _found,
+            turn: _,
+        } = self;
+    }
+}
+
+/// The slot of the question.
+fn slot_of(question: WayQuestion) -> u32 {
+    let mixed = question
+        .first
+        .wrapping_mul(2_654_435_761)
+        .wrapping_add(question.second.wrapping_mul(2_654_404_609));
+    (mixed >> 8) & KEPT_FACTS.wrapping_sub(1)
+}
+
+impl OrderFacts {
+    /// No fact.
+    pub(crate) fn new(alloc: Global) -> Result<OrderFacts, AllocError> {
+        Ok(OrderFacts {
+            facts: Vec::new(alloc),
+            ways: Vec::new(alloc),
+            found: vec![in alloc; FoundFact {
+                fact: NOBODY,
+                turn: 0
+            }; KEPT_FACTS as usize]?,
+            turn: 0,
+        })
+    }
+
+    /// Forgets all facts.
+    pub(crate) fn clear(&mut self) {
+        self.facts.clear();
+        self.ways.clear();
+        self.turn = self.turn.wrapping_add(1);
+    }
+
+    /// The fact of this number.
+    pub(crate) fn fact(&self, number: u32) -> OrderFact {
+        at(self.facts.as_slice(), number, NO_FACT)
+    }
+
+    /// The pair at this place of the ways.
+    pub(crate) fn pair(&self, place: u32) -> u32 {
+        at(self.ways.as_slice(), place, NOBODY)
+    }
+
+    /// The fact that answers the question by pairs that are old enough, or `NOBODY`.
+    pub(crate) fn find(&self, question: WayQuestion) -> u32 {
+        let nothing = FoundFact {
+            fact: NOBODY,
+            turn: 0,
+        };
+        let found = at(self.found.as_slice(), slot_of(question), nothing);
+        let known = self.fact(found.fact).question;
+        if found.turn == self.turn
+            && known.first == question.first
+            && known.second == question.second
+            && !question.time.is_before(known.time)
+        {
+            return found.fact;
+        }
+        NOBODY
+    }
+
+    /// Adds a pair to the way of the fact that comes next.
+    pub(crate) fn add_pair(&mut self, pair: u32) -> Result<(), AllocError> {
+        self.ways.push(pair)?;
+        Ok(())
+    }
+
+    /// The place behind all ways.
+    pub(crate) fn end(&self) -> u32 {
+        size(self.ways.as_slice())
+    }
+
+    /// Adds the fact that answers the question by the pairs from this place on.
+    pub(crate) fn add(&mut self, question: WayQuestion, begin: u32) -> Result<u32, AllocError> {
+        let fact = size(self.facts.as_slice());
+        let end = self.end();
+        self.facts.push(OrderFact {
+            question,
+            begin,
+            end,
+            line: NOBODY,
+        })?;
+        let turn = self.turn;
+        let found = FoundFact { fact, turn };
+        put(self.found.as_mut_slice(), slot_of(question), found);
+        Ok(fact)
+    }
+
+    /// Keeps the line of the fact's cycle.
+    pub(crate) fn keep_line(&mut self, number: u32, line: u32) {
+        let fact = self.fact(number);
+        put(
+            self.facts.as_mut_slice(),
+            number,
+            OrderFact { line, ..fact },
+        );
+    }
+}

@@ -1,0 +1,116 @@
+//! The reasons of pairs, as lines or learned clauses, with the facts that leave of the clause only the pair.
+
+use crate::derivation_steps::DerivationHint;
+use crate::explanation::Explanation;
+use closed_rows::{OrderedPair, PairReason};
+use conflict_analysis::LearnedClauses;
+use numbered_log::NOBODY;
+use order_propagation::Propagation;
+use order_sets::tables::{at, size};
+use std::alloc::AllocError;
+
+impl Explanation {
+    /// Returns whether nothing has to be derived of the pair: it was decided, or program order has it.
+    pub(crate) fn is_assumed(order: &Propagation<'_>, pair: OrderedPair) -> bool {
+        let first = order.log().operation(pair.first);
+        let second = order.log().operation(pair.second);
+        pair.reason == PairReason::Decided || first.process == second.process
+    }
+
+    /// Asks why the pair was added. The answer is the clause that says it; none if it was decided.
+    pub(crate) fn ask_reason(
+        &mut self,
+        order: &Propagation<'_>,
+        clauses: &LearnedClauses,
+        pair: OrderedPair,
+    ) -> Result<Option<DerivationHint>, AllocError> {
+        match pair.reason {
+            PairReason::Given => {
+                self.lines.begin(b'b')?;
+                self.lines.operation(pair.first)?;
+                self.lines.operation(pair.second)?;
+                self.finish_line()
+            }
+            PairReason::BeforeReader(reader) => self.ask_before(order, reader, pair),
+            PairReason::AfterReader(reader) => self.ask_after(order, reader, pair),
+            PairReason::BeforeSource(reader) => {
+                self.begin_sources(order, reader, pair.time)?;
+                self.ask(order, pair.first, reader, pair.time)?;
+                self.finish_main(b'H', pair.first)
+            }
+            PairReason::BeforeLast(reader) => {
+                self.begin_sources(order, reader, pair.time)?;
+                self.finish_main(b'H', pair.first)
+            }
+            PairReason::Learned(clause) => self.ask_clause(order, clauses, clause, pair),
+            PairReason::Decided => Ok(None),
+            PairReason::Guessed => {
+                self.is_lost = true;
+                Ok(None)
+            }
+        }
+    }
+
+    /// Finishes the line with the piece that takes all other sources.
+    fn finish_main(
+        &mut self,
+        letter: u8,
+        operation: u32,
+    ) -> Result<Option<DerivationHint>, AllocError> {
+        self.lines.letter(letter)?;
+        self.lines.operation(operation)?;
+        self.finish_line()
+    }
+
+    /// Asks why the first operation of the pair is the only source of the reader or stands before all its sources.
+    fn ask_before(
+        &mut self,
+        order: &Propagation<'_>,
+        reader: u32,
+        pair: OrderedPair,
+    ) -> Result<Option<DerivationHint>, AllocError> {
+        self.begin_sources(order, reader, pair.time)?;
+        for run in 0..size(self.lows.as_slice()) {
+            let source = self.first_left(order, run);
+            if source != NOBODY && source != pair.first {
+                self.ask(order, pair.first, source, pair.time)?;
+            }
+        }
+        self.finish_main(b'L', pair.first)
+    }
+
+    /// Asks why the second operation of the pair stands after all sources of the reader.
+    fn ask_after(
+        &mut self,
+        order: &Propagation<'_>,
+        reader: u32,
+        pair: OrderedPair,
+    ) -> Result<Option<DerivationHint>, AllocError> {
+        self.begin_sources(order, reader, pair.time)?;
+        for run in 0..size(self.lows.as_slice()) {
+            let source = self.last_left(order, run);
+            if source != NOBODY {
+                self.ask(order, source, pair.second, pair.time)?;
+            }
+        }
+        self.finish_main(b'H', pair.second)
+    }
+
+    /// Asks why the other literals of the clause do not hold.
+    fn ask_clause(
+        &mut self,
+        order: &Propagation<'_>,
+        clauses: &LearnedClauses,
+        clause: u32,
+        pair: OrderedPair,
+    ) -> Result<Option<DerivationHint>, AllocError> {
+        for literal in clauses.literals(clause) {
+            if literal.first != pair.first || literal.second != pair.second {
+                self.ask(order, literal.second, literal.first, pair.time)?;
+            }
+        }
+        let step = at(self.clause_steps.as_slice(), clause, NOBODY);
+        self.is_lost |= step == NOBODY;
+        Ok(Some(DerivationHint::Step(step)))
+    }
+}

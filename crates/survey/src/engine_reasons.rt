@@ -1,0 +1,72 @@
+//! Certificates of reasons of what the order engine has refuted.
+
+use crate::local_reads::ReducedLog;
+use crate::reading::log_names;
+use numbered_log::NumberedLog;
+use order_certificate::{
+    OrderCertificate, certificate_of_clauses, certificate_of_conflict, certificate_of_takers,
+};
+use order_propagation::Propagation;
+use schedule_search::ScheduleSearch;
+use std::alloc::{AllocError, Global};
+use trace_semantics::trace::Trace;
+
+/// A certificate of the log without repeated local reads, which is one of the whole: the reads that were left out are in none of its lines.
+#[derive(Drop)]
+pub(crate) struct TraceCertificate {
+    certificate: OrderCertificate,
+    /// For each operation of that log its number in the whole.
+    numbers: Vec<u32>,
+}
+
+impl TraceCertificate {
+    /// The text, with the names of the trace, of which the log is made.
+    pub(crate) fn text(
+        &self,
+        alloc: Global,
+        trace: &Trace,
+        log: &NumberedLog,
+    ) -> Result<Vec<u8>, AllocError> {
+        let names = log_names(alloc, trace, log, self.numbers.as_slice())?;
+        self.certificate.text(alloc, &names)
+    }
+}
+
+/// The certificate of a log that the search has refuted; none if a reason has no line, or if the budget is spent before.
+pub(crate) fn certificate_of(
+    alloc: Global,
+    reduced: &ReducedLog,
+    order: &mut Propagation<'_>,
+    search: &ScheduleSearch,
+) -> Result<Option<TraceCertificate>, AllocError> {
+    let Some(certificate) = certificate_by_numbers(alloc, reduced, order, search)? else {
+        return Ok(None);
+    };
+    let mut operations = Vec::new(alloc);
+    for number in 0..reduced.log.count() {
+        operations.push(number)?;
+    }
+    Ok(Some(TraceCertificate {
+        certificate,
+        numbers: reduced.in_whole(alloc, operations.as_slice())?,
+    }))
+}
+
+/// The certificate, by the numbers of the log without repeated local reads.
+fn certificate_by_numbers(
+    alloc: Global,
+    reduced: &ReducedLog,
+    order: &mut Propagation<'_>,
+    search: &ScheduleSearch,
+) -> Result<Option<OrderCertificate>, AllocError> {
+    if let Some(learned) = search.learned() {
+        let mut budget = order.budget();
+        let certificate = certificate_of_clauses(alloc, &reduced.log, learned, &mut budget)?;
+        order.set_budget(budget);
+        return Ok(certificate);
+    }
+    match search.takers() {
+        Some(takers) => certificate_of_takers(alloc, order, takers),
+        None => certificate_of_conflict(alloc, order),
+    }
+}
