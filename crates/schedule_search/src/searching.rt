@@ -345,8 +345,6 @@ impl ScheduleSearch {
             ending = self.walk_in_others(alloc, order, places, (base, first))?;
         }
         order.cut_to(base);
-        // What a walk in a window refutes rests on guesses.
-        self.core = None;
         Ok(ending)
     }
 
