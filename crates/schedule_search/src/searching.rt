@@ -105,7 +105,7 @@ fn when_stuck(part: u64) -> Manner {
     }
 }
 
-/// A walk that decides always, with this number of the clauses that were learned last.
+/// A walk that decides always, first a literal of this number of clauses that were learned last.
 fn learning(clauses: u32, part: u64) -> Manner {
     Manner {
         deciding: Deciding::Always(clauses),
