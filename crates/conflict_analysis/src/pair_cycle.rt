@@ -27,10 +27,7 @@ impl Drop for PassedFronts {
 }
 
 /// The numbers of the pairs of a cycle that the pairs make with program order; none if there is no cycle.
-pub fn pairs_of_cycle(
-    alloc: Global,
-    order: &Propagation<'_>,
-) -> Result<Vec<u32>, AllocError> {
+pub fn pairs_of_cycle(alloc: Global, order: &Propagation<'_>) -> Result<Vec<u32>, AllocError> {
     let mut fronts = PassedFronts::new(alloc, order)?;
     fronts.pass_all(order);
     fronts.find_cycle(alloc, order)
