@@ -92,7 +92,7 @@ class Page:
         link = f'<a href="#t{place}">{name}</a>' if place else name
         why = escaped(first_sentence(result))
         return (
-            f'<tr data-verdict="{result.verdict}"><td class="number">{at}</td><td class="name"><bdi>{link}</bdi></td><td class="number">{result.line}</td>'
+            f'<tr data-verdict="{result.verdict}"><td class="number">{at}</td><td class="name"><bdi>{link}</bdi></td><td class="number">{"" if result.line is None else result.line}</td>'
             f'<td class="verdict {result.verdict}" data-key="{VERDICTS.index(result.verdict)} {escaped(result.said())}">{escaped(result.said())}</td><td class="sentence">{why}</td></tr>'
         )
 

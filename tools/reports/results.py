@@ -1,10 +1,13 @@
-"""What a run of `vsc batch --json` says: a result for each trace. docs/FORMATS.md has the grammar of a line."""
+"""What a run says: a result for each trace. A line is a JSON object, of which docs/CI.md has the names, or one that `vsc batch` prints."""
 
 import json
+import re
 
 VERDICTS = ("INCONSISTENT", "refused", "UNKNOWN", "CONSISTENT")
 # What a verdict may be followed by on its line, in this order.
 COUNTS = ("operations", "cubes", "reasons", "open", "placed", "undecided")
+# A line of `vsc batch`: the file, the number of the trace in it, and the verdict.
+PLAIN = re.compile(r"(.+):(\d+) (CONSISTENT|(?:INCONSISTENT|UNKNOWN)((?: \w+=\d+)*)|refused: (\w+)(?: (\d+) (\w+)(?: at (\d+))?)?)")
 
 
 class Mistake(Exception):
@@ -32,7 +35,7 @@ class Result:
         if not isinstance(made, dict):
             raise Mistake("it is no JSON object")
         self.file, self.number, self.line, self.verdict = (made.get(name) for name in ("file", "number", "line", "verdict"))
-        if not isinstance(self.file, str) or not is_number(self.number) or not is_number(self.line):
+        if not isinstance(self.file, str) or not is_number(self.number) or not (self.line is None or is_number(self.line)):
             raise Mistake("it does not say `file`, `number` and `line`")
         if self.verdict not in VERDICTS:
             raise Mistake(f"its `verdict` is none of {', '.join(VERDICTS)}")
@@ -59,16 +62,29 @@ class Result:
         return " ".join(["refused:", *words, *place])
 
 
+def object_of(line):
+    """The object that a line of a run is, or stands for."""
+    plain = PLAIN.fullmatch(line.rstrip("\n"))
+    if not plain or line.startswith("{"):
+        return json.loads(line)
+    file, number, said, counts, *refusal = plain.groups()
+    made = {"file": file, "number": int(number), "verdict": said.split()[0].rstrip(":")}
+    made.update((name, int(value)) for name, value in re.findall(r"(\w+)=(\d+)", counts or ""))
+    if made["verdict"] == "refused":
+        made["refusal"] = {name: it for name, it in zip(("area", "number", "name", "line"), refusal) if it}
+    return made
+
+
 def read(lines):
     """The results of the lines of a run."""
     for number, line in enumerate(lines, 1):
         if not line.strip():
             continue
         try:
-            yield Result(json.loads(line))
+            yield Result(object_of(line))
         except (Mistake, ValueError, RecursionError) as fault:
             said = fault if isinstance(fault, Mistake) else "it is no JSON object"
-            raise Mistake(f"line {number} is no result of `vsc batch --json`: {said}") from None
+            raise Mistake(f"line {number} is no result of a run: {said}") from None
 
 
 def counted(results):
