@@ -1,4 +1,4 @@
-"""The folder of `vsc batch --keep`: the trace, the certificate and the picture of each INCONSISTENT."""
+"""The folder that a run keeps: the trace, the certificate and the picture of each INCONSISTENT."""
 
 import os
 import shlex

@@ -131,7 +131,7 @@ class Page:
         if commands:
             made += ["<h3>Check it again</h3>", f"<pre>{escaped(chr(10).join(commands), kept=chr(10))}</pre>"]
         else:
-            made.append('<p class="quiet">No certificate of it is in a folder that was given: <code>vsc batch --keep FOLDER</code> keeps one.</p>')
+            made.append('<p class="quiet">No certificate of it is in a folder that was given: <code>--keep FOLDER</code> keeps one.</p>')
         return f"<div>{''.join(made)}</div>"
 
     def marked_trace(self, result, kept):

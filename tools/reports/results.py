@@ -1,4 +1,4 @@
-"""What a run says: a result for each trace. A line is a JSON object, of which docs/CI.md has the names, or one that `vsc batch` prints."""
+"""What a run says: a result for each trace. A line is a JSON object, of which docs/CI.md has the names, or plain."""
 
 import json
 import re
@@ -6,7 +6,7 @@ import re
 VERDICTS = ("INCONSISTENT", "refused", "UNKNOWN", "CONSISTENT")
 # What a verdict may be followed by on its line, in this order.
 COUNTS = ("operations", "cubes", "reasons", "open", "placed", "undecided")
-# A line of `vsc batch`: the file, the number of the trace in it, and the verdict.
+# A plain line: the file, the number of the trace in it, and the verdict.
 PLAIN = re.compile(r"(.+):(\d+) (CONSISTENT|(?:INCONSISTENT|UNKNOWN)((?: \w+=\d+)*)|refused: (\w+)(?: (\d+) (\w+)(?: at (\d+))?)?)")
 
 
@@ -49,11 +49,11 @@ class Result:
             raise Mistake("its `kept` is no text")
 
     def name(self):
-        """The trace as the lines of `vsc batch` name it."""
+        """The trace as a plain line names it."""
         return f"{self.file}:{self.number}"
 
     def said(self):
-        """The verdict as the lines of `vsc batch` say it."""
+        """The verdict as a plain line says it."""
         if self.verdict != "refused":
             return " ".join([self.verdict, *(f"{name}={number}" for name, number in (self.counts or {}).items())])
         refusal = self.refusal or {}
