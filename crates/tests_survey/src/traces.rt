@@ -50,12 +50,17 @@ pub fn counted_lock(alloc: Global) -> Result<String, AllocError> {
 pub fn ring(alloc: Global) -> Result<String, AllocError> {
     let mut text = String::new(alloc);
     text.push_str("vsc 1\n")?;
-    for number in 0u8..60 {
+    let processes: u32 = 60;
+    for number in 0..processes {
         let line = format!(in alloc; "init m{number} 0\n")?;
         text.push_str(line.as_str())?;
     }
-    for number in 0u8..60 {
-        let before = if number == 0 { 59 } else { number - 1 };
+    for number in 0..processes {
+        let before = if number == 0 {
+            59
+        } else {
+            number.wrapping_sub(1)
+        };
         let lines = format!(in alloc;
             "proc P{number}\nR m{before} 1\nW m{number} 1\nW m{number} 1\n"
         )?;
