@@ -140,6 +140,7 @@ fn writes_the_report_alone_with_another_answer(rt: HostRuntime) {
     let found = texts_of(rt.alloc(), &rt, long.as_str(), &survey, Status::Yes, 16);
     assert_silent(&rt, &found, 16);
     let lock = ample(&rt, counted_lock(rt.alloc()));
-    let found = texts_of(rt.alloc(), &rt, lock.as_str(), &survey, Status::Unknown, 17);
+    let none = BySaturation { budget: 0 };
+    let found = texts_of(rt.alloc(), &rt, lock.as_str(), &none, Status::Unknown, 17);
     assert_silent(&rt, &found, 17);
 }

@@ -153,10 +153,10 @@ fn finds_a_schedule_of_a_long_trace(rt: HostRuntime) {
     expect(&rt, outcome == Ok(Status::Yes), 9);
 }
 
-// A lock of two values that is acquired once too often: no small part shows it, and the survey decides nothing.
+// A lock that is acquired once too often: no small part shows it, and a survey that may take no step decides nothing.
 #[test]
-fn leaves_a_trace_of_few_values_undecided(rt: HostRuntime) {
-    let survey = BySaturation { budget: 1_000_000 };
+fn decides_nothing_without_a_step(rt: HostRuntime) {
+    let survey = BySaturation { budget: 0 };
     let options = ample(&rt, Options::new(1, 0, 10_000, 1));
     let lock = ample(&rt, counted_lock(rt.alloc()));
     let mut source = ShortSource::new(lock.as_bytes(), 99);
