@@ -1,8 +1,8 @@
 -- How a piece is passed line by line.
 use Rattle.std.proofs.Common.{◌≡◌, ℕ, zero, suc, ◌+◌, ◌<◌, ◌≤◌, ◌⊎◌, Bool, true, false, not, List, [], ◌∷◌, ◌++◌, length, take, drop, get_or, refl, sym, ap, ◌∙◌, subst, inl, inr, arith, append-nil, append_assoc, if◌then◌else◌, ◌||◌, ◌&&◌}
-use Rattle.std.specs.Prelude.{Option, Some, None, MatchOption}
-use Rattle.std.specs.List.{list_any, slice_split}
-use Rattle.std.proofs.lemmas.Bool.{false_from_ne_true, or_parts}
+use Rattle.std.specs.Prelude.{Some, None}
+use Rattle.std.specs.List.{list_any}
+use Rattle.std.proofs.lemmas.Bool.{false_from_ne_true}
 use Rattle.std.proofs.lemmas.List.{take-append-drop, drop_more, length-append, take_all}
 use Rattle.std.proofs.lemmas.List.Folds.{list_any_more, list_any-append}
 use Rattle.memchr.specs.Find.{IsFirstByte}
@@ -40,9 +40,9 @@ line_with_feed text k h =
 -- and one without
 pub line_without_feed : (text : List ℕ) → IsFirstByte is_line_feed text None → IsFirstLine text text []
 line_without_feed text h = record {
-    no_feed = subst (λ l. list_any is_line_feed l ≡ false) (take_all (length text) text (omega arith)) (none_pass is_line_feed text (length text) (omega arith) (λ j l. false_from_ne_true _ (h j (omega arith) l)));
-    parts = inr (refl, refl);
-  }
+  no_feed = subst (λ l. list_any is_line_feed l ≡ false) (take_all (length text) text (omega arith)) (none_pass is_line_feed text (length text) (omega arith) (λ j l. false_from_ne_true _ (h j (omega arith) l)));
+  parts = inr (refl, refl);
+}
 
 -- bytes without a line feed are one line
 one_line : (line : List ℕ) → 0 < length line → list_any is_line_feed line ≡ false → lines_of line ≡ line ∷ []
@@ -52,16 +52,16 @@ one_line (b ∷ line) some none = ap without_empty_end (split_whole is_line_feed
 -- the lines of a text by its first one
 pub lines_by_first : (text line after : List ℕ) → 0 < length text → IsFirstLine text line after → lines_of text ≡ line ∷ lines_of after
 lines_by_first text line after some first = elim first.parts [
-    | inl e ↦ ap lines_of e ∙ line_ended line after first.no_feed
-    | inr e ↦ ap lines_of e.0 ∙ one_line line (subst (λ t. 0 < length t) e.0 some) first.no_feed ∙ (λ i. line ∷ lines_of (sym e.1 i))
-  ]
+  | inl e ↦ ap lines_of e ∙ line_ended line after first.no_feed
+  | inr e ↦ ap lines_of e.0 ∙ one_line line (subst (λ t. 0 < length t) e.0 some) first.no_feed ∙ (λ i. line ∷ lines_of (sym e.1 i))
+]
 
 -- what follows the first line is shorter
 pub shorter : (text line after : List ℕ) → 0 < length text → IsFirstLine text line after → length after < length text
 shorter text line after some first = elim first.parts [
-    | inl e ↦ let l = ap length e ∙ length-append line (10 ∷ after) in omega (arith, l)
-    | inr e ↦ let l = ap length e.1 in omega (arith, some, l)
-  ]
+  | inl e ↦ let l = ap length e ∙ length-append line (10 ∷ after) in omega (arith, l)
+  | inr e ↦ let l = ap length e.1 in omega (arith, some, l)
+]
 
 -- ---- what one more line does
 
@@ -111,12 +111,12 @@ module _ (text front rest : List ℕ) (count : ℕ) (said : Bool) (passed : IsPa
   -- by the lines of what is passed then
   passed_with : (front_then : List ℕ) → text ≡ front_then ++ after → (after ≡ []) ⊎ AreWhole front_then → lines_of front_then ≡ lines_of front ++ line ∷ [] → IsPassed text front_then after (count + 1) (said || says line)
   passed_with front_then parts whole_then lines = record {
-      parts = parts;
-      whole = whole_then;
-      counted = (let l = ap length lines ∙ length-append (lines_of front) (line ∷ []) in omega (arith, l, passed.counted));
-      said_is = sym (ap (list_any says) lines ∙ list_any-append says (lines_of front) (line ∷ []) ∙ said_more said (list_any says (lines_of front)) (says line) passed.said_is);
-      one = subst (λ ls. hold_one ls ≡ true) (sym lines) (one_more (lines_of front) line passed.one (λ s. next (passed.said_is ∙ s)));
-    }
+    parts = parts;
+    whole = whole_then;
+    counted = (let l = ap length lines ∙ length-append (lines_of front) (line ∷ []) in omega (arith, l, passed.counted));
+    said_is = sym (ap (list_any says) lines ∙ list_any-append says (lines_of front) (line ∷ []) ∙ said_more said (list_any says (lines_of front)) (says line) passed.said_is);
+    one = subst (λ ls. hold_one ls ≡ true) (sym lines) (one_more (lines_of front) line passed.one (λ s. next (passed.said_is ∙ s)));
+  }
 
   ended : rest ≡ line ++ 10 ∷ after → PassedOn text after (count + 1) (said || says line)
   ended e =
@@ -125,9 +125,9 @@ module _ (text front rest : List ℕ) (count : ℕ) (said : Bool) (passed : IsPa
       record {
         front = front_then;
         passed = passed_with front_then
-          (passed.parts ∙ ap (λ r. front ++ r) (e ∙ sym (append_assoc line (10 ∷ []) after)) ∙ sym (append_assoc front (line ++ 10 ∷ []) after))
-          (inr (λ more. ap lines_of (append_assoc front (line ++ 10 ∷ []) more ∙ ap (λ l. front ++ l) (append_assoc line (10 ∷ []) more)) ∙ whole (line ++ 10 ∷ more) ∙ ap (λ ls. lines_of front ++ ls) (line_ended line more first.no_feed) ∙ sym (append_assoc (lines_of front) (line ∷ []) (lines_of more)) ∙ ap (λ ls. ls ++ lines_of more) (sym lines)))
-          lines;
+            (passed.parts ∙ ap (λ r. front ++ r) (e ∙ sym (append_assoc line (10 ∷ []) after)) ∙ sym (append_assoc front (line ++ 10 ∷ []) after))
+            (inr (λ more. ap lines_of (append_assoc front (line ++ 10 ∷ []) more ∙ ap (λ l. front ++ l) (append_assoc line (10 ∷ []) more)) ∙ whole (line ++ 10 ∷ more) ∙ ap (λ ls. lines_of front ++ ls) (line_ended line more first.no_feed) ∙ sym (append_assoc (lines_of front) (line ∷ []) (lines_of more)) ∙ ap (λ ls. ls ++ lines_of more) (sym lines)))
+            lines;
       }
 
   last : rest ≡ line → after ≡ [] → PassedOn text after (count + 1) (said || says line)
@@ -141,9 +141,9 @@ module _ (text front rest : List ℕ) (count : ℕ) (said : Bool) (passed : IsPa
   -- one more line is passed
   pub line_passed : PassedOn text after (count + 1) (said || says line)
   line_passed = elim first.parts [
-      | inl e ↦ ended e
-      | inr e ↦ last e.0 e.1
-    ]
+    | inl e ↦ ended e
+    | inr e ↦ last e.0 e.1
+  ]
 
 -- ---- the cut
 
@@ -154,12 +154,12 @@ some_said (b ∷ front) s = omega arith
 -- at a line that begins a trace
 pub cut_before : (text front rest : List ℕ) (count : ℕ) → IsPassed text front rest count true → (line after : List ℕ) → 0 < length rest → IsFirstLine rest line after → begins_trace line ≡ true → IsCut text front rest
 cut_before text front rest count passed line after some first begins = record {
-    parts = passed.parts;
-    some = some_said front (sym passed.said_is);
-    lines = ap lines_of passed.parts ∙ whole_if_more front rest some passed.whole rest;
-    one = passed.one;
-    next = inr (ap start_trace (lines_by_first rest line after some first) ∙ begins);
-  }
+  parts = passed.parts;
+  some = some_said front (sym passed.said_is);
+  lines = ap lines_of passed.parts ∙ whole_if_more front rest some passed.whole rest;
+  one = passed.one;
+  next = inr (ap start_trace (lines_by_first rest line after some first) ∙ begins);
+}
 
 -- at the end of the text
 pub cut_at_end : (text front rest : List ℕ) (count : ℕ) (said : Bool) → IsPassed text front rest count said → rest ≡ [] → 0 < length text → IsCut text front rest
@@ -183,18 +183,19 @@ one_false true b h s = h
 one_false false b h s = absurd (cc)
 
 -- the next line begins a trace
-pub cut_here : (text rest : List ℕ) (count : ℕ) (said : Bool) → PassedOn text rest count said → (line after : List ℕ) → 0 < length rest → IsFirstLine rest line after → (said && begins_trace line) ≡ true → CutOff text rest count
-cut_here text rest count said p line after some first begins =
+pub cut_here : (text rest : List ℕ) (count : ℕ) (said : Bool) → PassedOn text rest count said → (line after : List ℕ) → 0 < length rest → IsFirstLine rest line after → (said && begins_trace line) ≡ true → count + length rest ≤ length text → CutOff text rest count
+cut_here text rest count said p line after some first begins few =
     let both = both_true said (begins_trace line) begins in
     record {
       piece = p.front;
       cut = cut_before text p.front rest count (subst (λ s. IsPassed text p.front rest count s) both.0 p.passed) line after some first both.1;
       counted = p.passed.counted;
+      few = few;
     }
 
 -- the text ends
-pub cut_all : (text rest : List ℕ) (count : ℕ) (said : Bool) → PassedOn text rest count said → rest ≡ [] → 0 < length text → CutOff text rest count
-cut_all text rest count said p none some = record { piece = p.front; cut = cut_at_end text p.front rest count said p.passed none some; counted = p.passed.counted }
+pub cut_all : (text rest : List ℕ) (count : ℕ) (said : Bool) → PassedOn text rest count said → rest ≡ [] → 0 < length text → count + length rest ≤ length text → CutOff text rest count
+cut_all text rest count said p none some few = record { piece = p.front; cut = cut_at_end text p.front rest count said p.passed none some; counted = p.passed.counted; few = few }
 
 -- the next line is passed
 pub pass_line : (text rest : List ℕ) (count : ℕ) (said : Bool) → PassedOn text rest count said → (line after : List ℕ) → 0 < length rest → IsFirstLine rest line after → (said && begins_trace line) ≡ false → PassedOn text after (count + 1) (said || says line)

@@ -1,5 +1,5 @@
 -- How far a piece was passed.
-use Rattle.std.specs.Prelude.{◌≡◌, ◌⊎◌, ℕ, Bool, true, false, List, [], ◌∷◌, ◌++◌, length}
+use Rattle.std.specs.Prelude.{◌≡◌, ◌⊎◌, ◌+◌, ◌≤◌, ℕ, Bool, true, false, List, [], ◌∷◌, ◌++◌, length}
 use Rattle.std.specs.List.{list_any}
 use Rattle.text_lines.specs.Lines.{lines_of, is_line_feed}
 use Rattle.trace_pieces.specs.Pieces.{IsCut, hold_one, says}
@@ -26,3 +26,4 @@ pub record CutOff (text rest : List ℕ) (count : ℕ) : Type 0 where
   pub piece : List ℕ
   pub cut : IsCut text piece rest
   pub counted : count ≡ length (lines_of piece)
+  pub few : count + length rest ≤ length text

@@ -1,6 +1,6 @@
 //! Cuts off the first piece of a text.
 
-ghost use Rattle.std.specs.Prelude.{◌≡◌, ◌<◌, [], true, length, MatchOption};
+ghost use Rattle.std.specs.Prelude.{◌≡◌, ◌+◌, ◌<◌, ◌≤◌, [], true, length, MatchOption};
 ghost use Rattle.text_lines.specs.Lines.{lines_of};
 ghost use Rattle.trace_pieces.specs.Pieces.{IsCut};
 ghost use Rattle.trace_pieces.specs.Scanning.{CutOff, IsFirstLine};
@@ -44,6 +44,7 @@ fn after_piece(text: &[u8]) -> (&[u8], usize)
 pub fn cut_piece(text: &[u8]) -> Option<PieceCut<'_>>
     ensures cut { MatchOption result (text.now ≡ []) (λ cut. IsCut text.now cut.piece.now cut.rest.now) }
     ensures lines { MatchOption result (text.now ≡ []) (λ cut. cut.lines ≡ length (lines_of cut.piece.now)) }
+    ensures few { MatchOption result (text.now ≡ []) (λ cut. cut.lines + length cut.rest.now ≤ length text.now) }
     ensures shorter { MatchOption result (text.now ≡ []) (λ cut. length cut.rest.now < length text.now) }
 {
     if text.is_empty() {

@@ -1,4 +1,4 @@
-use Rattle.std.proofs.Common.{◌≡◌, ◌+◌, ◌-◌, length, take, drop, sym, subst, arith}
+use Rattle.std.proofs.Common.{◌+◌, ◌-◌, length, take, drop, sym, subst, arith}
 use Rattle.std.proofs.lemmas.List.{length-drop, take_all}
 use Rattle.trace_pieces.specs.Scanning.{IsFirstLine}
 use Rattle.trace_pieces.proofs.ScanLemmas.{line_with_feed, line_without_feed}

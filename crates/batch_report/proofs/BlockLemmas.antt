@@ -1,0 +1,144 @@
+-- How verdicts on blocks of pieces are put together.
+use Rattle.std.proofs.Common.{◌≡◌, ℕ, ◌+◌, ◌<◌, ◌≤◌, List, [], ◌∷◌, ◌++◌, length, refl, sym, ap, ◌∙◌, subst, arith, append-nil, append_assoc, get_or, take}
+use Rattle.std.specs.List.{AllZip, list_any}
+use Rattle.std.specs.Prelude.{Option, Some, None, Bool, true, false, ◌||◌}
+use Rattle.std.proofs.lemmas.List.{length-append, length-take-le, take_more}
+use Rattle.batch_report.specs.BatchLines.{batch_line, batch_lines}
+use Rattle.batch_report.specs.Blocks.{AreCutFrom, AreVerdictsOn, IsOnPlaced}
+use Rattle.batch_report.specs.declared.block.PlacedPiece.{PlacedPiece}
+use Rattle.batch_report.specs.declared.piece_verdict.PieceVerdict.{PieceVerdict}
+use Rattle.batch_report.specs.declared.tally.Tally.{Tally}
+use Rattle.batch_report.specs.Outcome.{first_refusal, is_no, is_unknown, or_refusal, outcome, outcome_of_tally, outcome_by, refusal_in, tally_with, tally_with_all}
+use Rattle.batch_report.specs.PieceVerdicts.{IsVerdictOn}
+use Rattle.text_lines.specs.Lines.{lines_of}
+use Rattle.trace_pieces.specs.Pieces.{IsCut}
+use Rattle.verdict_report.specs.declared.fault.Fault.{Fault}
+
+-- verdicts on the next pieces
+pub on_more : (before : ℕ) (text : List ℕ) (verdicts : List PieceVerdict) (b : ℕ) (r : List ℕ) (more : List PieceVerdict) (b_then : ℕ) (r_then : List ℕ) →
+    AreVerdictsOn before text verdicts b r → AreVerdictsOn b r more b_then r_then → AreVerdictsOn before text (verdicts ++ more) b_then r_then
+on_more before text [] b r more b_then r_then h next =
+    subst (λ (t : List ℕ). AreVerdictsOn before t more b_then r_then) (sym h.0) (subst (λ (n : ℕ). AreVerdictsOn n r more b_then r_then) (sym h.1) next)
+on_more before text (v ∷ verdicts) b r more b_then r_then h next =
+    record { piece = h.piece; after = h.after; cut = h.cut; is_on = h.is_on; others = on_more (before + length (lines_of h.piece)) h.after verdicts b r more b_then r_then h.others next }
+
+-- one more piece is cut off
+pub cut_more : (before : ℕ) (text : List ℕ) (pieces : List PlacedPiece) (b : ℕ) (r : List ℕ) (piece : PlacedPiece) (after : List ℕ) →
+    AreCutFrom before text pieces b r → IsCut r piece.text.now after → piece.before ≡ b → (b_then : ℕ) → b_then ≡ b + length (lines_of piece.text.now) → AreCutFrom before text (pieces ++ piece ∷ []) b_then after
+cut_more before text [] b r piece after h cut is b_then b_is =
+    record {
+      after = after;
+      cut = subst (λ (t : List ℕ). IsCut t piece.text.now after) (sym h.0) cut;
+      before_is = is ∙ sym h.1;
+      others = (refl, ap (λ (n : ℕ). n + length (lines_of piece.text.now)) h.1 ∙ sym b_is);
+    }
+cut_more before text (first ∷ pieces) b r piece after h cut is b_then b_is =
+    record {
+      after = h.after;
+      cut = h.cut;
+      before_is = h.before_is;
+      others = cut_more (before + length (lines_of first.text.now)) h.after pieces b r piece after h.others cut is b_then b_is;
+    }
+
+-- pieces that are cut off have their verdicts
+pub on_cut : (before : ℕ) (text : List ℕ) (pieces : List PlacedPiece) (verdicts : List PieceVerdict) (b : ℕ) (r : List ℕ) → AreCutFrom before text pieces b r → AllZip IsOnPlaced pieces verdicts → AreVerdictsOn before text verdicts b r
+on_cut before text [] [] b r h each = h
+on_cut before text [] (v ∷ verdicts) b r h each = absurd each
+on_cut before text (piece ∷ pieces) [] b r h each = absurd each
+on_cut before text (piece ∷ pieces) (v ∷ verdicts) b r h each =
+    record {
+      piece = piece.text.now;
+      after = h.after;
+      cut = h.cut;
+      is_on = subst (λ (n : ℕ). IsVerdictOn n piece.text.now v) h.before_is each.0;
+      others = on_cut (before + length (lines_of piece.text.now)) h.after pieces verdicts b r h.others each.1;
+    }
+
+-- one more verdict
+zip_more : (pieces : List PlacedPiece) (verdicts : List PieceVerdict) (piece : PlacedPiece) (v : PieceVerdict) → AllZip IsOnPlaced pieces verdicts → IsOnPlaced piece v → AllZip IsOnPlaced (pieces ++ piece ∷ []) (verdicts ++ v ∷ [])
+zip_more [] [] piece v each on = (on, tt)
+zip_more [] (w ∷ verdicts) piece v each on = absurd each
+zip_more (p ∷ pieces) [] piece v each on = absurd each
+zip_more (p ∷ pieces) (w ∷ verdicts) piece v each on = (each.0, zip_more pieces verdicts piece v each.1 on)
+
+pub one_more_on : (pieces : List PlacedPiece) (at : ℕ) (verdicts : List PieceVerdict) (d : PlacedPiece) (v : PieceVerdict) → at < length pieces →
+    AllZip IsOnPlaced (take at pieces) verdicts → IsOnPlaced (get_or pieces at d) v → AllZip IsOnPlaced (take (at + 1) pieces) (verdicts ++ v ∷ [])
+one_more_on pieces at verdicts d v within each on =
+    subst (λ (l : List PlacedPiece). AllZip IsOnPlaced l (verdicts ++ v ∷ [])) (sym (take_more pieces at d within)) (zip_more (take at pieces) verdicts (get_or pieces at d) v each on)
+
+pub same_count : (pieces : List PlacedPiece) (verdicts : List PieceVerdict) → AllZip IsOnPlaced pieces verdicts → length verdicts ≡ length pieces
+same_count [] [] each = refl
+same_count [] (v ∷ verdicts) each = absurd each
+same_count (piece ∷ pieces) [] each = absurd each
+same_count (piece ∷ pieces) (v ∷ verdicts) each = (let l = same_count pieces verdicts each.1 in omega (arith, l))
+
+-- pieces that are cut off are not empty
+pub cut_shorter : (before : ℕ) (text : List ℕ) (pieces : List PlacedPiece) (b : ℕ) (r : List ℕ) → AreCutFrom before text pieces b r → length pieces + length r ≤ length text
+cut_shorter before text [] b r h = (let l = ap length h.0 in omega (arith, l))
+cut_shorter before text (piece ∷ pieces) b r h =
+    let l = ap length h.cut.parts ∙ length-append piece.text.now h.after in
+    let more = cut_shorter (before + length (lines_of piece.text.now)) h.after pieces b r h.others in
+    omega (arith, l, more, h.cut.some)
+
+-- ---- lines
+
+pub lines_more : (file : List ℕ) (before : ℕ) (verdicts more : List PieceVerdict) → batch_lines file before (verdicts ++ more) ≡ batch_lines file before verdicts ++ batch_lines file (before + length verdicts) more
+lines_more file before [] more = (let e : before ≡ before + 0 = omega arith in ap (λ (n : ℕ). batch_lines file n more) e)
+lines_more file before (v ∷ verdicts) more =
+    let e : before + 1 + length verdicts ≡ before + length (v ∷ verdicts) = omega arith in
+    ap (λ (l : List ℕ). batch_line file (before + 1) v ++ l) (lines_more file (before + 1) verdicts more ∙ ap (λ (n : ℕ). batch_lines file (before + 1) verdicts ++ batch_lines file n more) e)
+    ∙ sym (append_assoc (batch_line file (before + 1) v) (batch_lines file (before + 1) verdicts) (batch_lines file (before + length (v ∷ verdicts)) more))
+
+pub line_more : (file : List ℕ) (before : ℕ) (verdicts : List PieceVerdict) (v : PieceVerdict) (number : ℕ) → number ≡ before + length verdicts + 1 → batch_lines file before (verdicts ++ v ∷ []) ≡ batch_lines file before verdicts ++ batch_line file number v
+line_more file before verdicts v number is =
+    lines_more file before verdicts (v ∷ [])
+    ∙ ap (λ (l : List ℕ). batch_lines file before verdicts ++ l) (append-nil (batch_line file (before + length verdicts + 1) v) ∙ ap (λ (n : ℕ). batch_line file n v) (sym is))
+
+-- the line of the verdict at a place
+pub line_at : (file : List ℕ) (before : ℕ) (verdicts : List PieceVerdict) (at : ℕ) (d : PieceVerdict) → at < length verdicts →
+    batch_lines file before (take at verdicts) ++ batch_line file (before + at + 1) (get_or verdicts at d) ≡ batch_lines file before (take (at + 1) verdicts)
+line_at file before verdicts at d within =
+    let l : length (take at verdicts) ≡ at = length-take-le at verdicts (omega (arith, within)) in
+    sym (line_more file before (take at verdicts) (get_or verdicts at d) (before + at + 1) (omega (arith, l)))
+    ∙ ap (batch_lines file before) (sym (take_more verdicts at d within))
+
+-- ---- the outcome
+
+pub tally_more : (tally : Tally) (verdicts more : List PieceVerdict) → tally_with_all tally (verdicts ++ more) ≡ tally_with_all (tally_with_all tally verdicts) more
+tally_more tally [] more = refl
+tally_more tally (v ∷ verdicts) more = tally_more (tally_with tally v) verdicts more
+
+or_more : (a b c : Bool) → ((a || b) || c) ≡ (a || (b || c))
+or_more true b c = refl
+or_more false b c = refl
+
+refusal_more : (a b c : Option Fault) → or_refusal (or_refusal a b) c ≡ or_refusal a (or_refusal b c)
+refusal_more (Some f) b c = refl
+refusal_more None b c = refl
+
+or_none : (a : Bool) → (a || false) ≡ a
+or_none true = refl
+or_none false = refl
+
+refusal_none : (a : Option Fault) → or_refusal a None ≡ a
+refusal_none (Some f) = refl
+refusal_none None = refl
+
+has_no_is : (tally : Tally) (verdicts : List PieceVerdict) → (tally_with_all tally verdicts).has_no ≡ (tally.has_no || list_any is_no verdicts)
+has_no_is tally [] = sym (or_none tally.has_no)
+has_no_is tally (v ∷ verdicts) = has_no_is (tally_with tally v) verdicts ∙ or_more tally.has_no (is_no v) (list_any is_no verdicts)
+
+has_unknown_is : (tally : Tally) (verdicts : List PieceVerdict) → (tally_with_all tally verdicts).has_unknown ≡ (tally.has_unknown || list_any is_unknown verdicts)
+has_unknown_is tally [] = sym (or_none tally.has_unknown)
+has_unknown_is tally (v ∷ verdicts) = has_unknown_is (tally_with tally v) verdicts ∙ or_more tally.has_unknown (is_unknown v) (list_any is_unknown verdicts)
+
+refusal_is : (tally : Tally) (verdicts : List PieceVerdict) → (tally_with_all tally verdicts).refusal ≡ or_refusal tally.refusal (first_refusal verdicts)
+refusal_is tally [] = sym (refusal_none tally.refusal)
+refusal_is tally (v ∷ verdicts) = refusal_is (tally_with tally v) verdicts ∙ refusal_more tally.refusal (refusal_in v) (first_refusal verdicts)
+
+-- the outcome is that of what was counted
+pub outcome_is : (tally : Tally) (verdicts : List PieceVerdict) → tally.has_no ≡ false → tally.refusal ≡ None → tally.has_unknown ≡ false → outcome_of_tally (tally_with_all tally verdicts) ≡ outcome verdicts
+outcome_is tally verdicts none_no none_refused none_unknown = λ i.
+    outcome_by ((has_no_is tally verdicts ∙ ap (λ (b : Bool). b || list_any is_no verdicts) none_no) i)
+    ((refusal_is tally verdicts ∙ ap (λ (r : Option Fault). or_refusal r (first_refusal verdicts)) none_refused) i)
+    ((has_unknown_is tally verdicts ∙ ap (λ (b : Bool). b || list_any is_unknown verdicts) none_unknown) i)

@@ -1,0 +1,5 @@
+pub mod BatchEngine
+pub mod BatchLines
+pub mod Blocks
+pub mod Outcome
+pub mod PieceVerdicts

@@ -1,0 +1,72 @@
+//! Blocks of pieces, which are decided side by side.
+
+ghost use Rattle.std.specs.Prelude.{◌≡◌, ◌+◌, ◌<◌, ◌≤◌, IfOk, length};
+ghost use Rattle.batch_report.specs.Blocks.{AreCutFrom};
+
+use crate::piece_verdict::PieceVerdict;
+use std::alloc::{AllocError, Global};
+use trace_pieces::cut_piece;
+
+/// A piece of a text, and how many lines stand before it.
+#[derive(Clone, Copy)]
+pub struct PlacedPiece<'a> {
+    /// The piece.
+    pub text: &'a [u8],
+    /// The number of lines before it.
+    pub before: usize,
+}
+
+/// The first pieces of a text, and what follows them.
+#[derive(Drop)]
+pub struct Block<'a> {
+    /// The pieces, in their order.
+    pub pieces: Vec<PlacedPiece<'a>>,
+    /// What follows them.
+    pub rest: &'a [u8],
+    /// The number of lines before that.
+    pub before: usize,
+}
+
+/// The verdicts on the first pieces of a text, and what follows them.
+#[derive(Drop)]
+pub struct DecidedBlock<'a> {
+    /// The verdicts, in the order of the pieces.
+    pub verdicts: Vec<PieceVerdict>,
+    /// What follows the pieces.
+    pub rest: &'a [u8],
+    /// The number of lines before that.
+    pub before: usize,
+}
+
+/// The most pieces of a block. Their lines are written together.
+const MOST_PIECES: usize = 512;
+
+/// Cuts off the first pieces of a text, before which so many lines stand.
+pub(crate) fn cut_block(alloc: Global, text: &[u8], before: usize) -> Result<Block<'_>, AllocError>
+    requires some { 0 < length text.now }
+    requires few { before + length text.now ≤ 268435456 }
+    ensures cut { IfOk result (λ block. AreCutFrom before text.now block.pieces.items block.before block.rest.now) }
+    ensures few { IfOk result (λ block. block.before + length block.rest.now ≤ before + length text.now) }
+    ensures count { IfOk result (λ block. length block.pieces.items + length block.rest.now ≤ length text.now) }
+    ensures shorter { IfOk result (λ block. length block.rest.now < length text.now) }
+{
+    let mut pieces = Vec::with_capacity(alloc, MOST_PIECES)?;
+    let mut rest = text;
+    let mut passed = before;
+    while pieces.len() < MOST_PIECES {
+        let Some(cut) = cut_piece(rest) else {
+            break;
+        };
+        pieces.push(PlacedPiece {
+            text: cut.piece,
+            before: passed,
+        })?;
+        passed += cut.lines;
+        rest = cut.rest;
+    }
+    Ok(Block {
+        pieces,
+        rest,
+        before: passed,
+    })
+}

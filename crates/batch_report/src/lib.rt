@@ -1,0 +1,16 @@
+//! The engine that decides many traces of one text, a line for each.
+#![tactic(auto)]
+
+mod batch_engine;
+mod block;
+mod deciding;
+mod lines;
+mod piece_verdict;
+mod progress;
+mod reading_text;
+mod side_by_side;
+mod tally;
+
+pub use batch_engine::run_batch;
+pub use deciding::verdict_on;
+pub use piece_verdict::PieceVerdict;
