@@ -7,7 +7,7 @@ use Rattle.batch_report.specs.BatchLines.{batch_line, batch_lines}
 use Rattle.batch_report.specs.Blocks.{AreCutFrom, AreVerdictsOn, IsOnPlaced}
 use Rattle.batch_report.specs.declared.block.PlacedPiece.{PlacedPiece}
 use Rattle.batch_report.specs.declared.piece_verdict.PieceVerdict.{PieceVerdict}
-use Rattle.batch_report.specs.declared.tally.Tally.{Tally}
+use Rattle.batch_report.specs.declared.tally.VerdictTally.{VerdictTally}
 use Rattle.batch_report.specs.Outcome.{first_refusal, is_no, is_unknown, or_refusal, outcome, outcome_of_tally, outcome_by, refusal_in, tally_with, tally_with_all}
 use Rattle.batch_report.specs.PieceVerdicts.{IsVerdictOn}
 use Rattle.text_lines.specs.Lines.{lines_of}
@@ -104,7 +104,7 @@ line_at file before verdicts at d within =
 
 -- ---- the outcome
 
-pub tally_more : (tally : Tally) (verdicts more : List PieceVerdict) → tally_with_all tally (verdicts ++ more) ≡ tally_with_all (tally_with_all tally verdicts) more
+pub tally_more : (tally : VerdictTally) (verdicts more : List PieceVerdict) → tally_with_all tally (verdicts ++ more) ≡ tally_with_all (tally_with_all tally verdicts) more
 tally_more tally [] more = refl
 tally_more tally (v ∷ verdicts) more = tally_more (tally_with tally v) verdicts more
 
@@ -124,20 +124,20 @@ refusal_none : (a : Option Fault) → or_refusal a None ≡ a
 refusal_none (Some f) = refl
 refusal_none None = refl
 
-has_no_is : (tally : Tally) (verdicts : List PieceVerdict) → (tally_with_all tally verdicts).has_no ≡ (tally.has_no || list_any is_no verdicts)
+has_no_is : (tally : VerdictTally) (verdicts : List PieceVerdict) → (tally_with_all tally verdicts).has_no ≡ (tally.has_no || list_any is_no verdicts)
 has_no_is tally [] = sym (or_none tally.has_no)
 has_no_is tally (v ∷ verdicts) = has_no_is (tally_with tally v) verdicts ∙ or_more tally.has_no (is_no v) (list_any is_no verdicts)
 
-has_unknown_is : (tally : Tally) (verdicts : List PieceVerdict) → (tally_with_all tally verdicts).has_unknown ≡ (tally.has_unknown || list_any is_unknown verdicts)
+has_unknown_is : (tally : VerdictTally) (verdicts : List PieceVerdict) → (tally_with_all tally verdicts).has_unknown ≡ (tally.has_unknown || list_any is_unknown verdicts)
 has_unknown_is tally [] = sym (or_none tally.has_unknown)
 has_unknown_is tally (v ∷ verdicts) = has_unknown_is (tally_with tally v) verdicts ∙ or_more tally.has_unknown (is_unknown v) (list_any is_unknown verdicts)
 
-refusal_is : (tally : Tally) (verdicts : List PieceVerdict) → (tally_with_all tally verdicts).refusal ≡ or_refusal tally.refusal (first_refusal verdicts)
+refusal_is : (tally : VerdictTally) (verdicts : List PieceVerdict) → (tally_with_all tally verdicts).refusal ≡ or_refusal tally.refusal (first_refusal verdicts)
 refusal_is tally [] = sym (refusal_none tally.refusal)
 refusal_is tally (v ∷ verdicts) = refusal_is (tally_with tally v) verdicts ∙ refusal_more tally.refusal (refusal_in v) (first_refusal verdicts)
 
 -- the outcome is that of what was counted
-pub outcome_is : (tally : Tally) (verdicts : List PieceVerdict) → tally.has_no ≡ false → tally.refusal ≡ None → tally.has_unknown ≡ false → outcome_of_tally (tally_with_all tally verdicts) ≡ outcome verdicts
+pub outcome_is : (tally : VerdictTally) (verdicts : List PieceVerdict) → tally.has_no ≡ false → tally.refusal ≡ None → tally.has_unknown ≡ false → outcome_of_tally (tally_with_all tally verdicts) ≡ outcome verdicts
 outcome_is tally verdicts none_no none_refused none_unknown = λ i.
     outcome_by ((has_no_is tally verdicts ∙ ap (λ (b : Bool). b || list_any is_no verdicts) none_no) i)
     ((refusal_is tally verdicts ∙ ap (λ (r : Option Fault). or_refusal r (first_refusal verdicts)) none_refused) i)

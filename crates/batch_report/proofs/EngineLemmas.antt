@@ -6,8 +6,8 @@ use Rattle.batch_report.specs.BatchEngine.{HasCome, IsRunOnText, StopsBlock, Sto
 use Rattle.batch_report.specs.BatchLines.{batch_lines}
 use Rattle.batch_report.specs.Blocks.{AreVerdictsOn}
 use Rattle.batch_report.specs.declared.piece_verdict.PieceVerdict.{PieceVerdict}
-use Rattle.batch_report.specs.declared.progress.Progress.{Progress}
-use Rattle.batch_report.specs.declared.tally.Tally.{Tally}
+use Rattle.batch_report.specs.declared.progress.BatchProgress.{BatchProgress}
+use Rattle.batch_report.specs.declared.tally.VerdictTally.{VerdictTally}
 use Rattle.batch_report.specs.Outcome.{no_tally, outcome_of_tally, tally_with_all}
 use Rattle.batch_report.proofs.BlockLemmas.{lines_more, on_more, outcome_is, tally_more}
 use Rattle.dimacs.specs.declared.sink_fault.SinkFault.{SinkFault}
@@ -24,7 +24,7 @@ run_of before now failures_before failures_now = record { before = before; now =
 -- ---- a block
 
 -- nothing was decided
-pub nothing_decided : (file : List ℕ) (from : Progress) (w : List ℕ) (f : ℕ) → StopsBlock file from (run_of w w f f) NoRoom
+pub nothing_decided : (file : List ℕ) (from : BatchProgress) (w : List ℕ) (f : ℕ) → StopsBlock file from (run_of w w f f) NoRoom
 nothing_decided file from w f = record {
   verdicts = [];
   before_rest = from.before;
@@ -36,11 +36,11 @@ nothing_decided file from w f = record {
 
 -- ---- one block after others
 
-module _ (file text : List ℕ) (from : Progress) (w0 w1 w2 : List ℕ) (f0 f1 f2 : ℕ) (come : HasCome file text from (run_of w0 w1 f0 f1)) where
+module _ (file text : List ℕ) (from : BatchProgress) (w0 w1 w2 : List ℕ) (f0 f1 f2 : ℕ) (come : HasCome file text from (run_of w0 w1 f0 f1)) where
   lines_with : (more : List PieceVerdict) → batch_lines file 0 (come.verdicts ++ more) ≡ batch_lines file 0 come.verdicts ++ batch_lines file from.number more
   lines_with more = lines_more file 0 come.verdicts more ∙ ap (λ (n : ℕ). batch_lines file 0 come.verdicts ++ batch_lines file n more) (let e : 0 + length come.verdicts ≡ from.number = omega (arith, come.counted) in e)
 
-  pub come_further : (to : Progress) → WritesBlock file from to (run_of w1 w2 f1 f2) → HasCome file text to (run_of w0 w2 f0 f2)
+  pub come_further : (to : BatchProgress) → WritesBlock file from to (run_of w1 w2 f1 f2) → HasCome file text to (run_of w0 w2 f0 f2)
   come_further to block = record {
     verdicts = come.verdicts ++ block.verdicts;
     each = on_more 0 text come.verdicts from.before from.rest.now block.verdicts to.before to.rest.now come.each block.each;
@@ -50,7 +50,7 @@ module _ (file text : List ℕ) (from : Progress) (w0 w1 w2 : List ℕ) (f0 f1 f
       block.whole.1 ∙ come.whole.1,
     );
     counted = (let l = length-append come.verdicts block.verdicts in omega (arith, block.counted, come.counted, l));
-    tallied = block.tallied ∙ ap (λ (t : Tally). tally_with_all t block.verdicts) come.tallied ∙ sym (tally_more no_tally come.verdicts block.verdicts);
+    tallied = block.tallied ∙ ap (λ (t : VerdictTally). tally_with_all t block.verdicts) come.tallied ∙ sym (tally_more no_tally come.verdicts block.verdicts);
   }
 
   pub stop_here : (fault : SinkFault) → StopsBlock file from (run_of w1 w2 f1 f2) fault → StopsOnText file text (run_of w0 w2 f0 f2) fault
@@ -68,7 +68,7 @@ module _ (file text : List ℕ) (from : Progress) (w0 w1 w2 : List ℕ) (f0 f1 f
   }
 
 -- nothing has come yet
-pub not_yet : (file text : List ℕ) (from : Progress) (w : List ℕ) (f : ℕ) → from.rest.now ≡ text → from.before ≡ 0 → from.number ≡ 0 → from.tally ≡ no_tally → HasCome file text from (run_of w w f f)
+pub not_yet : (file text : List ℕ) (from : BatchProgress) (w : List ℕ) (f : ℕ) → from.rest.now ≡ text → from.before ≡ 0 → from.number ≡ 0 → from.tally ≡ no_tally → HasCome file text from (run_of w w f f)
 not_yet file text from w f rest before number tally = record {
   verdicts = [];
   each = (sym rest, sym before);
@@ -78,7 +78,7 @@ not_yet file text from w f rest before number tally = record {
 }
 
 -- all has come
-pub come_to_end : (file text : List ℕ) (from : Progress) (out : SinkRun) → HasCome file text from out → from.rest.now ≡ [] → WritesText file text from.tally out
+pub come_to_end : (file text : List ℕ) (from : BatchProgress) (out : SinkRun) → HasCome file text from out → from.rest.now ≡ [] → WritesText file text from.tally out
 come_to_end file text from out come none = record {
   verdicts = come.verdicts;
   each = record { lines = from.before; are_on = subst (λ (r : List ℕ). AreVerdictsOn 0 text come.verdicts from.before r) none come.each };
@@ -88,7 +88,7 @@ come_to_end file text from out come none = record {
 
 -- ---- the answer
 
-pub finished : (file text : List ℕ) (tally : Tally) (out : SinkRun) → WritesText file text tally out → (result : Result Status Fault) → result ≡ outcome_of_tally tally → IsRunOnText file text out result
+pub finished : (file text : List ℕ) (tally : VerdictTally) (out : SinkRun) → WritesText file text tally out → (result : Result Status Fault) → result ≡ outcome_of_tally tally → IsRunOnText file text out result
 finished file text tally out w result is = inl (record { verdicts = w.verdicts; each = w.each; whole = w.whole; answer = is ∙ w.tallied })
 
 pub no_memory : (file text : List ℕ) (out : SinkRun) → StopsOnText file text out NoRoom → IsRunOnText file text out (Err OutOfMemory)

@@ -3,8 +3,8 @@ use Rattle.std.specs.Prelude.{◌≡◌, ◌⊎◌, ◌+◌, ℕ, List, [], ◌�
 use Rattle.batch_report.specs.BatchLines.{batch_lines}
 use Rattle.batch_report.specs.Blocks.{AreVerdictsOn}
 use Rattle.batch_report.specs.declared.piece_verdict.PieceVerdict.{PieceVerdict}
-use Rattle.batch_report.specs.declared.progress.Progress.{Progress}
-use Rattle.batch_report.specs.declared.tally.Tally.{Tally}
+use Rattle.batch_report.specs.declared.progress.BatchProgress.{BatchProgress}
+use Rattle.batch_report.specs.declared.tally.VerdictTally.{VerdictTally}
 use Rattle.batch_report.specs.Outcome.{no_tally, outcome, outcome_of_tally, tally_with_all}
 use Rattle.dimacs.specs.declared.sink_fault.SinkFault.{SinkFault}
 use Rattle.dimacs.specs.Sink.{AppendsFront}
@@ -59,7 +59,7 @@ IsRunOfBatch file traces out result = IsRunOnRead file traces out result ⊎ IsU
 -- ---- as it goes on
 
 -- the next pieces have these verdicts, and the sink took their lines
-pub record WritesBlock (file : List ℕ) (from to : Progress) (out : SinkRun) : Type 0 where
+pub record WritesBlock (file : List ℕ) (from to : BatchProgress) (out : SinkRun) : Type 0 where
   pub verdicts : List PieceVerdict
   pub each : AreVerdictsOn from.before from.rest.now verdicts to.before to.rest.now
   pub whole : TakesWhole out (batch_lines file from.number verdicts)
@@ -67,7 +67,7 @@ pub record WritesBlock (file : List ℕ) (from to : Progress) (out : SinkRun) : 
   pub tallied : to.tally ≡ tally_with_all from.tally verdicts
 
 -- the sink took a prefix of the lines of the next pieces, and then it failed, or there was no memory
-pub record StopsBlock (file : List ℕ) (from : Progress) (out : SinkRun) (fault : SinkFault) : Type 0 where
+pub record StopsBlock (file : List ℕ) (from : BatchProgress) (out : SinkRun) (fault : SinkFault) : Type 0 where
   pub verdicts : List PieceVerdict
   pub before_rest : ℕ
   pub rest : List ℕ
@@ -76,7 +76,7 @@ pub record StopsBlock (file : List ℕ) (from : Progress) (out : SinkRun) (fault
   pub failures : out.failures_now ≡ out.failures_before + failures_told fault
 
 -- the first pieces of the text have their verdicts, which were counted, and the sink took their lines
-pub record HasCome (file text : List ℕ) (progress : Progress) (out : SinkRun) : Type 0 where
+pub record HasCome (file text : List ℕ) (progress : BatchProgress) (out : SinkRun) : Type 0 where
   pub verdicts : List PieceVerdict
   pub each : AreVerdictsOn 0 text verdicts progress.before progress.rest.now
   pub whole : TakesWhole out (batch_lines file 0 verdicts)
@@ -84,7 +84,7 @@ pub record HasCome (file text : List ℕ) (progress : Progress) (out : SinkRun) 
   pub tallied : progress.tally ≡ tally_with_all no_tally verdicts
 
 -- all pieces have their verdicts, and the sink took their lines
-pub record WritesText (file text : List ℕ) (tally : Tally) (out : SinkRun) : Type 0 where
+pub record WritesText (file text : List ℕ) (tally : VerdictTally) (out : SinkRun) : Type 0 where
   pub verdicts : List PieceVerdict
   pub each : AreOnFirst text verdicts []
   pub whole : TakesWhole out (batch_lines file 0 verdicts)

@@ -24,7 +24,7 @@ place_text file number = file ++ (codes ":" ++ (decimal number ++ codes " "))
 abbrev pub batch_line : List ℕ → ℕ → PieceVerdict → List ℕ
 batch_line file number verdict = place_text file number ++ verdict_line verdict
 
--- the lines of pieces in their order, before which so many others stand in the file
+-- the lines of pieces in their order, behind others of the file
 abbrev pub batch_lines : List ℕ → ℕ → List PieceVerdict → List ℕ
 batch_lines file before [] = []
 batch_lines file before (verdict ∷ verdicts) = batch_line file (before + 1) verdict ++ batch_lines file (before + 1) verdicts

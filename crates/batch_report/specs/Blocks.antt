@@ -6,7 +6,7 @@ use Rattle.batch_report.specs.PieceVerdicts.{IsVerdictOn}
 use Rattle.text_lines.specs.Lines.{lines_of}
 use Rattle.trace_pieces.specs.Pieces.{IsCut}
 
--- the verdict is on the first piece of the text, before which so many lines stand, and this is so of what follows the piece
+-- the verdict is on the first piece of the text behind a number of lines, and this is so of what follows the piece
 pub record NextVerdict (before : ℕ) (text : List ℕ) (verdict : PieceVerdict) (Others : ℕ → List ℕ → Type 0) : Type 0 where
   pub piece : List ℕ
   pub after : List ℕ
@@ -14,8 +14,8 @@ pub record NextVerdict (before : ℕ) (text : List ℕ) (verdict : PieceVerdict)
   pub is_on : IsVerdictOn before piece verdict
   pub others : Others (before + length (lines_of piece)) after
 
--- The verdicts are on the first pieces of the text, before which so many lines stand, in their order. What follows these pieces is the rest, and
--- so many lines stand before that.
+-- The verdicts are on the first pieces of the text behind a number of lines, in their order. What follows these pieces is the rest, and
+-- this number of lines stand before that.
 abbrev pub AreVerdictsOn : ℕ → List ℕ → List PieceVerdict → ℕ → List ℕ → Type 0
 AreVerdictsOn before text [] before_rest rest = (text ≡ rest) × (before ≡ before_rest)
 AreVerdictsOn before text (verdict ∷ verdicts) before_rest rest =

@@ -3,7 +3,7 @@ use Rattle.std.specs.Prelude.{Bool, true, false, ◌||◌, List, [], ◌∷◌, 
 use Rattle.std.specs.List.{list_any}
 use Rattle.batch_report.specs.declared.piece_verdict.PieceVerdict.{PieceVerdict}
 use Rattle.batch_report.specs.declared.piece_verdict.PieceVerdict.TheVariants.{Refuted, RefutedCore, Reasoned, Open, Undecided, Refused}
-use Rattle.batch_report.specs.declared.tally.Tally.{Tally}
+use Rattle.batch_report.specs.declared.tally.VerdictTally.{VerdictTally}
 use Rattle.verdict_report.specs.declared.fault.Fault.{Fault}
 use Rattle.verdict_report.specs.declared.status.Status.{Status}
 use Rattle.verdict_report.specs.declared.status.Status.TheVariants.{Yes, No, Unknown}
@@ -48,19 +48,19 @@ outcome verdicts = outcome_by (list_any is_no verdicts) (first_refusal verdicts)
 -- ---- as it is counted
 
 -- of no verdict
-abbrev pub no_tally : Tally
+abbrev pub no_tally : VerdictTally
 no_tally = record { has_no = false; refusal = None; has_unknown = false }
 
-abbrev pub outcome_of_tally : Tally → Result Status Fault
+abbrev pub outcome_of_tally : VerdictTally → Result Status Fault
 outcome_of_tally tally = outcome_by tally.has_no tally.refusal tally.has_unknown
 
-abbrev pub tally_with : Tally → PieceVerdict → Tally
+abbrev pub tally_with : VerdictTally → PieceVerdict → VerdictTally
 tally_with tally verdict = record {
   has_no = tally.has_no || is_no verdict;
   refusal = or_refusal tally.refusal (refusal_in verdict);
   has_unknown = tally.has_unknown || is_unknown verdict;
 }
 
-abbrev pub tally_with_all : Tally → List PieceVerdict → Tally
+abbrev pub tally_with_all : VerdictTally → List PieceVerdict → VerdictTally
 tally_with_all tally [] = tally
 tally_with_all tally (verdict ∷ verdicts) = tally_with_all (tally_with tally verdict) verdicts

@@ -31,7 +31,7 @@ verdict_of_surveyed (NothingShown extent) = Undecided extent.placed extent.undec
 
 -- ---- what a verdict means
 
--- The verdict is so of the trace: it has a legal schedule, or it has none. Nothing is said if it is not decided. A trace is refused for want of
+-- The verdict is so of the trace: it has a legal schedule, or it has none. Nothing is said if it is not decided. A trace is refused if there is no
 -- memory, or if the search has no results.
 abbrev pub IsVerdictOf : TraceValue → PieceVerdict → Type 0
 IsVerdictOf t Consistent = (schedule : List OpName) × IsLegal t schedule
@@ -51,14 +51,14 @@ pub record SpellsDecided (text : List ℕ) (verdict : PieceVerdict) : Type 0 whe
   pub spelled : SpellsTrace text value
   pub is_so : IsVerdictOf value verdict
 
--- the text has this fault in the line that is the given one of a longer text, in which so many lines stand before it
+-- the text has this fault in the line that is the given one of a longer text, in which this number of lines stand before it
 pub record HasFaultBehind (before : ℕ) (text : List ℕ) (fault : Fault) : Type 0 where
   pub cause : TraceCause
   pub line : ℕ
   pub has : HasTraceFault text cause line
   pub fault_is : fault ≡ Trace cause (before + line)
 
--- The verdict is so of a piece, before which so many lines stand: the piece spells a trace of which it is so, or the piece has this fault; or
+-- The verdict is so of a piece behind a number of lines: the piece spells a trace of which it is so, or the piece has this fault; or
 -- there was no memory.
 abbrev pub IsVerdictOn : ℕ → List ℕ → PieceVerdict → Type 0
 IsVerdictOn before text Consistent = SpellsDecided text Consistent

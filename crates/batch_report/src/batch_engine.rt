@@ -12,10 +12,10 @@ ghost use Rattle.verdict_report.specs.Runs.{sink_run, source_run};
 use crate::block::{DecidedBlock, cut_block};
 use crate::lines::lines_of;
 use crate::piece_verdict::PieceVerdict;
-use crate::progress::Progress;
+use crate::progress::BatchProgress;
 use crate::reading_text::read_text;
 use crate::side_by_side::verdicts_of;
-use crate::tally::Tally;
+use crate::tally::VerdictTally;
 use cube_jobs::Options;
 use dimacs::{Sink, SinkFault, write_whole};
 use std::alloc::{AllocError, Global};
@@ -24,7 +24,7 @@ use std::thread::Threads;
 use surveyor::Surveyor;
 use verdict_report::{Fault, ReadFault, Source, Status};
 
-/// Decides the first pieces of the text, before which so many lines stand.
+/// Decides the first pieces of the text behind a number of lines.
 fn decide_block<'a, R: Threads + Wait + Sync, S: Surveyor + Sync>(
     alloc: Global,
     rt: &R,
@@ -59,7 +59,7 @@ fn decide_block<'a, R: Threads + Wait + Sync, S: Surveyor + Sync>(
     })
 }
 
-/// Writes the lines of pieces, before which so many others stand in the file.
+/// Writes the lines of pieces behind others of the file.
 fn write_lines<W: Sink>(
     alloc: Global,
     file: &[u8],
@@ -84,13 +84,13 @@ fn write_block<'a, R: Threads + Wait + Sync, S: Surveyor + Sync, W: Sink>(
     alloc: Global,
     rt: &R,
     file: &[u8],
-    progress: Progress<'a>,
+    progress: BatchProgress<'a>,
     workers: u32,
     short: &Options,
     long: &Options,
     surveyor: &S,
     out: &mut W,
-) -> Result<Progress<'a>, SinkFault>
+) -> Result<BatchProgress<'a>, SinkFault>
     requires some { 0 < length progress.rest.now }
     requires few_lines { progress.before + length progress.rest.now ≤ 268435456 }
     requires few_pieces { progress.number + length progress.rest.now ≤ 268435456 }
@@ -112,7 +112,7 @@ fn write_block<'a, R: Threads + Wait + Sync, S: Surveyor + Sync, W: Sink>(
         surveyor,
     )?;
     write_lines(alloc, file, progress.number, block.verdicts.as_slice(), out)?;
-    Ok(Progress {
+    Ok(BatchProgress {
         rest: block.rest,
         before: block.before,
         number: progress.number + block.verdicts.len(),
@@ -131,17 +131,17 @@ fn write_text<R: Threads + Wait + Sync, S: Surveyor + Sync, W: Sink>(
     long: &Options,
     surveyor: &S,
     out: &mut W,
-) -> Result<Tally, SinkFault>
+) -> Result<VerdictTally, SinkFault>
     requires { length text.now ≤ 268435456 }
     ensures written { IfOk result (λ tally. WritesText file.now text.now tally (sink_run W.written W.failures out.old out.new)) }
     ensures stopped { IfErr result (StopsOnText file.now text.now (sink_run W.written W.failures out.old out.new)) }
     ensures same { W.path out.new ≡ W.path out.old }
 {
-    let mut progress = Progress {
+    let mut progress = BatchProgress {
         rest: text,
         before: 0,
         number: 0,
-        tally: Tally::new(),
+        tally: VerdictTally::new(),
     };
     while !progress.rest.is_empty() {
         match write_block(

@@ -41,7 +41,7 @@ pub struct DecidedBlock<'a> {
 /// The most pieces of a block. Their lines are written together.
 const MOST_PIECES: usize = 512;
 
-/// Cuts off the first pieces of a text, before which so many lines stand.
+/// Cuts off the first pieces of a text behind a number of lines.
 pub(crate) fn cut_block(alloc: Global, text: &[u8], before: usize) -> Result<Block<'_>, AllocError>
     requires some { 0 < length text.now }
     requires few { before + length text.now ≤ 268435456 }

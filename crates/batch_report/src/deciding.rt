@@ -32,7 +32,7 @@ fn refusal_of_search(fault: SearchFault) -> Fault
     }
 }
 
-/// What a search says of a trace.
+/// Gives the verdict of a search of a trace.
 fn verdict_by_search<R: Threads + Wait + Sync>(
     alloc: Global,
     rt: &R,
@@ -47,7 +47,7 @@ fn verdict_by_search<R: Threads + Wait + Sync>(
     }
 }
 
-/// What a survey says of a trace.
+/// Gives the verdict of a survey of a trace.
 fn verdict_by_survey<R: Threads + Wait + Sync, S: Surveyor>(
     alloc: Global,
     rt: &R,
@@ -63,7 +63,7 @@ fn verdict_by_survey<R: Threads + Wait + Sync, S: Surveyor>(
     }
 }
 
-/// What is said of a trace: by a search, or by a survey if more than 160 of its operations are kept.
+/// Gives the verdict on a trace: by a search, or by a survey if more than 160 of its operations are kept.
 fn verdict_on_trace<R: Threads + Wait + Sync, S: Surveyor>(
     alloc: Global,
     rt: &R,
@@ -81,7 +81,7 @@ fn verdict_on_trace<R: Threads + Wait + Sync, S: Surveyor>(
     }
 }
 
-/// What is said of a text that is no trace. The fault is told by the line of the whole text.
+/// Gives the refusal of a text that is no trace. The fault has the line of the whole text.
 fn refused_piece(_text: &[u8], before: usize, fault: TraceFault) -> PieceVerdict
     requires { IsRefusal (HasTraceFault _text.now) fault }
     ensures { IsVerdictOn before _text.now result }
@@ -95,7 +95,7 @@ fn refused_piece(_text: &[u8], before: usize, fault: TraceFault) -> PieceVerdict
     }
 }
 
-/// What is said of a piece, before which so many lines stand: whether the trace that it spells has a legal schedule, or why it spells
+/// Gives the verdict on a piece behind a number of lines: whether the trace that it spells has a legal schedule, or why it spells
 /// none.
 pub fn verdict_on<R: Threads + Wait + Sync, S: Surveyor>(
     alloc: Global,

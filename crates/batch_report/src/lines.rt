@@ -130,7 +130,7 @@ fn push_line(
     push_verdict(alloc, text, verdict)
 }
 
-/// The lines of pieces, before which so many others stand in the file.
+/// The lines of pieces behind others of the file.
 pub(crate) fn lines_of(
     alloc: Global,
     file: &[u8],

@@ -12,13 +12,13 @@ use verdict_report::Fault;
 pub enum PieceVerdict {
     /// The trace has a legal schedule.
     Consistent,
-    /// It has none, as a refutation of so many cubes shows.
+    /// It has none, as a refutation shows, whose number of cubes this is.
     Refuted { cubes: u32 },
-    /// It has none, since the part of so many operations has none.
+    /// It has none, since the part of a core has none.
     RefutedCore { operations: usize, cubes: u32 },
-    /// It has none, as a certificate of so many reasons shows, which name so many operations.
+    /// It has none, as a certificate of reasons shows.
     Reasoned { operations: usize, reasons: usize },
-    /// The search has left so many cubes open.
+    /// The search has left cubes open.
     Open { left: usize },
     /// The survey has decided nothing.
     Undecided { placed: u32, undecided: u32 },
@@ -26,7 +26,7 @@ pub enum PieceVerdict {
     Refused(Fault),
 }
 
-/// What a decision says.
+/// Gives the verdict of a decision.
 pub(crate) fn verdict_of_decision(decision: &Decision) -> PieceVerdict
     ensures { result ≡ verdict_of_decision decision.now }
 {
@@ -41,7 +41,7 @@ pub(crate) fn verdict_of_decision(decision: &Decision) -> PieceVerdict
     }
 }
 
-/// What is said with the help of a survey.
+/// Gives the verdict of a survey.
 pub(crate) fn verdict_of_surveyed(surveyed: &Surveyed) -> PieceVerdict
     ensures { result ≡ verdict_of_surveyed surveyed.now }
 {

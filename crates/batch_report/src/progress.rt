@@ -1,10 +1,10 @@
 //! How far a batch came.
 
-use crate::tally::Tally;
+use crate::tally::VerdictTally;
 
 /// How far a batch came.
 #[derive(Clone, Copy)]
-pub(crate) struct Progress<'a> {
+pub(crate) struct BatchProgress<'a> {
     /// What is left of the text.
     pub rest: &'a [u8],
     /// The number of lines before it.
@@ -12,5 +12,5 @@ pub(crate) struct Progress<'a> {
     /// The number of pieces before it.
     pub number: usize,
     /// What was counted.
-    pub tally: Tally,
+    pub tally: VerdictTally,
 }

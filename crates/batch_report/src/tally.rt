@@ -8,7 +8,7 @@ use verdict_report::{Fault, Status};
 
 /// What of the verdicts so far counts for the outcome.
 #[derive(Clone, Copy)]
-pub struct Tally {
+pub struct VerdictTally {
     /// Whether some trace has no legal schedule.
     pub has_no: bool,
     /// The first refusal.
@@ -50,12 +50,12 @@ fn refusal_in(verdict: &PieceVerdict) -> Option<Fault>
     }
 }
 
-impl Tally {
+impl VerdictTally {
     /// Of no verdict.
-    pub(crate) fn new() -> Tally
+    pub(crate) fn new() -> VerdictTally
         ensures { result ≡ no_tally }
     {
-        Tally {
+        VerdictTally {
             has_no: false,
             refusal: None,
             has_unknown: false,
@@ -63,14 +63,14 @@ impl Tally {
     }
 
     /// With one more verdict.
-    pub(crate) fn with(self, verdict: &PieceVerdict) -> Tally
+    pub(crate) fn with(self, verdict: &PieceVerdict) -> VerdictTally
         ensures { result ≡ tally_with self verdict.now }
     {
         let refusal = match self.refusal {
             Some(fault) => Some(fault),
             None => refusal_in(verdict),
         };
-        Tally {
+        VerdictTally {
             has_no: self.has_no || is_no(verdict),
             refusal,
             has_unknown: self.has_unknown || is_unknown(verdict),
@@ -78,7 +78,7 @@ impl Tally {
     }
 
     /// With these verdicts.
-    pub(crate) fn with_all(self, verdicts: &[PieceVerdict]) -> Tally
+    pub(crate) fn with_all(self, verdicts: &[PieceVerdict]) -> VerdictTally
         ensures { result ≡ tally_with_all self verdicts.now }
     {
         let mut tally = self;
@@ -88,7 +88,7 @@ impl Tally {
         tally
     }
 
-    /// What the engine answers: that some trace has no legal schedule, or else the first refusal, or else that some trace is not decided,
+    /// The answer of the engine: that some trace has no legal schedule, or else the first refusal, or else that some trace is not decided,
     /// or else that each has a legal schedule.
     pub(crate) fn outcome(self) -> Result<Status, Fault>
         ensures { result ≡ outcome_of_tally self }

@@ -3,47 +3,85 @@
 use crate::expectations::{ample, expect};
 use batch_report::run_batch;
 use cube_jobs::Options;
-use dimacs::MemorySink;
+use dimacs::{MemorySink, ShortSink, Sink};
 use std::alloc::Global;
 use std::process::Abort;
 use std::sync::Wait;
 use std::thread::Threads;
 use survey::BySaturation;
+use trace_text::trace_fault::TraceCause;
 use verdict_report::{Fault, ShortSource, Status};
 
-/// The outcome of a batch of the text, and what was written.
-fn batch_of<R: Threads + Wait + Abort + Sync>(
+/// The outcome of a batch of what the source hands out.
+fn batch_of<R: Threads + Wait + Abort + Sync, W: Sink>(
     alloc: Global,
     rt: &R,
-    text: &[u8],
+    source: &mut ShortSource<'_>,
     workers: u32,
-) -> (Result<Status, Fault>, MemorySink) {
-    let mut source = ShortSource::new(text, 7);
-    let mut out = MemorySink::new(alloc);
+    out: &mut W,
+) -> Result<Status, Fault> {
     let short = ample(rt, Options::new(1, 3, 100_000, 1));
     let long = ample(rt, Options::new(1, 3, 100_000, 1));
     let surveyor = BySaturation { budget: 1_000_000 };
-    let outcome = run_batch(
-        alloc, rt, b"t", &mut source, workers, &short, &long, &surveyor, &mut out,
-    );
-    (outcome, out)
+    run_batch(
+        alloc, rt, b"t", source, workers, &short, &long, &surveyor, out,
+    )
 }
 
 /// A consistent trace after a comment, an inconsistent one, and one with a fault in line 15.
-const THREE: &[u8] = b"# one\n\nvsc 1\nproc P\nW x 1\nvsc 1\ninit x 0\ninit y 0\nproc P\nW x 1\nR y 0\nproc Q\nW y 1\nR x 0\nvsc x\n";
+const THREE: &[u8] =
+    b"# one\n\nvsc 1\nproc P\nW x 1\nvsc 1\ninit x 0\ninit y 0\nproc P\nW x 1\nR y 0\nproc Q\nW y 1\nR x 0\nvsc x\n";
+
+/// What is written of them.
+const LINES: &[u8] =
+    b"t:1 CONSISTENT\nt:2 INCONSISTENT cubes=4\nt:3 refused: trace 3 Header at 15\n";
 
 #[test]
 fn writes_a_line_for_each_piece(rt: HostRuntime) {
     let alloc = rt.alloc();
     for workers in 1..3u32 {
-        let (outcome, out) = batch_of(alloc, &rt, THREE, workers);
+        let mut source = ShortSource::new(THREE, 7);
+        let mut out = MemorySink::new(alloc);
+        let outcome = batch_of(alloc, &rt, &mut source, workers, &mut out);
         expect(&rt, outcome == Ok(Status::No), 1);
-        expect(
-            &rt,
-            out.as_slice()
-                == b"t:1 CONSISTENT\nt:2 INCONSISTENT cubes=4\nt:3 refused: trace 3 Header at 15\n"
-                .as_slice(),
-            2,
-        );
+        expect(&rt, out.as_slice() == LINES, 2);
     }
+}
+
+#[test]
+fn refuses_with_the_first_refusal(rt: HostRuntime) {
+    let alloc = rt.alloc();
+    let mut source = ShortSource::new(b"vsc 1\nvsc 1\nproc\nvsc\n", 99);
+    let mut out = MemorySink::new(alloc);
+    let outcome = batch_of(alloc, &rt, &mut source, 1, &mut out);
+    expect(
+        &rt,
+        outcome == Err(Fault::Trace(TraceCause::UnknownLine, 3)),
+        1,
+    );
+    let lines =
+        b"t:1 CONSISTENT\nt:2 refused: trace 4 UnknownLine at 3\nt:3 refused: trace 3 Header at 4\n";
+    expect(&rt, out.as_slice() == lines.as_slice(), 2);
+}
+
+#[test]
+fn writes_a_prefix_if_the_sink_fails(rt: HostRuntime) {
+    let alloc = rt.alloc();
+    for call in 1..8u64 {
+        let mut source = ShortSource::new(THREE, 99);
+        let mut out = ShortSink::new(alloc, 10).failing_at(call);
+        let outcome = batch_of(alloc, &rt, &mut source, 1, &mut out);
+        expect(&rt, outcome == Err(Fault::Device), 1);
+        expect(&rt, LINES.starts_with(out.as_slice()), 2);
+    }
+}
+
+#[test]
+fn writes_nothing_if_the_source_fails(rt: HostRuntime) {
+    let alloc = rt.alloc();
+    let mut source = ShortSource::new(THREE, 7).failing_at(3);
+    let mut out = MemorySink::new(alloc);
+    let outcome = batch_of(alloc, &rt, &mut source, 1, &mut out);
+    expect(&rt, outcome == Err(Fault::Device), 1);
+    expect(&rt, out.as_slice().is_empty(), 2);
 }

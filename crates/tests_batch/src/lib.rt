@@ -1,4 +1,4 @@
-//! Tests of the engine that decides many traces of one text: what is written for each piece, over devices that fail, with little memory.
+//! Tests of the engine that decides many traces of one text: what is written for each piece, over devices that fail.
 #![tactic(auto)]
 
 #[cfg(test)]

@@ -19,7 +19,7 @@ fn first_line(text: &[u8]) -> (&[u8], &[u8])
     }
 }
 
-/// What follows the first piece of the text, and the number of the piece's lines.
+/// Passes the first piece of the text, and gives what follows it and the number of the piece's lines.
 fn after_piece(text: &[u8]) -> (&[u8], usize)
     requires { 0 < length text.now }
     ensures { CutOff text.now result.0.now result.1 }
