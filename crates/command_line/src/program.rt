@@ -26,9 +26,9 @@ operations explains what each process read.";
 const AFTER_HELP: &str =
     "'vsc COMMAND --help' says what the files of a command are, with an example.
 '-' in place of a file that is read is standard input. If standard error is a
-terminal, a command also says there why it answers as it does. --explain=always,
-or --explain, has it do so elsewhere too, --explain=never, or --no-explain, keeps
-it from that, and --explain=auto is as if neither were there.
+terminal, a command also says there why it answers as it does. --explain, or
+--explain=always, has it do so elsewhere too, and --no-explain, or
+--explain=never, keeps it from that.
 
 Exit status:
     0  CONSISTENT, LEGAL or ACCEPTED, or a text was written
