@@ -158,7 +158,7 @@ cut_before text front rest count passed line after some first begins = record {
   some = some_said front (sym passed.said_is);
   lines = ap lines_of passed.parts ∙ whole_if_more front rest some passed.whole rest;
   one = passed.one;
-  next = inr (ap start_trace (lines_by_first rest line after some first) ∙ begins);
+  next = inr (sym passed.said_is, ap start_trace (lines_by_first rest line after some first) ∙ begins);
 }
 
 -- at the end of the text

@@ -30,13 +30,14 @@ start_trace [] = false
 start_trace (line ∷ lines) = begins_trace line
 
 -- The text is this piece, which is not empty, and then the rest. The cut goes between two lines. No line of the piece begins a trace, but
--- perhaps the first one that says something; and the rest is empty, or its first line begins a trace.
+-- perhaps the first one that says something; and the rest is empty, or a line of the piece says something and the first of the rest begins a
+-- trace.
 pub record IsCut (text piece rest : List ℕ) : Type 0 where
   pub parts : text ≡ piece ++ rest
   pub some : 0 < length piece
   pub lines : lines_of text ≡ lines_of piece ++ lines_of rest
   pub one : hold_one (lines_of piece) ≡ true
-  pub next : (rest ≡ []) ⊎ (start_trace (lines_of rest) ≡ true)
+  pub next : (rest ≡ []) ⊎ ((list_any says (lines_of piece) ≡ true) × (start_trace (lines_of rest) ≡ true))
 
 -- the text is cut into these pieces, in their order
 abbrev pub ArePieces : List ℕ → List (List ℕ) → Type 0
