@@ -9,7 +9,6 @@ mod certificate_text;
 mod derivation_steps;
 mod explanation;
 mod hint_list;
-mod known_lines;
 mod marked_pairs;
 mod numbered_lines;
 mod order_certificate;

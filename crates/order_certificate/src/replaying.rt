@@ -1,7 +1,6 @@
 //! Certificates of what the engine has refuted.
 
 use crate::explanation::Explanation;
-use crate::known_lines::{KNOWS_COUNTING, KNOWS_WAITING};
 use crate::order_certificate::OrderCertificate;
 use crate::stuck_heads::StuckHeads;
 use closed_rows::PairReason;
@@ -30,9 +29,6 @@ pub fn certificate_of_takers(
     order: &mut Propagation<'_>,
     takers: &[u32],
 ) -> Result<Option<OrderCertificate>, AllocError> {
-    if !KNOWS_COUNTING {
-        return Ok(None);
-    }
     let clauses = LearnedClauses::new(alloc, order.log().count())?;
     let mut explanation = Explanation::new(alloc, order.log().count(), false)?;
     let step = explanation.explain_takers(order, &clauses, takers)?;
@@ -136,9 +132,6 @@ impl ClauseReplay {
     ) -> Result<Option<u32>, AllocError> {
         if has_conflict {
             return self.explanation.explain(order, &self.clauses, literals);
-        }
-        if !KNOWS_WAITING {
-            return Ok(None);
         }
         match StuckHeads::find(self.alloc, order)? {
             Some(heads) => {

@@ -1,7 +1,6 @@
 //! Lines that a reader has a source, with the pieces that say of each lost source why it is none.
 
 use crate::explanation::Explanation;
-use crate::known_lines::KNOWS_LAST;
 use numbered_log::{NOBODY, NumberedLog, NumberedOrigin};
 use order_propagation::Propagation;
 use order_sets::tables::at;
@@ -72,7 +71,6 @@ impl Explanation {
             self.lines.begin(b'l')?;
             let location = reader.wrapping_sub(order.log().count());
             self.lines.location(location)?;
-            self.is_lost |= !KNOWS_LAST;
         }
         self.add_pieces(order, reader, time)
     }

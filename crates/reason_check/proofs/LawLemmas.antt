@@ -16,6 +16,7 @@ use Rattle.lrat_check.specs.declared.derivation.Step.TheVariants.{Addition, Dele
 use Rattle.lrat_check.proofs.SoundLemmas.{no_model, formula_no_zero}
 use Rattle.order_reasons.specs.Orders.{HoldsOfSchedules, orders_said}
 use Rattle.order_reasons.specs.Sources.{IsSourceClause}
+use Rattle.order_reasons.proofs.CountReasons.{counted}
 use Rattle.order_reasons.proofs.OrderReasons.{cycle_holds, pair_stands}
 use Rattle.order_reasons.proofs.WaitReasons.{first_waits}
 use Rattle.order_reasons.proofs.ScheduleModel.{no_schedule as unsatisfiable}
@@ -26,7 +27,7 @@ use Rattle.order_clauses.specs.declared.order_pair.OrderPair.{OrderPair}
 use Rattle.reason_clauses.specs.Made.{IsCycleOf, IsLastOf}
 use Rattle.reason_counting.proofs.CountLemmas.{too_few}
 use Rattle.reason_text.specs.declared.reason_line.ReasonLine.{ReasonLine}
-use Rattle.reason_text.specs.declared.reason_line.ReasonLine.TheVariants.{Skipped, Cycle, Before, Variable, Source, Last, TooFew, Waiting, Derivation}
+use Rattle.reason_text.specs.declared.reason_line.ReasonLine.TheVariants.{Skipped, Cycle, Before, Variable, Source, Last, TooFew, Counting, Waiting, Derivation}
 use Rattle.reason_check.specs.Accepted.{IsAcceptedReasons, EndsEmpty, HasDerivation}
 use Rattle.reason_check.specs.LineClauses.{IsClauseOfLine, is_silent}
 use Rattle.reason_check.proofs.LineLemmas.{Made, speaks}
@@ -69,6 +70,7 @@ module _ (t : TraceValue) (ok : IsTrace t) where
   clause_holds (Source reader pieces) clause h = source_barred (named t reader) clause h
   clause_holds (Last location pieces) clause h = last_barred location.now clause h
   clause_holds (TooFew location value) clause h = subst (λ (l : List (OpName × OpName)). HoldsOfSchedules t l) (sym h.0) (too_few t ok location.now value h.1)
+  clause_holds (Counting parts) clause h = λ schedule legal. counted t schedule legal clause h.0 h.1 h.2
   clause_holds (Waiting parts) clause h = λ schedule legal. first_waits t schedule legal clause h.0 h.1
   clause_holds Derivation clause h = absurd h
 

@@ -25,7 +25,7 @@ use Rattle.reason_clauses.specs.Numbered.{AreIn}
 use Rattle.reason_counting.specs.Counts.{AreTooFew}
 use Rattle.reason_text.specs.ReasonLine.{IsReasonLine}
 use Rattle.reason_text.specs.declared.reason_line.ReasonLine.{ReasonLine}
-use Rattle.reason_text.specs.declared.reason_line.ReasonLine.TheVariants.{Skipped, Cycle, Before, Variable, Source, Last, TooFew, Waiting, Derivation as DerivationLine}
+use Rattle.reason_text.specs.declared.reason_line.ReasonLine.TheVariants.{Skipped, Cycle, Before, Variable, Source, Last, TooFew, Counting, Waiting, Derivation as DerivationLine}
 use Rattle.reason_check.specs.LineClauses.{IsClauseOfLine, MakeClauses, is_silent}
 use Rattle.reason_check.specs.Reading.{IsReadAndTaken}
 use Rattle.reason_check.specs.Taken.{AreMade, HasNext, IsPassed, IsTaken}
@@ -142,6 +142,7 @@ module _ (t : TraceValue) where
   clause_speaks (Source reader pieces) clause h = refl
   clause_speaks (Last location pieces) clause h = refl
   clause_speaks (TooFew location value) clause h = refl
+  clause_speaks (Counting parts) clause h = refl
   clause_speaks (Waiting parts) clause h = refl
   clause_speaks DerivationLine clause h = absurd h
 

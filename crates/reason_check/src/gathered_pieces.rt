@@ -3,6 +3,7 @@
 use reason_clauses::barring::MainPiece;
 use reason_clauses::cause::{ReasonCause, ReasonRefusal};
 use reason_clauses::pieces::SourcePieces;
+use reason_counting::counted_members::CountedMember;
 use reason_counting::waiting::{Waiter, WaitsFor};
 use reason_text::member_part::MemberPart;
 use reason_text::source_piece::SourcePiece;
@@ -125,4 +126,56 @@ pub fn gather_waiters(
         take_waiting(alloc, &mut waiters, *part)?;
     }
     Ok(waiters)
+}
+
+/// Takes the piece of the last member. A piece that takes all others is none of its, and an end has those of last writers alone.
+fn take_piece_of_member(
+    members: &mut Vec<CountedMember<'_>>,
+    piece: SourcePiece,
+) -> Result<(), ReasonRefusal> {
+    let count = members.len();
+    if count == 0 || is_of_others(piece) {
+        return Err(ReasonRefusal::For(ReasonCause::BadLine));
+    }
+    match &mut members[count - 1] {
+        CountedMember::Update(_n, pieces) => take_first(pieces, piece),
+        CountedMember::End(_location, pieces) => {
+            if !is_late(piece) {
+                return Err(ReasonRefusal::For(ReasonCause::BadLine));
+            }
+            take_first(pieces, piece)
+        }
+    }
+}
+
+/// Takes a part of a line of members.
+fn take_member<'a>(
+    alloc: Global,
+    members: &mut Vec<CountedMember<'a>>,
+    part: MemberPart<'a>,
+) -> Result<(), ReasonRefusal> {
+    match part {
+        MemberPart::Reads(n) => {
+            members.push(CountedMember::Update(n, SourcePieces::new(alloc)))?;
+            Ok(())
+        }
+        MemberPart::Ends(location) => {
+            members.push(CountedMember::End(location, SourcePieces::new(alloc)))?;
+            Ok(())
+        }
+        MemberPart::Waits(_pair) => Err(ReasonRefusal::For(ReasonCause::BadLine)),
+        MemberPart::Piece(piece) => take_piece_of_member(members, piece),
+    }
+}
+
+/// The members, each with its pieces.
+pub fn gather_members<'a>(
+    alloc: Global,
+    parts: &[MemberPart<'a>],
+) -> Result<Vec<CountedMember<'a>>, ReasonRefusal> {
+    let mut members = Vec::new(alloc);
+    for part in parts {
+        take_member(alloc, &mut members, *part)?;
+    }
+    Ok(members)
 }

@@ -9,12 +9,12 @@ ghost use Rattle.order_reasons.specs.Sources.{IsSourceClause};
 ghost use Rattle.reason_clauses.specs.Made.{IsCycleOf, IsLastOf};
 ghost use Rattle.reason_clauses.specs.Tables.{HoldTables};
 ghost use Rattle.reason_counting.specs.Counts.{AreTooFew};
-ghost use Rattle.reason_check.specs.LineClauses.{IsWaitingOf};
+ghost use Rattle.reason_check.specs.LineClauses.{IsCountingOf, IsWaitingOf};
 ghost use Rattle.reason_check.specs.Taken.{HasNext, IsPassed, IsTaken};
 ghost use Rattle.reason_check.specs.declared.line_clause.LineOutcome.TheVariants.{Derivation, Refuted};
 
 use crate::before_places::BeforePlaces;
-use crate::gathered_pieces::{gather, gather_late, gather_waiters};
+use crate::gathered_pieces::{gather, gather_late, gather_members, gather_waiters};
 use crate::trace_tables::TraceTables;
 use order_clauses::order_pair::OrderPair;
 use order_clauses::reason_list::{ClauseOutcome, ReasonList};
@@ -24,6 +24,7 @@ use reason_clauses::last::last_clause;
 use reason_clauses::pair::pair_clause;
 use reason_clauses::source::source_clause;
 use reason_clauses::writer_tables::WriterTables;
+use reason_counting::counted_members::counting_clause;
 use reason_counting::counting::too_few_sources;
 use reason_counting::waiting::waiting_clause;
 use reason_text::member_part::MemberPart;
@@ -140,6 +141,23 @@ fn add_last(
     add_orders(alloc, orders.as_slice(), list)
 }
 
+/// Adds the clause of updates and ends of locations that are more than their sources, by pieces.
+fn add_counting<'a>(
+    alloc: Global,
+    trace: &'a Trace,
+    writers: &WriterTables,
+    parts: &[MemberPart<'a>],
+    list: &mut ReasonList,
+) -> Result<LineOutcome, ReasonRefusal>
+    requires tables { HoldTables trace.now writers.now }
+    ensures { IfOk result (HasNext trace.now (IsCountingOf trace.now) list.old list.new) }
+{
+    let members = gather_members(alloc, parts)?;
+    let mut orders = Vec::new(alloc);
+    counting_clause(alloc, trace, writers, members.as_slice(), &mut orders)?;
+    add_orders(alloc, orders.as_slice(), list)
+}
+
 /// Adds the clause that of operations of which each waits for one of them one comes first.
 fn add_waiting(
     alloc: Global,
@@ -184,11 +202,11 @@ fn number_pair(pair: OrderPair, list: &mut ReasonList) -> Result<LineOutcome, Re
 }
 
 /// Takes a line: adds the clause that it makes of the trace.
-pub fn take_line(
+pub fn take_line<'a>(
     alloc: Global,
-    trace: &Trace,
+    trace: &'a Trace,
     tables: &TraceTables,
-    line: ReasonLine<'_>,
+    line: ReasonLine<'a>,
     list: &mut ReasonList,
 ) -> Result<LineOutcome, ReasonRefusal>
     requires tables { HoldTables trace.now tables.now.writers }
@@ -214,6 +232,9 @@ pub fn take_line(
             pieces.as_slice(),
             list,
         ),
+        ReasonLine::Counting(parts) => {
+            add_counting(alloc, trace, &tables.writers, parts.as_slice(), list)
+        }
         ReasonLine::Waiting(parts) => {
             add_waiting(alloc, trace, &tables.writers, parts.as_slice(), list)
         }

@@ -33,6 +33,8 @@ pub enum ReasonLine<'a> {
     Last(&'a [u8], Vec<SourcePiece>),
     /// `N A D`: updates of the location that read the value are more than the sources of it.
     TooFew(&'a [u8], u64),
+    /// `n ..`: updates and ends of locations are more than the sources that no piece takes.
+    Counting(Vec<MemberPart<'a>>),
     /// `w ..`: none of the operations can be the first of them.
     Waiting(Vec<MemberPart<'a>>),
     /// `p`: a derivation follows.
@@ -107,6 +109,9 @@ fn read_kind<'a>(
     }
     if is_kind(kind, "l") {
         return read_last(alloc, table, rest);
+    }
+    if is_kind(kind, "n") {
+        return Ok(ReasonLine::Counting(read_parts(alloc, table, rest)?));
     }
     if is_kind(kind, "w") {
         return Ok(ReasonLine::Waiting(read_parts(alloc, table, rest)?));
