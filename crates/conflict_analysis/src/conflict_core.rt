@@ -2,23 +2,18 @@
 
 use crate::analysis::Analysis;
 use crate::learned_clauses::LearnedClauses;
+use crate::learning::Learning;
 use order_propagation::Propagation;
 use order_sets::tables::{at, put, size};
 use std::alloc::{AllocError, Global};
 
-/// The operations that the conflict of propagation rests on, by rising numbers.
+/// The operations that the conflict of propagation rests on, by rising numbers, if no walk has learned anything.
 pub fn core_of_conflict(
     alloc: Global,
     order: &mut Propagation<'_>,
 ) -> Result<Option<Vec<u32>>, AllocError> {
-    let mut analysis = Analysis::new(alloc, order.log().count())?;
-    let clauses = LearnedClauses::new(alloc, order.log().count())?;
-    analysis.begin_core();
-    analysis.ask_conflict(order, &clauses)?;
-    let core = analysis.find_core(alloc, order, &clauses)?;
-    let steps = analysis.take_steps();
-    order.spend(steps);
-    Ok(core)
+    let mut learning = Learning::new(alloc, order.log().count())?;
+    learning.core_of_conflict(alloc, order)
 }
 
 impl Analysis {

@@ -54,7 +54,8 @@ const LARGEST_GAIN: u64 = 1 << 50;
 pub struct LearnedClauses {
     literals: Vec<Literal>,
     clauses: Vec<LearnedClause>,
-    kept: u32,
+    /// The numbers of those that are looked at, rising.
+    kept: Vec<u32>,
     activities: Vec<u64>,
     gain: u64,
 }
@@ -65,7 +66,7 @@ impl Drop for LearnedClauses {
         let LearnedClauses {
             literals: _literals,
             clauses: _clauses,
-            kept: _,
+            kept: _kept,
             activities: _activities,
             gain: _,
         } = self;
@@ -87,7 +88,7 @@ impl LearnedClauses {
         Ok(LearnedClauses {
             literals: Vec::new(alloc),
             clauses: Vec::new(alloc),
-            kept: 0,
+            kept: Vec::new(alloc),
             activities: vec![in alloc; 0; operations as usize]?,
             gain: FIRST_GAIN,
         })
@@ -136,12 +137,12 @@ impl LearnedClauses {
             watched: (begin, begin),
             is_kept: true,
         })?;
-        self.kept = self.kept.wrapping_add(1);
+        self.kept.push(number)?;
         self.gain = self.gain.wrapping_add(self.gain / 50);
         if self.gain > LARGEST_GAIN {
             self.divide_activities();
         }
-        if self.kept > MOST_CLAUSES {
+        if size(self.kept.as_slice()) > MOST_CLAUSES {
             self.give_up_half();
         }
         Ok(number)
@@ -163,18 +164,25 @@ impl LearnedClauses {
 
     /// Gives up the oldest long clauses, up to half of all. They stay reasons.
     fn give_up_half(&mut self) {
-        for number in 0..self.count() {
-            if self.kept <= MOST_CLAUSES / 2 {
-                break;
-            }
+        let count = size(self.kept.as_slice());
+        let mut left: u32 = 0;
+        for place in 0..count {
+            let number = at(self.kept.as_slice(), place, 0);
             let clause = self.clause(number);
-            if clause.is_kept && clause.end.wrapping_sub(clause.begin) > SHORT {
-                let given_up = LearnedClause {
-                    is_kept: false,
-                    ..clause
-                };
+            let is_short = clause.end.wrapping_sub(clause.begin) <= SHORT;
+            let count_given_up = place.wrapping_sub(left);
+            if is_short || count_given_up >= MOST_CLAUSES / 2 {
+                put(self.kept.as_mut_slice(), left, number);
+                left = left.wrapping_add(1);
+            } else {
+                let is_kept = false;
+                let given_up = LearnedClause { is_kept, ..clause };
                 put(self.clauses.as_mut_slice(), number, given_up);
-                self.kept = self.kept.wrapping_sub(1);
+            }
+        }
+        for _ in left..count {
+            if self.kept.pop().is_none() {
+                break;
             }
         }
     }
@@ -205,8 +213,10 @@ impl LearnedClauses {
 
     /// Adds what the clauses say.
     fn look_at_all(&mut self, order: &mut Propagation<'_>) -> Result<(), Stop> {
-        order.spend((self.count() as u64).wrapping_mul(4));
-        for number in 0..self.count() {
+        let count = size(self.kept.as_slice());
+        order.spend((count as u64).wrapping_mul(4));
+        for place in 0..count {
+            let number = at(self.kept.as_slice(), place, 0);
             if let ClauseReading::Holds(place) = self.read(order, number) {
                 let literal = self.literal(place);
                 order.add(literal.first, literal.second, PairReason::Learned(number))?;
@@ -232,9 +242,6 @@ impl LearnedClauses {
     #[inline(always)]
     fn read(&mut self, order: &Propagation<'_>, number: u32) -> ClauseReading {
         let clause = self.clause(number);
-        if !clause.is_kept {
-            return ClauseReading::Nothing;
-        }
         let (first, second) = clause.watched;
         if first != second && !self.is_refuted(order, first) && !self.is_refuted(order, second) {
             return ClauseReading::Nothing;

@@ -30,7 +30,7 @@ impl PlacingWalk {
             return Ok(false);
         }
         self.close(alloc, order, best)?;
-        self.analysis.begin();
+        self.learning.analysis.begin();
         for process in 0..processes {
             if at(self.is_in_set.as_slice(), process, false) {
                 self.ask_head(order, process)?;
@@ -141,11 +141,16 @@ impl PlacingWalk {
         let number = self.head(order, process);
         let blocking = self.blocking(order, number);
         if blocking == NOBODY {
-            return self.analysis.ask_sources(order, number, order.later());
+            return self
+                .learning
+                .analysis
+                .ask_sources(order, number, order.later());
         }
         let first = self.head(order, blocking);
-        self.analysis.name(number)?;
-        self.analysis.name(first)?;
-        self.analysis.ask(order, first, number, order.later())
+        self.learning.analysis.name(number)?;
+        self.learning.analysis.name(first)?;
+        self.learning
+            .analysis
+            .ask(order, first, number, order.later())
     }
 }

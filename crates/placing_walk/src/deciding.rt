@@ -38,7 +38,7 @@ impl PlacingWalk {
             }
         }
         if order.pairs().count() != before {
-            match self.clauses.propagate(order)? {
+            match self.learning.clauses.propagate(order)? {
                 Propagated::Done => self.heed(order, NOBODY),
                 Propagated::Spent => return Ok(Some(WalkEnding::GivenUp)),
                 Propagated::Conflict => return self.resolve(order),
@@ -67,7 +67,7 @@ impl PlacingWalk {
             Err(Stop::Conflict) => return self.resolve(order),
             Err(Stop::OutOfMemory) => return Err(AllocError),
         }
-        match self.clauses.propagate(order)? {
+        match self.learning.clauses.propagate(order)? {
             Propagated::Done => self.heed(order, NOBODY),
             Propagated::Spent => return Ok(Some(WalkEnding::GivenUp)),
             Propagated::Conflict => return self.resolve(order),
@@ -94,8 +94,10 @@ impl PlacingWalk {
     /// Learns from the conflict of the order.
     fn resolve(&mut self, order: &mut Propagation<'_>) -> Result<Option<WalkEnding>, AllocError> {
         order.forget_waiting();
-        self.analysis.begin();
-        self.analysis.ask_conflict(order, &self.clauses)?;
+        self.learning.analysis.begin();
+        self.learning
+            .analysis
+            .ask_conflict(order, &self.learning.clauses)?;
         self.learn(order)
     }
 
@@ -107,14 +109,17 @@ impl PlacingWalk {
     ) -> Result<Option<WalkEnding>, AllocError> {
         let mut target = NOBODY;
         for _ in 0..order.budget().left() {
-            let learned = self.analysis.find_clause(order, &self.clauses)?;
-            let steps = self.analysis.take_steps();
+            let learned = self
+                .learning
+                .analysis
+                .find_clause(order, &self.learning.clauses)?;
+            let steps = self.learning.analysis.take_steps();
             order.spend(steps);
             let Backjump::To(level, literal) = learned else {
                 return Ok(Some(WalkEnding::Refuted));
             };
-            let literals = self.analysis.literals();
-            let clause = self.clauses.add(literals)?;
+            let literals = self.learning.analysis.literals();
+            let clause = self.learning.clauses.add(literals)?;
             target = target.min(at(self.decided_at.as_slice(), level, 0));
             self.jump_back(order, level);
             let added = order.add(literal.first, literal.second, PairReason::Learned(clause));
@@ -127,12 +132,14 @@ impl PlacingWalk {
                 Propagated::Conflict => {}
             }
             self.conflicts = self.conflicts.wrapping_add(1);
-            if self.conflicts > self.most_conflicts || self.clauses.is_full() {
+            if self.conflicts > self.most_conflicts || self.learning.clauses.is_full() {
                 break;
             }
             order.forget_waiting();
-            self.analysis.begin();
-            self.analysis.ask_conflict(order, &self.clauses)?;
+            self.learning.analysis.begin();
+            self.learning
+                .analysis
+                .ask_conflict(order, &self.learning.clauses)?;
         }
         Ok(Some(WalkEnding::GivenUp))
     }
@@ -156,7 +163,7 @@ impl PlacingWalk {
         added: Result<(), Stop>,
     ) -> Result<Propagated, AllocError> {
         match added {
-            Ok(()) => self.clauses.propagate(order),
+            Ok(()) => self.learning.clauses.propagate(order),
             Err(Stop::Conflict) => Ok(Propagated::Conflict),
             Err(Stop::OutOfMemory) => Err(AllocError),
         }

@@ -2,7 +2,7 @@
 
 use crate::memory::{PlacedMemory, UNKNOWN_SOURCE};
 use crate::waiting::Awaited;
-use conflict_analysis::{Analysis, LearnedClauses};
+use conflict_analysis::Learning;
 use numbered_log::{NOBODY, NumberedLog, Operation};
 use order_propagation::Propagation;
 use order_sets::tables::{at, put};
@@ -39,8 +39,7 @@ pub struct PlacingWalk {
     /// For each operation its estimated place.
     pub(crate) estimates: Vec<u32>,
     pub(crate) deciding: Deciding,
-    pub(crate) analysis: Analysis,
-    pub(crate) clauses: LearnedClauses,
+    pub(crate) learning: Learning,
     /// For each decision the number of operations that were placed.
     pub(crate) decided_at: Vec<u32>,
     /// The number of pairs whose order the placed operations are known to have.
@@ -64,8 +63,7 @@ impl Drop for PlacingWalk {
             is_changed: _is_changed,
             estimates: _estimates,
             deciding: _,
-            analysis: _analysis,
-            clauses: _clauses,
+            learning: _learning,
             decided_at: _decided_at,
             heeded: _,
             is_in_set: _is_in_set,
@@ -79,13 +77,14 @@ impl Drop for PlacingWalk {
 }
 
 impl PlacingWalk {
-    /// A walk that has not begun, by these estimated places, which gives up after this number of conflicts.
+    /// A walk that has not begun, by these estimated places, which gives up after this number of conflicts. It goes on with what the walks
+    /// before it have learned of the order.
     pub fn new(
         alloc: Global,
         order: &Propagation<'_>,
         estimates: &[u32],
-        deciding: Deciding,
-        most_conflicts: u32,
+        manner: (Deciding, u32),
+        learning: Learning,
     ) -> Result<PlacingWalk, AllocError> {
         let log = order.log();
         let processes = log.processes() as usize;
@@ -94,16 +93,15 @@ impl PlacingWalk {
             awaited: vec![in alloc; Awaited::Nothing; processes]?,
             is_changed: vec![in alloc; true; processes]?,
             estimates: Vec::from_slice(alloc, estimates)?,
-            deciding,
-            analysis: Analysis::new(alloc, log.count())?,
-            clauses: LearnedClauses::new(alloc, log.count())?,
+            deciding: manner.0,
+            learning,
             decided_at: Vec::new(alloc),
             heeded: order.pairs().count(),
             is_in_set: vec![in alloc; false; processes]?,
             stuck: 0,
             restarts: 0,
             conflicts: 0,
-            most_conflicts,
+            most_conflicts: manner.1,
             most_placed: 0,
         })
     }
@@ -129,15 +127,34 @@ impl PlacingWalk {
         alloc: Global,
         order: &mut Propagation<'_>,
     ) -> Result<Option<Vec<u32>>, AllocError> {
-        let core = self.analysis.find_core(alloc, order, &self.clauses)?;
-        let steps = self.analysis.take_steps();
+        let core = self
+            .learning
+            .analysis
+            .find_core(alloc, order, &self.learning.clauses)?;
+        let steps = self.learning.analysis.take_steps();
         order.spend(steps);
         Ok(core)
     }
 
-    /// The clauses that were learned.
-    pub fn clauses(&self) -> &LearnedClauses {
-        &self.clauses
+    /// Ends the walk, and gives the clauses that were learned with what they rest on.
+    pub fn into_learning(self) -> Learning {
+        let PlacingWalk {
+            memory: _memory,
+            awaited: _awaited,
+            is_changed: _is_changed,
+            estimates: _estimates,
+            deciding: _,
+            learning,
+            decided_at: _decided_at,
+            heeded: _,
+            is_in_set: _is_in_set,
+            stuck: _,
+            restarts: _,
+            conflicts: _,
+            most_conflicts: _,
+            most_placed: _,
+        } = self;
+        learning
     }
 
     /// Places one operation after the other. Those are taken back that break an order which is decided or follows.
@@ -171,7 +188,7 @@ impl PlacingWalk {
             };
         }
         if let Deciding::Always(clauses) = self.deciding {
-            if let Some(literal) = self.clauses.pick(order, clauses) {
+            if let Some(literal) = self.learning.clauses.pick(order, clauses) {
                 return self.decide(order, literal.first, literal.second);
             }
         }

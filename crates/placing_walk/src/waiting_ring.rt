@@ -1,6 +1,5 @@
 //! Processes that wait for one another.
 
-use crate::memory::{PlacedMemory, UNKNOWN_SOURCE};
 use crate::placing_walk::PlacingWalk;
 use crate::waiting::Awaited;
 use numbered_log::{NOBODY, NumberedLog};
@@ -105,11 +104,7 @@ impl PlacingWalk {
         let waiting = log.number(process, self.memory.front(process));
         let next = match awaited {
             Awaited::Process(other, _) => other,
-            Awaited::Readers(location) => {
-                order.spend(log.count() as u64);
-                let held = self.memory.held(location);
-                reader_of(&self.memory, log, waiting, held, location)
-            }
+            Awaited::Readers(location) => self.reader_of(order, waiting, location),
             Awaited::Value(_) => self.writer_for(order, waiting, process),
             Awaited::Nothing => process,
             Awaited::Never => process,
@@ -119,6 +114,43 @@ impl PlacingWalk {
             awaited,
             next,
         }
+    }
+
+    /// The process of a reader that is not placed and reads what the location holds, other than the operation that waits; or that one's own.
+    fn reader_of(&self, order: &mut Propagation<'_>, waiting: u32, location: u32) -> u32 {
+        let log = order.log();
+        let held = self.memory.held(location);
+        if held == NOBODY {
+            order.spend(log.count() as u64);
+            for reader in 0..log.count() {
+                if self.is_awaited(log, reader, held, waiting) {
+                    return log.operation(reader).process;
+                }
+            }
+            return log.operation(waiting).process;
+        }
+        let class = order.classes().class_of(held);
+        let begin = order.readers().begin(class);
+        let end = order.readers().end(class);
+        order.spend(end.saturating_sub(begin) as u64);
+        for position in begin..end {
+            let reader = order.readers().reader(position);
+            if self.is_awaited(log, reader, held, waiting) {
+                return log.operation(reader).process;
+            }
+        }
+        log.operation(waiting).process
+    }
+
+    /// Returns whether the operation is not placed and reads what is held, in another process than the operation that waits.
+    fn is_awaited(&self, log: &NumberedLog, reader: u32, held: u32, waiting: u32) -> bool {
+        let operation = log.operation(reader);
+        let other = log.operation(waiting);
+        self.memory.source(reader) == held
+            && operation.reads
+            && operation.location == other.location
+            && operation.process != other.process
+            && !self.memory.is_placed(reader)
     }
 
     /// The process of a writer that is not placed and may be the source of this reader, or the reader's own.
@@ -208,29 +240,4 @@ fn later(best: Option<Untying>, other: Option<Untying>) -> Option<Untying> {
         }
     }
     other
-}
-
-/// The process of a reader that is not placed and reads what is held, other than the operation that waits; or that one's own.
-fn reader_of(
-    memory: &PlacedMemory,
-    log: &NumberedLog,
-    waiting: u32,
-    held: u32,
-    location: u32,
-) -> u32 {
-    let own = log.operation(waiting).process;
-    for reader in 0..log.count() {
-        let source = memory.source(reader);
-        if source == held && source != UNKNOWN_SOURCE && reader != waiting {
-            let operation = log.operation(reader);
-            if operation.location == location
-                && operation.reads
-                && operation.process != own
-                && !memory.is_placed(reader)
-            {
-                return operation.process;
-            }
-        }
-    }
-    own
 }

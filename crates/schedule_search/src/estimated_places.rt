@@ -2,7 +2,7 @@
 
 use numbered_log::NumberedLog;
 use order_propagation::Propagation;
-use order_sets::tables::at;
+use order_sets::tables::{at, put, size};
 use std::alloc::{AllocError, Global};
 
 /// For each operation its estimated place among all, rising along each process.
@@ -49,6 +49,31 @@ impl EstimatedPlaces {
             }
             last = last.max(order.rows().estimate(number) / 2);
             places.push(last)?;
+        }
+        Ok(EstimatedPlaces { places })
+    }
+
+    /// The places by a hint, which may be wrong and name some operations alone: each operation that it names has its place there, and no
+    /// operation comes before the one before it in its process.
+    pub(crate) fn of_hint(
+        alloc: Global,
+        log: &NumberedLog,
+        hint: &[u32],
+    ) -> Result<EstimatedPlaces, AllocError> {
+        let mut places = vec![in alloc; 0; log.count() as usize]?;
+        let named = size(hint);
+        for place in 0..named {
+            let number = at(hint, place, 0);
+            let scaled = share(log.count(), place, named).saturating_add(1);
+            put(places.as_mut_slice(), number, scaled);
+        }
+        let mut last: u32 = 0;
+        for number in 0..log.count() {
+            if log.operation(number).place == 1 {
+                last = 0;
+            }
+            last = last.max(at(places.as_slice(), number, 0));
+            put(places.as_mut_slice(), number, last);
         }
         Ok(EstimatedPlaces { places })
     }

@@ -3,7 +3,7 @@
 use crate::counted_cores::{operations_of, takers_of_class};
 use crate::estimated_places::EstimatedPlaces;
 use crate::guessed_windows::guess_window;
-use conflict_analysis::{LearnedClauses, core_of_conflict};
+use conflict_analysis::{LearnedClauses, Learning, core_of_conflict};
 use numbered_log::Budget;
 use order_propagation::{Propagated, Propagation, TrailMark};
 use order_sets::tables::{at, size};
@@ -36,8 +36,8 @@ pub struct ScheduleSearch {
     schedule: Vec<u32>,
     /// If the log was refuted, the operations that the reasons of that name.
     core: Option<Vec<u32>>,
-    /// The clauses that all walks without guesses have learned, in their order: what they left as pairs of no decision stays in the order.
-    learned: Option<LearnedClauses>,
+    /// What all walks without guesses have learned: the pairs of no decision that their clauses left stay in the order, and name them.
+    learning: Option<Learning>,
     /// Whether the order has guesses.
     is_guessing: bool,
     /// If counting by the order has refuted it, the updates and last writes that have too few sources.
@@ -52,7 +52,7 @@ impl Drop for ScheduleSearch {
             windows: _windows,
             schedule: _schedule,
             core: _core,
-            learned: _learned,
+            learning: _learning,
             takers: _takers,
             is_guessing: _,
             most_placed: _,
@@ -120,7 +120,7 @@ impl ScheduleSearch {
             windows: Vec::new(alloc),
             schedule: Vec::new(alloc),
             core: None,
-            learned: None,
+            learning: None,
             takers: None,
             is_guessing: false,
             most_placed: 0,
@@ -143,8 +143,8 @@ impl ScheduleSearch {
 
     /// The clauses that walks have learned of the log, in their order; none if nothing was walked over.
     pub fn learned(&self) -> Option<&LearnedClauses> {
-        match &self.learned {
-            Some(learned) => Some(learned),
+        match &self.learning {
+            Some(learning) => Some(&learning.clauses),
             None => None,
         }
     }
@@ -163,11 +163,13 @@ impl ScheduleSearch {
     }
 
     /// Propagates, walks, then tries windows, and then walks again. If many readers have several sources and propagation takes long, it is
-    /// cut, and taken up again behind the windows: most schedules of such logs come of windows, in which it takes less.
+    /// cut, and taken up again behind the windows: most schedules of such logs come of windows, in which it takes less. A hint, operations in an
+    /// order in which a schedule may have them, has windows of its own, which come first.
     pub fn run(
         &mut self,
         alloc: Global,
         order: &mut Propagation<'_>,
+        hint: &[u32],
     ) -> Result<SearchEnding, AllocError> {
         if let Some(class) = crowded_class(alloc, order.log(), order.classes())? {
             self.core = Some(takers_of_class(alloc, order.log(), order.classes(), class)?);
@@ -191,21 +193,43 @@ impl ScheduleSearch {
                 if self.has_too_few_sources(alloc, order)? {
                     return Ok(SearchEnding::Refuted);
                 }
-                let found = self.walk_at_first(alloc, order, &places)?;
-                if let Some(ending) = search_ending(found) {
-                    return Ok(ending);
-                }
+            }
+        }
+        if self.try_hint(alloc, order, hint)? {
+            return Ok(SearchEnding::Scheduled);
+        }
+        if propagated == Propagated::Done {
+            let found = self.walk_at_first(alloc, order, &places)?;
+            if let Some(ending) = search_ending(found) {
+                return Ok(ending);
             }
         }
         let rest = keep_a_fourth(order);
-        self.is_guessing = true;
-        let found = self.try_windows(alloc, order, &places)?;
-        self.is_guessing = false;
+        let narrow = order.log().processes().wrapping_mul(4);
+        let found = self.try_windows(alloc, order, &places, narrow)?;
         give_back(order, rest);
         if found == SearchEnding::Scheduled {
             return Ok(found);
         }
         self.walk_at_last(alloc, order, &places)
+    }
+
+    /// Tries windows around the places of the hint, from no width on, with half of the budget: a hint that is wrong costs no more. Returns
+    /// whether there is a schedule.
+    fn try_hint(
+        &mut self,
+        alloc: Global,
+        order: &mut Propagation<'_>,
+        hint: &[u32],
+    ) -> Result<bool, AllocError> {
+        if hint.is_empty() {
+            return Ok(false);
+        }
+        let places = EstimatedPlaces::of_hint(alloc, order.log(), hint)?;
+        let rest = keep_all_but(order, 2);
+        let found = self.try_windows(alloc, order, &places, 0)?;
+        give_back(order, rest);
+        Ok(found == SearchEnding::Scheduled)
     }
 
     /// Returns whether updates have too few sources, by what the order has dropped, and notes them. That is asked within a small part of the
@@ -252,7 +276,11 @@ impl ScheduleSearch {
     ) -> Result<SearchEnding, AllocError> {
         match order.propagate_in_rounds()? {
             Propagated::Conflict => {
-                self.core = core_of_conflict(alloc, order)?;
+                let mut learning = self.begin_learning(alloc, order)?;
+                self.core = learning.core_of_conflict(alloc, order)?;
+                if learning.clauses.count() != 0 {
+                    self.learning = Some(learning);
+                }
                 return Ok(SearchEnding::Refuted);
             }
             Propagated::Spent => return Ok(SearchEnding::Unknown),
@@ -279,50 +307,68 @@ impl ScheduleSearch {
         if manner.deciding == Deciding::WhenStuck {
             most = FEW_CONFLICTS;
         }
-        let mut walk = PlacingWalk::new(alloc, order, places.as_slice(), manner.deciding, most)?;
+        let learning = self.begin_learning(alloc, order)?;
+        let manners = (manner.deciding, most);
+        let mut walk = PlacingWalk::new(alloc, order, places.as_slice(), manners, learning)?;
         let ending = walk.run(alloc, order)?;
         self.most_placed = self.most_placed.max(walk.most_placed());
         if ending == WalkEnding::Scheduled {
             self.schedule = Vec::from_slice(alloc, walk.placed())?;
         }
-        if !self.is_guessing {
-            self.keep_learned(alloc, order, &walk)?;
-            if ending == WalkEnding::Refuted {
-                self.core = walk.find_core(alloc, order)?;
-            }
+        if !self.is_guessing && ending == WalkEnding::Refuted {
+            self.core = walk.find_core(alloc, order)?;
         }
+        self.keep_learning(walk.into_learning());
         order.take_back(0);
         give_back(order, rest);
         Ok(ending)
     }
 
-    /// Keeps the clauses that the walk has learned, behind those of the walks before it.
-    fn keep_learned(
+    /// Takes the clauses that walks have learned so far; none if the order has guesses, on which clauses then rest.
+    fn begin_learning(
         &mut self,
         alloc: Global,
         order: &Propagation<'_>,
-        walk: &PlacingWalk,
-    ) -> Result<(), AllocError> {
-        let mut learned = match self.learned.take() {
-            Some(learned) => learned,
-            None => LearnedClauses::new(alloc, order.log().count())?,
-        };
-        for number in 0..walk.clauses().count() {
-            learned.add(walk.clauses().literals(number))?;
+    ) -> Result<Learning, AllocError> {
+        if !self.is_guessing {
+            if let Some(learning) = self.learning.take() {
+                return Ok(learning);
+            }
         }
-        self.learned = Some(learned);
-        Ok(())
+        Learning::new(alloc, order.log().count())
     }
 
-    /// Makes windows wider until one stands, then places smaller ones on top, and walks in the smallest.
+    /// Keeps what was learned, unless the order has guesses.
+    fn keep_learning(&mut self, learning: Learning) {
+        if !self.is_guessing {
+            self.learning = Some(learning);
+        }
+    }
+
+    /// Tries windows around the places, from this width on, all of whose decisions are guesses.
     fn try_windows(
         &mut self,
         alloc: Global,
         order: &mut Propagation<'_>,
         places: &EstimatedPlaces,
+        narrow: u32,
+    ) -> Result<SearchEnding, AllocError> {
+        self.is_guessing = true;
+        self.windows.clear();
+        let found = self.widen_and_narrow(alloc, order, places, narrow)?;
+        self.is_guessing = false;
+        Ok(found)
+    }
+
+    /// Makes windows wider until one stands, then places smaller ones on top, and walks in the smallest.
+    fn widen_and_narrow(
+        &mut self,
+        alloc: Global,
+        order: &mut Propagation<'_>,
+        places: &EstimatedPlaces,
+        narrow: u32,
     ) -> Result<SearchEnding, AllocError> {
         let base = order.mark();
-        let narrow = order.log().processes().wrapping_mul(4);
         let widest = order.log().count().wrapping_mul(2);
         if !self.widen(order, places, base, (narrow, widest))? {
             return Ok(SearchEnding::Unknown);
@@ -371,7 +417,7 @@ impl ScheduleSearch {
                 Propagated::Spent => break,
                 Propagated::Conflict => {}
             }
-            width = width.saturating_mul(2);
+            width = width.saturating_mul(2).max(order.log().processes());
         }
         order.cut_to(base);
         Ok(false)
@@ -476,8 +522,9 @@ pub fn is_refuted_by_walk(alloc: Global, order: &mut Propagation<'_>) -> Result<
         Propagated::Done => {}
     }
     let places = EstimatedPlaces::of_equal_pace(alloc, order.log())?;
-    let learning = Deciding::Always(LAST_CLAUSES);
-    let mut walk = PlacingWalk::new(alloc, order, places.as_slice(), learning, MANY_CONFLICTS)?;
+    let manner = (Deciding::Always(LAST_CLAUSES), MANY_CONFLICTS);
+    let learning = Learning::new(alloc, order.log().count())?;
+    let mut walk = PlacingWalk::new(alloc, order, places.as_slice(), manner, learning)?;
     Ok(walk.run(alloc, order)? == WalkEnding::Refuted)
 }
 

@@ -9,12 +9,9 @@ use trace_semantics::name_table::NameTable;
 use trace_semantics::operation::Op;
 use trace_semantics::trace::Trace;
 
-/// The most operations of a trace that is decided by its formula, so that no certificate of reasons is wanted.
-const MAX_OF_SHORT_TRACE: usize = 160;
-
 /// The most updates and sources of a value that are left to the search for a core, which names them. The proof for the part of a core
 /// grows with the cube of its operations.
-const MAX_OF_CORE: u64 = 40;
+const MAX_OF_CORE: u64 = 8;
 
 /// A value at a location, by the location's number.
 #[derive(Clone, Copy, Debug, PartialEq, Eq, Hash)]
@@ -164,23 +161,11 @@ fn text_of(alloc: Global, count: ValueCount<'_>) -> Result<Vec<u8>, AllocError> 
     Ok(text)
 }
 
-/// Returns whether the trace has more operations than one that is decided by its formula.
-fn is_long(trace: &Trace) -> bool {
-    let mut count: usize = 0;
-    for process in trace.processes() {
-        count = count.saturating_add(process.operations.as_slice().len());
-    }
-    count > MAX_OF_SHORT_TRACE
-}
-
-/// A certificate that there are too few sources of a value, if the trace is long and has such a value.
+/// A certificate that there are too few sources of a value, if the trace has such a value.
 pub(crate) fn counted_reasons(
     alloc: Global,
     trace: &Trace,
 ) -> Result<Option<CountedReasons>, AllocError> {
-    if !is_long(trace) {
-        return Ok(None);
-    }
     let counts = ValueCounts::of(alloc, trace)?;
     let Some(count) = counts.shortest() else {
         return Ok(None);
@@ -191,6 +176,16 @@ pub(crate) fn counted_reasons(
     }))
 }
 
+/// Returns whether it is a core of few operations.
+fn is_small_core(finding: &Finding) -> bool {
+    match finding {
+        Finding::Core(names) => names.len() as u64 <= MAX_OF_CORE,
+        Finding::Schedule(_) => false,
+        Finding::Reasons(_) => false,
+        Finding::Nothing => false,
+    }
+}
+
 impl CountedReasons {
     /// The certificate as a finding.
     pub(crate) fn into_finding(self) -> Finding {
@@ -198,17 +193,27 @@ impl CountedReasons {
         Finding::Reasons(text)
     }
 
-    /// Gives what was found, or the certificate if that is nothing.
-    pub(crate) fn unless_found(self, overview: Overview) -> Overview
+    /// Puts the certificate behind a small core, and else before what was found first.
+    pub(crate) fn beside(self, overview: Overview) -> Overview
         ensures { result.extent ≡ overview.extent }
     {
-        let Overview { finding, extent } = overview;
-        let finding = match finding {
-            Finding::Nothing => self.into_finding(),
-            Finding::Schedule(names) => Finding::Schedule(names),
-            Finding::Core(names) => Finding::Core(names),
-            Finding::Reasons(text) => Finding::Reasons(text),
-        };
-        Overview { finding, extent }
+        let Overview {
+            finding,
+            otherwise: _otherwise,
+            extent,
+        } = overview;
+        if is_small_core(&finding) {
+            Overview {
+                finding,
+                otherwise: self.into_finding(),
+                extent,
+            }
+        } else {
+            Overview {
+                finding: self.into_finding(),
+                otherwise: finding,
+                extent,
+            }
+        }
     }
 }

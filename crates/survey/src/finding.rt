@@ -7,7 +7,7 @@ use crate::engine_reasons::{TraceCertificate, certificate_of};
 use crate::given_order::GivenOrder;
 use crate::local_reads::ReducedLog;
 use crate::purse::Purse;
-use crate::reading::{log_of, names_of};
+use crate::reading::{log_of, names_of, numbers_of_names};
 use crate::shrinking::Core;
 use numbered_log::{Budget, NumberedLog};
 use order_propagation::Propagation;
@@ -15,6 +15,7 @@ use order_sets::tables::size;
 use schedule_search::{ScheduleSearch, SearchEnding};
 use std::alloc::{AllocError, Global};
 use surveyor::{Extent, Finding, Overview, Surveyor};
+use trace_semantics::operation::OpName;
 use trace_semantics::trace::Trace;
 
 /// The finding, as numbers.
@@ -29,8 +30,15 @@ enum NumberedFinding {
 #[derive(Drop)]
 struct NamedFinding {
     finding: Finding,
-    /// Whether it is a schedule, or a core that the survey has refuted and whose part is decided by its formula.
+    /// Whether it is a schedule, or a core that the survey has refuted and that a formula can decide.
     is_shown: bool,
+}
+
+/// Two findings, in the order in which they are asked.
+#[derive(Drop)]
+struct OrderedFindings {
+    finding: Finding,
+    otherwise: Finding,
 }
 
 /// A core that was made smaller, and whether it is refuted in what the survey makes of its part.
@@ -74,17 +82,23 @@ pub struct BySaturation {
 impl Surveyor for BySaturation {
     ghost budget = { λ s. s.budget };
 
-    fn survey(&self, alloc: Global, trace: &Trace) -> Result<Overview, AllocError> {
+    fn survey(
+        &self,
+        alloc: Global,
+        trace: &Trace,
+        hint: &[OpName],
+    ) -> Result<Overview, AllocError> {
         let counted = counted_reasons(alloc, trace)?;
         match counted {
-            None => self.saturate(alloc, trace),
+            None => self.saturate(alloc, trace, hint),
             Some(reasons) if reasons.are_many => Ok(Overview {
                 finding: reasons.into_finding(),
+                otherwise: Finding::Nothing,
                 extent: NO_EXTENT,
             }),
             Some(reasons) => {
-                let overview = self.saturate(alloc, trace)?;
-                Ok(reasons.unless_found(overview))
+                let overview = self.saturate(alloc, trace, hint)?;
+                Ok(reasons.beside(overview))
             }
         }
     }
@@ -92,13 +106,19 @@ impl Surveyor for BySaturation {
 
 impl BySaturation {
     /// The finding of saturation and of walks.
-    fn saturate(&self, alloc: Global, trace: &Trace) -> Result<Overview, AllocError>
+    fn saturate(
+        &self,
+        alloc: Global,
+        trace: &Trace,
+        hint: &[OpName],
+    ) -> Result<Overview, AllocError>
         ensures { IfOk result (λ overview. overview.extent.steps ≤ self.now.budget) }
     {
         let log = log_of(alloc, trace)?;
+        let hint = numbers_of_names(alloc, trace, hint)?;
         let mut purse = Purse::new(self.budget);
         let mut budget = Budget::new(purse.left().saturating_mul(LOOKS));
-        let walked = walk_over(alloc, &log, &mut budget)?;
+        let walked = walk_over(alloc, &log, hint.as_slice(), &mut budget)?;
         purse.settle(budget.left() / LOOKS);
         let spent = purse.taken().saturating_mul(LOOKS);
         let mut budget = Budget::new(purse.left().saturating_mul(LOOKS));
@@ -110,9 +130,11 @@ impl BySaturation {
         } = walked;
         let found = finding_of(alloc, trace, &log, numbers, spent, &mut budget)?;
         purse.settle(budget.left() / LOOKS);
-        let finding = found.or_certificate(alloc, trace, &log, certificate)?;
+        let certificate = reasons_of(alloc, trace, &log, certificate)?;
+        let OrderedFindings { finding, otherwise } = found.with_reasons(certificate);
         Ok(Overview {
             finding,
+            otherwise,
             extent: Extent {
                 placed,
                 undecided,
@@ -154,33 +176,51 @@ fn finding_of(
     }
 }
 
+/// The certificate as a finding, if there is one.
+fn reasons_of(
+    alloc: Global,
+    trace: &Trace,
+    log: &NumberedLog,
+    certificate: Option<TraceCertificate>,
+) -> Result<Finding, AllocError> {
+    match certificate {
+        Some(certificate) => Ok(Finding::Reasons(certificate.text(alloc, trace, log)?)),
+        None => Ok(Finding::Nothing),
+    }
+}
+
 impl NamedFinding {
-    /// The finding, or the text of the certificate in place of nothing or of a core whose part is hardly refuted.
-    fn or_certificate(
-        self,
-        alloc: Global,
-        trace: &Trace,
-        log: &NumberedLog,
-        certificate: Option<TraceCertificate>,
-    ) -> Result<Finding, AllocError> {
+    /// The finding and the certificate of reasons, if that is one. The certificate comes first where the finding shows nothing, or is a core
+    /// whose part is hardly refuted.
+    fn with_reasons(self, reasons: Finding) -> OrderedFindings {
         let NamedFinding { finding, is_shown } = self;
-        match certificate {
-            Some(certificate) if !is_shown => {
-                Ok(Finding::Reasons(certificate.text(alloc, trace, log)?))
-            }
-            _ => Ok(finding),
+        match reasons {
+            Finding::Reasons(text) if !is_shown => OrderedFindings {
+                finding: Finding::Reasons(text),
+                otherwise: finding,
+            },
+            reasons => OrderedFindings {
+                finding,
+                otherwise: reasons,
+            },
         }
     }
 }
 
 /// A schedule, or the operations from which a contradiction follows. A quarter of the budget is kept for what comes after: a core that is
 /// not made smaller is often too large to be refuted.
-fn walk_over(alloc: Global, log: &NumberedLog, budget: &mut Budget) -> Result<Walked, AllocError> {
+fn walk_over(
+    alloc: Global,
+    log: &NumberedLog,
+    hint: &[u32],
+    budget: &mut Budget,
+) -> Result<Walked, AllocError> {
     let kept = budget.share(budget.left() / 4);
     let reduced = ReducedLog::of(alloc, log)?;
+    let hint = reduced.kept_of(alloc, log, hint)?;
     let mut order = Propagation::new(alloc, &reduced.log, *budget)?;
     let mut search = ScheduleSearch::new(alloc);
-    let ending = search.run(alloc, &mut order)?;
+    let ending = search.run(alloc, &mut order, hint.as_slice())?;
     let mut certificate = None;
     if ending == SearchEnding::Refuted {
         certificate = certificate_of(alloc, &reduced, &mut order, &search)?;

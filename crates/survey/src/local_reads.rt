@@ -1,6 +1,6 @@
 //! A log without the reads that repeat what their process has just seen: they can follow it at once in each schedule, and say nothing new.
 
-use numbered_log::{NumberedLog, NumberedOrigin, NumberedPair, Operation};
+use numbered_log::{NOBODY, NumberedLog, NumberedOrigin, NumberedPair, Operation};
 use order_sets::tables::{at, put, size};
 use std::alloc::{AllocError, Global};
 
@@ -110,6 +110,28 @@ impl ReducedLog {
             whole.push(at(self.numbers.as_slice(), *operation, 0))?;
         }
         Ok(whole)
+    }
+
+    /// The numbers here of those of the whole's operations that were not left out, in the given order.
+    pub fn kept_of(
+        &self,
+        alloc: Global,
+        log: &NumberedLog,
+        operations: &[u32],
+    ) -> Result<Vec<u32>, AllocError> {
+        let mut renamed = vec![in alloc; NOBODY; log.count() as usize]?;
+        for number in 0..size(self.numbers.as_slice()) {
+            let whole = at(self.numbers.as_slice(), number, NOBODY);
+            put(renamed.as_mut_slice(), whole, number);
+        }
+        let mut kept = Vec::new(alloc);
+        for operation in operations {
+            let number = at(renamed.as_slice(), *operation, NOBODY);
+            if number != NOBODY {
+                kept.push(number)?;
+            }
+        }
+        Ok(kept)
     }
 
     /// The schedule of the whole in which each read that was left out follows the operation before it at once.

@@ -85,6 +85,17 @@ impl<'a> Starts<'a> {
         start.wrapping_add(name.place as u32).wrapping_sub(1)
     }
 
+    /// Returns whether the trace has an operation of this name.
+    fn has(&self, trace: &Trace, name: &OpName) -> bool {
+        let process = number_in(&self.processes, &name.process) as usize;
+        match trace.processes().get(process) {
+            Some(process) => {
+                name.place >= 1 && name.place as usize <= process.operations.as_slice().len()
+            }
+            None => false,
+        }
+    }
+
     fn origin(&self, origin: &Told) -> NumberedOrigin {
         match origin {
             Told::Any => NumberedOrigin::Any,
@@ -195,6 +206,22 @@ pub fn names_of(
         }
     }
     Ok(names)
+}
+
+/// The numbers of those of these names that the trace has, in the given order.
+pub fn numbers_of_names(
+    alloc: Global,
+    trace: &Trace,
+    names: &[OpName],
+) -> Result<Vec<u32>, AllocError> {
+    let mut numbers = Vec::new(alloc);
+    let starts = Starts::of(alloc, trace)?;
+    for name in names {
+        if starts.has(trace, name) {
+            numbers.push(starts.number(name))?;
+        }
+    }
+    Ok(numbers)
 }
 
 /// The names of the log that is made of the trace, of its operations those of these numbers.

@@ -35,10 +35,13 @@ pub enum Finding {
     Nothing,
 }
 
-/// The finding of a survey, and its progress.
+/// The findings of a survey, and its progress.
 #[derive(Drop)]
 pub struct Overview {
+    /// What is asked first.
     pub finding: Finding,
+    /// What is asked if that shows nothing.
+    pub otherwise: Finding,
     pub extent: Extent,
 }
 
@@ -51,8 +54,8 @@ pub trait Surveyor {
     /// Whether it may find this in a trace: anything, unless it says otherwise. Clauses say by it that a finding is one of this surveyor.
     ghost finds: { Self → TraceValue → Answer → Type 0 } = { λ _ _ _. Unit {0} };
 
-    /// The finding.
-    fn survey(&self, alloc: Global, trace: &Trace) -> Result<Overview, AllocError>
+    /// The findings. The hint names operations in an order in which a schedule may have them. It may be wrong, and it is empty if there is none.
+    fn survey(&self, alloc: Global, trace: &Trace, hint: &[OpName]) -> Result<Overview, AllocError>
         ensures found { IfOk result (λ overview. finds self.now trace.now overview) }
         ensures within { IfOk result (λ overview. overview.extent.steps ≤ budget self.now) };
 }
