@@ -39,7 +39,7 @@ pub struct DecidedBlock<'a> {
 }
 
 /// The most pieces of a block. Their lines are written together.
-const MOST_PIECES: usize = 512;
+const MOST_PIECES: usize = 4096;
 
 /// Cuts off the first pieces of a text behind a number of lines.
 pub(crate) fn cut_block(alloc: Global, text: &[u8], before: usize) -> Result<Block<'_>, AllocError>

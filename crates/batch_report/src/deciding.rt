@@ -57,7 +57,7 @@ fn verdict_by_survey<R: Threads + Wait + Sync, S: Surveyor>(
 ) -> PieceVerdict
     ensures { IsVerdictOf trace.now result }
 {
-    match decide_by_survey(alloc, rt, trace, surveyor, options, &OpenGate) {
+    match decide_by_survey(alloc, rt, trace, &[], surveyor, options, &OpenGate) {
         Ok(surveyed) => verdict_of_surveyed(&surveyed),
         Err(fault) => PieceVerdict::Refused(refusal_of_search(fault)),
     }

@@ -34,7 +34,7 @@ fn verdicts_in_turn<R: Threads + Wait + Sync, S: Surveyor>(
     Ok(verdicts)
 }
 
-/// The verdicts, from as many threads as there are processors.
+/// The verdicts, from two threads for each processor. A piece is worth a thread, though it is one of few.
 fn verdicts_in_threads<R: Threads + Wait + Sync, S: Surveyor + Sync>(
     alloc: Global,
     rt: &R,
@@ -47,6 +47,7 @@ fn verdicts_in_threads<R: Threads + Wait + Sync, S: Surveyor + Sync>(
 {
     pieces
         .par_iter()
+        .with_min_len(1)
         .map(
             |piece: &PlacedPiece<'_>| -> PieceVerdict
                 ensures { IsOnPlaced piece.now result }

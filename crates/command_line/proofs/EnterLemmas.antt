@@ -161,11 +161,14 @@ survey_built = built_at 7
 abbrev pub refusals_built : Shape
 refusals_built = built_at 8
 
+abbrev pub batch_built : Shape
+batch_built = built_at 9
+
 abbrev pub commands : List Shape
-commands = verify_built ∷ judge_built ∷ cnf_built ∷ decode_built ∷ lrat_built ∷ recheck_built ∷ part_built ∷ survey_built ∷ refusals_built ∷ []
+commands = verify_built ∷ judge_built ∷ cnf_built ∷ decode_built ∷ lrat_built ∷ recheck_built ∷ part_built ∷ survey_built ∷ refusals_built ∷ batch_built ∷ []
 
 abbrev help_built : Shape
-help_built = built_at 9
+help_built = built_at 10
 
 -- a parse enters one of the commands, with words at which it finds no fault
 pub record Enters (met : Option (Text × List Row)) : Type 0 where

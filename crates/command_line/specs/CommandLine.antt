@@ -11,8 +11,9 @@ use Rattle.clap.specs.declared.error.kind.ErrorKind.TheVariants.{OutOfMemory}
 use Rattle.command_line.specs.declared.explains.Explains.{Explains}
 use Rattle.command_line.specs.declared.explains.Explains.TheVariants.{Always, IfTerminal, Never}
 use Rattle.command_line.specs.declared.line.Line.{Line}
+use Rattle.command_line.specs.declared.line.BatchNumbers.{BatchNumbers}
 use Rattle.command_line.specs.declared.line.CommandLine.{CommandLine}
-use Rattle.command_line.specs.declared.line.Line.TheVariants.{Cnf, Decode, Judge, Lrat, Part, Recheck, Refusals, Survey, Verify}
+use Rattle.command_line.specs.declared.line.Line.TheVariants.{Batch, Cnf, Decode, Judge, Lrat, Part, Recheck, Refusals, Survey, Verify}
 use Rattle.command_line.specs.declared.line.SearchNumbers.{SearchNumbers}
 use Rattle.command_line.specs.declared.line.SurveyFiles.{SurveyFiles}
 use Rattle.command_line.specs.declared.line.SurveyNumbers.{SurveyNumbers}
@@ -132,14 +133,22 @@ names_rule = optional_path (codes "names")
 abbrev pub steps_rule : Rule
 steps_rule = number_rule (codes "budget") (codes "1000000000") 0 1000000000
 
--- survey TRACE [--cert FILE] [--names FILE] [--part FILE] [--budget N] [--workers N] [--progress] [--picture FILE]
+-- --hint FILE
+abbrev pub hint_rule : Rule
+hint_rule = optional_path (codes "hint")
+
+-- survey TRACE [--cert FILE] [--names FILE] [--part FILE] [--budget N] [--workers N] [--progress] [--picture FILE] [--hint FILE]
 abbrev pub survey_app : App
 survey_app =
-    with_rule (with_rule (with_rule (with_rule (with_rule (with_rule (with_rule (with_rule (new_app (codes "survey")) (required_path (codes "trace"))) cert_rule) names_rule) part_rule) steps_rule) workers_rule) progress_rule) picture_rule
+    with_rule (with_rule (with_rule (with_rule (with_rule (with_rule (with_rule (with_rule (with_rule (new_app (codes "survey")) (required_path (codes "trace"))) cert_rule) names_rule) part_rule) steps_rule) workers_rule) progress_rule) picture_rule) hint_rule
 
 -- refusals
 abbrev pub refusals_app : App
 refusals_app = new_app (codes "refusals")
+
+-- batch FILE [--workers N] [--split N] [--budget N]
+abbrev pub batch_app : App
+batch_app = with_rule (with_rule (with_rule (with_rule (new_app (codes "batch")) (required_path (codes "traces"))) workers_rule) split_rule) budget_rule
 
 -- the program, which has a version and wants a command
 abbrev pub program_app : App
@@ -147,7 +156,7 @@ program_app = on_top (λ s. record s { has_version = true; subcommand_required =
 
 abbrev pub vsc_app : App
 vsc_app =
-    with_subcommand (with_subcommand (with_subcommand (with_subcommand (with_subcommand (with_subcommand (with_subcommand (with_subcommand (with_subcommand program_app (explained verify_app).top) (explained judge_app).top) (explained cnf_app).top) (explained decode_app).top) (explained lrat_app).top) (explained recheck_app).top) (explained part_app).top) (explained survey_app).top) (explained refusals_app).top
+    with_subcommand (with_subcommand (with_subcommand (with_subcommand (with_subcommand (with_subcommand (with_subcommand (with_subcommand (with_subcommand (with_subcommand program_app (explained verify_app).top) (explained judge_app).top) (explained cnf_app).top) (explained decode_app).top) (explained lrat_app).top) (explained recheck_app).top) (explained part_app).top) (explained survey_app).top) (explained refusals_app).top) (explained batch_app).top
 
 -- ---- what the words ask for
 
@@ -219,16 +228,25 @@ pub record AsksToVerify (command : Option Text) (given : Text → Option Text) (
   pub progress_text : given (codes "progress") ≡ Some (bool_text progress)
 
 -- The command is to decide, with the help of a survey and by these numbers, whether the trace in a file has a legal schedule, with or
--- without its progress, and with a file or none for the certificate, for the names of a core, and for its part.
+-- without its progress, with a file or none for the certificate, for the names of a core, and for its part, and with a hint in a file or none.
 pub record AsksToSurvey (command : Option Text) (given : Text → Option Text) (trace : Text) (files : SurveyFiles) (numbers : SurveyNumbers) (progress : Bool) : Type 0 where
   pub command_name : command ≡ Some (codes "survey")
   pub trace_path : given (codes "trace") ≡ Some trace
   pub cert_path : given (codes "cert") ≡ option_map (λ path. path.now) files.cert
   pub names_path : given (codes "names") ≡ option_map (λ path. path.now) files.names
   pub part_path : given (codes "part") ≡ option_map (λ path. path.now) files.part
+  pub hint_path : given (codes "hint") ≡ option_map (λ path. path.now) files.hint
   pub budget_text : IsSomeAnd (given (codes "budget")) (λ text. IsNumberWithin 0 1000000000 text numbers.budget)
   pub workers_text : IsSomeAnd (given (codes "workers")) (λ text. IsNumberWithin 1 8 text numbers.workers)
   pub progress_text : given (codes "progress") ≡ Some (bool_text progress)
+
+-- the command is to decide the traces in a file, by these numbers
+pub record AsksForBatch (command : Option Text) (given : Text → Option Text) (traces : Text) (numbers : BatchNumbers) : Type 0 where
+  pub command_name : command ≡ Some (codes "batch")
+  pub traces_path : given (codes "traces") ≡ Some traces
+  pub workers_text : IsSomeAnd (given (codes "workers")) (λ text. IsNumberWithin 1 8 text numbers.workers)
+  pub split_text : IsSomeAnd (given (codes "split")) (λ text. IsNumberWithin 0 10 text numbers.split)
+  pub budget_text : IsSomeAnd (given (codes "budget")) (λ text. IsNumberWithin 0 1000000000 text numbers.budget)
 
 -- a command with what is given for its arguments asks for the line
 abbrev pub AsksFor : (command : Option Text) (given : Text → Option Text) → Line → Type 0
@@ -241,6 +259,7 @@ AsksFor command given (Part trace names shows_names) = AsksForPart command given
 AsksFor command given (Verify trace cert numbers progress) = AsksToVerify command given trace.now (option_map (λ path. path.now) cert) numbers progress
 AsksFor command given (Survey trace files numbers progress) = AsksToSurvey command given trace.now files numbers progress
 AsksFor command given Refusals = command ≡ Some (codes "refusals")
+AsksFor command given (Batch traces numbers) = AsksForBatch command given traces.now numbers
 
 -- it asks for an explanation by --explain, wherever standard error goes, for none by --no-explain alone, and by neither for one on a terminal
 abbrev pub AsksToExplain : (given : Text → Option Text) → Explains → Type 0
@@ -279,6 +298,13 @@ pub record AreSurveyNumbers (numbers : SurveyNumbers) : Type 0 where
   pub few_workers : numbers.workers ≤ 8
   pub small_budget : numbers.budget ≤ 1000000000
 
+-- the numbers of a batch are in their ranges
+pub record AreBatchNumbers (numbers : BatchNumbers) : Type 0 where
+  pub some_workers : 1 ≤ numbers.workers
+  pub few_workers : numbers.workers ≤ 8
+  pub few_splits : numbers.split ≤ 10
+  pub small_budget : numbers.budget ≤ 1000000000
+
 -- the numbers that a line asks for are in their ranges
 abbrev pub IsWithinRanges : Line → Type 0
 IsWithinRanges (Judge trace schedule) = ⊤
@@ -290,6 +316,7 @@ IsWithinRanges (Part trace names shows_names) = ⊤
 IsWithinRanges (Verify trace cert numbers progress) = AreSearchNumbers numbers
 IsWithinRanges (Survey trace files numbers progress) = AreSurveyNumbers numbers
 IsWithinRanges Refusals = ⊤
+IsWithinRanges (Batch traces numbers) = AreBatchNumbers numbers
 
 -- ---- what is wrong with the words
 

@@ -2,6 +2,7 @@
 #![tactic(auto)]
 
 mod arguments;
+mod batch_command;
 mod building;
 mod cnf_command;
 mod decode_command;
@@ -20,5 +21,7 @@ mod survey_command;
 mod verify_command;
 
 pub use explains::Explains;
-pub use line::{CommandLine, Line, SearchNumbers, SurveyFiles, SurveyNumbers, read_line};
+pub use line::{
+    BatchNumbers, CommandLine, Line, SearchNumbers, SurveyFiles, SurveyNumbers, read_line,
+};
 pub use line_fault::LineFault;

@@ -5,6 +5,7 @@ ghost use Rattle.clap.specs.Words.{FailsBy, fault_of, kind_of, subcommand_of, su
 ghost use Rattle.clap.specs.Walk.{texts};
 ghost use Rattle.command_line.specs.CommandLine.{Asks, IsFaultOf, IsFaultless, IsWithinRanges, vsc_app};
 
+use crate::batch_command::batch_line;
 use crate::cnf_command::cnf_line;
 use crate::decode_command::decode_line;
 use crate::explains::Explains;
@@ -43,7 +44,18 @@ pub struct SurveyNumbers {
     pub budget: u64,
 }
 
-/// The paths that were given for the files which take what shows an INCONSISTENT.
+/// How a batch goes about its work.
+#[derive(Clone, Copy)]
+pub struct BatchNumbers {
+    /// The number of threads that may decide traces, 1 to 8.
+    pub workers: u32,
+    /// On how many variables the search of a short trace is split at first, 0 to 10.
+    pub split: u32,
+    /// After how many conflicts the search of a cube is given up, 0 to 1,000,000,000.
+    pub budget: u64,
+}
+
+/// The paths that were given for files beside the trace: three that take what shows an INCONSISTENT, and one that is read.
 #[derive(Clone, Copy)]
 pub struct SurveyFiles<'a> {
     /// The file for the certificate.
@@ -52,6 +64,8 @@ pub struct SurveyFiles<'a> {
     pub names: Option<&'a str>,
     /// The file for the core's part.
     pub part: Option<&'a str>,
+    /// The file of a hint.
+    pub hint: Option<&'a str>,
 }
 
 /// What a command is to do. A path is that of a file, as it was given.
@@ -105,6 +119,11 @@ pub enum Line<'a> {
     },
     /// To list all refusals.
     Refusals,
+    /// To decide many traces of one file.
+    Batch {
+        traces: &'a str,
+        numbers: BatchNumbers,
+    },
 }
 
 /// What a command line asks for.
@@ -165,6 +184,9 @@ fn asked_line<'a>(alloc: Global, words: &'a [&'a str]) -> Result<CommandLine<'a>
     }
     if let Some(refusals) = matches.subcommand_matches("refusals") {
         return Ok(refusals_line(refusals));
+    }
+    if let Some(batch) = matches.subcommand_matches("batch") {
+        return Ok(batch_line(batch));
     }
     unreachable!()
 }

@@ -15,14 +15,15 @@ pub enum NumberOption {
 impl NumberOption {
     // The option of this name, if the command has it.
     fn of(command: &str, name: &str) -> Option<NumberOption> {
-        let searches = command == "verify" || command == "survey";
+        let splits = command == "verify" || command == "batch";
+        let searches = splits || command == "survey";
         if name == "workers" && (searches || command == "cnf") {
             return Some(NumberOption::Workers);
         }
         if name == "budget" && searches {
             return Some(NumberOption::Budget);
         }
-        if name == "split" && command == "verify" {
+        if name == "split" && splits {
             return Some(NumberOption::Split);
         }
         if name == "rounds" && command == "verify" {

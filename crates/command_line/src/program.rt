@@ -5,6 +5,7 @@ ghost use Rattle.clap.specs.Words.{App, app_of, with_subcommand};
 ghost use Rattle.clap.specs.declared.builder.command.Command.TheViews.{out-Command};
 ghost use Rattle.command_line.specs.CommandLine.{explained, program_app, vsc_app};
 
+use crate::batch_command::new_batch_command;
 use crate::building::with_explanation;
 use crate::cnf_command::new_cnf_command;
 use crate::decode_command::new_decode_command;
@@ -77,5 +78,6 @@ pub fn new_program<'a>(alloc: Global) -> Result<Command<'a>, AllocError>
     let program = with_command(alloc, program, new_recheck_command(alloc));
     let program = with_command(alloc, program, new_part_command(alloc));
     let program = with_command(alloc, program, new_survey_command(alloc));
-    with_command(alloc, program, new_refusals_command(alloc))
+    let program = with_command(alloc, program, new_refusals_command(alloc));
+    with_command(alloc, program, new_batch_command(alloc))
 }

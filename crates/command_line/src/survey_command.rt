@@ -1,11 +1,11 @@
 //! The command `survey TRACE [--cert FILE] [--names FILE] [--part FILE] [--budget N] [--workers N] [--progress]
-//! [--picture FILE]`.
+//! [--picture FILE] [--hint FILE]`.
 
 ghost use Rattle.std.specs.Prelude.{◌≡◌, IfOk, IsSome, Some, codes, false, option_map};
 ghost use Rattle.clap.specs.Words.{app_of, first_value, found_of, rule_of};
 ghost use Rattle.clap.specs.declared.builder.command.Command.TheViews.{out-Command};
 ghost use Rattle.command_line.specs.Arguments.{HasFlag, HasNumber, HasWorkers};
-ghost use Rattle.command_line.specs.CommandLine.{AsksWith, cert_rule, names_rule, part_rule, survey_app};
+ghost use Rattle.command_line.specs.CommandLine.{AsksWith, cert_rule, hint_rule, names_rule, part_rule, survey_app};
 
 use crate::arguments::{
     flag_of, optional_path_argument, optional_text_of, picture_argument, progress_argument,
@@ -27,7 +27,8 @@ The answer is one of
         they make up, and so TRACE, has no legal schedule, as M proofs show;
     INCONSISTENT cubes=M alone: no core was found, but a search refuted TRACE;
     UNKNOWN placed=N undecided=M: nothing is shown, and the survey came so far.
-A FILE is made first, or stays as it was if nothing belongs there.
+A written FILE is made first, or stays as it was if nothing belongs there.
+A hint is a schedule, as of 'tools/from-log --hint', which may be wrong.
 
 Example, which can be pasted:
     printf 'vsc 1\\nproc P\\nW x 1\\nW y 1\\nproc Q\\nR y 1\\nR x 2\\n' > whole.trace
@@ -37,7 +38,7 @@ Example, which can be pasted:
 Exit status:
     0  the answer is CONSISTENT
     1  the answer is INCONSISTENT
-    2  the command line or the trace is refused
+    2  the command line, the trace or the hint is refused
     3  the answer is UNKNOWN
     4  a file or a standard stream failed";
 
@@ -80,6 +81,19 @@ fn part_argument<'a>(alloc: Global) -> Arg<'a>
     )
 }
 
+// `--hint FILE`.
+fn hint_argument<'a>(alloc: Global) -> Arg<'a>
+    ensures rule { rule_of result ≡ hint_rule }
+    ensures local { result.global ≡ false }
+{
+    optional_path_argument(
+        alloc,
+        "hint",
+        "FILE",
+        "Reads a schedule, maybe a legal one, and begins there",
+    )
+}
+
 /// The command, as `clap` takes it.
 pub fn new_survey_command<'a>(alloc: Global) -> Result<Command<'a>, AllocError>
     ensures app { IfOk result (λ c. app_of c ≡ survey_app) }
@@ -95,7 +109,9 @@ pub fn new_survey_command<'a>(alloc: Global) -> Result<Command<'a>, AllocError>
     let workers = workers_argument(alloc, "How many threads may search, 1 to 8");
     let progress = progress_argument(alloc);
     let command = with_two(command, workers, progress)?;
-    command.arg(picture_argument(alloc))
+    let picture = picture_argument(alloc);
+    let hint = hint_argument(alloc);
+    with_two(command, picture, hint)
 }
 
 // The files that were given.
@@ -103,11 +119,13 @@ fn files_of<'a>(matches: &ArgMatches<'a>) -> SurveyFiles<'a>
     ensures cert { first_value (found_of matches.now) (codes "cert") ≡ option_map (λ path. path.now) result.cert }
     ensures names { first_value (found_of matches.now) (codes "names") ≡ option_map (λ path. path.now) result.names }
     ensures part { first_value (found_of matches.now) (codes "part") ≡ option_map (λ path. path.now) result.part }
+    ensures hint { first_value (found_of matches.now) (codes "hint") ≡ option_map (λ path. path.now) result.hint }
 {
     SurveyFiles {
         cert: optional_text_of(matches, "cert"),
         names: optional_text_of(matches, "names"),
         part: optional_text_of(matches, "part"),
+        hint: optional_text_of(matches, "hint"),
     }
 }
 

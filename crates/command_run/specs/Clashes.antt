@@ -6,7 +6,7 @@ use Rattle.command_line.specs.declared.line.Line.{Line}
 use Rattle.command_line.specs.declared.line.Line.TheVariants.{Survey, Verify}
 use Rattle.command_line.specs.declared.line.SurveyFiles.{SurveyFiles}
 use Rattle.command_run.specs.declared.clash.Clash.{Clash}
-use Rattle.command_run.specs.declared.clash.Clash.TheVariants.{CertIsNames, CertIsPart, CertIsTrace, InputTwice, NamesIsPart, NamesIsTrace, PartIsTrace, PictureIsCert, PictureIsNames, PictureIsPart, PictureIsTrace}
+use Rattle.command_run.specs.declared.clash.Clash.TheVariants.{CertIsHint, CertIsNames, CertIsPart, CertIsTrace, InputTwice, NamesIsHint, NamesIsPart, NamesIsTrace, PartIsHint, PartIsTrace, PictureIsCert, PictureIsHint, PictureIsNames, PictureIsPart, PictureIsTrace}
 use Rattle.command_host.specs.HostCalls.{HostCalls}
 use Rattle.command_run.specs.Inputs.{inputs_of, repeats_input}
 
@@ -23,6 +23,10 @@ clash_line PictureIsTrace = codes "error: --picture names the file of TRACE\n"
 clash_line PictureIsCert = codes "error: --picture and --cert name one file\n"
 clash_line PictureIsNames = codes "error: --picture and --names name one file\n"
 clash_line PictureIsPart = codes "error: --picture and --part name one file\n"
+clash_line CertIsHint = codes "error: --cert and --hint name one file\n"
+clash_line NamesIsHint = codes "error: --names and --hint name one file\n"
+clash_line PartIsHint = codes "error: --part and --hint name one file\n"
+clash_line PictureIsHint = codes "error: --picture and --hint name one file\n"
 
 -- whether the files at two paths are one: the paths are the same, or else the host says that the files are
 abbrev pub IsOneFile : {H I O : Type 0} → HostCalls H I O → H → List ℕ → List ℕ → Bool → H → Type 0
@@ -40,7 +44,7 @@ pub record Pairing : Type 0 where
   pub second : Option (Bor (List ℕ))
   pub clash : Clash
 
--- the files of a survey: none that is written is the trace's, and no two of them are one
+-- the files of a survey: none that is written is the trace's or the hint's, and no two of them are one
 abbrev pub pairings_of_survey : Bor (List ℕ) → SurveyFiles → List Pairing
 pairings_of_survey trace files =
     record { first = files.cert; second = Some trace; clash = CertIsTrace }
@@ -49,6 +53,9 @@ pairings_of_survey trace files =
     ∷ record { first = files.cert; second = files.names; clash = CertIsNames }
     ∷ record { first = files.cert; second = files.part; clash = CertIsPart }
     ∷ record { first = files.names; second = files.part; clash = NamesIsPart }
+    ∷ record { first = files.cert; second = files.hint; clash = CertIsHint }
+    ∷ record { first = files.names; second = files.hint; clash = NamesIsHint }
+    ∷ record { first = files.part; second = files.hint; clash = PartIsHint }
     ∷ []
 
 -- the files of a search with a certificate: that is not the trace's
@@ -74,6 +81,7 @@ pairings_of_picture_and_survey picture trace files =
     ∷ record { first = picture; second = files.cert; clash = PictureIsCert }
     ∷ record { first = picture; second = files.names; clash = PictureIsNames }
     ∷ record { first = picture; second = files.part; clash = PictureIsPart }
+    ∷ record { first = picture; second = files.hint; clash = PictureIsHint }
     ∷ []
 
 abbrev pub pairings_of_picture : Option (Bor (List ℕ)) → Line → List Pairing

@@ -2,6 +2,7 @@
 -- status.
 use Rattle.std.specs.Borrow.{Bor}
 use Rattle.std.specs.Prelude.{◌≡◌, ◌||◌, ◌⊎◌, ◌≤◌, ℕ, Bool, false, true, not, List, [], ◌∷◌, Option, None, Some, Result, Ok, Err, IfSome, is_some}
+use Rattle.batch_report.specs.BatchEngine.{IsRunOfBatch}
 use Rattle.clap.specs.Words.{takes}
 use Rattle.clap.specs.declared.error.kind.ErrorKind.{ErrorKind}
 use Rattle.clap.specs.declared.error.kind.ErrorKind.TheVariants.{OutOfMemory as NoMemoryToRead}
@@ -9,7 +10,7 @@ use Rattle.command_line.specs.CommandLine.{Asks, IsFaultOf, IsFaultless, is_expl
 use Rattle.command_line.specs.LineFault.{is_answer, text_on_memory}
 use Rattle.command_line.specs.declared.line.CommandLine.{CommandLine}
 use Rattle.command_line.specs.declared.line.Line.{Line}
-use Rattle.command_line.specs.declared.line.Line.TheVariants.{Cnf, Decode, Judge, Lrat, Part, Recheck, Refusals, Survey, Verify}
+use Rattle.command_line.specs.declared.line.Line.TheVariants.{Batch, Cnf, Decode, Judge, Lrat, Part, Recheck, Refusals, Survey, Verify}
 use Rattle.command_line.specs.declared.line.SearchNumbers.{SearchNumbers}
 use Rattle.command_line.specs.declared.line.SurveyFiles.{SurveyFiles}
 use Rattle.command_line.specs.declared.line.SurveyNumbers.{SurveyNumbers}
@@ -30,6 +31,7 @@ use Rattle.verdict_report.specs.Runs.{SourceRun, SinkRun}
 use Rattle.verdict_report.specs.VerifyEngine.{IsRunOfCertifiedVerify, IsRunOfVerify, TellsOpen}
 use Rattle.survey_report.specs.SurveyEngine.{IsRunOfCertifiedSurvey, IsRunOfSurvey, TellsExtent}
 use Rattle.command_run.specs.declared.clash.Clash.{Clash}
+use Rattle.command_run.specs.declared.inputs.SurveyInputs.{SurveyInputs}
 use Rattle.command_host.specs.declared.search_request.SearchRequest.{SearchRequest}
 use Rattle.command_run.specs.Clashes.{ClashesBy, clash_line}
 use Rattle.command_host.specs.HostCalls.{HostCalls}
@@ -121,24 +123,45 @@ RunsVerify calls read wrote from trace (Some cert) search out outcome to =
 
 -- ---- a survey on files
 
--- This survey was reported to the host, and the engine that decides long traces was run on the file at this path. If nothing is decided, a
--- search of the whole trace with these options need not decide it.
-pub record RunsSurveyed {H I O : Type 0} (calls : HostCalls H I O) (read : SourceView I) (from : H) (trace : List ℕ) (search : SearchRequest) (out : SinkRun) (outcome : Result Status Fault) (to : H) : Type 0 where
-  pub file : SourceRun
-  pub between : H
-  pub reads : ReadsFile calls read from trace file between
-  pub searches : calls.searches between search to
-  pub runs : IsRunOfSurvey file out outcome
+-- this survey was reported to the host, and the engine that decides long traces was run on the files of a trace and of a hint; if nothing is
+-- decided, a search of the whole trace with these options need not decide it
+pub record Surveys {H I O : Type 0} (calls : HostCalls H I O) (from : H) (file hint : SourceRun) (search : SearchRequest) (out : SinkRun) (outcome : Result Status Fault) (to : H) : Type 0 where
+  pub searches : calls.searches from search to
+  pub runs : IsRunOfSurvey file hint out outcome
   pub left_open : outcome ≡ Ok Unknown → TellsExtent search.options file out
 
 -- the same, with what the sinks of the certificate, of the names and of the part did
-pub record CertifiesSurveyed {H I O : Type 0} (calls : HostCalls H I O) (read : SourceView I) (from : H) (trace : List ℕ) (search : SearchRequest) (cert names part out : SinkRun) (outcome : Result Status Fault) (to : H) : Type 0 where
+pub record Certifies {H I O : Type 0} (calls : HostCalls H I O) (from : H) (file hint : SourceRun) (search : SearchRequest) (cert names part out : SinkRun) (outcome : Result Status Fault) (to : H) : Type 0 where
+  pub searches : calls.searches from search to
+  pub runs : IsRunOfCertifiedSurvey file hint cert names part out outcome
+  pub left_open : outcome ≡ Ok Unknown → TellsExtent search.options file out
+
+-- the file at this path was handed out to be read, and this was done with it; or there is no path, and this was done with a source that hands
+-- out no byte and does not fail
+abbrev pub WithHint : {H I O : Type 0} → HostCalls H I O → SourceView I → H → Option (Bor (List ℕ)) → (H → SourceRun → Type 0) → Type 0
+WithHint {H} calls read from (Some path) Does = (hint : SourceRun) × (opened : H) × ReadsFile calls read from path.now hint opened × Does opened hint
+WithHint calls read from None Does = (nothing : SourceRun) × (nothing.before ≡ []) × (nothing.now ≡ []) × (nothing.failures_before ≡ 0) × (nothing.failures_now ≡ 0) × Does from nothing
+
+abbrev pub SurveysHinted : {H I O : Type 0} → HostCalls H I O → SourceView I → H → SourceRun → Option (Bor (List ℕ)) → SearchRequest → SinkRun → Result Status Fault → H → Type 0
+SurveysHinted calls read from file path search out outcome to = WithHint calls read from path (λ opened hint. Surveys calls opened file hint search out outcome to)
+
+abbrev pub CertifiesHinted : {H I O : Type 0} → HostCalls H I O → SourceView I → H → SourceRun → Option (Bor (List ℕ)) → SearchRequest → (cert names part out : SinkRun) → Result Status Fault → H → Type 0
+CertifiesHinted calls read from file path search cert names part out outcome to =
+    WithHint calls read from path (λ opened hint. Certifies calls opened file hint search cert names part out outcome to)
+
+-- the file of the trace was handed out to be read, and then that of the hint if there is a path for it, and they were surveyed
+pub record RunsSurveyed {H I O : Type 0} (calls : HostCalls H I O) (read : SourceView I) (from : H) (inputs : SurveyInputs) (search : SearchRequest) (out : SinkRun) (outcome : Result Status Fault) (to : H) : Type 0 where
   pub file : SourceRun
   pub between : H
-  pub reads : ReadsFile calls read from trace file between
-  pub searches : calls.searches between search to
-  pub runs : IsRunOfCertifiedSurvey file cert names part out outcome
-  pub left_open : outcome ≡ Ok Unknown → TellsExtent search.options file out
+  pub reads : ReadsFile calls read from inputs.trace.now file between
+  pub surveys : SurveysHinted calls read between file inputs.hint search out outcome to
+
+-- the same, with what the sinks of the certificate, of the names and of the part did
+pub record CertifiesSurveyed {H I O : Type 0} (calls : HostCalls H I O) (read : SourceView I) (from : H) (inputs : SurveyInputs) (search : SearchRequest) (cert names part out : SinkRun) (outcome : Result Status Fault) (to : H) : Type 0 where
+  pub file : SourceRun
+  pub between : H
+  pub reads : ReadsFile calls read from inputs.trace.now file between
+  pub certifies : CertifiesHinted calls read between file inputs.hint search cert names part out outcome to
 
 -- the file at this path was made or opened, this was done with it, and it was given back
 pub record MakesFile {H I O : Type 0} (calls : HostCalls H I O) (wrote : SinkView O) (from : H) (path : List ℕ) (Does : H → SinkRun → H → Type 0) (outcome : Result Status Fault) (to : H) : Type 0 where
@@ -161,30 +184,35 @@ WithFile calls wrote from (Some path) Does others outcome to =
 WithFile calls wrote from None Does others outcome to = (nowhere : SinkRun) × (nowhere.before ≡ []) × (nowhere.failures_before ≡ 0) × (nowhere.failures_now ≡ 0) × Does from nowhere to
 
 -- with a file for the part; with one for the names before it; with one for the certificate before both, so all before the trace is opened
-abbrev pub TakesPart : {H I O : Type 0} → HostCalls H I O → SourceView I → SinkView O → H → List ℕ → Option (Bor (List ℕ)) → SearchRequest → (cert names out : SinkRun) → Result Status Fault → H → Type 0
-TakesPart calls read wrote from trace path search cert names out outcome to =
-    WithFile calls wrote from path (λ made part done. CertifiesSurveyed calls read made trace search cert names part out outcome done) (out ∷ cert ∷ names ∷ []) outcome to
+abbrev pub TakesPart : {H I O : Type 0} → HostCalls H I O → SourceView I → SinkView O → H → SurveyInputs → Option (Bor (List ℕ)) → SearchRequest → (cert names out : SinkRun) → Result Status Fault → H → Type 0
+TakesPart calls read wrote from inputs path search cert names out outcome to =
+    WithFile calls wrote from path (λ made part done. CertifiesSurveyed calls read made inputs search cert names part out outcome done) (out ∷ cert ∷ names ∷ []) outcome to
 
-abbrev pub TakesNamesAndPart : {H I O : Type 0} → HostCalls H I O → SourceView I → SinkView O → H → List ℕ → (names part : Option (Bor (List ℕ))) → SearchRequest → (cert out : SinkRun) → Result Status Fault → H → Type 0
-TakesNamesAndPart calls read wrote from trace path part search cert out outcome to =
-    WithFile calls wrote from path (λ made names done. TakesPart calls read wrote made trace part search cert names out outcome done) (out ∷ cert ∷ []) outcome to
+abbrev pub TakesNamesAndPart : {H I O : Type 0} → HostCalls H I O → SourceView I → SinkView O → H → SurveyInputs → (names part : Option (Bor (List ℕ))) → SearchRequest → (cert out : SinkRun) → Result Status Fault → H → Type 0
+TakesNamesAndPart calls read wrote from inputs path part search cert out outcome to =
+    WithFile calls wrote from path (λ made names done. TakesPart calls read wrote made inputs part search cert names out outcome done) (out ∷ cert ∷ []) outcome to
 
-abbrev pub TakesCore : {H I O : Type 0} → HostCalls H I O → SourceView I → SinkView O → H → List ℕ → (cert names part : Option (Bor (List ℕ))) → SearchRequest → SinkRun → Result Status Fault → H → Type 0
-TakesCore calls read wrote from trace path names part search out outcome to =
-    WithFile calls wrote from path (λ made cert done. TakesNamesAndPart calls read wrote made trace names part search cert out outcome done) (out ∷ []) outcome to
+abbrev pub TakesCore : {H I O : Type 0} → HostCalls H I O → SourceView I → SinkView O → H → SurveyInputs → (cert names part : Option (Bor (List ℕ))) → SearchRequest → SinkRun → Result Status Fault → H → Type 0
+TakesCore calls read wrote from inputs path names part search out outcome to =
+    WithFile calls wrote from path (λ made cert done. TakesNamesAndPart calls read wrote made inputs names part search cert out outcome done) (out ∷ []) outcome to
 
--- no file is asked for
+-- no file is asked for that takes what shows an INCONSISTENT
 abbrev pub takes_none : SurveyFiles → Bool
 takes_none files = not (is_some files.cert || (is_some files.names || is_some files.part))
 
--- the engine that decides long traces was run, with the files that are asked for
-abbrev pub RunsSurveyIf : {H I O : Type 0} → Bool → HostCalls H I O → SourceView I → SinkView O → H → List ℕ → SurveyFiles → SearchRequest → SinkRun → Result Status Fault → H → Type 0
-RunsSurveyIf true calls read wrote from trace files search out outcome to = RunsSurveyed calls read from trace search out outcome to
-RunsSurveyIf false calls read wrote from trace files search out outcome to =
-    TakesCore calls read wrote from trace files.cert files.names files.part search out outcome to
+-- the files that are read
+abbrev pub inputs_of_survey : Bor (List ℕ) → SurveyFiles → SurveyInputs
+inputs_of_survey trace files = record { trace = trace; hint = files.hint }
 
-abbrev pub RunsSurvey : {H I O : Type 0} → HostCalls H I O → SourceView I → SinkView O → H → List ℕ → SurveyFiles → SearchRequest → SinkRun → Result Status Fault → H → Type 0
-RunsSurvey calls read wrote from trace files search out outcome to = RunsSurveyIf (takes_none files) calls read wrote from trace files search out outcome to
+-- the engine that decides long traces was run, with the files that are asked for
+abbrev pub RunsSurveyIf : {H I O : Type 0} → Bool → HostCalls H I O → SourceView I → SinkView O → H → SurveyInputs → SurveyFiles → SearchRequest → SinkRun → Result Status Fault → H → Type 0
+RunsSurveyIf true calls read wrote from inputs files search out outcome to = RunsSurveyed calls read from inputs search out outcome to
+RunsSurveyIf false calls read wrote from inputs files search out outcome to =
+    TakesCore calls read wrote from inputs files.cert files.names files.part search out outcome to
+
+abbrev pub RunsSurvey : {H I O : Type 0} → HostCalls H I O → SourceView I → SinkView O → H → Bor (List ℕ) → SurveyFiles → SearchRequest → SinkRun → Result Status Fault → H → Type 0
+RunsSurvey calls read wrote from trace files search out outcome to =
+    RunsSurveyIf (takes_none files) calls read wrote from (inputs_of_survey trace files) files search out outcome to
 
 -- ---- a line
 
@@ -220,8 +248,9 @@ RunsLine calls read wrote from (Part trace names shows_names) out outcome to = R
 RunsLine calls read wrote from (Verify trace cert numbers progress) out outcome to =
     RunsVerify calls read wrote from trace.now cert (search_of numbers progress) out outcome to
 RunsLine calls read wrote from (Survey trace files numbers progress) out outcome to =
-    RunsSurvey calls read wrote from trace.now files (survey_of numbers progress) out outcome to
+    RunsSurvey calls read wrote from trace files (survey_of numbers progress) out outcome to
 RunsLine calls read wrote from Refusals out outcome to = WritesList out outcome × (to ≡ from)
+RunsLine calls read wrote from (Batch traces numbers) out outcome to = RunsOnFile calls read (IsRunOfBatch traces.now) from traces.now out outcome to
 
 -- ---- standard streams and exit statuses
 

@@ -3,12 +3,15 @@ use Rattle.std.specs.Borrow.{Bor}
 use Rattle.std.specs.Prelude.{◌&&◌, ◌||◌, ℕ, Bool, false, List, Option, None, Some, codes}
 use Rattle.std.specs.Str.{bytes_eq}
 use Rattle.command_line.specs.declared.line.Line.{Line}
-use Rattle.command_line.specs.declared.line.Line.TheVariants.{Cnf, Decode, Judge, Lrat, Part, Recheck, Refusals, Survey, Verify}
+use Rattle.command_line.specs.declared.line.Line.TheVariants.{Batch, Cnf, Decode, Judge, Lrat, Part, Recheck, Refusals, Survey, Verify}
 use Rattle.command_run.specs.declared.inputs.InputPaths.{InputPaths}
 
--- one path; two, and a third one if it is given
+-- one path; one, and a second one if it is given; two, and a third one if it is given
 abbrev pub one_input : Bor (List ℕ) → InputPaths
 one_input first = record { first = Some first; second = None; third = None }
+
+abbrev pub one_or_two_inputs : (first : Bor (List ℕ)) → (second : Option (Bor (List ℕ))) → InputPaths
+one_or_two_inputs first second = record { first = Some first; second = second; third = None }
 
 abbrev pub several_inputs : (first second : Bor (List ℕ)) → Option (Bor (List ℕ)) → InputPaths
 several_inputs first second third = record { first = Some first; second = Some second; third = third }
@@ -22,7 +25,8 @@ inputs_of (Lrat cnf proof) = several_inputs cnf proof None
 inputs_of (Recheck trace cert part) = several_inputs trace cert part
 inputs_of (Part trace names shows_names) = several_inputs trace names None
 inputs_of (Verify trace cert numbers progress) = one_input trace
-inputs_of (Survey trace files numbers progress) = one_input trace
+inputs_of (Survey trace files numbers progress) = one_or_two_inputs trace files.hint
+inputs_of (Batch traces numbers) = one_input traces
 inputs_of Refusals = record { first = None; second = None; third = None }
 
 -- the path is that of standard input

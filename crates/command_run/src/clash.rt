@@ -36,6 +36,14 @@ pub enum Clash {
     PictureIsNames,
     /// Picture and part have one file.
     PictureIsPart,
+    /// The certificate would overwrite the hint.
+    CertIsHint,
+    /// The names would.
+    NamesIsHint,
+    /// The part would.
+    PartIsHint,
+    /// The picture would.
+    PictureIsHint,
 }
 
 /// The line that reports the clash.
@@ -54,6 +62,10 @@ fn text_of_clash(clash: Clash) -> &'static [u8]
         Clash::PictureIsCert => b"error: --picture and --cert name one file\n",
         Clash::PictureIsNames => b"error: --picture and --names name one file\n",
         Clash::PictureIsPart => b"error: --picture and --part name one file\n",
+        Clash::CertIsHint => b"error: --cert and --hint name one file\n",
+        Clash::NamesIsHint => b"error: --names and --hint name one file\n",
+        Clash::PartIsHint => b"error: --part and --hint name one file\n",
+        Clash::PictureIsHint => b"error: --picture and --hint name one file\n",
     }
 }
 
@@ -149,7 +161,10 @@ fn clash_of_survey<'p, H: Host<'p>>(
     let found = or_clash(host, found, files.part, whole, Clash::PartIsTrace);
     let found = or_clash(host, found, files.cert, files.names, Clash::CertIsNames);
     let found = or_clash(host, found, files.cert, files.part, Clash::CertIsPart);
-    or_clash(host, found, files.names, files.part, Clash::NamesIsPart)
+    let found = or_clash(host, found, files.names, files.part, Clash::NamesIsPart);
+    let found = or_clash(host, found, files.cert, files.hint, Clash::CertIsHint);
+    let found = or_clash(host, found, files.names, files.hint, Clash::NamesIsHint);
+    or_clash(host, found, files.part, files.hint, Clash::PartIsHint)
 }
 
 /// The first clash of a file that is written.
@@ -166,6 +181,7 @@ fn clash_of_files<'p, H: Host<'p>>(host: &mut H, line: Line<'p>) -> Option<Clash
         Line::Recheck { .. } => None,
         Line::Part { .. } => None,
         Line::Refusals => None,
+        Line::Batch { .. } => None,
     }
 }
 
@@ -196,7 +212,8 @@ fn clash_with_survey<'p, H: Host<'p>>(
     let found = or_clash(host, found, picture, Some(trace), Clash::PictureIsTrace);
     let found = or_clash(host, found, picture, files.cert, Clash::PictureIsCert);
     let found = or_clash(host, found, picture, files.names, Clash::PictureIsNames);
-    or_clash(host, found, picture, files.part, Clash::PictureIsPart)
+    let found = or_clash(host, found, picture, files.part, Clash::PictureIsPart);
+    or_clash(host, found, picture, files.hint, Clash::PictureIsHint)
 }
 
 /// The first clash of a picture with the files of the line, after what was found before.
@@ -218,6 +235,7 @@ fn clash_of_picture<'p, H: Host<'p>>(
         Line::Recheck { .. } => found,
         Line::Part { .. } => found,
         Line::Refusals => found,
+        Line::Batch { .. } => found,
     }
 }
 

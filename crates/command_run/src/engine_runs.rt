@@ -12,6 +12,7 @@ ghost use Rattle.verdict_report.specs.LratEngine.{IsRunOfLrat};
 ghost use Rattle.verdict_report.specs.RecheckEngine.{IsRunOfRecheck};
 ghost use Rattle.verdict_report.specs.Runs.{sink_run};
 
+use crate::batch_runs::{batch_of, decide_traces};
 use crate::kept_run::KeptRun;
 use crate::opening::open;
 use crate::refusals::write_refusals;
@@ -314,5 +315,9 @@ pub(crate) fn run_engine<'p, R: Threads + Wait + Sync, G: Gate + Sync, H: Host<'
             survey_file(alloc, rt, progress, host, trace, files, &search, out, kept)
         }
         Line::Refusals => write_refusals(alloc, out),
+        Line::Batch { traces, numbers } => {
+            let search = batch_of(numbers);
+            decide_traces(alloc, rt, host, traces, &search, out)
+        }
     }
 }

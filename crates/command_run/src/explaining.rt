@@ -109,8 +109,12 @@ fn asked_search<'t>(
             let trace = named(trace, &texts.first);
             Some(asked_verify(trace, numbers, report, length))
         }
-        Line::Survey { trace, .. } => Some(AskedCommand::Survey {
+        Line::Survey { trace, files, .. } => Some(AskedCommand::Survey {
             trace: named(trace, &texts.first),
+            hint: match files.hint {
+                Some(hint) => Some(named(hint, &texts.second)),
+                None => None,
+            },
             report,
         }),
         Line::Judge { .. }
@@ -119,7 +123,8 @@ fn asked_search<'t>(
         | Line::Lrat { .. }
         | Line::Recheck { .. }
         | Line::Part { .. }
-        | Line::Refusals => None,
+        | Line::Refusals
+        | Line::Batch { .. } => None,
     }
 }
 

@@ -1,6 +1,6 @@
 //! The files that a line reads.
 ghost use Rattle.std.specs.Prelude.{◌≡◌};
-ghost use Rattle.command_run.specs.Inputs.{inputs_of, is_given_input, is_input, one_input, repeats_input, several_inputs};
+ghost use Rattle.command_run.specs.Inputs.{inputs_of, is_given_input, is_input, one_input, one_or_two_inputs, repeats_input, several_inputs};
 
 use command_line::Line;
 
@@ -18,6 +18,15 @@ pub struct InputPaths<'p> {
     pub third: Option<&'p str>,
 }
 
+/// The paths of the files that a survey reads.
+#[derive(Clone, Copy)]
+pub struct SurveyInputs<'p> {
+    /// The trace.
+    pub trace: &'p str,
+    /// The hint, if there is one.
+    pub hint: Option<&'p str>,
+}
+
 impl<'p> InputPaths<'p> {
     // One path.
     fn one(first: &'p str) -> InputPaths<'p>
@@ -26,6 +35,17 @@ impl<'p> InputPaths<'p> {
         InputPaths {
             first: Some(first),
             second: None,
+            third: None,
+        }
+    }
+
+    // One path, and a second one if it is given.
+    fn one_or_two(first: &'p str, second: Option<&'p str>) -> InputPaths<'p>
+        ensures { result ≡ one_or_two_inputs first.entry second.entry }
+    {
+        InputPaths {
+            first: Some(first),
+            second,
             third: None,
         }
     }
@@ -54,7 +74,8 @@ pub(crate) fn inputs_of<'p>(line: Line<'p>) -> InputPaths<'p>
         Line::Recheck { trace, cert, part } => InputPaths::several(trace, cert, part),
         Line::Part { trace, names, .. } => InputPaths::several(trace, names, None),
         Line::Verify { trace, .. } => InputPaths::one(trace),
-        Line::Survey { trace, .. } => InputPaths::one(trace),
+        Line::Survey { trace, files, .. } => InputPaths::one_or_two(trace, files.hint),
+        Line::Batch { traces, .. } => InputPaths::one(traces),
         Line::Refusals => InputPaths {
             first: None,
             second: None,

@@ -2,13 +2,16 @@
 #![tactic(auto)]
 
 mod arguments;
+mod batch_runs;
 mod clash;
 mod command;
 mod engine_runs;
 mod explaining;
+mod hinted_runs;
 mod inputs;
 mod kept_run;
 mod no_file;
+mod no_text;
 mod opening;
 mod picturing;
 mod refusals;
@@ -19,4 +22,4 @@ mod telling;
 pub use arguments::{ArgumentFault, refuse, words_of};
 pub use clash::Clash;
 pub use command::run;
-pub use inputs::InputPaths;
+pub use inputs::{InputPaths, SurveyInputs};

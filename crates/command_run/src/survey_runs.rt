@@ -2,117 +2,26 @@
 //!
 //! Each of three files may be asked for: the certificate, the names of a core, and its part, which is the trace of these operations alone. Each
 //! has a sink of a type of its own, a file or [`NoFile`]. So there are a function with the file, one without, and one that chooses, for each of the
-//! three, and they call each other in the order in which the files are made: certificate, names, part. Then the trace is opened.
-ghost use Rattle.std.specs.Prelude.{◌≡◌, None, Ok, Some};
+//! three, and they call each other in the order in which the files are made: certificate, names, part. Then the trace is opened, and then the hint
+//! (`hinted_runs.rt`).
+ghost use Rattle.std.specs.Prelude.{◌≡◌, None, Some};
 ghost use Rattle.command_host.specs.Streams.{sink_view, source_view};
-ghost use Rattle.command_run.specs.CommandRun.{CertifiesSurveyed, RunsSurvey, RunsSurveyed, TakesCore, TakesNamesAndPart, TakesPart, takes_none};
-ghost use Rattle.survey_report.specs.SurveyEngine.{IsRunOfCertifiedSurvey, IsRunOfSurvey, TellsExtent};
-ghost use Rattle.verdict_report.specs.Runs.{source_run, sink_run};
-ghost use Rattle.verdict_report.specs.declared.status.Status.TheVariants.{Unknown};
+ghost use Rattle.command_run.specs.CommandRun.{CertifiesSurveyed, RunsSurvey, RunsSurveyed, TakesCore, TakesNamesAndPart, TakesPart, inputs_of_survey, takes_none};
+ghost use Rattle.verdict_report.specs.Runs.{sink_run};
 
+use crate::hinted_runs::{certify_with, survey_with};
+use crate::inputs::SurveyInputs;
 use crate::kept_run::KeptRun;
 use crate::no_file::NoFile;
 use crate::opening::open;
 use command_host::{Host, SearchRequest};
 use command_line::SurveyFiles;
-use cube_jobs::{Gate, OpenGate};
+use cube_jobs::Gate;
 use dimacs::Sink;
 use std::alloc::Global;
 use std::sync::Wait;
 use std::thread::Threads;
-use survey::BySaturation;
-use survey_report::{run_certified_survey, run_survey};
-use verdict_report::{Fault, Source, Status};
-
-/// The survey of the request.
-fn surveyor_of(search: &SearchRequest) -> BySaturation {
-    BySaturation {
-        budget: search.steps.unwrap_or(0),
-    }
-}
-
-/// Reports the survey to the host, and runs the engine that decides long traces with it: with the gate `progress` if the progress is
-/// wanted, and with one that does nothing if not.
-fn survey<'p, R: Threads + Wait + Sync, G: Gate + Sync, H: Host<'p>, T: Source, W: Sink>(
-    alloc: Global,
-    rt: &R,
-    progress: &G,
-    host: &mut H,
-    trace: &mut T,
-    search: &SearchRequest,
-    out: &mut W,
-) -> Result<Status, Fault>
-    ensures searches { H.calls.searches host.old search.now host.new }
-    ensures run { IsRunOfSurvey
-        (source_run T.handed_out T.is_at_end T.failures trace.old trace.new)
-        (sink_run W.written W.failures out.old out.new)
-        result }
-    ensures unknown { result ≡ Ok Unknown → TellsExtent search.now.options
-        (source_run T.handed_out T.is_at_end T.failures trace.old trace.new)
-        (sink_run W.written W.failures out.old out.new) }
-    ensures same_trace { T.path trace.new ≡ T.path trace.old }
-{
-    host.begin_search(search);
-    let surveyor = surveyor_of(search);
-    if search.tells_progress {
-        run_survey(alloc, rt, trace, &surveyor, &search.options, progress, out)
-    } else {
-        run_survey(alloc, rt, trace, &surveyor, &search.options, &OpenGate, out)
-    }
-}
-
-/// Does what [`survey`] does, with a certificate, the names of a core, and its part.
-fn certify<
-    'p,
-    R: Threads + Wait + Sync,
-    G: Gate + Sync,
-    H: Host<'p>,
-    T: Source,
-    C: Sink,
-    N: Sink,
-    P: Sink,
-    W: Sink,
->(
-    alloc: Global,
-    rt: &R,
-    progress: &G,
-    host: &mut H,
-    trace: &mut T,
-    search: &SearchRequest,
-    cert: &mut C,
-    names: &mut N,
-    part: &mut P,
-    out: &mut W,
-) -> Result<Status, Fault>
-    ensures searches { H.calls.searches host.old search.now host.new }
-    ensures run { IsRunOfCertifiedSurvey
-        (source_run T.handed_out T.is_at_end T.failures trace.old trace.new)
-        (sink_run C.written C.failures cert.old cert.new)
-        (sink_run N.written N.failures names.old names.new)
-        (sink_run P.written P.failures part.old part.new)
-        (sink_run W.written W.failures out.old out.new)
-        result }
-    ensures unknown { result ≡ Ok Unknown → TellsExtent search.now.options
-        (source_run T.handed_out T.is_at_end T.failures trace.old trace.new)
-        (sink_run W.written W.failures out.old out.new) }
-    ensures same_trace { T.path trace.new ≡ T.path trace.old }
-    ensures same_cert { C.path cert.new ≡ C.path cert.old }
-    ensures same_names { N.path names.new ≡ N.path names.old }
-    ensures same_part { P.path part.new ≡ P.path part.old }
-{
-    host.begin_search(search);
-    let surveyor = surveyor_of(search);
-    let options = &search.options;
-    if search.tells_progress {
-        run_certified_survey(
-            alloc, rt, trace, &surveyor, options, progress, cert, names, part, out,
-        )
-    } else {
-        run_certified_survey(
-            alloc, rt, trace, &surveyor, options, &OpenGate, cert, names, part, out,
-        )
-    }
-}
+use verdict_report::{Fault, Status};
 
 /// Decides whether the trace in the file at this path has a legal schedule, and writes the report to the standard output.
 fn survey_opened<'p, R: Threads + Wait + Sync, G: Gate + Sync, H: Host<'p>, W: Sink>(
@@ -120,16 +29,19 @@ fn survey_opened<'p, R: Threads + Wait + Sync, G: Gate + Sync, H: Host<'p>, W: S
     rt: &R,
     progress: &G,
     host: &mut H,
-    trace: &'p str,
+    inputs: SurveyInputs<'p>,
     search: &SearchRequest,
     out: &mut W,
     kept: &mut KeptRun,
 ) -> Result<Status, Fault>
     ensures { RunsSurveyed H.calls (source_view H.Input.handed_out H.Input.is_at_end H.Input.failures H.Input.path)
-        host.old trace.now search.now (sink_run W.written W.failures out.old out.new) result host.new }
+        host.old inputs.entry search.now (sink_run W.written W.failures out.old out.new) result host.new }
 {
-    let mut trace = open(alloc, host, trace, kept.keeps);
-    let outcome = survey(alloc, rt, progress, host, &mut trace, search, out);
+    let mut trace = open(alloc, host, inputs.trace, kept.keeps);
+    let hint = inputs.hint;
+    let outcome = survey_with(
+        alloc, rt, progress, host, &mut trace, hint, search, out, kept,
+    );
     kept.first = trace.into_text();
     outcome
 }
@@ -149,7 +61,7 @@ fn certify_opened<
     rt: &R,
     progress: &G,
     host: &mut H,
-    trace: &'p str,
+    inputs: SurveyInputs<'p>,
     search: &SearchRequest,
     cert: &mut C,
     names: &mut N,
@@ -158,7 +70,7 @@ fn certify_opened<
     kept: &mut KeptRun,
 ) -> Result<Status, Fault>
     ensures runs { CertifiesSurveyed H.calls (source_view H.Input.handed_out H.Input.is_at_end H.Input.failures H.Input.path)
-        host.old trace.now search.now
+        host.old inputs.entry search.now
         (sink_run C.written C.failures cert.old cert.new)
         (sink_run N.written N.failures names.old names.new)
         (sink_run P.written P.failures part.old part.new)
@@ -168,9 +80,10 @@ fn certify_opened<
     ensures same_names { N.path names.new ≡ N.path names.old }
     ensures same_part { P.path part.new ≡ P.path part.old }
 {
-    let mut trace = open(alloc, host, trace, kept.keeps);
-    let outcome = certify(
-        alloc, rt, progress, host, &mut trace, search, cert, names, part, out,
+    let mut trace = open(alloc, host, inputs.trace, kept.keeps);
+    let hint = inputs.hint;
+    let outcome = certify_with(
+        alloc, rt, progress, host, &mut trace, hint, search, cert, names, part, out, kept,
     );
     kept.first = trace.into_text();
     outcome
@@ -190,7 +103,7 @@ fn part_nowhere<
     rt: &R,
     progress: &G,
     host: &mut H,
-    trace: &'p str,
+    inputs: SurveyInputs<'p>,
     search: &SearchRequest,
     cert: &mut C,
     names: &mut N,
@@ -199,7 +112,7 @@ fn part_nowhere<
 ) -> Result<Status, Fault>
     ensures runs { TakesPart H.calls (source_view H.Input.handed_out H.Input.is_at_end H.Input.failures H.Input.path)
         (sink_view H.Output.written H.Output.failures H.Output.path)
-        host.old trace.now None search.now
+        host.old inputs.entry None search.now
         (sink_run C.written C.failures cert.old cert.new)
         (sink_run N.written N.failures names.old names.new)
         (sink_run W.written W.failures out.old out.new)
@@ -209,7 +122,7 @@ fn part_nowhere<
 {
     let mut part = NoFile::new();
     certify_opened(
-        alloc, rt, progress, host, trace, search, cert, names, &mut part, out, kept,
+        alloc, rt, progress, host, inputs, search, cert, names, &mut part, out, kept,
     )
 }
 
@@ -227,7 +140,7 @@ fn part_in_file<
     rt: &R,
     progress: &G,
     host: &mut H,
-    trace: &'p str,
+    inputs: SurveyInputs<'p>,
     path: &'p str,
     search: &SearchRequest,
     cert: &mut C,
@@ -237,7 +150,7 @@ fn part_in_file<
 ) -> Result<Status, Fault>
     ensures runs { TakesPart H.calls (source_view H.Input.handed_out H.Input.is_at_end H.Input.failures H.Input.path)
         (sink_view H.Output.written H.Output.failures H.Output.path)
-        host.old trace.now (Some path.entry) search.now
+        host.old inputs.entry (Some path.entry) search.now
         (sink_run C.written C.failures cert.old cert.new)
         (sink_run N.written N.failures names.old names.new)
         (sink_run W.written W.failures out.old out.new)
@@ -249,7 +162,7 @@ fn part_in_file<
         return Err(Fault::Device);
     };
     let outcome = certify_opened(
-        alloc, rt, progress, host, trace, search, cert, names, &mut made, out, kept,
+        alloc, rt, progress, host, inputs, search, cert, names, &mut made, out, kept,
     );
     host.close(made);
     outcome
@@ -261,7 +174,7 @@ fn with_part<'p, R: Threads + Wait + Sync, G: Gate + Sync, H: Host<'p>, C: Sink,
     rt: &R,
     progress: &G,
     host: &mut H,
-    trace: &'p str,
+    inputs: SurveyInputs<'p>,
     path: Option<&'p str>,
     search: &SearchRequest,
     cert: &mut C,
@@ -271,7 +184,7 @@ fn with_part<'p, R: Threads + Wait + Sync, G: Gate + Sync, H: Host<'p>, C: Sink,
 ) -> Result<Status, Fault>
     ensures runs { TakesPart H.calls (source_view H.Input.handed_out H.Input.is_at_end H.Input.failures H.Input.path)
         (sink_view H.Output.written H.Output.failures H.Output.path)
-        host.old trace.now path.entry search.now
+        host.old inputs.entry path.entry search.now
         (sink_run C.written C.failures cert.old cert.new)
         (sink_run N.written N.failures names.old names.new)
         (sink_run W.written W.failures out.old out.new)
@@ -281,10 +194,10 @@ fn with_part<'p, R: Threads + Wait + Sync, G: Gate + Sync, H: Host<'p>, C: Sink,
 {
     match path {
         Some(path) => part_in_file(
-            alloc, rt, progress, host, trace, path, search, cert, names, out, kept,
+            alloc, rt, progress, host, inputs, path, search, cert, names, out, kept,
         ),
         None => part_nowhere(
-            alloc, rt, progress, host, trace, search, cert, names, out, kept,
+            alloc, rt, progress, host, inputs, search, cert, names, out, kept,
         ),
     }
 }
@@ -295,7 +208,7 @@ fn names_nowhere<'p, R: Threads + Wait + Sync, G: Gate + Sync, H: Host<'p>, C: S
     rt: &R,
     progress: &G,
     host: &mut H,
-    trace: &'p str,
+    inputs: SurveyInputs<'p>,
     part: Option<&'p str>,
     search: &SearchRequest,
     cert: &mut C,
@@ -304,7 +217,7 @@ fn names_nowhere<'p, R: Threads + Wait + Sync, G: Gate + Sync, H: Host<'p>, C: S
 ) -> Result<Status, Fault>
     ensures runs { TakesNamesAndPart H.calls (source_view H.Input.handed_out H.Input.is_at_end H.Input.failures H.Input.path)
         (sink_view H.Output.written H.Output.failures H.Output.path)
-        host.old trace.now None part.entry search.now
+        host.old inputs.entry None part.entry search.now
         (sink_run C.written C.failures cert.old cert.new)
         (sink_run W.written W.failures out.old out.new)
         result host.new }
@@ -312,7 +225,7 @@ fn names_nowhere<'p, R: Threads + Wait + Sync, G: Gate + Sync, H: Host<'p>, C: S
 {
     let mut names = NoFile::new();
     with_part(
-        alloc, rt, progress, host, trace, part, search, cert, &mut names, out, kept,
+        alloc, rt, progress, host, inputs, part, search, cert, &mut names, out, kept,
     )
 }
 
@@ -322,7 +235,7 @@ fn names_in_file<'p, R: Threads + Wait + Sync, G: Gate + Sync, H: Host<'p>, C: S
     rt: &R,
     progress: &G,
     host: &mut H,
-    trace: &'p str,
+    inputs: SurveyInputs<'p>,
     path: &'p str,
     part: Option<&'p str>,
     search: &SearchRequest,
@@ -332,7 +245,7 @@ fn names_in_file<'p, R: Threads + Wait + Sync, G: Gate + Sync, H: Host<'p>, C: S
 ) -> Result<Status, Fault>
     ensures runs { TakesNamesAndPart H.calls (source_view H.Input.handed_out H.Input.is_at_end H.Input.failures H.Input.path)
         (sink_view H.Output.written H.Output.failures H.Output.path)
-        host.old trace.now (Some path.entry) part.entry search.now
+        host.old inputs.entry (Some path.entry) part.entry search.now
         (sink_run C.written C.failures cert.old cert.new)
         (sink_run W.written W.failures out.old out.new)
         result host.new }
@@ -342,7 +255,7 @@ fn names_in_file<'p, R: Threads + Wait + Sync, G: Gate + Sync, H: Host<'p>, C: S
         return Err(Fault::Device);
     };
     let outcome = with_part(
-        alloc, rt, progress, host, trace, part, search, cert, &mut file, out, kept,
+        alloc, rt, progress, host, inputs, part, search, cert, &mut file, out, kept,
     );
     host.close(file);
     outcome
@@ -354,7 +267,7 @@ fn with_names<'p, R: Threads + Wait + Sync, G: Gate + Sync, H: Host<'p>, C: Sink
     rt: &R,
     progress: &G,
     host: &mut H,
-    trace: &'p str,
+    inputs: SurveyInputs<'p>,
     path: Option<&'p str>,
     part: Option<&'p str>,
     search: &SearchRequest,
@@ -364,7 +277,7 @@ fn with_names<'p, R: Threads + Wait + Sync, G: Gate + Sync, H: Host<'p>, C: Sink
 ) -> Result<Status, Fault>
     ensures runs { TakesNamesAndPart H.calls (source_view H.Input.handed_out H.Input.is_at_end H.Input.failures H.Input.path)
         (sink_view H.Output.written H.Output.failures H.Output.path)
-        host.old trace.now path.entry part.entry search.now
+        host.old inputs.entry path.entry part.entry search.now
         (sink_run C.written C.failures cert.old cert.new)
         (sink_run W.written W.failures out.old out.new)
         result host.new }
@@ -372,10 +285,10 @@ fn with_names<'p, R: Threads + Wait + Sync, G: Gate + Sync, H: Host<'p>, C: Sink
 {
     match path {
         Some(path) => names_in_file(
-            alloc, rt, progress, host, trace, path, part, search, cert, out, kept,
+            alloc, rt, progress, host, inputs, path, part, search, cert, out, kept,
         ),
         None => names_nowhere(
-            alloc, rt, progress, host, trace, part, search, cert, out, kept,
+            alloc, rt, progress, host, inputs, part, search, cert, out, kept,
         ),
     }
 }
@@ -386,7 +299,7 @@ fn cert_nowhere<'p, R: Threads + Wait + Sync, G: Gate + Sync, H: Host<'p>, W: Si
     rt: &R,
     progress: &G,
     host: &mut H,
-    trace: &'p str,
+    inputs: SurveyInputs<'p>,
     names: Option<&'p str>,
     part: Option<&'p str>,
     search: &SearchRequest,
@@ -395,13 +308,13 @@ fn cert_nowhere<'p, R: Threads + Wait + Sync, G: Gate + Sync, H: Host<'p>, W: Si
 ) -> Result<Status, Fault>
     ensures { TakesCore H.calls (source_view H.Input.handed_out H.Input.is_at_end H.Input.failures H.Input.path)
         (sink_view H.Output.written H.Output.failures H.Output.path)
-        host.old trace.now None names.entry part.entry search.now
+        host.old inputs.entry None names.entry part.entry search.now
         (sink_run W.written W.failures out.old out.new)
         result host.new }
 {
     let mut cert = NoFile::new();
     with_names(
-        alloc, rt, progress, host, trace, names, part, search, &mut cert, out, kept,
+        alloc, rt, progress, host, inputs, names, part, search, &mut cert, out, kept,
     )
 }
 
@@ -411,7 +324,7 @@ fn cert_in_file<'p, R: Threads + Wait + Sync, G: Gate + Sync, H: Host<'p>, W: Si
     rt: &R,
     progress: &G,
     host: &mut H,
-    trace: &'p str,
+    inputs: SurveyInputs<'p>,
     path: &'p str,
     names: Option<&'p str>,
     part: Option<&'p str>,
@@ -421,7 +334,7 @@ fn cert_in_file<'p, R: Threads + Wait + Sync, G: Gate + Sync, H: Host<'p>, W: Si
 ) -> Result<Status, Fault>
     ensures { TakesCore H.calls (source_view H.Input.handed_out H.Input.is_at_end H.Input.failures H.Input.path)
         (sink_view H.Output.written H.Output.failures H.Output.path)
-        host.old trace.now (Some path.entry) names.entry part.entry search.now
+        host.old inputs.entry (Some path.entry) names.entry part.entry search.now
         (sink_run W.written W.failures out.old out.new)
         result host.new }
 {
@@ -429,7 +342,7 @@ fn cert_in_file<'p, R: Threads + Wait + Sync, G: Gate + Sync, H: Host<'p>, W: Si
         return Err(Fault::Device);
     };
     let outcome = with_names(
-        alloc, rt, progress, host, trace, names, part, search, &mut file, out, kept,
+        alloc, rt, progress, host, inputs, names, part, search, &mut file, out, kept,
     );
     host.close(file);
     outcome
@@ -441,7 +354,7 @@ fn with_cert<'p, R: Threads + Wait + Sync, G: Gate + Sync, H: Host<'p>, W: Sink>
     rt: &R,
     progress: &G,
     host: &mut H,
-    trace: &'p str,
+    inputs: SurveyInputs<'p>,
     path: Option<&'p str>,
     names: Option<&'p str>,
     part: Option<&'p str>,
@@ -451,21 +364,31 @@ fn with_cert<'p, R: Threads + Wait + Sync, G: Gate + Sync, H: Host<'p>, W: Sink>
 ) -> Result<Status, Fault>
     ensures { TakesCore H.calls (source_view H.Input.handed_out H.Input.is_at_end H.Input.failures H.Input.path)
         (sink_view H.Output.written H.Output.failures H.Output.path)
-        host.old trace.now path.entry names.entry part.entry search.now
+        host.old inputs.entry path.entry names.entry part.entry search.now
         (sink_run W.written W.failures out.old out.new)
         result host.new }
 {
     match path {
         Some(path) => cert_in_file(
-            alloc, rt, progress, host, trace, path, names, part, search, out, kept,
+            alloc, rt, progress, host, inputs, path, names, part, search, out, kept,
         ),
         None => cert_nowhere(
-            alloc, rt, progress, host, trace, names, part, search, out, kept,
+            alloc, rt, progress, host, inputs, names, part, search, out, kept,
         ),
     }
 }
 
-/// Returns whether no file is asked for.
+/// The files that are read.
+fn inputs_of<'p>(trace: &'p str, files: SurveyFiles<'p>) -> SurveyInputs<'p>
+    ensures { result ≡ inputs_of_survey trace.entry files.entry }
+{
+    SurveyInputs {
+        trace,
+        hint: files.hint,
+    }
+}
+
+/// Returns whether no file is asked for that takes what shows an INCONSISTENT.
 fn takes_none(files: SurveyFiles<'_>) -> bool
     ensures { result ≡ takes_none files.entry }
 {
@@ -473,7 +396,7 @@ fn takes_none(files: SurveyFiles<'_>) -> bool
 }
 
 /// Decides whether the trace in the file at this path has a legal schedule, and writes what shows an INCONSISTENT to the files that are
-/// asked for. They are made or opened before the trace is opened.
+/// asked for. They are made or opened before the trace is opened, and the hint is opened behind it.
 pub(crate) fn survey_file<'p, R: Threads + Wait + Sync, G: Gate + Sync, H: Host<'p>, W: Sink>(
     alloc: Global,
     rt: &R,
@@ -487,19 +410,20 @@ pub(crate) fn survey_file<'p, R: Threads + Wait + Sync, G: Gate + Sync, H: Host<
 ) -> Result<Status, Fault>
     ensures { RunsSurvey H.calls (source_view H.Input.handed_out H.Input.is_at_end H.Input.failures H.Input.path)
         (sink_view H.Output.written H.Output.failures H.Output.path)
-        host.old trace.now files.entry search.now
+        host.old trace.entry files.entry search.now
         (sink_run W.written W.failures out.old out.new)
         result host.new }
 {
+    let inputs = inputs_of(trace, files);
     if takes_none(files) {
-        survey_opened(alloc, rt, progress, host, trace, search, out, kept)
+        survey_opened(alloc, rt, progress, host, inputs, search, out, kept)
     } else {
         with_cert(
             alloc,
             rt,
             progress,
             host,
-            trace,
+            inputs,
             files.cert,
             files.names,
             files.part,

@@ -19,11 +19,11 @@ use Rattle.clap.specs.declared.builder.value_parser.Reading.{Reading}
 use Rattle.clap.specs.declared.builder.value_parser.ValueParser.TheVariants.{Bool as FlagText, Signed, Unsigned}
 use Rattle.clap.specs.declared.parser.matches.Found.{Found}
 use Rattle.command_line.proofs.CommandLemmas.{Reads, fits, passes}
-use Rattle.command_line.proofs.EnterLemmas.{cnf_built, decode_built, enters_command, judge_built, lrat_built, part_built, recheck_built, refusals_built, survey_built, verify_built}
+use Rattle.command_line.proofs.EnterLemmas.{batch_built, cnf_built, decode_built, enters_command, judge_built, lrat_built, part_built, recheck_built, refusals_built, survey_built, verify_built}
 use Rattle.command_line.proofs.FoundLemmas.{EntersAs, asks_as_read, enters_as, has_text, name-rows, reads}
 use Rattle.command_line.proofs.GivenLemmas.{AllFit, keeps_text}
 use Rattle.command_line.proofs.line.asked_line.Goals as goal
-use Rattle.command_line.proofs.line.asked_line.Goals.{In-Some, In-Some-subcommand_matches, In-Some-subcommand_matches-2, In-Some-subcommand_matches-3, In-Some-subcommand_matches-4, In-Some-subcommand_matches-5, In-Some-subcommand_matches-6, In-Some-subcommand_matches-7, In-Some-subcommand_matches-8}
+use Rattle.command_line.proofs.line.asked_line.Goals.{In-Some, In-Some-subcommand_matches, In-Some-subcommand_matches-2, In-Some-subcommand_matches-3, In-Some-subcommand_matches-4, In-Some-subcommand_matches-5, In-Some-subcommand_matches-6, In-Some-subcommand_matches-7, In-Some-subcommand_matches-8, In-Some-subcommand_matches-9}
 use Rattle.command_line.specs.Arguments.{HasFlag, HasNumber, HasTextThat, HasWorkers}
 
 -- ---- a text without a hyphen is read as it was written
@@ -285,7 +285,7 @@ returns-in-Some-subcommand_matches-6-clause-line c =
 -- ---- survey
 
 survey_fits : AllFit (passes survey_built.rules) survey_built.rules
-survey_fits = (fits survey_built.rules _ refl refl refl refl, (fits survey_built.rules _ refl refl refl refl, (fits survey_built.rules _ refl refl refl refl, (fits survey_built.rules _ refl refl refl refl, (fits survey_built.rules _ refl refl refl refl, (fits survey_built.rules _ refl refl refl refl, (fits survey_built.rules _ refl refl refl refl, (fits survey_built.rules _ refl refl refl refl, (fits survey_built.rules _ refl refl refl refl, (fits survey_built.rules _ refl refl refl refl, (fits survey_built.rules _ refl refl refl refl, tt)))))))))))
+survey_fits = (fits survey_built.rules _ refl refl refl refl, (fits survey_built.rules _ refl refl refl refl, (fits survey_built.rules _ refl refl refl refl, (fits survey_built.rules _ refl refl refl refl, (fits survey_built.rules _ refl refl refl refl, (fits survey_built.rules _ refl refl refl refl, (fits survey_built.rules _ refl refl refl refl, (fits survey_built.rules _ refl refl refl refl, (fits survey_built.rules _ refl refl refl refl, (fits survey_built.rules _ refl refl refl refl, (fits survey_built.rules _ refl refl refl refl, (fits survey_built.rules _ refl refl refl refl, tt))))))))))))
 
 survey_met : (c : In-Some-subcommand_matches-7) → EntersAs (texts c.args.words.now) (codes "survey") (found_of c.in-Some-subcommand_matches-7.survey.now)
 survey_met c =
@@ -334,6 +334,34 @@ returns-in-Some-subcommand_matches-8-clause-line c =
     let met = refusals_met (goal.at.returns-in-Some-subcommand_matches-8-clause-line c).In-Some-subcommand_matches-8 in
     asks_as_read (texts c.args.words.now) (codes "refusals") (found_of c.in-Some-subcommand_matches-8.refusals.now) met c.refusals_line.result c.refusals_line.ensures
 
+-- ---- batch
+
+batch_fits : AllFit (passes batch_built.rules) batch_built.rules
+batch_fits = (fits batch_built.rules _ refl refl refl refl, (fits batch_built.rules _ refl refl refl refl, (fits batch_built.rules _ refl refl refl refl, (fits batch_built.rules _ refl refl refl refl, (fits batch_built.rules _ refl refl refl refl, (fits batch_built.rules _ refl refl refl refl, (fits batch_built.rules _ refl refl refl refl, tt)))))))
+
+batch_met : (c : In-Some-subcommand_matches-9) → EntersAs (texts c.args.words.now) (codes "batch") (found_of c.in-Some-subcommand_matches-9.batch.now)
+batch_met c =
+    let entered = c.in-Some-subcommand_matches-9.ensures in
+    enters_as _ _ _ c.in_ok-matches.matches c.in_ok-matches.ensures.ok c.in_ok-matches.ensures.kinds (entered.found.0 refl) entered.rows
+
+pub batch_line-requires : goal.batch_line-requires
+batch_line-requires c =
+    let found = found_of c.in-Some-subcommand_matches-9.batch.now in
+    let read = reads (texts c.args.words.now) (codes "batch") found (batch_met c) batch_built refl batch_fits in
+    record {
+      traces = has_text found batch_built.rules (codes "traces") (read (codes "traces") refl);
+      workers = has_workers batch_built.rules found refl (read (codes "workers") refl);
+      split = has_number batch_built.rules found (codes "split") 0 10 refl (read (codes "split") refl);
+      budget = has_number batch_built.rules found (codes "budget") 0 1000000000 refl (read (codes "budget") refl);
+      explain = has_flag batch_built.rules found (codes "explain") refl (read (codes "explain") refl);
+      no_explain = has_flag batch_built.rules found (codes "no-explain") refl (read (codes "no-explain") refl);
+    }
+
+pub returns-in-Some-subcommand_matches-9-clause-line : goal.returns-in-Some-subcommand_matches-9-clause-line
+returns-in-Some-subcommand_matches-9-clause-line c =
+    let met = batch_met (goal.at.returns-in-Some-subcommand_matches-9-clause-line c).In-Some-subcommand_matches-9 in
+    asks_as_read (texts c.args.words.now) (codes "batch") (found_of c.in-Some-subcommand_matches-9.batch.now) met c.batch_line.result c.batch_line.ensures
+
 -- ---- no other command
 
 pub unreachable-requires : goal.unreachable-requires
@@ -351,7 +379,8 @@ unreachable-requires c =
       | inr (inr (inr (inr (inr (inr (inl is)))))) ↦ true≢false (sym (c.in_default-subcommand_matches-6.ensures.found.1 (name ∙ ap (λ s. Some s.name) is)))
       | inr (inr (inr (inr (inr (inr (inr (inl is))))))) ↦ true≢false (sym (c.in_default-subcommand_matches-7.ensures.found.1 (name ∙ ap (λ s. Some s.name) is)))
       | inr (inr (inr (inr (inr (inr (inr (inr (inl is)))))))) ↦ true≢false (sym (c.in_default-subcommand_matches-8.ensures.found.1 (name ∙ ap (λ s. Some s.name) is)))
-      | inr (inr (inr (inr (inr (inr (inr (inr (inr none)))))))) ↦ none
+      | inr (inr (inr (inr (inr (inr (inr (inr (inr (inl is))))))))) ↦ true≢false (sym (c.in_default-subcommand_matches-9.ensures.found.1 (name ∙ ap (λ s. Some s.name) is)))
+      | inr (inr (inr (inr (inr (inr (inr (inr (inr (inr none))))))))) ↦ none
     ]
 
 pub returns-in_err-matches-clause-memory : goal.returns-in_err-matches-clause-memory

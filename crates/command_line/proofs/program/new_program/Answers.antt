@@ -1,5 +1,5 @@
 -- Each step adds a command to what a parse reads of the program.
-use Rattle.command_line.specs.CommandLine.{cnf_app, decode_app, judge_app, lrat_app, part_app, program_app, recheck_app, refusals_app, survey_app, verify_app}
+use Rattle.command_line.specs.CommandLine.{batch_app, cnf_app, decode_app, judge_app, lrat_app, part_app, program_app, recheck_app, refusals_app, survey_app, verify_app}
 use Rattle.command_line.proofs.program.new_program.Goals as goal
 
 pub returns : goal.returns
@@ -12,4 +12,5 @@ returns c =
     let rechecking = c.with_command-program-6.ensures _ recheck_app checking c.new_recheck_command.ensures.app in
     let parting = c.with_command-program-7.ensures _ part_app rechecking c.new_part_command.ensures.app in
     let surveying = c.with_command-program-8.ensures _ survey_app parting c.new_survey_command.ensures.app in
-    c.with_command.ensures _ refusals_app surveying c.new_refusals_command.ensures.app
+    let listing = c.with_command-program-9.ensures _ refusals_app surveying c.new_refusals_command.ensures.app in
+    c.with_command.ensures _ batch_app listing c.new_batch_command.ensures.app

@@ -1,5 +1,5 @@
 -- Each step extends what a parse reads of the command.
-use Rattle.std.proofs.Common.{◌≡◌, ◌∙◌, ◌||◌, ap, ap₂, codes, false}
+use Rattle.std.proofs.Common.{◌≡◌, ◌∙◌, ap, ap₂, codes}
 use Rattle.std.proofs.lemmas.Result.{IfOk-weaker}
 use Rattle.clap.specs.Words.{app_of, new_app, with_rule}
 use Rattle.clap.specs.declared.builder.command.Command.TheViews.{out-Command}
@@ -14,12 +14,12 @@ returns-clause-app c =
     c.in_ok-command-2.ensures.app ∙ ap₂ with_rule (ap₂ with_rule first c.part_argument-part.ensures.rule) c.steps_argument-budget.ensures.rule in
     let third : app_of c.in_ok-command-3.command ≡ with_rule (with_rule (with_rule (with_rule (with_rule (with_rule (with_rule (new_app (codes "survey")) (required_path (codes "trace"))) cert_rule) names_rule) part_rule) steps_rule) workers_rule) progress_rule =
     c.in_ok-command-3.ensures.app ∙ ap₂ with_rule (ap₂ with_rule second c.workers_argument-workers.ensures.rule) c.progress_argument-progress.ensures.rule in
-    IfOk-weaker c.arg.result _ _
-    (λ r h. h.shape c.picture_argument.ensures.local ∙ ap₂ with_rule third c.picture_argument.ensures.rule)
-    c.arg.ensures
+    IfOk-weaker c.with_two-3.result _ _
+    (λ r h. h ∙ ap₂ with_rule (ap₂ with_rule third c.picture_argument-picture.ensures.rule) c.hint_argument-hint.ensures.rule)
+    c.with_two-3.ensures.app
 
 pub returns-clause-local : goal.returns-clause-local
 returns-clause-local c =
-    let kept : (out-Command c.in_ok-command-3.command).has_globals ≡ false =
-    c.in_ok-command-3.ensures.globals ∙ c.in_ok-command-2.ensures.globals ∙ c.in_ok-command.ensures.local in
-    IfOk-weaker c.arg.result _ _ (λ r h. h.globals ∙ ap₂ ◌||◌ kept c.picture_argument.ensures.local) c.arg.ensures
+    IfOk-weaker c.with_two-3.result _ _
+    (λ r h. h ∙ c.in_ok-command-3.ensures.globals ∙ c.in_ok-command-2.ensures.globals ∙ c.in_ok-command.ensures.local)
+    c.with_two-3.ensures.globals

@@ -5,10 +5,8 @@ use Rattle.command_run.proofs.survey_runs.certify_opened.Goals as goal
 
 pub returns-clause-runs : goal.returns-clause-runs
 returns-clause-runs g c = record {
-  file = source_run g.H.Input.Source.handed_out g.H.Input.Source.is_at_end g.H.Input.Source.failures c.open-trace.result.source c.certify-outcome.new.trace.source;
+  file = source_run g.H.Input.Source.handed_out g.H.Input.Source.is_at_end g.H.Input.Source.failures c.open-trace.result.source c.certify_with-outcome.new.trace.source;
   between = c.open-trace.new.host;
-  reads = reads_file c.open-trace.result.source c.certify-outcome.new.trace.source c.open-trace.ensures.opens c.open-trace.ensures.handed_out c.open-trace.ensures.is_at_end c.open-trace.ensures.failures (c.certify-outcome.ensures.same_trace ∙ c.open-trace.ensures.path);
-  searches = c.certify-outcome.ensures.searches;
-  runs = c.certify-outcome.ensures.run;
-  left_open = c.certify-outcome.ensures.unknown;
+  reads = reads_file c.open-trace.result.source c.certify_with-outcome.new.trace.source c.open-trace.ensures.opens c.open-trace.ensures.handed_out c.open-trace.ensures.is_at_end c.open-trace.ensures.failures (c.certify_with-outcome.ensures.same_trace ∙ c.open-trace.ensures.path);
+  certifies = c.certify_with-outcome.ensures.certifies;
 }

@@ -5,10 +5,8 @@ use Rattle.command_run.proofs.survey_runs.survey_opened.Goals as goal
 
 pub returns : goal.returns
 returns g c = record {
-  file = source_run g.H.Input.Source.handed_out g.H.Input.Source.is_at_end g.H.Input.Source.failures c.open-trace.result.source c.survey-outcome.new.trace.source;
+  file = source_run g.H.Input.Source.handed_out g.H.Input.Source.is_at_end g.H.Input.Source.failures c.open-trace.result.source c.survey_with-outcome.new.trace.source;
   between = c.open-trace.new.host;
-  reads = reads_file c.open-trace.result.source c.survey-outcome.new.trace.source c.open-trace.ensures.opens c.open-trace.ensures.handed_out c.open-trace.ensures.is_at_end c.open-trace.ensures.failures (c.survey-outcome.ensures.same_trace ∙ c.open-trace.ensures.path);
-  searches = c.survey-outcome.ensures.searches;
-  runs = c.survey-outcome.ensures.run;
-  left_open = c.survey-outcome.ensures.unknown;
+  reads = reads_file c.open-trace.result.source c.survey_with-outcome.new.trace.source c.open-trace.ensures.opens c.open-trace.ensures.handed_out c.open-trace.ensures.is_at_end c.open-trace.ensures.failures (c.survey_with-outcome.ensures.same_trace ∙ c.open-trace.ensures.path);
+  surveys = c.survey_with-outcome.ensures.surveys;
 }

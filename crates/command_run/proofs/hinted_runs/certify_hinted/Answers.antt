@@ -1,0 +1,12 @@
+use Rattle.std.proofs.Common.{◌∙◌}
+use Rattle.verdict_report.specs.Runs.{source_run}
+use Rattle.command_run.proofs.RunLemmas.{reads_file}
+use Rattle.command_run.proofs.hinted_runs.certify_hinted.Goals as goal
+
+pub returns-clause-certifies : goal.returns-clause-certifies
+returns-clause-certifies g c = (
+  source_run g.H.Input.Source.handed_out g.H.Input.Source.is_at_end g.H.Input.Source.failures c.open-hint.result.source c.certify-outcome.new.hint.source,
+  c.open-hint.new.host,
+  reads_file c.open-hint.result.source c.certify-outcome.new.hint.source c.open-hint.ensures.opens c.open-hint.ensures.handed_out c.open-hint.ensures.is_at_end c.open-hint.ensures.failures (c.certify-outcome.ensures.same_hint ∙ c.open-hint.ensures.path),
+  record { searches = c.certify-outcome.ensures.searches; runs = c.certify-outcome.ensures.run; left_open = c.certify-outcome.ensures.unknown },
+)

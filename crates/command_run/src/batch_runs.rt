@@ -1,0 +1,83 @@
+//! The engine that decides many traces, on the file of a line.
+ghost use Rattle.batch_report.specs.BatchEngine.{IsRunOfBatch};
+ghost use Rattle.command_host.specs.Streams.{source_view};
+ghost use Rattle.command_line.specs.CommandLine.{AreBatchNumbers};
+ghost use Rattle.command_run.specs.CommandRun.{RunsOnFile};
+ghost use Rattle.verdict_report.specs.Runs.{sink_run};
+
+use crate::opening::open;
+use crate::search_runs::{search_of, survey_of};
+use batch_report::run_batch;
+use command_host::Host;
+use command_line::{BatchNumbers, SearchNumbers, SurveyNumbers};
+use cube_jobs::Options;
+use dimacs::Sink;
+use std::alloc::Global;
+use std::sync::Wait;
+use std::thread::Threads;
+use survey::BySaturation;
+use verdict_report::{Fault, Status};
+
+/// The most steps of the survey of a long trace, as `survey` takes them without an option.
+const SURVEY_STEPS: u64 = 1_000_000_000;
+
+/// How the traces of a batch are searched.
+#[derive(Clone, Copy)]
+pub(crate) struct BatchSearch {
+    /// The number of threads that decide traces.
+    workers: u32,
+    /// How a trace of at most 160 operations is searched.
+    short: Options,
+    /// How a longer one is searched after its survey.
+    long: Options,
+}
+
+/// The searches of these numbers. Each trace is searched by one thread.
+pub(crate) fn batch_of(numbers: BatchNumbers) -> BatchSearch
+    requires { AreBatchNumbers numbers }
+{
+    let short = SearchNumbers {
+        workers: 1,
+        split: numbers.split,
+        budget: numbers.budget,
+        rounds: 1,
+    };
+    let long = SurveyNumbers {
+        workers: 1,
+        budget: SURVEY_STEPS,
+    };
+    BatchSearch {
+        workers: numbers.workers,
+        short: search_of(short, false).options,
+        long: survey_of(long, false).options,
+    }
+}
+
+/// Decides the traces in the file at this path, and writes a line for each to the standard output.
+pub(crate) fn decide_traces<'p, R: Threads + Wait + Sync, H: Host<'p>, W: Sink>(
+    alloc: Global,
+    rt: &R,
+    host: &mut H,
+    traces: &'p str,
+    search: &BatchSearch,
+    out: &mut W,
+) -> Result<Status, Fault>
+    ensures { RunsOnFile H.calls (source_view H.Input.handed_out H.Input.is_at_end H.Input.failures H.Input.path) (IsRunOfBatch traces.now)
+        host.old traces.now (sink_run W.written W.failures out.old out.new) result host.new }
+{
+    let surveyor = BySaturation {
+        budget: SURVEY_STEPS,
+    };
+    let mut file = open(alloc, host, traces, false);
+    run_batch(
+        alloc,
+        rt,
+        traces.as_bytes(),
+        &mut file,
+        search.workers,
+        &search.short,
+        &search.long,
+        &surveyor,
+        out,
+    )
+}

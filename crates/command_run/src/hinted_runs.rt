@@ -1,0 +1,326 @@
+//! The engine that decides long traces, on a trace that is open and on a hint, or on none.
+//!
+//! A hint is a file, or [`NoText`] in its place. So there are a function with the file, one without, and one that chooses, for each of the two
+//! engines: the one that writes a certificate, and the one that does not.
+ghost use Rattle.std.specs.Prelude.{◌≡◌, None, Ok, Some};
+ghost use Rattle.command_host.specs.Streams.{source_view};
+ghost use Rattle.command_run.specs.CommandRun.{CertifiesHinted, SurveysHinted};
+ghost use Rattle.survey_report.specs.SurveyEngine.{IsRunOfCertifiedSurvey, IsRunOfSurvey, TellsExtent};
+ghost use Rattle.verdict_report.specs.Runs.{source_run, sink_run};
+ghost use Rattle.verdict_report.specs.declared.status.Status.TheVariants.{Unknown};
+
+use crate::kept_run::KeptRun;
+use crate::no_text::NoText;
+use crate::opening::open;
+use command_host::{Host, SearchRequest};
+use cube_jobs::{Gate, OpenGate};
+use dimacs::Sink;
+use std::alloc::Global;
+use std::sync::Wait;
+use std::thread::Threads;
+use survey::BySaturation;
+use survey_report::{run_certified_survey, run_survey};
+use verdict_report::{Fault, Source, Status};
+
+/// The survey of the request.
+fn surveyor_of(search: &SearchRequest) -> BySaturation {
+    BySaturation {
+        budget: search.steps.unwrap_or(0),
+    }
+}
+
+/// Reports the survey to the host, and runs the engine that decides long traces with it: with the gate `progress` if the progress is
+/// wanted, and with one that does nothing if not.
+fn survey<'p, R: Threads + Wait + Sync, G: Gate + Sync, H: Host<'p>, T: Source, U: Source, W: Sink>(
+    alloc: Global,
+    rt: &R,
+    progress: &G,
+    host: &mut H,
+    trace: &mut T,
+    hint: &mut U,
+    search: &SearchRequest,
+    out: &mut W,
+) -> Result<Status, Fault>
+    ensures searches { H.calls.searches host.old search.now host.new }
+    ensures run { IsRunOfSurvey
+        (source_run T.handed_out T.is_at_end T.failures trace.old trace.new)
+        (source_run U.handed_out U.is_at_end U.failures hint.old hint.new)
+        (sink_run W.written W.failures out.old out.new)
+        result }
+    ensures unknown { result ≡ Ok Unknown → TellsExtent search.now.options
+        (source_run T.handed_out T.is_at_end T.failures trace.old trace.new)
+        (sink_run W.written W.failures out.old out.new) }
+    ensures same_trace { T.path trace.new ≡ T.path trace.old }
+    ensures same_hint { U.path hint.new ≡ U.path hint.old }
+{
+    host.begin_search(search);
+    let surveyor = surveyor_of(search);
+    let options = &search.options;
+    if search.tells_progress {
+        run_survey(alloc, rt, trace, hint, &surveyor, options, progress, out)
+    } else {
+        run_survey(alloc, rt, trace, hint, &surveyor, options, &OpenGate, out)
+    }
+}
+
+/// Does what [`survey`] does, with a certificate, the names of a core, and its part.
+fn certify<
+    'p,
+    R: Threads + Wait + Sync,
+    G: Gate + Sync,
+    H: Host<'p>,
+    T: Source,
+    U: Source,
+    C: Sink,
+    N: Sink,
+    P: Sink,
+    W: Sink,
+>(
+    alloc: Global,
+    rt: &R,
+    progress: &G,
+    host: &mut H,
+    trace: &mut T,
+    hint: &mut U,
+    search: &SearchRequest,
+    cert: &mut C,
+    names: &mut N,
+    part: &mut P,
+    out: &mut W,
+) -> Result<Status, Fault>
+    ensures searches { H.calls.searches host.old search.now host.new }
+    ensures run { IsRunOfCertifiedSurvey
+        (source_run T.handed_out T.is_at_end T.failures trace.old trace.new)
+        (source_run U.handed_out U.is_at_end U.failures hint.old hint.new)
+        (sink_run C.written C.failures cert.old cert.new)
+        (sink_run N.written N.failures names.old names.new)
+        (sink_run P.written P.failures part.old part.new)
+        (sink_run W.written W.failures out.old out.new)
+        result }
+    ensures unknown { result ≡ Ok Unknown → TellsExtent search.now.options
+        (source_run T.handed_out T.is_at_end T.failures trace.old trace.new)
+        (sink_run W.written W.failures out.old out.new) }
+    ensures same_trace { T.path trace.new ≡ T.path trace.old }
+    ensures same_hint { U.path hint.new ≡ U.path hint.old }
+    ensures same_cert { C.path cert.new ≡ C.path cert.old }
+    ensures same_names { N.path names.new ≡ N.path names.old }
+    ensures same_part { P.path part.new ≡ P.path part.old }
+{
+    host.begin_search(search);
+    let surveyor = surveyor_of(search);
+    let options = &search.options;
+    if search.tells_progress {
+        run_certified_survey(
+            alloc, rt, trace, hint, &surveyor, options, progress, cert, names, part, out,
+        )
+    } else {
+        run_certified_survey(
+            alloc, rt, trace, hint, &surveyor, options, &OpenGate, cert, names, part, out,
+        )
+    }
+}
+
+/// Does what [`survey`] does, with the hint in the file at this path.
+fn survey_hinted<'p, R: Threads + Wait + Sync, G: Gate + Sync, H: Host<'p>, T: Source, W: Sink>(
+    alloc: Global,
+    rt: &R,
+    progress: &G,
+    host: &mut H,
+    trace: &mut T,
+    path: &'p str,
+    search: &SearchRequest,
+    out: &mut W,
+    kept: &mut KeptRun,
+) -> Result<Status, Fault>
+    ensures surveys { SurveysHinted H.calls (source_view H.Input.handed_out H.Input.is_at_end H.Input.failures H.Input.path)
+        host.old (source_run T.handed_out T.is_at_end T.failures trace.old trace.new) (Some path.entry) search.now
+        (sink_run W.written W.failures out.old out.new) result host.new }
+    ensures same_trace { T.path trace.new ≡ T.path trace.old }
+{
+    let mut hint = open(alloc, host, path, kept.keeps);
+    let outcome = survey(alloc, rt, progress, host, trace, &mut hint, search, out);
+    kept.second = hint.into_text();
+    outcome
+}
+
+/// Does what [`survey`] does, without a hint.
+fn survey_unhinted<'p, R: Threads + Wait + Sync, G: Gate + Sync, H: Host<'p>, T: Source, W: Sink>(
+    alloc: Global,
+    rt: &R,
+    progress: &G,
+    host: &mut H,
+    trace: &mut T,
+    search: &SearchRequest,
+    out: &mut W,
+) -> Result<Status, Fault>
+    ensures surveys { SurveysHinted H.calls (source_view H.Input.handed_out H.Input.is_at_end H.Input.failures H.Input.path)
+        host.old (source_run T.handed_out T.is_at_end T.failures trace.old trace.new) None search.now
+        (sink_run W.written W.failures out.old out.new) result host.new }
+    ensures same_trace { T.path trace.new ≡ T.path trace.old }
+{
+    let mut hint = NoText::new();
+    survey(alloc, rt, progress, host, trace, &mut hint, search, out)
+}
+
+/// Does what [`survey`] does, with the hint in a file if there is a path for it.
+pub(crate) fn survey_with<
+    'p,
+    R: Threads + Wait + Sync,
+    G: Gate + Sync,
+    H: Host<'p>,
+    T: Source,
+    W: Sink,
+>(
+    alloc: Global,
+    rt: &R,
+    progress: &G,
+    host: &mut H,
+    trace: &mut T,
+    path: Option<&'p str>,
+    search: &SearchRequest,
+    out: &mut W,
+    kept: &mut KeptRun,
+) -> Result<Status, Fault>
+    ensures surveys { SurveysHinted H.calls (source_view H.Input.handed_out H.Input.is_at_end H.Input.failures H.Input.path)
+        host.old (source_run T.handed_out T.is_at_end T.failures trace.old trace.new) path.entry search.now
+        (sink_run W.written W.failures out.old out.new) result host.new }
+    ensures same_trace { T.path trace.new ≡ T.path trace.old }
+{
+    match path {
+        Some(path) => survey_hinted(alloc, rt, progress, host, trace, path, search, out, kept),
+        None => survey_unhinted(alloc, rt, progress, host, trace, search, out),
+    }
+}
+
+/// Does what [`certify`] does, with the hint in the file at this path.
+fn certify_hinted<
+    'p,
+    R: Threads + Wait + Sync,
+    G: Gate + Sync,
+    H: Host<'p>,
+    T: Source,
+    C: Sink,
+    N: Sink,
+    P: Sink,
+    W: Sink,
+>(
+    alloc: Global,
+    rt: &R,
+    progress: &G,
+    host: &mut H,
+    trace: &mut T,
+    path: &'p str,
+    search: &SearchRequest,
+    cert: &mut C,
+    names: &mut N,
+    part: &mut P,
+    out: &mut W,
+    kept: &mut KeptRun,
+) -> Result<Status, Fault>
+    ensures certifies { CertifiesHinted H.calls (source_view H.Input.handed_out H.Input.is_at_end H.Input.failures H.Input.path)
+        host.old (source_run T.handed_out T.is_at_end T.failures trace.old trace.new) (Some path.entry) search.now
+        (sink_run C.written C.failures cert.old cert.new)
+        (sink_run N.written N.failures names.old names.new)
+        (sink_run P.written P.failures part.old part.new)
+        (sink_run W.written W.failures out.old out.new)
+        result host.new }
+    ensures same_trace { T.path trace.new ≡ T.path trace.old }
+    ensures same_cert { C.path cert.new ≡ C.path cert.old }
+    ensures same_names { N.path names.new ≡ N.path names.old }
+    ensures same_part { P.path part.new ≡ P.path part.old }
+{
+    let mut hint = open(alloc, host, path, kept.keeps);
+    let outcome = certify(
+        alloc, rt, progress, host, trace, &mut hint, search, cert, names, part, out,
+    );
+    kept.second = hint.into_text();
+    outcome
+}
+
+/// Does what [`certify`] does, without a hint.
+fn certify_unhinted<
+    'p,
+    R: Threads + Wait + Sync,
+    G: Gate + Sync,
+    H: Host<'p>,
+    T: Source,
+    C: Sink,
+    N: Sink,
+    P: Sink,
+    W: Sink,
+>(
+    alloc: Global,
+    rt: &R,
+    progress: &G,
+    host: &mut H,
+    trace: &mut T,
+    search: &SearchRequest,
+    cert: &mut C,
+    names: &mut N,
+    part: &mut P,
+    out: &mut W,
+) -> Result<Status, Fault>
+    ensures certifies { CertifiesHinted H.calls (source_view H.Input.handed_out H.Input.is_at_end H.Input.failures H.Input.path)
+        host.old (source_run T.handed_out T.is_at_end T.failures trace.old trace.new) None search.now
+        (sink_run C.written C.failures cert.old cert.new)
+        (sink_run N.written N.failures names.old names.new)
+        (sink_run P.written P.failures part.old part.new)
+        (sink_run W.written W.failures out.old out.new)
+        result host.new }
+    ensures same_trace { T.path trace.new ≡ T.path trace.old }
+    ensures same_cert { C.path cert.new ≡ C.path cert.old }
+    ensures same_names { N.path names.new ≡ N.path names.old }
+    ensures same_part { P.path part.new ≡ P.path part.old }
+{
+    let mut hint = NoText::new();
+    certify(
+        alloc, rt, progress, host, trace, &mut hint, search, cert, names, part, out,
+    )
+}
+
+/// Does what [`certify`] does, with the hint in a file if there is a path for it.
+pub(crate) fn certify_with<
+    'p,
+    R: Threads + Wait + Sync,
+    G: Gate + Sync,
+    H: Host<'p>,
+    T: Source,
+    C: Sink,
+    N: Sink,
+    P: Sink,
+    W: Sink,
+>(
+    alloc: Global,
+    rt: &R,
+    progress: &G,
+    host: &mut H,
+    trace: &mut T,
+    path: Option<&'p str>,
+    search: &SearchRequest,
+    cert: &mut C,
+    names: &mut N,
+    part: &mut P,
+    out: &mut W,
+    kept: &mut KeptRun,
+) -> Result<Status, Fault>
+    ensures certifies { CertifiesHinted H.calls (source_view H.Input.handed_out H.Input.is_at_end H.Input.failures H.Input.path)
+        host.old (source_run T.handed_out T.is_at_end T.failures trace.old trace.new) path.entry search.now
+        (sink_run C.written C.failures cert.old cert.new)
+        (sink_run N.written N.failures names.old names.new)
+        (sink_run P.written P.failures part.old part.new)
+        (sink_run W.written W.failures out.old out.new)
+        result host.new }
+    ensures same_trace { T.path trace.new ≡ T.path trace.old }
+    ensures same_cert { C.path cert.new ≡ C.path cert.old }
+    ensures same_names { N.path names.new ≡ N.path names.old }
+    ensures same_part { P.path part.new ≡ P.path part.old }
+{
+    match path {
+        Some(path) => certify_hinted(
+            alloc, rt, progress, host, trace, path, search, cert, names, part, out, kept,
+        ),
+        None => certify_unhinted(
+            alloc, rt, progress, host, trace, search, cert, names, part, out,
+        ),
+    }
+}
