@@ -4,7 +4,7 @@
 //! answer. Who calls it has what it says in proofs; the call does nothing when run.
 
 ghost use Rattle.std.specs.Prelude.{◌≡◌, true, ℕ, List, Result};
-ghost use Rattle.core_recheck.specs.CoreRecheck.{IsAcceptedOf};
+ghost use Rattle.core_recheck.specs.CoreRecheck.{IsAcceptedOf, IsTakenForReasons};
 ghost use Rattle.cube_jobs.specs.Options.{OptionsValue};
 ghost use Rattle.cube_tree.specs.CubeTree.{leaves};
 ghost use Rattle.part_report.specs.PartRecheckEngine.{IsSaidByPart};
@@ -20,7 +20,8 @@ ghost use Rattle.trace_semantics.specs.Trace.{TraceValue, IsTrace};
 ghost use Rattle.trace_text.specs.TraceText.{SpellsTrace};
 ghost use Rattle.verdict_report.specs.Admitted.{Admits};
 ghost use Rattle.verdict_report.specs.declared.fault.Fault.{Fault};
-ghost use Rattle.verdict_report.specs.RecheckEngine.{AreRefutedByReasons, IsSaidOfCertificate};
+ghost use Rattle.verdict_report.specs.declared.recheck_engine.CertificateSize.{CertificateSize};
+ghost use Rattle.verdict_report.specs.RecheckEngine.{AreRefutedByReasons, IsSaidOfCertificate, IsSaidOfEither};
 
 use survey_verdict::laws::core_names_spell;
 use trace_decision::laws::certificate_is_accepted;
@@ -64,4 +65,12 @@ pub fn reasons_are_rechecked()
     ensures { (options : OptionsValue) (t : TraceValue) (reasons : ReasonCertificate) (trace_text : List ℕ) →
         IsTrace t → SpellsTrace trace_text t → IsSurveyed options t (Reasoned reasons) →
         AreRefutedByReasons trace_text (survey_certificate (Reasoned reasons)) reasons.clauses × (begins_reasons (survey_certificate (Reasoned reasons)) ≡ true) }
+{}
+
+/// With the text of the trace it is taken for one of reasons: neither is the trace refused, nor the certificate as one of a tree. That its
+/// reasons are not refused no law says.
+pub fn reasons_are_taken()
+    ensures { (options : OptionsValue) (t : TraceValue) (reasons : ReasonCertificate) (trace_text : List ℕ) (result : Result CertificateSize Fault) →
+        IsTrace t → SpellsTrace trace_text t → IsSurveyed options t (Reasoned reasons) →
+        IsSaidOfEither trace_text (survey_certificate (Reasoned reasons)) result → IsTakenForReasons result }
 {}

@@ -43,9 +43,10 @@ pub enum AskedCommand<'t> {
         report: Option<&'t [u8]>,
         certificate_length: Option<u64>,
     },
-    /// To look for a small contradiction in a long trace. The report stands here if it is known.
+    /// To decide whether a long trace has a legal schedule, with a hint or without one. The report stands here if it is known.
     Survey {
         trace: NamedText<'t>,
+        hint: Option<NamedText<'t>>,
         report: Option<&'t [u8]>,
     },
 }
@@ -79,7 +80,10 @@ impl<'t> AskedCommand<'t> {
                 texts.names = Some(*names);
             }
             AskedCommand::Verify { trace, .. } => texts.trace = Some(*trace),
-            AskedCommand::Survey { trace, .. } => texts.trace = Some(*trace),
+            AskedCommand::Survey { trace, hint, .. } => {
+                texts.trace = Some(*trace);
+                texts.schedule = *hint;
+            }
         }
         texts
     }

@@ -46,7 +46,7 @@ pub(crate) fn explain_verdict(
         AskedCommand::Recheck { trace, names, .. } => {
             explain_rechecked(alloc, notes, trace, names.is_some(), status)?;
         }
-        AskedCommand::Survey { trace, report } => {
+        AskedCommand::Survey { trace, report, .. } => {
             explain_surveyed(alloc, notes, trace, *report, status)?;
         }
         AskedCommand::Cnf { .. } => {}
@@ -293,6 +293,14 @@ fn explain_survey_report(
     explain_reported_core(alloc, notes, placed, names.names())
 }
 
+/// Notes what makes a trace easier to decide that a survey has left open.
+fn explain_unsurveyed(notes: &mut Notes) {
+    notes.note(&[
+        b"more is decided with times as before lines, with a value of its own for each write, or with the log's order as --hint",
+    ]);
+    notes.note(&[b"vsc part makes a smaller trace of operations that are named, for vsc verify"]);
+}
+
 /// Notes what a survey decided of a trace.
 fn explain_surveyed(
     alloc: Global,
@@ -308,11 +316,7 @@ fn explain_surveyed(
                 explain_survey_report(alloc, notes, &placed, report.unwrap_or(b""))?;
             }
         }
-        Status::Unknown => {
-            notes.note(&[
-                b"vsc part makes a smaller trace of operations that are named, for vsc verify",
-            ])
-        }
+        Status::Unknown => explain_unsurveyed(notes),
     }
     Ok(())
 }

@@ -140,7 +140,11 @@ pub fn draw_verdict<S: Surveyor>(
     if is_consistent && count > MAX_DRAWN {
         return draw_message(alloc, NothingDrawn::LongSchedule(count));
     }
-    let Overview { finding, extent: _ } = surveyor.survey(alloc, trace)?;
+    let Overview {
+        finding,
+        otherwise: _otherwise,
+        extent: _,
+    } = surveyor.survey(alloc, trace, &[])?;
     let places = ShownPlaces::of_comments(alloc, text)?;
     let forced = ForcedOrder::of_trace(alloc, trace)?;
     let part = PartTrace {

@@ -154,7 +154,9 @@ impl Explained for ReasonCause {
     fn meaning(&self) -> &'static str {
         match self {
             ReasonCause::NoOperation => "the trace has no such operation",
-            ReasonCause::NoReader => "the operation reads nothing",
+            ReasonCause::NoReader => {
+                "the operation reads nothing, or is no update where updates are counted"
+            }
             ReasonCause::NoWitness => {
                 "a witness writes the location or reads another value there, and is not the reader itself"
             }
@@ -175,10 +177,10 @@ impl Explained for ReasonCause {
             ReasonCause::BadLine => "the line has none of the forms of a certificate of reasons",
             ReasonCause::OneProcess => "both operations of a variable are of one process",
             ReasonCause::SecondPiece => {
-                "a second piece for a process, for the initial value, or for all others"
+                "a second piece for a process, for the initial value, or for all others; or a member that stands there before"
             }
             ReasonCause::NoWriter => {
-                "nobody writes the location, and its final value is the initial one, or none"
+                "nobody writes the location, and its end is counted, or its final value is the initial one, or none"
             }
             ReasonCause::LastLeft => "an operation may be the last writer, and no piece takes it",
             ReasonCause::SourceBefore => {

@@ -32,29 +32,29 @@ use Rattle.verdict_report.specs.declared.fault.Fault.{Fault}
 use Rattle.verdict_report.specs.declared.fault.Fault.TheVariants.{OutOfMemory, Device, InputTooLong, Trace, Schedule, Part, Model, Cnf, Lrat, Reduce, Decode, Check, Cert, Reasons, Search}
 use Rattle.verdict_report.specs.declared.status.Status.{Status}
 use Rattle.verdict_report.specs.declared.status.Status.TheVariants.{Yes, No, Unknown}
-use Rattle.verdict_report.specs.Engine.{HandOut, IsRunOfWriting, Reads, TakeNothing, TakesNothing, TakesWhole, of_one}
+use Rattle.verdict_report.specs.Engine.{HandOut, IsRunOfWriting, Reads, TakeNothing, TakesNothing, TakesWhole, of_two}
 use Rattle.verdict_report.specs.Fault.{fault_of_sink, fault_of_search}
 use Rattle.verdict_report.specs.RecheckEngine.{InputHasNoLegalSchedule}
-use Rattle.verdict_report.specs.Runs.{SourceRun, SinkRun}
+use Rattle.verdict_report.specs.Runs.{SourceRun, SinkRun, HandsOut}
 use Rattle.verdict_report.specs.VerifyEngine.{ReportsLegalSchedule}
-use Rattle.survey_report.specs.SurveyEngine.{AnswersSurvey, CertifiesSurvey, FollowsFromText, IsRunOfCertifiedSurvey, IsSaidOfSurvey, IsSurveyedFrom, SpellsSome, TellsExtent, status_of_survey}
+use Rattle.survey_report.specs.SurveyEngine.{AnswersSurvey, CertifiesSurvey, FollowsFromTexts, IsRunOfCertifiedSurvey, IsSaidOfSurvey, IsSurveyedFrom, SpellsHint, SpellsSome, TellsExtent, status_of_survey}
 
 -- the search has no results
-pub unsearched : (text : List ℕ) → SpellsSome text → (fault : PlainFault SearchCause) → IsSaidOfSurvey text (Err (fault_of_search fault))
-unsearched text some NoMemoryToSearch = tt
-unsearched text some (For cause) = some
+pub unsearched : (text hint : List ℕ) → SpellsSome text → SpellsHint hint → (fault : PlainFault SearchCause) → IsSaidOfSurvey text hint (Err (fault_of_search fault))
+unsearched text hint some hinted NoMemoryToSearch = tt
+unsearched text hint some hinted (For cause) = (some, hinted)
 
 -- a sink that takes nothing takes a prefix of any text
 nothing_is_front : (out : SinkRun) (text : List ℕ) → TakesNothing out → AppendsFront out.before out.now text
 nothing_is_front out text none = record { front = []; back = text; parts = refl; appended = none.0 ∙ sym (append-nil out.before) }
 
-module _ (trace : SourceRun) (cert names part out : SinkRun) (text : List ℕ) (handed : HandOut (trace ∷ []) (text ∷ [])) (options : OptionsValue) (surveyed : Surveyed) (decided : IsSurveyedFrom options text surveyed) where
-  reads : Reads (of_one IsSaidOfSurvey) (trace ∷ []) (Ok surveyed)
-  reads = record { texts = text ∷ []; handed = handed; is_said = (options, decided) }
+module _ (trace hint : SourceRun) (cert names part out : SinkRun) (text hint_text : List ℕ) (handed : HandOut (trace ∷ hint ∷ []) (text ∷ hint_text ∷ [])) (surveyed : Surveyed) (is_said : IsSaidOfSurvey text hint_text (Ok surveyed)) where
+  reads : Reads (of_two IsSaidOfSurvey) (trace ∷ hint ∷ []) (Ok surveyed)
+  reads = record { texts = text ∷ hint_text ∷ []; handed = handed; is_said = is_said }
 
   -- the certificate is cut off
   pub cert_cut_off : (fault : SinkFault) → AppendsFront cert.before cert.now (survey_certificate surveyed) → cert.failures_now ≡ cert.failures_before + failures_told fault → TakesNothing names → TakesNothing part → TakesNothing out →
-      IsRunOfCertifiedSurvey trace cert names part out (Err (fault_of_sink fault))
+      IsRunOfCertifiedSurvey trace hint cert names part out (Err (fault_of_sink fault))
   cert_cut_off NoRoom front counts no_names no_part none = inr (record { answer = surveyed; reads = reads; stopped = inl ((front, omega (arith, counts)), (no_names, (no_part, (none, tt)))) })
   cert_cut_off SinkFails front counts no_names no_part none = inr (record { answer = surveyed; reads = reads; stopped = inl ((front, omega (arith, counts)), (no_names, (no_part, (none, tt)))) })
 
@@ -62,19 +62,19 @@ module _ (trace : SourceRun) (cert names part out : SinkRun) (text : List ℕ) (
   module _ (whole : TakesWhole cert (survey_certificate surveyed)) where
     -- the names are cut off
     pub names_cut_off : (fault : SinkFault) → AppendsFront names.before names.now (core_names surveyed) → names.failures_now ≡ names.failures_before + failures_told fault → TakesNothing part → TakesNothing out →
-        IsRunOfCertifiedSurvey trace cert names part out (Err (fault_of_sink fault))
+        IsRunOfCertifiedSurvey trace hint cert names part out (Err (fault_of_sink fault))
     names_cut_off NoRoom front counts no_part none = inr (record { answer = surveyed; reads = reads; stopped = inr (whole, inl ((front, omega (arith, counts)), (no_part, (none, tt)))) })
     names_cut_off SinkFails front counts no_part none = inr (record { answer = surveyed; reads = reads; stopped = inr (whole, inl ((front, omega (arith, counts)), (no_part, (none, tt)))) })
 
     -- so are the names, and the part is cut off
     pub part_cut_off : TakesWhole names (core_names surveyed) → (fault : SinkFault) → AppendsFront part.before part.now (core_part surveyed) → part.failures_now ≡ part.failures_before + failures_told fault → TakesNothing out →
-        IsRunOfCertifiedSurvey trace cert names part out (Err (fault_of_sink fault))
+        IsRunOfCertifiedSurvey trace hint cert names part out (Err (fault_of_sink fault))
     part_cut_off told NoRoom front counts none = inr (record { answer = surveyed; reads = reads; stopped = inr (whole, inr (told, inl ((front, omega (arith, counts)), (none, tt)))) })
     part_cut_off told SinkFails front counts none = inr (record { answer = surveyed; reads = reads; stopped = inr (whole, inr (told, inl ((front, omega (arith, counts)), (none, tt)))) })
 
     -- all three are written, and then the report
     pub report_written : TakesWhole names (core_names surveyed) → TakesWhole part (core_part surveyed) → (result : Result Status Fault) → IsRunOfWriting (survey_report surveyed) (status_of_survey surveyed) out result →
-        IsRunOfCertifiedSurvey trace cert names part out result
+        IsRunOfCertifiedSurvey trace hint cert names part out result
     report_written told shown (Ok status) w = record { answer = surveyed; reads = reads; whole = (whole, (told, (shown, (w.1, tt)))); status_is = w.0 }
     report_written told shown (Err OutOfMemory) w = inr (record { answer = surveyed; reads = reads; stopped = inr (whole, inr (told, inr (shown, inl ((nothing_is_front out (survey_report surveyed) w, w.1), tt)))) })
     report_written told shown (Err Device) w = inr (record { answer = surveyed; reads = reads; stopped = inr (whole, inr (told, inr (shown, inl (w, tt)))) })
@@ -93,12 +93,12 @@ module _ (trace : SourceRun) (cert names part out : SinkRun) (text : List ℕ) (
     report_written told shown (Err (Search fault)) w = absurd w
 
 -- what follows from the status
-module _ (trace : SourceRun) (text : List ℕ) (handed : HandOut (trace ∷ []) (text ∷ [])) (options : OptionsValue) (out : SinkRun)
+module _ (trace : SourceRun) (text : List ℕ) (handed : HandsOut trace text) (options : OptionsValue) (out : SinkRun)
     (spells : (value : TraceValue) (names : List OpName) → IsTrace value → IsLegal value names → SpellsSchedule (canonical_schedule names) names) where
   tells : (surveyed : Surveyed) → IsSurveyedFrom options text surveyed → out.now ≡ out.before ++ survey_report surveyed → Yes ≡ status_of_survey surveyed → ReportsLegalSchedule trace out
   tells (Decided (Consistent names)) given whole is = record {
     text = text;
-    handed = handed.0.0;
+    handed = handed;
     value = given.value;
     is_trace = given.is_trace;
     spelled = given.spelled;
@@ -122,7 +122,7 @@ module _ (trace : SourceRun) (text : List ℕ) (handed : HandOut (trace ∷ []) 
   tells_extent (Reasoned reasons) given whole is = absurd (let wrong : Unknown ≡ No = is in cc)
   tells_extent (Undecided extent) given whole is = record {
     text = text;
-    handed = handed.0.0;
+    handed = handed;
     value = given.value;
     is_trace = given.is_trace;
     spelled = given.spelled;
@@ -136,7 +136,7 @@ module _ (trace : SourceRun) (text : List ℕ) (handed : HandOut (trace ∷ []) 
   has_none (Decided (Consistent names)) given is = absurd (let wrong : No ≡ Yes = is in cc)
   has_none (Decided (Inconsistent refutation)) given is = record {
     text = text;
-    handed = handed.0.0;
+    handed = handed;
     value = given.value;
     is_trace = given.is_trace;
     spelled = given.spelled;
@@ -145,7 +145,7 @@ module _ (trace : SourceRun) (text : List ℕ) (handed : HandOut (trace ∷ []) 
   has_none (Decided (NotDecided cubes)) given is = absurd (let wrong : No ≡ Unknown = is in cc)
   has_none (Refuted core) given is = record {
     text = text;
-    handed = handed.0.0;
+    handed = handed;
     value = given.value;
     is_trace = given.is_trace;
     spelled = given.spelled;
@@ -153,7 +153,7 @@ module _ (trace : SourceRun) (text : List ℕ) (handed : HandOut (trace ∷ []) 
   }
   has_none (Reasoned reasons) given is = record {
     text = text;
-    handed = handed.0.0;
+    handed = handed;
     value = given.value;
     is_trace = given.is_trace;
     spelled = given.spelled;
@@ -181,14 +181,24 @@ module _ (trace : SourceRun) (text : List ℕ) (handed : HandOut (trace ∷ []) 
         tells_extent surveyed given at.1.0 at.0
 
 -- what is written follows from what a surveyor may find
-pub answered : (IsFound : TraceValue → Overview → Type 0) (trace : SourceRun) (text : List ℕ) → HandOut (trace ∷ []) (text ∷ []) → (options : OptionsValue) (out : SinkRun) (surveyed : Surveyed) → FollowsFromText options IsFound text surveyed →
-    (result : Result Status Fault) → IsRunOfWriting (survey_report surveyed) (status_of_survey surveyed) out result → (status : Status) → result ≡ Ok status → AnswersSurvey options IsFound trace out status
-answered IsFound trace text handed options out surveyed follows result w status so =
+pub answered : (IsFound : TraceValue → Overview → Type 0) (trace hint : SourceRun) (text hint_text : List ℕ) → HandOut (trace ∷ hint ∷ []) (text ∷ hint_text ∷ []) → (options : OptionsValue) (out : SinkRun) (surveyed : Surveyed) →
+    FollowsFromTexts options IsFound text hint_text surveyed →
+    (result : Result Status Fault) → IsRunOfWriting (survey_report surveyed) (status_of_survey surveyed) out result → (status : Status) → result ≡ Ok status → AnswersSurvey options IsFound trace hint out status
+answered IsFound trace hint text hint_text handed options out surveyed follows result w status so =
     let at : IsRunOfWriting (survey_report surveyed) (status_of_survey surveyed) out (Ok status) = subst (λ (r : Result Status Fault). IsRunOfWriting (survey_report surveyed) (status_of_survey surveyed) out r) so w in
-    record { text = text; handed = handed.0.0; surveyed = surveyed; follows = follows; whole = at.1.0; status_is = at.0 }
+    record {
+      text = text;
+      handed = handed.0.0;
+      hint_text = hint_text;
+      hint_handed = handed.1.0.0;
+      surveyed = surveyed;
+      follows = follows;
+      whole = at.1.0;
+      status_is = at.0;
+    }
 
 -- what the laws say of the texts of an INCONSISTENT
-module _ (trace : SourceRun) (cert names part out : SinkRun) (text : List ℕ) (handed : HandOut (trace ∷ []) (text ∷ [])) (options : OptionsValue)
+module _ (trace : SourceRun) (cert names part out : SinkRun) (text : List ℕ) (handed : HandsOut trace text) (options : OptionsValue)
     (spells : (options : OptionsValue) (value : TraceValue) (refutation : Refutation) → IsDecided options value (Inconsistent refutation) → SpellsCertificate (certificate_text (Inconsistent refutation)) (certificate_in refutation))
     (accepted : (options : OptionsValue) (value : TraceValue) (refutation : Refutation) → IsDecided options value (Inconsistent refutation) → IsRechecked (clauses_of (kept_trace value)) (certificate_in refutation) (leaves refutation.tree))
     (certified_core : (options : OptionsValue) (t : TraceValue) (core : RefutedCore) → IsSurveyed options t (Refuted core) → IsCertificateFor core.part.trace (survey_certificate (Refuted core)))
@@ -201,7 +211,7 @@ module _ (trace : SourceRun) (cert names part out : SinkRun) (text : List ℕ) (
   certifies (Decided (Inconsistent refutation)) given whole told shown reported is = inr (
     inl (record {
       text = text;
-      handed = handed.0.0;
+      handed = handed;
       value = given.value;
       is_trace = given.is_trace;
       spelled = given.spelled;
@@ -223,7 +233,7 @@ module _ (trace : SourceRun) (cert names part out : SinkRun) (text : List ℕ) (
   certifies (Decided (NotDecided cubes)) given whole told shown reported is = absurd (let wrong : No ≡ Unknown = is in cc)
   certifies (Refuted core) given whole told shown reported is = inl (record {
     text = text;
-    handed = handed.0.0;
+    handed = handed;
     value = given.value;
     is_trace = given.is_trace;
     spelled = given.spelled;
@@ -245,7 +255,7 @@ module _ (trace : SourceRun) (cert names part out : SinkRun) (text : List ℕ) (
   certifies (Reasoned reasons) given whole told shown reported is = inr (
     inr (record {
       text = text;
-      handed = handed.0.0;
+      handed = handed;
       value = given.value;
       is_trace = given.is_trace;
       spelled = given.spelled;

@@ -5,7 +5,7 @@ use Rattle.part_text.specs.PartText.{part_text}
 use Rattle.reducer.specs.Reduction.{kept_trace}
 use Rattle.schedule_text.specs.ScheduleText.{SpellsSchedule}
 use Rattle.schedule_text.specs.ScheduleWritten.{canonical_schedule}
-use Rattle.survey_verdict.specs.Findings.{FollowsFromSome}
+use Rattle.survey_verdict.specs.Hinted.{FollowsWithHint}
 use Rattle.survey_verdict.specs.declared.surveyed.ReasonCertificate.{ReasonCertificate}
 use Rattle.survey_verdict.specs.declared.surveyed.Surveyed.{Surveyed}
 use Rattle.survey_verdict.specs.declared.surveyed.Surveyed.TheVariants.{Decided, Reasoned, Refuted, Undecided}
@@ -19,10 +19,11 @@ use Rattle.trace_semantics.specs.Trace.{TraceValue, IsTrace, operation_count, op
 use Rattle.trace_text.specs.TraceFault.{HasTraceFault}
 use Rattle.trace_text.specs.TraceText.{SpellsTrace}
 use Rattle.verdict_report.specs.declared.fault.Fault.{Fault}
-use Rattle.verdict_report.specs.declared.fault.Fault.TheVariants.{OutOfMemory, Trace, Search}
+use Rattle.verdict_report.specs.declared.fault.Fault.TheVariants.{OutOfMemory, Schedule, Search, Trace}
 use Rattle.verdict_report.specs.declared.status.Status.{Status}
 use Rattle.verdict_report.specs.declared.status.Status.TheVariants.{No, Unknown}
-use Rattle.verdict_report.specs.Engine.{AtOnce, InPieces, IsRunOfEngine, of_one}
+use Rattle.verdict_report.specs.Engine.{AtOnce, InPieces, IsRunOfEngine, of_two}
+use Rattle.verdict_report.specs.JudgeEngine.{HasFaultySchedule}
 use Rattle.verdict_report.specs.Runs.{SourceRun, SinkRun, HandsOut}
 use Rattle.verdict_report.specs.VerifyEngine.{status_of_decision}
 
@@ -39,22 +40,30 @@ pub record IsSurveyedFrom (options : OptionsValue) (text : List ℕ) (surveyed :
   pub spelled : SpellsTrace text value
   pub decided : IsSurveyed options value surveyed
 
--- the text spells a trace, of which this is decided, and it follows from something that a surveyor may find in the trace
-pub record FollowsFromText (options : OptionsValue) (IsFound : TraceValue → Overview → Type 0) (text : List ℕ) (surveyed : Surveyed) : Type 0 where
+-- the text spells a schedule: all operations of a trace in an order, some of them, or none
+pub record SpellsHint (text : List ℕ) : Type 0 where
+  pub names : List OpName
+  pub spelled : SpellsSchedule text names
+
+-- the text spells a trace, of which this is decided, and another a hint: if that is a legal schedule, it is what is decided, and else this
+-- follows from something that a surveyor may find in the trace
+pub record FollowsFromTexts (options : OptionsValue) (IsFound : TraceValue → Overview → Type 0) (text hint : List ℕ) (surveyed : Surveyed) : Type 0 where
   pub value : TraceValue
   pub is_trace : IsTrace value
   pub spelled : SpellsTrace text value
+  pub hinted : SpellsHint hint
   pub decided : IsSurveyed options value surveyed
-  pub follows : FollowsFromSome options value (IsFound value) surveyed
+  pub follows : FollowsWithHint options value hinted.names (IsFound value) surveyed
 
--- what is said of the text: what is decided of its trace, by some search, or why nothing is; a search that was cut off is reported only of a
--- text that spells a trace
-abbrev pub IsSaidOfSurvey : List ℕ → Result Surveyed Fault → Type 0
-IsSaidOfSurvey text (Ok surveyed) = (options : OptionsValue) × IsSurveyedFrom options text surveyed
-IsSaidOfSurvey text (Err OutOfMemory) = ⊤
-IsSaidOfSurvey text (Err (Trace cause line)) = HasTraceFault text cause line
-IsSaidOfSurvey text (Err (Search cause)) = SpellsSome text
-IsSaidOfSurvey text (Err fault) = ⊥
+-- what is said of the texts of a trace and of a hint: what is decided of the trace, by some search, or why nothing is, which is the first fault
+-- of the first text that has one; a search that was cut off is reported only of texts that spell a trace and a hint
+abbrev pub IsSaidOfSurvey : List ℕ → List ℕ → Result Surveyed Fault → Type 0
+IsSaidOfSurvey text hint (Ok surveyed) = (options : OptionsValue) × IsSurveyedFrom options text surveyed × SpellsHint hint
+IsSaidOfSurvey text hint (Err OutOfMemory) = ⊤
+IsSaidOfSurvey text hint (Err (Trace cause line)) = HasTraceFault text cause line
+IsSaidOfSurvey text hint (Err (Schedule cause line)) = HasFaultySchedule text hint cause line
+IsSaidOfSurvey text hint (Err (Search cause)) = SpellsSome text × SpellsHint hint
+IsSaidOfSurvey text hint (Err fault) = ⊥
 
 -- the status that goes with what is decided
 abbrev pub status_of_survey : Surveyed → Status
@@ -71,15 +80,15 @@ texts_of_survey surveyed = survey_report surveyed ∷ []
 abbrev pub texts_with_core : Surveyed → List (List ℕ)
 texts_with_core surveyed = survey_certificate surveyed ∷ core_names surveyed ∷ core_part surveyed ∷ survey_report surveyed ∷ []
 
--- what the engine answers, by what the source hands out and the sink takes
-abbrev pub IsRunOfSurvey : SourceRun → SinkRun → Result Status Fault → Type 0
-IsRunOfSurvey trace out = IsRunOfEngine AtOnce (of_one IsSaidOfSurvey) texts_of_survey status_of_survey (trace ∷ []) (out ∷ [])
+-- what the engine answers, by what the sources of the trace and of the hint hand out and the sink takes
+abbrev pub IsRunOfSurvey : SourceRun → SourceRun → SinkRun → Result Status Fault → Type 0
+IsRunOfSurvey trace hint out = IsRunOfEngine AtOnce (of_two IsSaidOfSurvey) texts_of_survey status_of_survey (trace ∷ hint ∷ []) (out ∷ [])
 
--- the same if a certificate is asked for, by what the source hands out and the sinks take: those of the certificate, of the names, of the
+-- the same if a certificate is asked for, by what the sources hand out and the sinks take: those of the certificate, of the names, of the
 -- part, and of the report
-abbrev pub IsRunOfCertifiedSurvey : SourceRun → SinkRun → SinkRun → SinkRun → SinkRun → Result Status Fault → Type 0
-IsRunOfCertifiedSurvey trace cert names part out =
-    IsRunOfEngine InPieces (of_one IsSaidOfSurvey) texts_with_core status_of_survey (trace ∷ []) (cert ∷ names ∷ part ∷ out ∷ [])
+abbrev pub IsRunOfCertifiedSurvey : SourceRun → SourceRun → SinkRun → SinkRun → SinkRun → SinkRun → Result Status Fault → Type 0
+IsRunOfCertifiedSurvey trace hint cert names part out =
+    IsRunOfEngine InPieces (of_two IsSaidOfSurvey) texts_with_core status_of_survey (trace ∷ hint ∷ []) (cert ∷ names ∷ part ∷ out ∷ [])
 
 -- the source handed out the text of a trace, and the sink took the line that says how far the survey came, by which no more operations were
 -- placed than the trace has; a search of the whole trace with these options need not decide it, as it need not decide any trace
@@ -94,14 +103,17 @@ pub record TellsExtent (options : OptionsValue) (trace : SourceRun) (out : SinkR
   pub placed : extent.placed ≤ operation_count value
   pub left_open : IsLeftOpen options value
 
--- The source handed out the text of a trace, and the sink took the report of what is decided of it. That follows from something that a
--- surveyor may find in the trace: a legal schedule, a core of which the part is refuted, or a certificate of reasons that is accepted, if it is
--- one of these, and else what a search of the whole trace decides. The status is the one for it.
-pub record AnswersSurvey (options : OptionsValue) (IsFound : TraceValue → Overview → Type 0) (trace : SourceRun) (out : SinkRun) (status : Status) : Type 0 where
+-- The sources handed out the texts of a trace and of a hint, and the sink took the report of what is decided of the trace. That is the hint,
+-- if it is a legal schedule. Else it follows from something that a surveyor may find in the trace: the first of its two findings that is a legal
+-- schedule, a core of which the part is refuted, or a certificate of reasons that is accepted; and if neither is, what a search of the whole trace
+-- decides. The status is the one for it.
+pub record AnswersSurvey (options : OptionsValue) (IsFound : TraceValue → Overview → Type 0) (trace hint : SourceRun) (out : SinkRun) (status : Status) : Type 0 where
   pub text : List ℕ
   pub handed : HandsOut trace text
+  pub hint_text : List ℕ
+  pub hint_handed : HandsOut hint hint_text
   pub surveyed : Surveyed
-  pub follows : FollowsFromText options IsFound text surveyed
+  pub follows : FollowsFromTexts options IsFound text hint_text surveyed
   pub whole : out.now ≡ out.before ++ survey_report surveyed
   pub status_is : status ≡ status_of_survey surveyed
 

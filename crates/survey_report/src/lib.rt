@@ -1,7 +1,6 @@
 //! The engine that decides long traces with the help of a survey, from bytes to bytes, over any source and sinks.
 #![tactic(auto)]
 
-mod reading_trace;
 mod survey_engine;
 
 pub use survey_engine::{run_certified_survey, run_survey};

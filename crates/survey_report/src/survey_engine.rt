@@ -4,7 +4,7 @@ ghost use Rattle.std.specs.Prelude.{◌≡◌, ◌+◌, [], ◌∷◌, ◌++◌,
 ghost use Rattle.dimacs.specs.Sink.{AppendsFront};
 ghost use Rattle.dimacs.specs.SinkFault.{failures_told};
 ghost use Rattle.survey_verdict.specs.Surveyed.{core_names, core_part, survey_report};
-ghost use Rattle.survey_report.specs.SurveyEngine.{AnswersSurvey, CertifiesSurvey, FollowsFromText, IsRunOfCertifiedSurvey, IsRunOfSurvey, IsSaidOfSurvey, IsSurveyedFrom, TellsExtent, status_of_survey};
+ghost use Rattle.survey_report.specs.SurveyEngine.{AnswersSurvey, CertifiesSurvey, FollowsFromTexts, IsRunOfCertifiedSurvey, IsRunOfSurvey, IsSaidOfSurvey, IsSurveyedFrom, TellsExtent, status_of_survey};
 ghost use Rattle.verdict_report.specs.Engine.{IsRunOfWriting, TakeNothing};
 ghost use Rattle.verdict_report.specs.RecheckEngine.{InputHasNoLegalSchedule};
 ghost use Rattle.verdict_report.specs.Runs.{source_run, sink_run};
@@ -12,9 +12,9 @@ ghost use Rattle.verdict_report.specs.VerifyEngine.{ReportsLegalSchedule};
 ghost use Rattle.verdict_report.specs.declared.status.Status.{Status};
 ghost use Rattle.verdict_report.specs.declared.status.Status.TheVariants.{No, Unknown, Yes};
 
-use crate::reading_trace::read_text;
 use cube_jobs::{Gate, Options};
 use dimacs::{Sink, SinkFault, write_whole};
+use schedule_text::schedule_reader::read_schedule;
 use std::alloc::Global;
 use std::sync::Wait;
 use std::thread::Threads;
@@ -22,7 +22,7 @@ use survey_verdict::laws::{
     core_certificate_is_accepted, core_names_spell, core_part_is_a_trace, core_part_spells,
 };
 use survey_verdict::{
-    Surveyed, decide_by_survey, names_of_core, part_of_core, report_of_survey,
+    Surveyed, decide_with_hint, names_of_core, part_of_core, report_of_survey,
     write_survey_certificate,
 };
 use surveyor::Surveyor;
@@ -30,22 +30,34 @@ use trace_decision::Decision;
 use trace_decision::laws::certificate_is_accepted;
 use trace_text::trace_reader::read_trace;
 use verdict_report::laws::written_schedule_spells;
-use verdict_report::{Fault, Source, Status};
+use verdict_report::{Fault, Source, Status, read_two};
 
 /// Decides whether the trace that the source hands out, of whatever length a trace may have, has a legal schedule, and writes the report:
 /// CONSISTENT and a legal schedule of the whole trace, which was judged or is one by the search of the whole; INCONSISTENT and the names
 /// of a core, the part of which the search refutes; INCONSISTENT and the operations that the lines of an accepted certificate of reasons
-/// name, if they are few; INCONSISTENT alone if the search refutes the whole and no part; or UNKNOWN and how far the survey came, if neither
-/// was shown. Nothing that the surveyor finds is taken on trust. If at most 160 operations are left of the
+/// name, if they are few (that these are the ones is tested, and no clause says it); INCONSISTENT alone if the search refutes the whole and
+/// no part; or UNKNOWN and how far the survey came, if neither was shown. Nothing that the surveyor finds is taken on trust. If at most 160 operations are left of the
 /// whole trace, the search of the whole has the last word, so UNKNOWN is said of such a trace only if a search with these options can leave
 /// cubes open.
 ///
-/// The first refusal stands: of a source that fails, an input past the limit, the trace's text, the search, lack of memory, or the sink.
-/// Before the last a prefix of the report may have been written, and before the others nothing.
-pub fn run_survey<R: Threads + Wait + Sync, T: Source, S: Surveyor, G: Gate + Sync, W: Sink>(
+/// The second source hands out a hint, a schedule of all or some operations, or no byte, which is none. If it is a legal schedule of the whole
+/// trace, it is the answer. Else the surveyor is given it, and nothing that is said rests on it: it may be wrong.
+///
+/// Both texts are read whole, the trace first, before either is parsed. The first refusal stands: of a source that fails, an input past the
+/// limit, the trace's text, the hint's text, the search, lack of memory, or the sink. Before the last a prefix of the report may have been
+/// written, and before the others nothing.
+pub fn run_survey<
+    R: Threads + Wait + Sync,
+    T: Source,
+    U: Source,
+    S: Surveyor,
+    G: Gate + Sync,
+    W: Sink,
+>(
     alloc: Global,
     rt: &R,
     trace: &mut T,
+    hint: &mut U,
     surveyor: &S,
     options: &Options,
     gate: &G,
@@ -53,6 +65,7 @@ pub fn run_survey<R: Threads + Wait + Sync, T: Source, S: Surveyor, G: Gate + Sy
 ) -> Result<Status, Fault>
     ensures run { IsRunOfSurvey
         (source_run T.handed_out T.is_at_end T.failures trace.old trace.new)
+        (source_run U.handed_out U.is_at_end U.failures hint.old hint.new)
         (sink_run W.written W.failures out.old out.new)
         result }
     ensures consistent { result ≡ Ok Yes → ReportsLegalSchedule
@@ -64,14 +77,24 @@ pub fn run_survey<R: Threads + Wait + Sync, T: Source, S: Surveyor, G: Gate + Sy
         (sink_run W.written W.failures out.old out.new) }
     ensures answered { (status : Status) → result ≡ Ok status → AnswersSurvey options.now (S.finds surveyor.now)
         (source_run T.handed_out T.is_at_end T.failures trace.old trace.new)
+        (source_run U.handed_out U.is_at_end U.failures hint.old hint.new)
         (sink_run W.written W.failures out.old out.new)
         status }
     ensures same_trace { T.path trace.new ≡ T.path trace.old }
+    ensures same_hint { U.path hint.new ≡ U.path hint.old }
     ensures same_out { W.path out.new ≡ W.path out.old }
 {
     written_schedule_spells();
-    let text = read_text(alloc, trace)?;
-    let surveyed = survey_text(alloc, rt, text.as_slice(), surveyor, options, gate)?;
+    let texts = read_two(alloc, trace, hint)?;
+    let surveyed = survey_texts(
+        alloc,
+        rt,
+        texts.0.as_slice(),
+        texts.1.as_slice(),
+        surveyor,
+        options,
+        gate,
+    )?;
     write_report(alloc, &surveyed, out)
 }
 
@@ -86,6 +109,7 @@ pub fn run_survey<R: Threads + Wait + Sync, T: Source, S: Surveyor, G: Gate + Sy
 pub fn run_certified_survey<
     R: Threads + Wait + Sync,
     T: Source,
+    U: Source,
     S: Surveyor,
     G: Gate + Sync,
     C: Sink,
@@ -96,6 +120,7 @@ pub fn run_certified_survey<
     alloc: Global,
     rt: &R,
     trace: &mut T,
+    hint: &mut U,
     surveyor: &S,
     options: &Options,
     gate: &G,
@@ -106,6 +131,7 @@ pub fn run_certified_survey<
 ) -> Result<Status, Fault>
     ensures run { IsRunOfCertifiedSurvey
         (source_run T.handed_out T.is_at_end T.failures trace.old trace.new)
+        (source_run U.handed_out U.is_at_end U.failures hint.old hint.new)
         (sink_run C.written C.failures cert.old cert.new)
         (sink_run N.written N.failures names.old names.new)
         (sink_run P.written P.failures part.old part.new)
@@ -129,9 +155,11 @@ pub fn run_certified_survey<
         ∷ sink_run P.written P.failures part.old part.new ∷ []) }
     ensures answered { (status : Status) → result ≡ Ok status → AnswersSurvey options.now (S.finds surveyor.now)
         (source_run T.handed_out T.is_at_end T.failures trace.old trace.new)
+        (source_run U.handed_out U.is_at_end U.failures hint.old hint.new)
         (sink_run W.written W.failures out.old out.new)
         status }
     ensures same_trace { T.path trace.new ≡ T.path trace.old }
+    ensures same_hint { U.path hint.new ≡ U.path hint.old }
     ensures same_cert { C.path cert.new ≡ C.path cert.old }
     ensures same_names { N.path names.new ≡ N.path names.old }
     ensures same_part { P.path part.new ≡ P.path part.old }
@@ -143,29 +171,39 @@ pub fn run_certified_survey<
     core_part_spells();
     core_names_spell();
     core_part_is_a_trace();
-    let text = read_text(alloc, trace)?;
-    let surveyed = survey_text(alloc, rt, text.as_slice(), surveyor, options, gate)?;
+    let texts = read_two(alloc, trace, hint)?;
+    let surveyed = survey_texts(
+        alloc,
+        rt,
+        texts.0.as_slice(),
+        texts.1.as_slice(),
+        surveyor,
+        options,
+        gate,
+    )?;
     write_survey_certificate(alloc, &surveyed, cert)?;
     write_names(alloc, &surveyed, names)?;
     write_core_part(alloc, &surveyed, part)?;
     write_report(alloc, &surveyed, out)
 }
 
-/// Gives what is decided of the trace that the text spells.
-fn survey_text<R: Threads + Wait + Sync, S: Surveyor, G: Gate + Sync>(
+/// Gives what is decided of the trace that one text spells, with the hint that the other spells.
+fn survey_texts<R: Threads + Wait + Sync, S: Surveyor, G: Gate + Sync>(
     alloc: Global,
     rt: &R,
     text: &[u8],
+    hint: &[u8],
     surveyor: &S,
     options: &Options,
     gate: &G,
 ) -> Result<Surveyed, Fault>
-    ensures said { IsSaidOfSurvey text.now result }
+    ensures said { IsSaidOfSurvey text.now hint.now result }
     ensures surveyed { IfOk result (λ surveyed. IsSurveyedFrom options.now text.now surveyed) }
-    ensures follows { IfOk result (λ surveyed. FollowsFromText options.now (S.finds surveyor.now) text.now surveyed) }
+    ensures follows { IfOk result (λ surveyed. FollowsFromTexts options.now (S.finds surveyor.now) text.now hint.now surveyed) }
 {
     let trace = read_trace(alloc, text)?;
-    Ok(decide_by_survey(alloc, rt, &trace, surveyor, options, gate)?)
+    let names = read_schedule(alloc, hint)?;
+    Ok(decide_with_hint(alloc, rt, &trace, names, surveyor, options, gate)?)
 }
 
 /// The status that goes with what is decided.

@@ -74,10 +74,13 @@ IsDecidedWhole options t extent surveyed = IsSurveyed options t surveyed × IsOf
 abbrev pub extent_within : TraceValue → Extent → Extent
 extent_within t extent = record { placed = min extent.placed (operation_count t); undecided = extent.undecided; steps = extent.steps }
 
--- what is decided is what was found, or else, if that shows nothing, what a search of the whole trace decides
+-- what is decided is what was found, or else, if that shows nothing, it is as the rest says
+abbrev pub IsFoundOr : OptionsValue → TraceValue → Finding → (Surveyed → Type 0) → Surveyed → Type 0
+IsFoundOr options t finding Otherwise surveyed = IsAsFound t finding surveyed ⊎ (ShowsNothing options t finding × Otherwise surveyed)
+
+-- what is decided is the first of the two findings that shows something, or else what a search of the whole trace decides
 abbrev pub FollowsFrom : OptionsValue → TraceValue → Overview → Surveyed → Type 0
-FollowsFrom options t overview surveyed =
-    IsAsFound t overview.finding surveyed ⊎ (ShowsNothing options t overview.finding × IsOfWhole t (extent_within t overview.extent) surveyed)
+FollowsFrom options t overview = IsFoundOr options t overview.finding (IsFoundOr options t overview.otherwise (IsOfWhole t (extent_within t overview.extent)))
 
 -- what is decided follows from something that is found so
 abbrev pub FollowsFromSome : OptionsValue → TraceValue → (Overview → Type 0) → Surveyed → Type 0

@@ -1,2 +1,3 @@
 pub mod Findings
+pub mod Hinted
 pub mod Surveyed

@@ -3,7 +3,7 @@ ghost use Rattle.std.specs.Prelude.{◌≡◌, ◌⊎◌, ◌≤◌, [], IfOk, l
 ghost use Rattle.cube_jobs.specs.Options.{OptionsValue};
 ghost use Rattle.reason_check.specs.Accepted.{IsAcceptedReasons};
 ghost use Rattle.reducer.specs.Reduction.{kept_trace};
-ghost use Rattle.survey_verdict.specs.Findings.{FollowsFrom, FollowsFromSome, IsAcceptedSome, IsDecidedWhole, IsJudged, IsShownBy};
+ghost use Rattle.survey_verdict.specs.Findings.{FollowsFrom, FollowsFromSome, IsAcceptedSome, IsDecidedWhole, IsFoundOr, IsJudged, IsOfWhole, IsShownBy, extent_within};
 ghost use Rattle.survey_verdict.specs.Surveyed.{IsDecidedIfShort, IsReducedIfSmall, IsRefutedChoice, IsReasoned, IsRefutedIfShort, IsSurveyed, core_of, refutation_in};
 ghost use Rattle.surveyor.specs.declared.Extent.{Extent as Reached};
 ghost use Rattle.surveyor.specs.declared.Finding.TheVariants.{Core as CoreFound, Reasons as ReasonsFound, Schedule as ScheduleFound};
@@ -350,7 +350,30 @@ fn shown<R: Threads + Wait + Sync, G: Gate + Sync>(
     }
 }
 
-/// Gives what is decided by what was found, or else by the search of the whole.
+/// Gives what is decided by what was found, or else by the search of the whole after a survey that came this far.
+fn decide_by_finding<R: Threads + Wait + Sync, G: Gate + Sync>(
+    alloc: Global,
+    rt: &R,
+    trace: &Trace,
+    finding: Finding,
+    extent: Extent,
+    options: &Options,
+    gate: &G,
+) -> Result<Surveyed, SearchFault>
+    ensures decided { IfOk result (IsSurveyed options.now trace.now) }
+    ensures follows { IfOk result (IsFoundOr options.now trace.now finding (IsOfWhole trace.now (extent_within trace.now extent))) }
+{
+    let shown = shown(alloc, rt, trace, finding, options, gate)?;
+    match shown {
+        Some(surveyed) => Ok(surveyed),
+        None => {
+            let told = within_trace(trace, extent);
+            decided_whole(alloc, rt, trace, told, options, gate)
+        }
+    }
+}
+
+/// Gives what is decided by the first of what was found that shows something, or else by the search of the whole.
 fn decide_by_overview<R: Threads + Wait + Sync, G: Gate + Sync>(
     alloc: Global,
     rt: &R,
@@ -362,14 +385,15 @@ fn decide_by_overview<R: Threads + Wait + Sync, G: Gate + Sync>(
     ensures decided { IfOk result (IsSurveyed options.now trace.now) }
     ensures follows { IfOk result (FollowsFrom options.now trace.now overview) }
 {
-    let Overview { finding, extent } = overview;
+    let Overview {
+        finding,
+        otherwise,
+        extent,
+    } = overview;
     let shown = shown(alloc, rt, trace, finding, options, gate)?;
     match shown {
         Some(surveyed) => Ok(surveyed),
-        None => {
-            let told = within_trace(trace, extent);
-            decided_whole(alloc, rt, trace, told, options, gate)
-        }
+        None => decide_by_finding(alloc, rt, trace, otherwise, extent, options, gate),
     }
 }
 
@@ -377,6 +401,7 @@ fn decide_by_overview<R: Threads + Wait + Sync, G: Gate + Sync>(
 fn overview_of<S: Surveyor, G: Gate>(
     alloc: Global,
     trace: &Trace,
+    hint: &[OpName],
     surveyor: &S,
     gate: &G,
 ) -> Result<Overview, AllocError>
@@ -384,19 +409,22 @@ fn overview_of<S: Surveyor, G: Gate>(
 {
     let stage = Stage::Survey(count_operations(trace));
     gate.begin(stage);
-    let found = surveyor.survey(alloc, trace);
+    let found = surveyor.survey(alloc, trace, hint);
     gate.end(stage);
     found
 }
 
 /// Decides whether the trace has a legal schedule by what the survey finds, or else by the search of the whole, if few enough operations
-/// are left of that. A legal schedule that the surveyor finds is the answer, and so is a certificate of reasons that is accepted. A core of its
-/// is the answer if the search refutes its part, and what that search decides of the whole does not stay undecided; but no search is bound to
+/// are left of that. The first of its two findings that shows something is the answer: a legal schedule, or a certificate of reasons that is
+/// accepted, or a core, if the search refutes its part. What the search decides of the whole does not stay undecided; but no search is bound to
 /// decide anything, so the clauses say only that one with these options can leave it open, which is true of each trace.
+///
+/// The surveyor is given the hint, operations in an order in which a schedule may have them, and nothing else is made of it.
 pub fn decide_by_survey<R: Threads + Wait + Sync, S: Surveyor, G: Gate + Sync>(
     alloc: Global,
     rt: &R,
     trace: &Trace,
+    hint: &[OpName],
     surveyor: &S,
     options: &Options,
     gate: &G,
@@ -404,6 +432,6 @@ pub fn decide_by_survey<R: Threads + Wait + Sync, S: Surveyor, G: Gate + Sync>(
     ensures decided { IfOk result (IsSurveyed options.now trace.now) }
     ensures follows { IfOk result (FollowsFromSome options.now trace.now (S.finds surveyor.now trace.now)) }
 {
-    let overview = overview_of(alloc, trace, surveyor, gate)?;
+    let overview = overview_of(alloc, trace, hint, surveyor, gate)?;
     decide_by_overview(alloc, rt, trace, overview, options, gate)
 }

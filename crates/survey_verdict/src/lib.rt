@@ -6,6 +6,7 @@ mod certifying;
 mod core_names;
 mod deciding;
 mod extent;
+mod hinted;
 pub mod laws;
 mod named_operations;
 mod reporting;
@@ -13,5 +14,6 @@ mod surveyed;
 
 pub use certifying::write_survey_certificate;
 pub use deciding::decide_by_survey;
+pub use hinted::decide_with_hint;
 pub use reporting::{names_of_core, part_of_core, report_of_survey};
 pub use surveyed::{ReasonCertificate, RefutedCore, Surveyed};

@@ -29,7 +29,7 @@ struct Case {
 }
 
 /// Command lines whose texts are known.
-static CASES: [Case; 18] = [
+static CASES: [Case; 22] = [
     Case {
         words: &["vsc", "judge", "handed", "right"],
         explains: false,
@@ -159,6 +159,36 @@ static CASES: [Case; 18] = [
         status: 2,
         out: "",
         err: "error: --cert and --names name one file\n",
+    },
+    Case {
+        words: &["vsc", "survey", "handed", "--hint", "right"],
+        explains: false,
+        status: 0,
+        out: "CONSISTENT\nP.1\nQ.1\n",
+        err: "",
+    },
+    Case {
+        words: &["vsc", "survey", "handed", "--hint", "handed"],
+        explains: false,
+        status: 2,
+        out: "",
+        err: "refused: schedule 2 BadName at 1\n",
+    },
+    Case {
+        words: &["vsc", "survey", "-", "--hint", "-"],
+        explains: false,
+        status: 2,
+        out: "",
+        err: "error: more than one file is '-', standard input\n",
+    },
+    Case {
+        words: &[
+            "vsc", "survey", "handed", "--names", "right", "--hint", "right",
+        ],
+        explains: false,
+        status: 2,
+        out: "",
+        err: "error: --names and --hint name one file\n",
     },
 ];
 

@@ -29,6 +29,10 @@ const LATE_READ: &str =
 /// Each process reads what the other one writes afterwards, and no operation writes z, which ends with another value than it begins with.
 const THIN_AIR: &str = "vsc 1\ninit z 0\nfinal z 1\nproc P\nR x 1\nW y 1\nproc Q\nR y 1\nW x 1\n";
 
+/// P reads within its turn at the lock what Q writes in its own, which Q does not end.
+const UNENDED_TURN: &str =
+    "vsc 1\ninit l 0\ninit x 0\nproc P\nU l 0 1\nR x 1\nW l 0\nproc Q\nU l 0 1\nW x 1\n";
+
 /// Asserts what the check of the certificate, without its header, answers for the trace.
 fn assert_checked(
     rt: &impl Abort,
@@ -44,7 +48,7 @@ fn assert_checked(
 }
 
 /// Certificates of how many clauses are accepted.
-const ACCEPTED: [(&str, &str, usize); 8] = [
+const ACCEPTED: [(&str, &str, usize); 11] = [
     (
         STALE_DATA,
         "vsc-reasons 1\nc P.1 P.2 Q.1 Q.2\ns Q.1\ns Q.2 i P.1\np\n4 0 2 3 1 0\n",
@@ -69,6 +73,21 @@ const ACCEPTED: [(&str, &str, usize); 8] = [
         LATE_READ,
         "vsc-reasons 1\nl x h Q.2 P.2\nl x H Q.2\ns Q.1\nc P.2 P.3 Q.1 Q.2\np\n5 0 1 3 4 0\n",
         4,
+    ),
+    (
+        UNENDED_TURN,
+        "vsc-reasons 1\nn r P.1 r Q.1 f P.3\ns P.2\nc P.2 P.3 Q.1 Q.2\np\n4 0 1 2 3 0\n",
+        3,
+    ),
+    (
+        MISSING_RELEASE,
+        "vsc-reasons 1\nn r P.1 r P.3 r Q.1 l l\nwhatever follows\n",
+        1,
+    ),
+    (
+        LATE_READ,
+        "vsc-reasons 1\nn l x h Q.2 P.2\ns Q.1\nc P.2 P.3 Q.1 Q.2\np\n4 0 1 2 3 0\n",
+        3,
     ),
     (THIN_AIR, "vsc-reasons 1\nl z\n", 1),
     (THIN_AIR, "vsc-reasons 1\nw r P.1 r Q.1\n", 1),
@@ -129,15 +148,53 @@ const REFUSED_ENDS: [(&str, ReasonCause); 11] = [
     ("w r Q.1", ReasonCause::SourceBefore),
 ];
 
+/// Lines that count with pieces, and why they are refused.
+const REFUSED_COUNTS: [(&str, ReasonCause); 14] = [
+    ("n", ReasonCause::EnoughSources),
+    ("n m P.1 Q.1", ReasonCause::BadLine),
+    ("n f P.3 r Q.1", ReasonCause::BadLine),
+    ("n r P.1 H P.3", ReasonCause::BadLine),
+    ("n l l f P.1", ReasonCause::BadLine),
+    ("n r Q.1 f P.3 f P.3", ReasonCause::SecondPiece),
+    ("n r P.1 r P.1", ReasonCause::SecondPiece),
+    ("n l nobody l nobody", ReasonCause::SecondPiece),
+    ("n r P.2", ReasonCause::NoReader),
+    ("n r Q.1 i P.2", ReasonCause::NoWitness),
+    ("n r Q.1 h P.3 P.3", ReasonCause::HidesItself),
+    ("n l nobody", ReasonCause::NoWriter),
+    ("n r P.1 r Q.1", ReasonCause::EnoughSources),
+    ("n r P.1 i P.3", ReasonCause::AlwaysTrue),
+];
+
+/// Asserts that the line, which follows the header, is refused so.
+fn assert_line_refused(
+    rt: &impl Abort,
+    alloc: Global,
+    trace_text: &str,
+    line: &str,
+    cause: ReasonCause,
+    number: usize,
+) {
+    let Ok(text) = format!(in alloc; "vsc-reasons 1\n{line}\n") else {
+        panic!(rt; "there is no memory");
+    };
+    let wanted = Err(ReasonsFault::Line(cause, 2));
+    assert_checked(rt, alloc, trace_text, &text, wanted, number);
+}
+
 #[test]
 fn ends_and_waiting_are_refused(rt: HostRuntime) {
     for k in 0..REFUSED_ENDS.len() {
         let (line, cause) = REFUSED_ENDS[k];
-        let Ok(text) = format!(in rt.alloc(); "vsc-reasons 1\n{line}\n") else {
-            panic!(rt; "there is no memory");
-        };
-        let wanted = Err(ReasonsFault::Line(cause, 2));
-        assert_checked(&rt, rt.alloc(), LATE_READ, &text, wanted, k);
+        assert_line_refused(&rt, rt.alloc(), LATE_READ, line, cause, k);
+    }
+}
+
+#[test]
+fn counts_are_refused(rt: HostRuntime) {
+    for k in 0..REFUSED_COUNTS.len() {
+        let (line, cause) = REFUSED_COUNTS[k];
+        assert_line_refused(&rt, rt.alloc(), UNENDED_TURN, line, cause, k);
     }
 }
 

@@ -2,7 +2,7 @@
 
 use crate::expectations::{ample, expect};
 use crate::lying_surveyors::{Liar, Lie};
-use crate::traces::{HAND_OFF, after_many_writes, counted_lock, ring, with_many_writes};
+use crate::traces::{HAND_OFF, after_many_writes, counted_lock, no_hint, ring, with_many_writes};
 use cube_jobs::{OpenGate, Options};
 use dimacs::MemorySink;
 use std::alloc::Global;
@@ -33,6 +33,7 @@ fn texts_of<R: Threads + Wait + Abort + Sync, S: Surveyor>(
 ) -> Written {
     let options = ample(rt, Options::new(1, 0, 10_000, 1));
     let mut source = ShortSource::new(trace.as_bytes(), 99);
+    let mut hint = no_hint();
     let mut certificate = MemorySink::new(alloc);
     let mut names = MemorySink::new(alloc);
     let mut part = MemorySink::new(alloc);
@@ -41,6 +42,7 @@ fn texts_of<R: Threads + Wait + Abort + Sync, S: Surveyor>(
         alloc,
         rt,
         &mut source,
+        &mut hint,
         surveyor,
         &options,
         &OpenGate,
@@ -93,6 +95,7 @@ const BACK: &str = "vsc 2\nproc P\nW x 1\nW x 2\nbefore P 2 P 1\n";
 fn certifies_the_whole_without_a_core(rt: HostRuntime) {
     let liar = Liar {
         lie: Lie::Core(1, 2),
+        otherwise: Lie::Nothing,
     };
     let found = texts_of(rt.alloc(), &rt, BACK, &liar, Status::No, 14);
     expect(&rt, found.names.as_slice().is_empty(), 14);

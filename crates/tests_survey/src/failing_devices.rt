@@ -1,7 +1,7 @@
 //! Surveys over a source that hands out a byte a call and sinks that take a byte a call, of which one fails at one of its calls.
 
 use crate::expectations::{ample, expect};
-use crate::traces::STORE_BUFFERING;
+use crate::traces::{STORE_BUFFERING, no_hint};
 use cube_jobs::{OpenGate, Options};
 use dimacs::{MemorySink, ShortSink};
 use std::alloc::Global;
@@ -64,6 +64,7 @@ fn assert_cut_off<R: Threads + Wait + Abort + Sync>(
     alloc: Global,
     rt: &R,
     mut trace: ShortSource<'_>,
+    mut hint: ShortSource<'_>,
     mut report: ShortSink,
     taken: usize,
     number: usize,
@@ -73,6 +74,7 @@ fn assert_cut_off<R: Threads + Wait + Abort + Sync>(
         alloc,
         rt,
         &mut trace,
+        &mut hint,
         &SURVEY,
         &options,
         &OpenGate,
@@ -94,6 +96,7 @@ fn assert_certified_cut_off<R: Threads + Wait + Abort + Sync>(
     number: usize,
 ) {
     let options = ample(rt, Options::new(1, 0, 10_000, 1));
+    let mut hint = no_hint();
     let Sinks {
         mut certificate,
         mut names,
@@ -104,6 +107,7 @@ fn assert_certified_cut_off<R: Threads + Wait + Abort + Sync>(
         alloc,
         rt,
         &mut trace,
+        &mut hint,
         &SURVEY,
         &options,
         &OpenGate,
@@ -127,6 +131,7 @@ fn assert_certified_cut_off<R: Threads + Wait + Abort + Sync>(
 fn whole_certificate<R: Threads + Wait + Abort + Sync>(alloc: Global, rt: &R) -> MemorySink {
     let options = ample(rt, Options::new(1, 0, 10_000, 1));
     let mut trace = store_buffering();
+    let mut hint = no_hint();
     let mut certificate = MemorySink::new(alloc);
     let mut names = sink(alloc);
     let mut part = sink(alloc);
@@ -135,6 +140,7 @@ fn whole_certificate<R: Threads + Wait + Abort + Sync>(alloc: Global, rt: &R) ->
         alloc,
         rt,
         &mut trace,
+        &mut hint,
         &SURVEY,
         &options,
         &OpenGate,
@@ -154,7 +160,15 @@ fn whole_certificate<R: Threads + Wait + Abort + Sync>(alloc: Global, rt: &R) ->
 fn writes_nothing_if_the_source_fails(rt: HostRuntime) {
     for call in 1..=STORE_BUFFERING.len() + 1 {
         let alloc = rt.alloc();
-        assert_cut_off(alloc, &rt, failing_at(call), sink(alloc), 0, call);
+        assert_cut_off(
+            alloc,
+            &rt,
+            failing_at(call),
+            no_hint(),
+            sink(alloc),
+            0,
+            call,
+        );
         let sinks = Sinks {
             certificate: sink(alloc),
             names: sink(alloc),
@@ -171,7 +185,24 @@ fn writes_a_prefix_of_the_report_if_its_sink_fails(rt: HostRuntime) {
     for count in 0..REPORT.len() {
         let alloc = rt.alloc();
         let report = sink_failing_after(alloc, count);
-        assert_cut_off(alloc, &rt, store_buffering(), report, count, count);
+        assert_cut_off(
+            alloc,
+            &rt,
+            store_buffering(),
+            no_hint(),
+            report,
+            count,
+            count,
+        );
+    }
+}
+
+#[test]
+fn writes_nothing_if_the_hint_fails(rt: HostRuntime) {
+    for call in 1..=NAMES.len() + 1 {
+        let alloc = rt.alloc();
+        let hint = ShortSource::new(NAMES, 1).failing_at(call as u64);
+        assert_cut_off(alloc, &rt, store_buffering(), hint, sink(alloc), 0, call);
     }
 }
 

@@ -8,6 +8,8 @@ mod expectations;
 #[cfg(test)]
 mod failing_devices;
 #[cfg(test)]
+mod hints;
+#[cfg(test)]
 mod lying_surveyors;
 #[cfg(test)]
 mod refused_memory;
@@ -15,3 +17,5 @@ mod refused_memory;
 mod surveys;
 #[cfg(test)]
 mod traces;
+#[cfg(test)]
+mod two_findings;

@@ -23,6 +23,7 @@ pub enum Lie {
 #[derive(Clone, Copy)]
 pub struct Liar {
     pub lie: Lie,
+    pub otherwise: Lie,
 }
 
 /// The operation of P at this place.
@@ -50,18 +51,28 @@ fn counting_text(alloc: Global, location: u8) -> Result<Vec<u8>, AllocError> {
     Ok(text)
 }
 
+/// What the lie says.
+fn finding_of(alloc: Global, lie: Lie) -> Result<Finding, AllocError> {
+    match lie {
+        Lie::Schedule(first, second) => Ok(Finding::Schedule(names_at(alloc, first, second)?)),
+        Lie::Core(first, second) => Ok(Finding::Core(names_at(alloc, first, second)?)),
+        Lie::Reasons(location) => Ok(Finding::Reasons(counting_text(alloc, location)?)),
+        Lie::Nothing => Ok(Finding::Nothing),
+    }
+}
+
 impl Surveyor for Liar {
     ghost budget = { λ _. 0 };
 
-    fn survey(&self, alloc: Global, _trace: &Trace) -> Result<Overview, AllocError> {
-        let finding = match self.lie {
-            Lie::Schedule(first, second) => Finding::Schedule(names_at(alloc, first, second)?),
-            Lie::Core(first, second) => Finding::Core(names_at(alloc, first, second)?),
-            Lie::Reasons(location) => Finding::Reasons(counting_text(alloc, location)?),
-            Lie::Nothing => Finding::Nothing,
-        };
+    fn survey(
+        &self,
+        alloc: Global,
+        _trace: &Trace,
+        _hint: &[OpName],
+    ) -> Result<Overview, AllocError> {
         Ok(Overview {
-            finding,
+            finding: finding_of(alloc, self.lie)?,
+            otherwise: finding_of(alloc, self.otherwise)?,
             extent: Extent {
                 placed: 7,
                 undecided: 3,

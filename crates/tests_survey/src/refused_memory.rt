@@ -2,7 +2,7 @@
 //! memory refused in turn, so nothing here asks for what is `ample` of a call that takes memory.
 
 use crate::expectations::{ample, expect};
-use crate::traces::STORE_BUFFERING;
+use crate::traces::{STORE_BUFFERING, no_hint};
 use cube_jobs::{OpenGate, Options};
 use dimacs::MemorySink;
 use std::process::Abort;
@@ -39,6 +39,7 @@ fn a_survey_is_right_or_lacks_memory(rt: HostRuntime) {
     let survey = BySaturation { budget: 1_000_000 };
     let options = ample(&rt, Options::new(1, 0, 10_000, 1));
     let mut source = ShortSource::new(STORE_BUFFERING.as_bytes(), 99);
+    let mut hint = no_hint();
     let mut certificate = MemorySink::new(rt.alloc());
     let mut names = MemorySink::new(rt.alloc());
     let mut part = MemorySink::new(rt.alloc());
@@ -47,6 +48,7 @@ fn a_survey_is_right_or_lacks_memory(rt: HostRuntime) {
         rt.alloc(),
         &rt,
         &mut source,
+        &mut hint,
         &survey,
         &options,
         &OpenGate,

@@ -2,7 +2,9 @@
 
 use crate::expectations::{ample, expect};
 use crate::lying_surveyors::{Liar, Lie};
-use crate::traces::{HAND_OFF, STORE_BUFFERING, counted_lock, with_many_writes};
+use crate::traces::{
+    HAND_OFF, LEARNED_BEFORE, STORE_BUFFERING, counted_lock, no_hint, with_many_writes,
+};
 use cube_jobs::{OpenGate, Options};
 use dimacs::MemorySink;
 use std::alloc::Global;
@@ -11,7 +13,7 @@ use std::sync::Wait;
 use std::thread::Threads;
 use survey::BySaturation;
 use survey_report::run_survey;
-use surveyor::Surveyor;
+use surveyor::{Finding, Surveyor};
 use trace_text::trace_reader::read_trace;
 use verdict_report::{ShortSource, Status, run_judge};
 
@@ -27,11 +29,13 @@ fn assert_reports<R: Threads + Wait + Abort + Sync, S: Surveyor>(
 ) {
     let options = ample(rt, Options::new(1, 0, 10_000, 1));
     let mut source = ShortSource::new(trace.as_bytes(), 99);
+    let mut hint = no_hint();
     let mut output = MemorySink::new(alloc);
     let outcome = run_survey(
         alloc,
         rt,
         &mut source,
+        &mut hint,
         surveyor,
         &options,
         &OpenGate,
@@ -54,7 +58,10 @@ fn decides_whatever_a_surveyor_says(rt: HostRuntime) {
         Lie::Nothing,
     ];
     for lie in lies {
-        let liar = Liar { lie };
+        let liar = Liar {
+            lie,
+            otherwise: Lie::Nothing,
+        };
         let report = b"INCONSISTENT operations=4 cubes=1\nP.1\nP.2\nQ.1\nQ.2\n";
         assert_reports(
             rt.alloc(),
@@ -133,11 +140,13 @@ fn finds_a_schedule_of_a_long_trace(rt: HostRuntime) {
     let long = ample(&rt, with_many_writes(rt.alloc(), HAND_OFF));
     let options = ample(&rt, Options::new(1, 0, 10_000, 1));
     let mut source = ShortSource::new(long.as_bytes(), 99);
+    let mut hint = no_hint();
     let mut output = MemorySink::new(rt.alloc());
     let outcome = run_survey(
         rt.alloc(),
         &rt,
         &mut source,
+        &mut hint,
         &survey,
         &options,
         &OpenGate,
@@ -160,11 +169,13 @@ fn decides_nothing_without_a_step(rt: HostRuntime) {
     let options = ample(&rt, Options::new(1, 0, 10_000, 1));
     let lock = ample(&rt, counted_lock(rt.alloc()));
     let mut source = ShortSource::new(lock.as_bytes(), 99);
+    let mut hint = no_hint();
     let mut output = MemorySink::new(rt.alloc());
     let outcome = run_survey(
         rt.alloc(),
         &rt,
         &mut source,
+        &mut hint,
         &survey,
         &options,
         &OpenGate,
@@ -178,7 +189,7 @@ fn decides_nothing_without_a_step(rt: HostRuntime) {
 fn steps_of(alloc: Global, rt: &impl Abort, trace: &str, budget: u64) -> u64 {
     let trace = ample(rt, read_trace(alloc, trace.as_bytes()));
     let survey = BySaturation { budget };
-    let overview = ample(rt, survey.survey(alloc, &trace));
+    let overview = ample(rt, survey.survey(alloc, &trace, &[]));
     overview.extent.steps
 }
 
@@ -192,4 +203,22 @@ fn reports_the_steps_that_it_took(rt: HostRuntime) {
     expect(&rt, steps_of(rt.alloc(), &rt, trace, 100) == 75, 23);
     let steps = steps_of(rt.alloc(), &rt, trace, 1_000_000);
     expect(&rt, steps > 75 && steps < 1_000_000, 24);
+}
+
+/// Returns whether the survey of the trace with this budget finds a core that it has refuted itself: of another one it gives reasons.
+fn finds_core(alloc: Global, rt: &impl Abort, trace: &str, budget: u64) -> bool {
+    let trace = ample(rt, read_trace(alloc, trace.as_bytes()));
+    let survey = BySaturation { budget };
+    let overview = ample(rt, survey.survey(alloc, &trace, &[]));
+    matches!(&overview.finding, Finding::Core(_names))
+}
+
+// The budget of the first walk ends after it has learned pairs of no decision. The last walk rests on them, and its core has what they rest on.
+#[test]
+fn knows_why_an_earlier_walk_has_learned_a_pair(rt: HostRuntime) {
+    expect(
+        &rt,
+        finds_core(rt.alloc(), &rt, LEARNED_BEFORE, 500_000),
+        25,
+    );
 }

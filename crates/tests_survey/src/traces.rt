@@ -1,6 +1,7 @@
 //! Traces that the tests survey.
 
 use std::alloc::{AllocError, Global};
+use verdict_report::ShortSource;
 
 /// Each of two processes writes, and does not see what the other one wrote.
 pub const STORE_BUFFERING: &str =
@@ -8,6 +9,22 @@ pub const STORE_BUFFERING: &str =
 
 /// What is read was written before.
 pub const HAND_OFF: &str = "vsc 1\ninit x 0\nproc P\nW x 1\nproc Q\nR x 1\n";
+
+/// Two updates read the initial value, of which there is one.
+pub const LOST_UPDATE: &str = "vsc 1\ninit l 0\nproc P\nU l 0 1\nU l 0 1\n";
+
+/// A source of no hint.
+pub fn no_hint() -> ShortSource<'static> {
+    ShortSource::new(b"", 99)
+}
+
+/// A wrong log in which a walk that gives up early has learned what a later one rests on.
+pub const LEARNED_BEFORE: &str =
+    "vsc 1\ninit x0 0\ninit x1 0\nfinal x0 4\nfinal x1 5\nproc P0\nU x1 0 4\nW x0 3\nW x0 2\nU x0 2 3\nR x0 3\nW x0 4\n\
+    W x0 0\nU x0 0 1\nU x0 1 3\nU x1 1 1\nU x0 4 0\nU x1 1 5\nW x0 0\nW x1 5\nW x0 5\nR x1 5\nproc P1\nR x0 4\nW x1 1\n\
+    W x0 4\nR x0 4\nW x0 2\nR x0 2\nR x0 0\nU x0 0 2\nR x0 2\nW x0 2\nR x0 0\nW x0 5\nR x0 3\nW x1 5\nR x0 5\nW x0 4\n\
+    proc P2\nW x0 4\nW x1 2\nU x1 2 5\nR x0 3\nW x1 1\nU x0 4 3\nU x1 1 5\nW x0 0\nU x1 5 1\nU x1 1 3\nR x0 5\nU x1 3 1\n\
+    W x0 2\nU x0 2 4\nU x0 5 5\nW x0 3\nR x0 3\nR x0 3\n";
 
 /// The trace with a process of two hundred writes to another location behind it.
 pub fn with_many_writes(alloc: Global, trace: &str) -> Result<String, AllocError> {

@@ -1,7 +1,7 @@
 -- The orders of the words so far, and of one word more.
 use Rattle.std.proofs.Common.{◌≡◌, ℕ, List, [], ◌∷◌, ◌++◌, refl, sym, subst, inl, inr, append_assoc, append-nil}
 use Rattle.verdict_notes.specs.declared.open_orders.NumberedOrder.{NumberedOrder}
-use Rattle.verdict_notes.specs.OpenCubes.{Writes, AreWritten}
+use Rattle.verdict_notes.specs.OpenCubes.{Writes, WritesNone, AreWritten}
 
 -- whatever orders the words that are left write, they follow these in what all words write
 abbrev pub AreWrittenSoFar : ℕ → List (List ℕ) → List (List ℕ) → List NumberedOrder → Type 0
@@ -11,8 +11,8 @@ pub at_start : (n : ℕ) (whole : List (List ℕ)) → AreWrittenSoFar n whole w
 at_start n whole more d = d
 
 module _ (n : ℕ) (whole left : List (List ℕ)) (word : List ℕ) (words : List (List ℕ)) (cut : left ≡ word ∷ words) (orders : List NumberedOrder) (before : AreWrittenSoFar n whole left orders) where
-  pub passed : AreWrittenSoFar n whole words orders
-  passed more d = before more (subst (λ (w : List (List ℕ)). AreWritten n w more) (sym cut) (inr d))
+  pub passed : WritesNone n word → AreWrittenSoFar n whole words orders
+  passed none more d = before more (subst (λ (w : List (List ℕ)). AreWritten n w more) (sym cut) (inr (none, d)))
 
   pub taken : (order : NumberedOrder) → Writes n word order → AreWrittenSoFar n whole words (orders ++ order ∷ [])
   taken order writes more d =

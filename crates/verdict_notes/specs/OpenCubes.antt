@@ -1,7 +1,8 @@
 -- The orders that an open cube says, and their words.
-use Rattle.std.specs.Prelude.{◌≡◌, ◌≢◌, ◌⊎◌, ◌<◌, ℕ, ℤ, List, [], ◌∷◌, ◌++◌, Some, codes, decimal, slice_get}
+use Rattle.std.specs.Prelude.{◌≡◌, ◌≢◌, ◌⊎◌, ◌<◌, true, ℕ, ℤ, List, [], ◌∷◌, ◌++◌, Some, codes, decimal, slice_get}
 use Rattle.std.specs.List.{flat_map}
 use Rattle.std.specs.Option.{option_map_or}
+use Rattle.dimacs.specs.Literal.{is_literal}
 use Rattle.text_lines.specs.Numbers.{solver_number}
 use Rattle.var_layout.specs.OrderVariables.{order_lit}
 use Rattle.verdict_notes.specs.declared.kept_operations.KeptOp.{KeptOp}
@@ -15,12 +16,20 @@ Says n literal first second = (first ≢ second) × (first < n) × (second < n) 
 abbrev pub Writes : ℕ → List ℕ → NumberedOrder → Type 0
 Writes n word order = (literal : ℤ) × (solver_number word ≡ Some literal) × Says n literal order.first order.second
 
--- each of these orders is what a word writes, in the order of the words; a word may be passed over
+-- the word writes no literal
+abbrev pub WritesNoLiteral : List ℕ → Type 0
+WritesNoLiteral word = (z : ℤ) → is_literal z ≡ true → solver_number word ≡ Some z → ⊥
+
+-- the word writes no order
+abbrev pub WritesNone : ℕ → List ℕ → Type 0
+WritesNone n word = (order : NumberedOrder) → Writes n word order → ⊥
+
+-- each of these orders is what a word writes, in the order of the words, and each word that writes one has its order
 abbrev pub AreWritten : ℕ → List (List ℕ) → List NumberedOrder → Type 0
 AreWritten n [] orders = orders ≡ []
 AreWritten n (word ∷ words) orders =
     ((order : NumberedOrder) × (others : List NumberedOrder) × (orders ≡ order ∷ others) × Writes n word order × AreWritten n words others)
-    ⊎ AreWritten n words orders
+    ⊎ (WritesNone n word × AreWritten n words orders)
 
 -- the name of an operation
 abbrev pub name_text : KeptOp → List ℕ

@@ -21,7 +21,7 @@ pub fn explain_by_survey<S: Surveyor>(
     places: &ShownPlaces,
     surveyor: &S,
 ) -> Result<(), AllocError> {
-    let overview = surveyor.survey(alloc, trace)?;
+    let overview = surveyor.survey(alloc, trace, &[])?;
     match &overview.finding {
         Finding::Core(names) => explain_core(alloc, notes, trace, places, names.as_slice()),
         Finding::Schedule(_) => explain_no_core(notes),

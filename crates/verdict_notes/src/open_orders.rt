@@ -4,12 +4,13 @@
 //! in words, by the trace and the layout of its variables. A cube is made by splitting on order variables alone, so each of its literals
 //! says of two operations which one stands before the other.
 
-ghost use Rattle.std.specs.Prelude.{◌≡◌, ◌<◌, ◌++◌, ℕ, List, IfOk, OnOk, IfSome, MatchOption};
+ghost use Rattle.std.specs.Prelude.{◌≡◌, ◌<◌, ◌++◌, ℕ, List, Some, IfOk, OnOk, MatchOption};
 ghost use Rattle.std.specs.List.{flat_map};
+ghost use Rattle.text_lines.specs.Numbers.{solver_number};
 ghost use Rattle.text_lines.specs.Words.{words_of};
 ghost use Rattle.trace_semantics.specs.Trace.{operation_count};
 ghost use Rattle.verdict_notes.specs.declared.open_orders.NumberedOrder.{NumberedOrder as SaidOrder};
-ghost use Rattle.verdict_notes.specs.OpenCubes.{Says, Writes, AreWritten, name_at, order_text, later_text, orders_text};
+ghost use Rattle.verdict_notes.specs.OpenCubes.{Says, Writes, WritesNone, WritesNoLiteral, AreWritten, name_at, order_text, later_text, orders_text};
 
 use crate::kept_operations::KeptOp;
 use dimacs::Lit;
@@ -56,14 +57,26 @@ fn order_said(layout: &Layout, literal: Lit) -> Option<NumberedOrder>
     None
 }
 
-/// The order that the word writes, if it is a literal that says one.
-fn order_written(layout: &Layout, word: &[u8]) -> Option<NumberedOrder>
-    ensures { IfSome result (Writes (operation_count layout.now) word.now) }
+/// The literal that the word writes, if it does.
+fn literal_written(word: &[u8]) -> Option<Lit>
+    ensures { MatchOption result (WritesNoLiteral word.now) (λ literal. solver_number word.now ≡ Some literal) }
 {
     match read_literal(word) {
-        Ok(Some(literal)) => order_said(layout, literal),
-        _ => None,
+        Ok(Some(literal)) => Some(literal),
+        Ok(None) => None,
+        Err(_cause) => None,
     }
+}
+
+/// The order that the word writes, if it is a literal that says one.
+fn order_written(layout: &Layout, word: &[u8]) -> Option<NumberedOrder>
+    ensures { MatchOption result (WritesNone (operation_count layout.now) word.now) (Writes (operation_count layout.now) word.now) }
+{
+    layout.recall_limits();
+    let Some(literal) = literal_written(word) else {
+        return None;
+    };
+    order_said(layout, literal)
 }
 
 /// Appends the name of the operation of this number.
@@ -94,7 +107,7 @@ fn push_order(
 }
 
 /// The orders that the words of the cube write. A word that is no literal of an order, as the 0 at the end of a line, is passed over, as
-/// notes are no verdict and refuse nothing.
+/// notes are no verdict and refuse nothing; each other word has its order.
 fn orders_of(alloc: Global, layout: &Layout, cube: &[u8]) -> Result<Vec<NumberedOrder>, AllocError>
     ensures { IfOk result (λ orders. AreWritten (operation_count layout.now) (words_of cube.now) orders.items) }
 {
