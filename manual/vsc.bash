@@ -6,13 +6,13 @@ _vsc() {
         [[ ${COMP_WORDS[at]} == -* ]] || { command=${COMP_WORDS[at]}; break; }
     done
     if [[ -z $command ]]; then
-        COMPREPLY=($(compgen -W "verify judge cnf decode lrat recheck part survey refusals help -h --help -V --version" -- "$current"))
+        COMPREPLY=($(compgen -W "verify judge cnf decode lrat recheck part survey refusals batch help -h --help -V --version" -- "$current"))
         return
     fi
     case $command:$before in
         -:-) COMPREPLY=($(compgen -d -- "$current")); return ;;
-        verify:--workers|verify:--split|verify:--budget|verify:--rounds|cnf:--workers|survey:--budget|survey:--workers) return ;;
-        verify:--cert|verify:--picture|recheck:--part|survey:--cert|survey:--names|survey:--part|survey:--picture) compopt -o filenames 2> /dev/null; COMPREPLY=($(compgen -f -- "$current")); return ;;
+        verify:--workers|verify:--split|verify:--budget|verify:--rounds|cnf:--workers|survey:--budget|survey:--workers|batch:--workers|batch:--split|batch:--budget) return ;;
+        verify:--cert|verify:--picture|recheck:--part|survey:--cert|survey:--names|survey:--part|survey:--picture|survey:--hint) compopt -o filenames 2> /dev/null; COMPREPLY=($(compgen -f -- "$current")); return ;;
     esac
     case $command in
         verify) options='--cert --workers --split --budget --rounds --progress --picture --explain --no-explain --help' ;;
@@ -22,9 +22,10 @@ _vsc() {
         lrat) options='--explain --no-explain --help' ;;
         recheck) options='--part --explain --no-explain --help' ;;
         part) options='--names --explain --no-explain --help' ;;
-        survey) options='--cert --names --part --budget --workers --progress --picture --explain --no-explain --help' ;;
+        survey) options='--cert --names --part --budget --workers --progress --picture --hint --explain --no-explain --help' ;;
         refusals) options='--explain --no-explain --help' ;;
-        help) COMPREPLY=($(compgen -W 'verify judge cnf decode lrat recheck part survey refusals' -- "$current")) ;;
+        batch) options='--workers --split --budget --explain --no-explain --help' ;;
+        help) COMPREPLY=($(compgen -W 'verify judge cnf decode lrat recheck part survey refusals batch' -- "$current")) ;;
     esac
     if [[ $current == -* ]]; then
         COMPREPLY=($(compgen -W "$options" -- "$current"))

@@ -599,9 +599,7 @@ def lines_of(text):
 
 
 def read_clause(trace, words, active, variables):
-    """Adds the clause of a line, or numbers a pair. The program does not know lines `n` yet."""
-    if words[0] == "n":
-        raise Refused("BadLine")
+    """Adds the clause of a line, or numbers a pair."""
     if words[0] == "v":
         rest = Words(trace, words[1:])
         pair = rest.pair()

@@ -7,6 +7,8 @@ import re
 import subprocess
 import tempfile
 
+import reference_reasons
+
 HERE = os.path.dirname(os.path.realpath(__file__))
 ROOT = os.path.dirname(HERE)
 SECONDS = 300
@@ -42,6 +44,8 @@ STORE_BUFFERING_CNF = (
 STORE_BUFFERING_PROOF = "15 0 1 2 11 12 3 7 13 14 0\n"
 
 CERTIFICATE = "vsc-cert 1\nsplit 3\nleaf\nleaf\nproof 0\n16 0 13 14 15 0\nend\nproof 1\n16 0 1 2 11 12 3 7 15 0\nend\n"
+THREE_TRACES = HAND_OFF + STORE_BUFFERING + "vsc 1\nproc P\n"
+THREE_ANSWERS = ("CONSISTENT", "INCONSISTENT cubes=4", "CONSISTENT")
 PART_OF_HAND_OFF = "vsc 1\nproc P\n# P.1\nW x 1\nproc Q\n# Q.1\nR x 1\n"
 
 # Of the part of `UNWRITTEN` that Q.2 makes up, since nothing writes what it reads; and the notes on that.
@@ -115,6 +119,18 @@ class Row:
         report = b"INCONSISTENT " + re.search(rb"cubes=\d+\n", self.printed).group()
         return ended == Ended(1, report, self.told, (self.written[0], EARLIER, EARLIER))
 
+    def allows_reasons(self, ended):
+        """Whether it is a report by reasons of a survey whose core's part was left open, with a certificate that a plain checker accepts."""
+        found = re.match(rb"INCONSISTENT operations=\d+ reasons=(\d+)\n", ended.out)
+        if found is None or not self.written or not self.printed.startswith(b"INCONSISTENT operations="):
+            return False
+        certificate, *others = ended.files
+        is_silent = (ended.status, ended.err) == (1, self.told) and all(content == EARLIER for content in others)
+        return is_silent and reference_reasons.answer(reference_reasons.Trace(self.texts[0]), certificate.decode()) == (
+            f"ACCEPTED clauses={int(found[1])}",
+            0,
+        )
+
     def opened(self, ended):
         """The cubes that a report leaves open, or None where it is no such report."""
         lines = ended.out.decode().split("\n")
@@ -175,6 +191,39 @@ class Row:
             part, _ = run([program, "part", "--names", trace, others[0]], {})
             are_right = self.written[1] == self.printed.partition(b"\n")[2] and part == Ended(0, self.written[2], b"", ())
             return None if are_right else told(ended)
+
+
+class Many(Row):
+    """A command that decides many traces of one file, whose name stands in each line: so it has one path for all runs."""
+
+    def __init__(self, title, command, text, status, lines, told=""):
+        self.folder = tempfile.TemporaryDirectory(prefix="vsc-many-")
+        self.path = os.path.join(self.folder.name, "traces")
+        with open(self.path, "w", encoding="ascii") as file:
+            file.write(text)
+        printed = "".join(f"{self.path}:{number} {line}\n" for number, line in enumerate(lines, 1))
+        super().__init__(title, command, [text], status, printed, told=told)
+
+    def words(self, program, folder):
+        return [program, *self.command.split(), self.path]
+
+    def allows_refused(self, ended):
+        """Whether each line is the one that is wanted, or says that memory was refused or that cubes are open, with the status of these lines."""
+        lines, wanted = ended.out.splitlines(), self.printed.splitlines()
+        said = [line.partition(b" ")[2] for line in lines]
+        are_places = [line.partition(b" ")[0] for line in lines] == [line.partition(b" ")[0] for line in wanted]
+        are_answers = are_places and all(
+            line == right or answer == REFUSED[1].strip() or re.fullmatch(rb"UNKNOWN open=[1-9]\d*", answer)
+            for line, right, answer in zip(lines, wanted, said)
+        )
+        refusals = [answer + b"\n" for answer in said if answer.startswith(b"refused: ")]
+        if any(answer.startswith(b"INCONSISTENT") for answer in said):
+            status, err = 1, b""
+        elif refusals:
+            status, err = 2, refusals[0]
+        else:
+            status, err = (3 if any(answer.startswith(b"UNKNOWN") for answer in said) else 0), b""
+        return are_answers and (ended.status, ended.err) == (status, err)
 
 
 def without_notes(ended):
