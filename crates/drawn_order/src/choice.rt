@@ -30,7 +30,7 @@ pub(crate) fn number_at(process: usize, k: usize) -> Option<OperationNumber> {
     let Ok(process) = u16::try_from(process) else {
         return None;
     };
-    match u16::try_from(k.saturating_add(1)) {
+    match u32::try_from(k.saturating_add(1)) {
         Ok(place) => Some(OperationNumber { process, place }),
         Err(_) => None,
     }

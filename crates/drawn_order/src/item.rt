@@ -72,7 +72,7 @@ impl<'t> PictureItem<'t> {
     }
 
     /// Returns whether it is the operation at this place of the process.
-    pub fn is_named(&self, process: &[u8], place: u16) -> bool {
+    pub fn is_named(&self, process: &[u8], place: u32) -> bool {
         self.op.is_some() && self.number.place == place && self.process == process
     }
 

@@ -3,9 +3,9 @@ use Rattle.std.specs.Prelude.{◌-◌, ℕ, List}
 use Rattle.std.specs.List.{sum_by}
 use Rattle.forced_order.specs.Rows.{OrderValue}
 
--- a place has 16 bits
+-- a place has 32 bits
 abbrev pub place_room : ℕ → ℕ
-place_room place = 65535 - place
+place_room place = 4294967295 - place
 
 abbrev pub row_room : List ℕ → ℕ
 row_room row = sum_by place_room row

@@ -36,7 +36,7 @@ impl ForcedOrder {
     }
 
     /// Returns the last place of the process that stands before the operation; 0 if none does.
-    pub fn last_before(&self, n: OperationNumber, process: u16) -> u16
+    pub fn last_before(&self, n: OperationNumber, process: u16) -> u32
         ensures { result ≡ last_before self.now n process }
     {
         self.rows.last_before(n, process)

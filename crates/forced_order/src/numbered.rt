@@ -4,5 +4,5 @@
 #[derive(Clone, Copy, Drop)]
 pub struct OperationNumber {
     pub process: u16,
-    pub place: u16,
+    pub place: u32,
 }

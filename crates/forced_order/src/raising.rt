@@ -3,6 +3,8 @@
 ghost use Rattle.std.specs.Prelude.{◌≡◌, ◌≤◌, ◌<◌, ◌+◌, Some, IsSome, length};
 ghost use Rattle.std.specs.List.{slice_get};
 ghost use Rattle.trace_semantics.specs.declared.trace.Process.{Process as Listed};
+ghost use Rattle.trace_semantics.specs.declared.limits.Limits.TheVariants.{Large};
+ghost use Rattle.trace_semantics.specs.Limits.{max_operations};
 ghost use Rattle.trace_semantics.specs.Trace.{IsTrace};
 ghost use Rattle.forced_order.specs.Closed.{AreClosed, AreProcessesClosed, ArePairsClosed, AreStepsClosed, IsClosedStep};
 ghost use Rattle.forced_order.specs.Forced.{numbered_pairs};
@@ -18,7 +20,7 @@ fn count_of(trace: &Trace, k: usize) -> usize
     requires trace { IsTrace trace.now }
     ensures count { (p : Listed) → slice_get trace.now.processes k ≡ Some p → result ≡ length p.operations }
     ensures found { 1 ≤ result → IsSome (slice_get trace.now.processes k) }
-    ensures few { result ≤ 4096 }
+    ensures few { result ≤ max_operations Large }
 {
     match trace.processes().get(k) {
         Some(process) => process.operations.as_slice().len(),
@@ -128,7 +130,7 @@ fn raise_process(rows: &mut OrderRows, trace: &Trace, process: u16) -> bool
     for place in 1..count {
         let n = OperationNumber {
             process,
-            place: place as u16,
+            place: place as u32,
         };
         let more = raise_next(rows, trace, n);
         rose = either(rose, more);

@@ -17,7 +17,7 @@ pub fn either(first: bool, second: bool) -> bool
 /// What is known of one operation: for each process the last place there that stands before it, or 0.
 #[derive(Drop)]
 pub struct OperationRow {
-    places: Vec<u16>,
+    places: Vec<u32>,
 }
 
 impl Model for OperationRow {
@@ -46,7 +46,7 @@ impl OperationRow {
     }
 
     /// Returns the last place of the process, or 0.
-    fn last(&self, process: u16) -> u16
+    fn last(&self, process: u16) -> u32
         ensures { result ≡ slice_index_or self.now process 0 }
     {
         let k = process as usize;
@@ -58,7 +58,7 @@ impl OperationRow {
     }
 
     /// Raises the place of the process to this one, and returns whether it was lower.
-    fn raise(&mut self, process: u16, place: u16) -> bool
+    fn raise(&mut self, process: u16, place: u32) -> bool
         ensures raised { IsRowRaised self.old self.new process place }
         ensures less { result ≡ true → row_room self.new < row_room self.old }
         ensures same { result ≡ false → self.new ≡ self.old }
@@ -107,7 +107,7 @@ impl ProcessRows {
     }
 
     /// Returns the last place of the process before the operation at this place, or 0.
-    fn last(&self, at: u16, process: u16) -> u16
+    fn last(&self, at: u32, process: u16) -> u32
         ensures { result ≡ slice_index_or (slice_index_or self.now at []) process 0 }
     {
         let k = at as usize;
@@ -119,7 +119,7 @@ impl ProcessRows {
     }
 
     /// Raises the place of the process in the row of the operation at this place.
-    fn raise(&mut self, at: u16, process: u16, place: u16) -> bool
+    fn raise(&mut self, at: u32, process: u16, place: u32) -> bool
         ensures raised { AreRowsRaised self.old self.new at process place }
         ensures less { result ≡ true → process_room self.new < process_room self.old }
         ensures same { result ≡ false → self.new ≡ self.old }
@@ -172,7 +172,7 @@ impl OrderRows {
     }
 
     /// Returns the last place of the process that stands before the operation; 0 if none does.
-    pub fn last_before(&self, n: OperationNumber, process: u16) -> u16
+    pub fn last_before(&self, n: OperationNumber, process: u16) -> u32
         ensures { result ≡ last_before self.now n process }
     {
         let k = n.process as usize;
@@ -184,7 +184,7 @@ impl OrderRows {
     }
 
     /// Raises the place of the process in the row of the operation, and returns whether it was lower.
-    fn raise(&mut self, n: OperationNumber, process: u16, place: u16) -> bool
+    fn raise(&mut self, n: OperationNumber, process: u16, place: u32) -> bool
         ensures raised { IsRaised self.old self.new n process place }
         ensures rise { IsRise result self.old self.new }
         ensures high { result ≡ false → HasRow self.old n → process < 64 → place ≤ last_before self.old n process }

@@ -18,9 +18,9 @@ pub enum OrderStep {
 #[derive(Drop)]
 struct Front {
     /// For each place, the number of pairs that put an operation before it from which the walk has not yet gone on.
-    waits: Vec<u16>,
+    waits: Vec<u32>,
     /// The last place that was visited, or 0.
-    visited: u16,
+    visited: u32,
     /// The number of the next pair from an operation of this process.
     next_pair: usize,
 }
@@ -32,14 +32,14 @@ impl Front {
         next < self.waits.len() && (forced || self.waits[next] == 0)
     }
 
-    fn add_wait(&mut self, place: u16) {
+    fn add_wait(&mut self, place: u32) {
         let k = place as usize;
         if k < self.waits.len() {
             self.waits[k] = self.waits[k].saturating_add(1);
         }
     }
 
-    fn remove_wait(&mut self, place: u16) {
+    fn remove_wait(&mut self, place: u32) {
         let k = place as usize;
         if k < self.waits.len() {
             self.waits[k] = self.waits[k].saturating_sub(1);
@@ -155,7 +155,7 @@ impl<'a> FrontWalk<'a> {
     fn go_on(&mut self) -> Result<bool, AllocError> {
         let before = self.steps.len();
         for process in 0..self.fronts.len() {
-            for _ in 0..u16::MAX {
+            for _ in 0..u32::MAX {
                 if !self.may_visit(process, false) {
                     break;
                 }
@@ -184,7 +184,7 @@ pub fn steps_of(
     pairs: &[(OperationNumber, OperationNumber)],
 ) -> Result<Vec<OrderStep>, AllocError> {
     let mut walk = FrontWalk::new(alloc, counts, pairs)?;
-    for _ in 0..u16::MAX {
+    for _ in 0..u32::MAX {
         if !walk.go_on()? && !walk.break_cycle()? {
             break;
         }

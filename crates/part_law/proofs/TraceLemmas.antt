@@ -20,6 +20,8 @@ use Rattle.trace_semantics.specs.declared.trace.Process.{Process}
 use Rattle.trace_semantics.specs.Names.{is_name}
 use Rattle.trace_semantics.specs.Operation.{location_of, written_value, origin_of}
 use Rattle.trace_semantics.specs.PairOrder.{order_of, pair_order, ArePairsRising}
+use Rattle.trace_semantics.specs.declared.limits.Limits.TheVariants.{Large}
+use Rattle.trace_semantics.specs.Limits.{max_pairs}
 use Rattle.trace_semantics.specs.Trace.{TraceValue, IsTrace, operation_at, operation_names, is_written_value, is_written_name, is_written_origin, is_written_op, is_written_process, is_written_pair, locations_of}
 use Rattle.trace_semantics.proofs.DistinctLemmas.{few_named}
 use Rattle.trace_semantics.proofs.ElementLemmas.{all_pass, pass_all, from_map, to_map, from_filter, from_flat_map}
@@ -147,7 +149,7 @@ module _ (t : TraceValue) (ok : IsTrace t) (ordered : OpName → OpName → Bool
         apart = not-true (bytes_eq pair.0.process pair.1.process) other.0;
       }
 
-  few_told : length told ≤ 4096
+  few_told : length told ≤ max_pairs Large
   few_told = omega (arith, length-take 4096 (filter (is_told t ordered left) (left_pairs t left)))
 
 -- its fields

@@ -28,6 +28,7 @@ use Rattle.verdict_report.specs.Engine.{IsRunOfWriting}
 use Rattle.verdict_report.specs.Fault.{fault_of_part}
 use Rattle.part_report.specs.PartEngine.{IsSaidOfChoice, MakeUp, WritesPart, part_status}
 use Rattle.verdict_report.specs.Runs.{SourceRun, SinkRun, HandsOut}
+use Rattle.trace_semantics.specs.ScheduleLimits.{limits_for}
 
 pub whole_refuted : (t : TraceValue) → IsTrace t → (names : List OpName) (made : PartValue) → IsPart t names made → HasNoSchedule made.trace → HasNoSchedule t
 whole_refuted t ok names made is_part none schedule legal =
@@ -36,11 +37,11 @@ whole_refuted t ok names made is_part none schedule legal =
 
 module _ (trace_text names_text : List ℕ) (value : TraceValue) (is_trace : IsTrace value) (spelled : SpellsTrace trace_text value) where
   -- the names' text has a fault
-  pub unlisted : (fault : PartFault ScheduleCause) → IsRefusal (HasScheduleFault names_text) fault → IsSaidOfChoice trace_text names_text (Err (fault_of_part Schedule fault))
+  pub unlisted : (fault : PartFault ScheduleCause) → IsRefusal (HasScheduleFault (limits_for value) names_text) fault → IsSaidOfChoice trace_text names_text (Err (fault_of_part Schedule fault))
   unlisted NoPartMemory refusal = tt
   unlisted (At cause line) refusal = record { value = value; is_trace = is_trace; spelled = spelled; faulty = refusal }
 
-  module _ (names : List OpName) (listed : SpellsSchedule names_text names) where
+  module _ (names : List OpName) (listed : SpellsSchedule (limits_for value) names_text names) where
     -- the names are no choice of operations of the trace
     pub unchosen : (fault : PartFault PartCause) → IsRefusal (HasChoiceFault value names names_text) fault → IsSaidOfChoice trace_text names_text (Err (fault_of_part Part fault))
     unchosen NoPartMemory refusal = tt

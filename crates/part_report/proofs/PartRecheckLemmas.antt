@@ -26,6 +26,7 @@ use Rattle.part_report.specs.PartRecheckEngine.{AreRecheckedByPart, IsSaidByPart
 use Rattle.verdict_report.specs.RecheckEngine.{IsRecheckedFor, InputHasNoLegalSchedule}
 use Rattle.verdict_report.specs.Runs.{SourceRun, HandsOut}
 use Rattle.part_report.proofs.PartLemmas.{whole_refuted}
+use Rattle.trace_semantics.specs.ScheduleLimits.{limits_for}
 
 module _ (trace_text cert_text names_text : List ℕ) (value : TraceValue) (is_trace : IsTrace value) (spelled : SpellsTrace trace_text value) where
   -- the certificate's text has a fault
@@ -35,11 +36,11 @@ module _ (trace_text cert_text names_text : List ℕ) (value : TraceValue) (is_t
 
   module _ (certificate : Certificate) (read : SpellsCertificate cert_text certificate) where
     -- the names' text has a fault
-    pub unlisted : (fault : PartFault ScheduleCause) → IsRefusal (HasScheduleFault names_text) fault → IsSaidByPart trace_text cert_text names_text (Err (fault_of_part Schedule fault))
+    pub unlisted : (fault : PartFault ScheduleCause) → IsRefusal (HasScheduleFault (limits_for value) names_text) fault → IsSaidByPart trace_text cert_text names_text (Err (fault_of_part Schedule fault))
     unlisted NoPartMemory refusal = tt
     unlisted (At cause line) refusal = ((certificate, read), record { value = value; is_trace = is_trace; spelled = spelled; faulty = refusal })
 
-    module _ (names : List OpName) (listed : SpellsSchedule names_text names) where
+    module _ (names : List OpName) (listed : SpellsSchedule (limits_for value) names_text names) where
       -- the names are no choice of operations of the trace
       pub unchosen : (fault : PartFault PartCause) → IsRefusal (HasChoiceFault value names names_text) fault → IsSaidByPart trace_text cert_text names_text (Err (fault_of_part Part fault))
       unchosen NoPartMemory refusal = tt

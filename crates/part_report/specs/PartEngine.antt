@@ -17,6 +17,7 @@ use Rattle.verdict_report.specs.declared.status.Status.TheVariants.{Yes}
 use Rattle.verdict_report.specs.Engine.{AtOnce, IsRunOfEngine, of_two}
 use Rattle.verdict_report.specs.JudgeEngine.{HasFaultySchedule}
 use Rattle.verdict_report.specs.Runs.{SourceRun, SinkRun, HandsOut}
+use Rattle.trace_semantics.specs.ScheduleLimits.{limits_for}
 
 -- the texts spell a trace and the names of some of its operations, which make up this part
 pub record MakeUp (trace_text names_text : List ℕ) (made : PartValue) : Type 0 where
@@ -24,7 +25,7 @@ pub record MakeUp (trace_text names_text : List ℕ) (made : PartValue) : Type 0
   pub is_trace : IsTrace value
   pub spelled : SpellsTrace trace_text value
   pub names : List OpName
-  pub listed : SpellsSchedule names_text names
+  pub listed : SpellsSchedule (limits_for value) names_text names
   pub is_part : IsPart value names made
 
 -- the texts spell a trace and names that make up no part of it: the first that does not is on this line
@@ -33,7 +34,7 @@ pub record HasFaultyChoice (trace_text names_text : List ℕ) (cause : PartCause
   pub is_trace : IsTrace value
   pub spelled : SpellsTrace trace_text value
   pub names : List OpName
-  pub listed : SpellsSchedule names_text names
+  pub listed : SpellsSchedule (limits_for value) names_text names
   pub faulty : HasChoiceFault value names names_text cause line
 
 -- what is said of two texts: the part, or why one of them is refused

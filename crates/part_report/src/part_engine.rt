@@ -12,6 +12,7 @@ use part_text::part_writer::write_part;
 use schedule_text::schedule_reader::read_schedule;
 use std::alloc::Global;
 use trace_part::part::TracePart;
+use trace_semantics::trace_size::limits_for;
 use trace_text::trace_reader::read_trace;
 use verdict_report::{Fault, Source, Status, read_two};
 
@@ -49,7 +50,7 @@ fn part_of_texts(alloc: Global, trace_text: &[u8], names_text: &[u8]) -> Result<
     ensures { IsSaidOfChoice trace_text.now names_text.now result }
 {
     let trace = read_trace(alloc, trace_text)?;
-    let names = read_schedule(alloc, names_text)?;
+    let names = read_schedule(alloc, limits_for(&trace), names_text)?;
     Ok(named_part(alloc, &trace, &names, names_text)?)
 }
 

@@ -11,6 +11,7 @@ use part_text::named_part::named_part;
 use reducer::reduced::reduce;
 use schedule_text::schedule_reader::read_schedule;
 use std::alloc::Global;
+use trace_semantics::trace_size::limits_for;
 use trace_text::trace_reader::read_trace;
 use verdict_report::{Fault, Source, Status, read_three, recheck_reduced, write_count};
 
@@ -62,7 +63,7 @@ fn recheck_part(
 {
     let trace = read_trace(alloc, trace_text)?;
     let certificate = take_cert(alloc, cert_text)?;
-    let names = read_schedule(alloc, names_text)?;
+    let names = read_schedule(alloc, limits_for(&trace), names_text)?;
     let part = named_part(alloc, &trace, &names, names_text)?;
     let reduced = reduce(alloc, part.trace())?;
     recheck_reduced(alloc, &reduced, &certificate)

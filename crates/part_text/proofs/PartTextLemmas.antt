@@ -22,8 +22,8 @@ use Rattle.trace_semantics.specs.Trace.{TraceValue, IsTrace, is_written_process}
 use Rattle.restriction.specs.Left.{is_left, names_from}
 use Rattle.part_law.specs.Part.{stays}
 use Rattle.part_law.proofs.TraceLemmas.{part_is_trace}
-use Rattle.trace_text.specs.TraceText.{SpellsTrace, header_line, init_line, final_line, op_line, proc_line, process_lines, before_line, needs_version_2}
-use Rattle.trace_text.specs.TraceWritten.{canonical_lines, canonical_trace, line_text}
+use Rattle.trace_text.specs.TraceText.{SpellsTrace, header_line, init_line, final_line, op_line, proc_line, process_lines, before_line}
+use Rattle.trace_text.specs.TraceWritten.{version_for, canonical_lines, canonical_trace, line_text}
 use Rattle.trace_text.proofs.Writing.LineTextLemmas.{is_line, is_word, name_is_word, no_line_feed_joined, number_is_word, words_joined, written_kept}
 use Rattle.trace_text.proofs.Writing.TraceWrittenLemmas.{lines_kept_of, written_spells}
 use Rattle.trace_part.specs.TraceParts.{PartValue, IsPart, left_places}
@@ -195,7 +195,7 @@ text_spells t names p true ok given =
     let plain = written_spells p.trace is_trace in
     let small : (j : ℕ) → AreSmall (slice_index_or p.places j []) =
     subst (λ (places : List (List ℕ)). (j : ℕ) → AreSmall (slice_index_or places j [])) (sym given.places_are) (small_places t ok (stays t given.ordered (has_come names))) in
-    let head = header_line (needs_version_2 p.trace) in
+    let head = header_line (version_for p.trace) in
     let first = map init_line p.trace.initial in
     let second = map final_line p.trace.final_values in
     let third = flat_map process_lines p.trace.processes in
@@ -207,7 +207,7 @@ text_spells t names p true ok given =
     kept_written (named_lines p) words ∙ row_says head first second third last (named_processes p.places 0 p.trace.processes) (processes_say p.places 0 p.trace.processes) ∙ all_say (canonical_lines p.trace) lines in
     let before : kept (lines_of (canonical_trace p.trace)) ≡ canonical_lines p.trace = written_kept (canonical_lines p.trace) lines in
     record {
-      two = plain.two;
+      version = plain.version;
       body = plain.body;
       lines = same ∙ sym before ∙ plain.lines;
       processes = plain.processes;
@@ -216,5 +216,6 @@ text_spells t names p true ok given =
       in_front = plain.in_front;
       before = plain.before;
       few_before = plain.few_before;
-      version = plain.version;
+      lines_known = plain.lines_known;
+      fits = plain.fits;
     }

@@ -5,8 +5,8 @@ use Rattle.trace_semantics.specs.declared.operation.Op.{Op}
 use Rattle.trace_semantics.specs.declared.operation.OpName.{OpName}
 use Rattle.trace_semantics.specs.declared.trace.Process.{Process}
 use Rattle.schedule_text.specs.ScheduleText.{name_word}
-use Rattle.trace_text.specs.TraceText.{header_line, init_line, final_line, proc_line, op_line, before_line, needs_version_2}
-use Rattle.trace_text.specs.TraceWritten.{line_text, canonical_trace}
+use Rattle.trace_text.specs.TraceText.{header_line, init_line, final_line, proc_line, op_line, before_line}
+use Rattle.trace_text.specs.TraceWritten.{line_text, version_for, canonical_trace}
 use Rattle.trace_part.specs.TraceParts.{PartValue}
 
 -- a comment with the name of an operation
@@ -32,10 +32,13 @@ abbrev pub named_processes : List (List ℕ) → ℕ → List Process → List (
 named_processes places k [] = []
 named_processes places k (p ∷ ps) = named_process (slice_index_or places k []) p ++ named_processes places (k + 1) ps
 
--- the lines of the part, those of a trace, with a comment before each operation
+-- the lines after the header, those of a trace, with a comment before each operation
+abbrev pub named_body : PartValue → List (List (List ℕ))
+named_body p = map init_line p.trace.initial ++ (map final_line p.trace.final_values ++ (named_processes p.places 0 p.trace.processes ++ map before_line p.trace.before))
+
+-- the lines of the part
 abbrev pub named_lines : PartValue → List (List (List ℕ))
-named_lines p = header_line (needs_version_2 p.trace)
-    ∷ (map init_line p.trace.initial ++ (map final_line p.trace.final_values ++ (named_processes p.places 0 p.trace.processes ++ map before_line p.trace.before)))
+named_lines p = header_line (version_for p.trace) ∷ named_body p
 
 -- the text of the part, with the names of its operations in the whole, or without
 abbrev pub part_text : Bool → PartValue → List ℕ

@@ -3,6 +3,7 @@
 ghost use Rattle.std.specs.Prelude.{IfOk, IfErr};
 ghost use Rattle.text_lines.specs.Fault.{IsRefusal};
 ghost use Rattle.schedule_text.specs.ScheduleText.{SpellsSchedule};
+ghost use Rattle.trace_semantics.specs.ScheduleLimits.{limits_for};
 ghost use Rattle.trace_part.specs.TraceParts.{IsPart};
 ghost use Rattle.part_text.specs.NameLine.{HasChoiceFault};
 
@@ -23,7 +24,7 @@ pub fn named_part(
     text: &[u8],
 ) -> Result<TracePart, PartFault>
     ensures part { IfOk result (IsPart trace.now names.now) }
-    ensures refused { SpellsSchedule text.now names.now → IfErr result (IsRefusal (HasChoiceFault trace.now names.now text.now)) }
+    ensures refused { SpellsSchedule (limits_for trace.now) text.now names.now → IfErr result (IsRefusal (HasChoiceFault trace.now names.now text.now)) }
 {
     match part_of(alloc, trace, names.names()) {
         Ok(part) => Ok(part),

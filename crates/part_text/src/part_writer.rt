@@ -3,7 +3,7 @@
 ghost use Rattle.std.specs.Prelude.{◌≡◌, ◌++◌, true, IfOk, OnOk};
 ghost use Rattle.std.specs.List.{flat_map, slice_get};
 ghost use Rattle.trace_text.specs.TraceWritten.{line_text};
-ghost use Rattle.part_text.specs.PartText.{name_comment, named_op, named_ops, named_process, named_processes, part_text};
+ghost use Rattle.part_text.specs.PartText.{name_comment, named_body, named_op, named_ops, named_process, named_processes, part_text};
 
 use itoa::Buffer;
 use std::alloc::{AllocError, Global};
@@ -12,11 +12,11 @@ use trace_semantics::name::Name;
 use trace_semantics::operation::Op;
 use trace_semantics::trace::Process;
 use trace_text::trace_writer::{
-    push_entries, push_header, push_op, push_pairs, wanted_version, write_trace,
+    push_entries, push_op, push_pairs, push_wanted_header, write_trace,
 };
 
 /// Appends the comment with the name of an operation.
-fn push_name_comment(text: &mut Vec<u8>, process: &Name, place: u16) -> Result<(), AllocError>
+fn push_name_comment(text: &mut Vec<u8>, process: &Name, place: u32) -> Result<(), AllocError>
     ensures { OnOk result (text.new.items ≡ text.old.items ++ line_text (name_comment (record { process = process.now; place = place }))) }
 {
     let mut buffer = Buffer::new();
@@ -29,7 +29,7 @@ fn push_name_comment(text: &mut Vec<u8>, process: &Name, place: u16) -> Result<(
 }
 
 /// The place of this number, counted from 0, if there is one.
-fn place_at(places: &[u16], k: usize) -> Option<u16>
+fn place_at(places: &[u32], k: usize) -> Option<u32>
     ensures { result ≡ slice_get places.now k }
 {
     if k < places.len() {
@@ -43,7 +43,7 @@ fn place_at(places: &[u16], k: usize) -> Option<u16>
 fn push_named_op(
     text: &mut Vec<u8>,
     process: &Name,
-    place: Option<u16>,
+    place: Option<u32>,
     op: &Op,
 ) -> Result<(), AllocError>
     ensures { OnOk result (text.new.items ≡ text.old.items ++ flat_map line_text (named_op process.now place op.now)) }
@@ -61,7 +61,7 @@ fn push_named_op(
 fn push_named_ops(
     text: &mut Vec<u8>,
     process: &Name,
-    places: &[u16],
+    places: &[u32],
     ops: &[Op],
 ) -> Result<(), AllocError>
     ensures { OnOk result (text.new.items ≡ text.old.items ++ flat_map line_text (named_ops process.now places.now 0 ops.now)) }
@@ -75,7 +75,7 @@ fn push_named_ops(
 /// Appends a process, of which the operations have these places in the whole.
 fn push_named_process(
     text: &mut Vec<u8>,
-    places: &[u16],
+    places: &[u32],
     process: &Process,
 ) -> Result<(), AllocError>
     ensures { OnOk result (text.new.items ≡ text.old.items ++ flat_map line_text (named_process places.now process.now)) }
@@ -97,17 +97,25 @@ fn push_named_processes(text: &mut Vec<u8>, part: &TracePart) -> Result<(), Allo
     Ok(())
 }
 
+/// Appends the lines after the header, with a comment before each operation, which has its name in the whole.
+fn push_named_body(text: &mut Vec<u8>, part: &TracePart) -> Result<(), AllocError>
+    ensures { OnOk result (text.new.items ≡ text.old.items ++ flat_map line_text (named_body part.now)) }
+{
+    let trace = part.trace();
+    push_entries(text, b"init", trace.initial())?;
+    push_entries(text, b"final", trace.final_values())?;
+    push_named_processes(text, part)?;
+    let pairs = trace.before();
+    push_pairs(text, pairs)
+}
+
 /// The text of the part with a comment before each operation, which has its name in the whole.
 fn write_named(alloc: Global, part: &TracePart) -> Result<Vec<u8>, AllocError>
     ensures { IfOk result (λ text. text.items ≡ part_text true part.now) }
 {
-    let trace = part.trace();
     let mut text = Vec::new(alloc);
-    push_header(&mut text, wanted_version(trace))?;
-    push_entries(&mut text, b"init", trace.initial())?;
-    push_entries(&mut text, b"final", trace.final_values())?;
-    push_named_processes(&mut text, part)?;
-    push_pairs(&mut text, trace.before())?;
+    push_wanted_header(alloc, &mut text, part.trace())?;
+    push_named_body(&mut text, part)?;
     Ok(text)
 }
 

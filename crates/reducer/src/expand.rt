@@ -18,8 +18,8 @@ fn push_names(
     alloc: Global,
     names: &mut Vec<OpName>,
     process: &[u8],
-    first: u16,
-    end: u16,
+    first: u32,
+    end: u32,
 ) -> Result<(), AllocError>
     ensures { OnOk result (names.new.items ≡ names.old.items ++ names_from process.now first (end - first)) }
 {

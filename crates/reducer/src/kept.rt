@@ -35,7 +35,7 @@ fn kept_operations<'a>(
     trace: &Trace,
     left: &'a [LeftPlaces<'a>],
     process: &Process,
-    places: &[u16],
+    places: &[u32],
 ) -> Result<Vec<Op>, AllocError>
     requires left { ArePlacesLeft trace.now (reduction.kept_op trace.now) left.now }
     requires listed { Contains trace.now.processes process.now }

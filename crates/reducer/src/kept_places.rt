@@ -5,6 +5,8 @@ ghost use Rattle.std.specs.List.{slice_get};
 ghost use Rattle.std.specs.Option.{option_copied, option_and_then};
 ghost use Rattle.std.specs.Str.{bytes_eq};
 ghost use Rattle.trace_semantics.specs.declared.trace.Process.{Process as Listed};
+ghost use Rattle.trace_semantics.specs.declared.limits.Limits.TheVariants.{Large};
+ghost use Rattle.trace_semantics.specs.Limits.{max_operations};
 ghost use Rattle.trace_semantics.specs.Trace.{at_place};
 ghost use Rattle.reducer.specs.Named.{HasNamed};
 ghost use Rattle.reducer.specs.Reduction as reduction;
@@ -21,7 +23,7 @@ use trace_semantics::trace::{Process, Trace};
 /// The places of the kept operations of a process, and then one more than its last place.
 #[derive(Drop)]
 pub struct KeptPlaces {
-    places: Vec<u16>,
+    places: Vec<u32>,
 }
 
 impl Model for KeptPlaces {
@@ -37,14 +39,14 @@ impl KeptPlaces {
     ghost use Rattle.reducer.specs.Runs.{without_last};
 
     /// Returns the bounds as a slice.
-    pub fn as_slice(&self) -> &[u16]
+    pub fn as_slice(&self) -> &[u32]
         ensures { result.now ≡ self.now }
     {
         self.places.as_slice()
     }
 
     /// Returns the places of the kept operations.
-    fn places(&self) -> &[u16]
+    fn places(&self) -> &[u32]
         ensures { result.now ≡ without_last self.now }
     {
         let bounds = self.places.as_slice();
@@ -103,17 +105,17 @@ fn bounds_in<'a>(
     set: &OpSet<'a>,
     process: &'a Process,
 ) -> Result<KeptPlaces, AllocError>
-    requires { length process.now.operations ≤ 4096 }
+    requires { length process.now.operations ≤ max_operations Large }
     ensures { IfOk result (λ bounds. bounds ≡ bounds_by (keeps set.now process.now) process.now) }
 {
     let mut places = Vec::new(alloc);
     let count = process.operations.as_slice().len();
     for k in 0..count {
         if is_kept(set, process, k) {
-            places.push((k + 1) as u16)?;
+            places.push((k + 1) as u32)?;
         }
     }
-    places.push((count + 1) as u16)?;
+    places.push((count + 1) as u32)?;
     Ok(KeptPlaces { places })
 }
 

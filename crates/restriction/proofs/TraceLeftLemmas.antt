@@ -124,14 +124,14 @@ module _ (t q : TraceValue) (ok : IsTrace t) (stays : OpName → Option Op) (mad
 
   pub written_name : (n : OpName) → is_left stays n ≡ true → is_written_name n ≡ true → is_written_name (new_name stays n) ≡ true
   written_name n left h =
-      let parts = and_parts (is_name n.process) (nat_le 1 n.place && nat_le n.place 65535) h in
-      let places = and_parts (nat_le 1 n.place) (nat_le n.place 65535) parts.1 in
+      let parts = and_parts (is_name n.process) (nat_le 1 n.place && nat_le n.place 4294967295) h in
+      let places = and_parts (nat_le 1 n.place) (nat_le n.place 4294967295) parts.1 in
       let low = leb-true 1 n.place places.0 in
-      let high = leb-true n.place 65535 places.1 in
+      let high = leb-true n.place 4294967295 places.1 in
       let start : OpName = record { process = n.process; place = 0 } in
       let above = higher stays start n refl (omega (arith, low)) left in
-      and_from (is_name n.process) (nat_le 1 (new_name stays n).place && nat_le (new_name stays n).place 65535) parts.0
-      (and_from (nat_le 1 (new_name stays n).place) (nat_le (new_name stays n).place 65535) (le-leb 1 (new_name stays n).place (omega (arith, above))) (le-leb (new_name stays n).place 65535 (omega (arith, fewer_places n, high))))
+      and_from (is_name n.process) (nat_le 1 (new_name stays n).place && nat_le (new_name stays n).place 4294967295) parts.0
+      (and_from (nat_le 1 (new_name stays n).place) (nat_le (new_name stays n).place 4294967295) (le-leb 1 (new_name stays n).place (omega (arith, above))) (le-leb (new_name stays n).place 4294967295 (omega (arith, fewer_places n, high))))
 
   written_origin : (o : Origin) → ((w : OpName) → o ≡ Operation w → is_left stays w ≡ true) → is_written_origin o ≡ true → is_written_origin (new_origin stays o) ≡ true
   written_origin Any k h = refl
@@ -171,8 +171,8 @@ module _ (t q : TraceValue) (ok : IsTrace t) (stays : OpName → Option Op) (mad
   name_written n h =
       let at = known_named t n h in
       let few = written_in at.process at.listed in
-      and_from (is_name n.process) (nat_le 1 n.place && nat_le n.place 65535) (ap is_name (sym at.called) ∙ few.0)
-      (and_from (nat_le 1 n.place) (nat_le n.place 65535) (le-leb 1 n.place at.least) (le-leb n.place 65535 (omega (arith, at.most, few_places at.process t.processes at.listed, ok.few_operations))))
+      and_from (is_name n.process) (nat_le 1 n.place && nat_le n.place 4294967295) (ap is_name (sym at.called) ∙ few.0)
+      (and_from (nat_le 1 n.place) (nat_le n.place 4294967295) (le-leb 1 n.place at.least) (le-leb n.place 4294967295 (omega (arith, at.most, few_places at.process t.processes at.listed, ok.few_operations))))
     where
       few_places : (p : Process) (ps : List Process) → Contains ps p → length p.operations ≤ sum_by (λ (r : Process). length r.operations) ps
       few_places p [] c = absurd (none_in p c)

@@ -7,7 +7,7 @@ use std::marker::Model;
 /// The old places of what remains of a process.
 #[derive(Drop)]
 pub struct LeftPlaces<'a> {
-    places: &'a [u16],
+    places: &'a [u32],
 }
 
 impl<'a> Model for LeftPlaces<'a> {
@@ -20,14 +20,14 @@ impl<'a> Model for LeftPlaces<'a> {
 
 impl<'a> LeftPlaces<'a> {
     /// Takes these places.
-    pub fn new(places: &'a [u16]) -> LeftPlaces<'a>
+    pub fn new(places: &'a [u32]) -> LeftPlaces<'a>
         ensures { result ≡ places.now }
     {
         LeftPlaces { places }
     }
 
     /// Returns the places as a slice.
-    pub fn as_slice(&self) -> &'a [u16]
+    pub fn as_slice(&self) -> &'a [u32]
         ensures { result.now ≡ self.now }
     {
         self.places

@@ -32,7 +32,7 @@ fn places_at<'a>(
 }
 
 /// Returns the number of places that are no higher than this one.
-pub fn count_up_to(places: &[u16], place: u16) -> usize
+pub fn count_up_to(places: &[u32], place: u32) -> usize
     ensures within { result ≤ length places.now }
     ensures count { result ≡ length (filter (λ other. nat_le other place) places.now) }
 {
@@ -40,14 +40,14 @@ pub fn count_up_to(places: &[u16], place: u16) -> usize
 }
 
 /// Returns the operation's place in what remains.
-fn new_place<'a>(trace: &Trace, all: &'a [LeftPlaces<'a>], name: &OpName) -> u16
+fn new_place<'a>(trace: &Trace, all: &'a [LeftPlaces<'a>], name: &OpName) -> u32
     ensures { (stays : Named → Option Old) → ArePlacesLeft trace.now stays all.now → result ≡ (naming.new_name stays name.now).place }
 {
     match places_at(trace.processes(), all, name.process.as_bytes()) {
         Some(left) => {
             let count = count_up_to(left.as_slice(), name.place);
             // as many as stay up to a place are at most the place, and the bound shows that the cast loses nothing
-            count.min(name.place as usize) as u16
+            count.min(name.place as usize) as u32
         }
         None => 0,
     }

@@ -4,6 +4,8 @@ ghost use Rattle.std.specs.Prelude.{◌≡◌, ◌≤◌, ◌++◌, length, IfOk
 ghost use Rattle.std.specs.List.{filter_map, slice_get};
 ghost use Rattle.trace_semantics.specs.Trace.{operation_names};
 ghost use Rattle.restriction.specs.Left.{names_of};
+ghost use Rattle.trace_semantics.specs.declared.limits.Limits.TheVariants.{Large};
+ghost use Rattle.trace_semantics.specs.Limits.{max_operations};
 
 use std::alloc::{AllocError, Global};
 use std::marker::Model;
@@ -15,7 +17,7 @@ use trace_semantics::trace::{Process, Trace};
 #[derive(Drop)]
 pub(crate) struct LentName<'a> {
     process: &'a Name,
-    place: u16,
+    place: u32,
 }
 
 impl<'a> Model for LentName<'a> {
@@ -42,13 +44,13 @@ impl<'a> LentName<'a> {
 
 /// Puts the names of a process's operations after the others.
 fn push_names<'a>(names: &mut Vec<LentName<'a>>, process: &'a Process) -> Result<(), AllocError>
-    requires { length process.now.operations ≤ 4096 }
+    requires { length process.now.operations ≤ max_operations Large }
     ensures { OnOk result (names.new.items ≡ names.old.items ++ names_of process.now) }
 {
     for k in 0..process.operations.as_slice().len() {
         names.push(LentName {
             process: &process.name,
-            place: (k + 1) as u16,
+            place: (k + 1) as u32,
         })?;
     }
     Ok(())

@@ -18,7 +18,10 @@ use Rattle.schedule_text.specs.declared.schedule_fault.ScheduleCause.TheVariants
 use Rattle.trace_semantics.proofs.NameByteLemmas.{apart, none_in_name, name_bytes}
 use Rattle.trace_semantics.specs.Names.{is_name, may_be_in_name}
 use Rattle.trace_semantics.specs.Place.{place_of}
-use Rattle.schedule_text.specs.ScheduleText.{name_word, is_op_name, is_dot, name_fault}
+use Rattle.schedule_text.specs.ScheduleText.{place_within, name_word, is_op_name, is_dot, name_fault}
+use Rattle.trace_semantics.specs.declared.limits.Limits.{Limits}
+use Rattle.trace_semantics.specs.Limits.{max_operations, max_place}
+use Rattle.trace_semantics.proofs.LimitLemmas.{places_in}
 
 -- an element passes if and only if the first place that passes is within the list
 found_within_of : (b any : Bool) (m n : ℕ) → (b || any) ≡ true → (any ≡ true → m < n) → cond (not b) (1 + m) 0 < suc n
@@ -73,37 +76,47 @@ cut_word_at_dot word h =
     split_at_first is_dot word 0 within ∙ ap (λ b. before_first is_dot word ++ b ∷ after_first is_dot word) byte
 
 -- a place is written in decimal
-pub place_some : (word : List ℕ) (k : ℕ) → place_of word ≡ Some k → (word ≡ decimal k) × (1 ≤ k) × (k ≤ 65535)
-place_some word k e =
-    option_and_then_some (λ n. cond (leb 1 n) (Some n) None) (plain_number_up_to 65535 word) k e (λ m plain low.
-    let least = cond_some (leb 1 m) m k low in
-    option_and_then_some (λ n. cond (leb n 65535) (Some n) None) (plain_number word) m plain (λ j number high.
-    let most = cond_some (leb j 65535) j m high in
-    let below = leb-true j 65535 most.0 in
+pub place_some : (limits : Limits) (word : List ℕ) (k : ℕ) → place_within limits word ≡ Some k → (word ≡ decimal k) × (1 ≤ k) × (k ≤ max_place limits)
+place_some limits word k e =
+    option_and_then_some (λ n. cond (leb n (max_place limits)) (Some n) None) (place_of word) k e (λ p read bounded.
+    let within = cond_some (leb p (max_place limits)) p k bounded in
+    let highest = leb-true p (max_place limits) within.0 in
+    option_and_then_some (λ n. cond (leb 1 n) (Some n) None) (plain_number_up_to 4294967295 word) p read (λ m plain low.
+    let least = cond_some (leb 1 m) m p low in
+    option_and_then_some (λ n. cond (leb n 4294967295) (Some n) None) (plain_number word) m plain (λ j number high.
+    let most = cond_some (leb j 4294967295) j m high in
+    let below = leb-true j 4294967295 most.0 in
     let above = leb-true 1 m least.0 in
     let small : j < 2 ^ 64 = omega (arith, below) in
-    (plain_is_decimal word j small number ∙ ap decimal (most.1 ∙ least.1), omega (arith, above, least.1), omega (arith, below, most.1, least.1))))
+    (plain_is_decimal word j small number ∙ ap decimal (most.1 ∙ least.1 ∙ within.1), omega (arith, above, least.1, within.1), omega (arith, highest, within.1)))))
 
-pub place_decimal : (k : ℕ) → 1 ≤ k → k ≤ 65535 → place_of (decimal k) ≡ Some k
-place_decimal k low high =
-    ap (λ o. option_and_then (λ n. cond (leb 1 n) (Some n) None) (option_and_then (λ n. cond (leb n 65535) (Some n) None) o)) (decimal_is_plain k (omega (arith, high)))
-    ∙ ap (option_and_then (λ n. cond (leb 1 n) (Some n) None)) (cond-true (leb k 65535) (Some k) None (le-leb k 65535 high))
+place_read : (k : ℕ) → 1 ≤ k → k ≤ 4294967295 → place_of (decimal k) ≡ Some k
+place_read k low high =
+    ap (λ o. option_and_then (λ n. cond (leb 1 n) (Some n) None) (option_and_then (λ n. cond (leb n 4294967295) (Some n) None) o)) (decimal_is_plain k (omega (arith, high)))
+    ∙ ap (option_and_then (λ n. cond (leb 1 n) (Some n) None)) (cond-true (leb k 4294967295) (Some k) None (le-leb k 4294967295 high))
     ∙ cond-true (leb 1 k) (Some k) None (le-leb 1 k low)
 
+pub place_decimal : (limits : Limits) (k : ℕ) → 1 ≤ k → k ≤ max_place limits → place_within limits (decimal k) ≡ Some k
+place_decimal limits k low high =
+    ap (option_and_then (λ n. cond (leb n (max_place limits)) (Some n) None)) (place_read k low (omega (arith, high, places_in limits)))
+    ∙ cond-true (leb k (max_place limits)) (Some k) None (le-leb k (max_place limits) high)
+
 -- the parts of a name that can be written
-pub record IsWritable (n : OpName) : Type 0 where
+pub record IsWritable (limits : Limits) (n : OpName) : Type 0 where
   pub name : is_name n.process ≡ true
   pub low : 1 ≤ n.place
-  pub high : n.place ≤ 65535
+  pub high : n.place ≤ max_place limits
+  pub small : n.place ≤ 4294967295
 
-pub writable : (n : OpName) → is_op_name n ≡ true → IsWritable n
-writable n h =
-    let outer = and_parts (is_name n.process && leb 1 n.place) (leb n.place 65535) h in
+pub writable : (limits : Limits) (n : OpName) → is_op_name limits n ≡ true → IsWritable limits n
+writable limits n h =
+    let outer = and_parts (is_name n.process && leb 1 n.place) (leb n.place (max_place limits)) h in
     let inner = and_parts (is_name n.process) (leb 1 n.place) outer.0 in
-    record { name = inner.0; low = leb-true _ _ inner.1; high = leb-true _ _ outer.1 }
+    let most = leb-true n.place (max_place limits) outer.1 in
+    record { name = inner.0; low = leb-true 1 n.place inner.1; high = most; small = omega (arith, most, places_in limits) }
 
-pub op_name_from : (n : OpName) → is_name n.process ≡ true → 1 ≤ n.place → n.place ≤ 65535 → is_op_name n ≡ true
-op_name_from n name low high = and_from _ _ (and_from _ _ name (le-leb 1 n.place low)) (le-leb n.place 65535 high)
+pub op_name_from : (limits : Limits) (n : OpName) → is_name n.process ≡ true → 1 ≤ n.place → n.place ≤ max_place limits → is_op_name limits n ≡ true
+op_name_from limits n name low high = and_from _ _ (and_from _ _ name (le-leb 1 n.place low)) (le-leb n.place (max_place limits) high)
 
 pub name_undotted : (p : List ℕ) → is_name p ≡ true → list_any is_dot p ≡ false
 name_undotted p h = undotted p (name_bytes p h)
@@ -126,49 +139,49 @@ all_passed true true (Some k) true e = absurd (none-some TooMany (sym e))
 all_passed true true (Some k) false e = record { dotted = refl; named = refl; placed = refl; room = refl }
 
 -- a word without a fault is the name of its parts
-pub record IsNameRead (earlier : ℕ) (word : List ℕ) (n : OpName) : Type 0 where
+pub record IsNameRead (limits : Limits) (earlier : ℕ) (word : List ℕ) (n : OpName) : Type 0 where
   pub reads : word ≡ name_word n
-  pub written : is_op_name n ≡ true
-  pub room : earlier < 4096
+  pub written : is_op_name limits n ≡ true
+  pub room : earlier < max_operations limits
 
-pub name_read : (earlier : ℕ) (word : List ℕ) (n : OpName) → name_fault earlier word ≡ None → n.process ≡ before_first is_dot word → place_of (after_first is_dot word) ≡ Some n.place → IsNameRead earlier word n
-name_read earlier word n clear process place =
-    let passed = all_passed (list_any is_dot word) (is_name (before_first is_dot word)) (place_of (after_first is_dot word)) (leb 4096 earlier) clear in
-    let number = place_some (after_first is_dot word) n.place place in
+pub name_read : (limits : Limits) (earlier : ℕ) (word : List ℕ) (n : OpName) → name_fault limits earlier word ≡ None → n.process ≡ before_first is_dot word → place_within limits (after_first is_dot word) ≡ Some n.place → IsNameRead limits earlier word n
+name_read limits earlier word n clear process place =
+    let passed = all_passed (list_any is_dot word) (is_name (before_first is_dot word)) (place_within limits (after_first is_dot word)) (leb (max_operations limits) earlier) clear in
+    let number = place_some limits (after_first is_dot word) n.place place in
     record {
       reads = cut_word_at_dot word passed.dotted ∙ (λ i. sym process i ++ 46 ∷ number.0 i);
-      written = op_name_from n (ap is_name process ∙ passed.named) number.1 number.2;
-      room = leb-false 4096 earlier passed.room;
+      written = op_name_from limits n (ap is_name process ∙ passed.named) number.1 number.2;
+      room = leb-false (max_operations limits) earlier passed.room;
     }
 
 some_place : (o : Option ℕ) → is_none o ≡ false → (k : ℕ) × (o ≡ Some k)
 some_place None h = absurd (false≢true (sym h))
 some_place (Some k) h = (k, refl)
 
-pub some_name : (earlier : ℕ) (word : List ℕ) → name_fault earlier word ≡ None → (n : OpName) × IsNameRead earlier word n
-some_name earlier word clear =
-    let passed = all_passed (list_any is_dot word) (is_name (before_first is_dot word)) (place_of (after_first is_dot word)) (leb 4096 earlier) clear in
-    let place = some_place (place_of (after_first is_dot word)) passed.placed in
+pub some_name : (limits : Limits) (earlier : ℕ) (word : List ℕ) → name_fault limits earlier word ≡ None → (n : OpName) × IsNameRead limits earlier word n
+some_name limits earlier word clear =
+    let passed = all_passed (list_any is_dot word) (is_name (before_first is_dot word)) (place_within limits (after_first is_dot word)) (leb (max_operations limits) earlier) clear in
+    let place = some_place (place_within limits (after_first is_dot word)) passed.placed in
     let n : OpName = record { process = before_first is_dot word; place = place.0 } in
-    (n, name_read earlier word n clear refl place.1)
+    (n, name_read limits earlier word n clear refl place.1)
 
 -- a name that can be written has no fault
-pub name_clear : (earlier : ℕ) (n : OpName) → is_op_name n ≡ true → earlier < 4096 → name_fault earlier (name_word n) ≡ None
-name_clear earlier n h room =
-    let parts = writable n h in
+pub name_clear : (limits : Limits) (earlier : ℕ) (n : OpName) → is_op_name limits n ≡ true → earlier < max_operations limits → name_fault limits earlier (name_word n) ≡ None
+name_clear limits earlier n h room =
+    let parts = writable limits n h in
     let none = name_undotted n.process parts.name in
     let dot = dotted n.process (decimal n.place) in
     let name = ap is_name (before_dot n.process (decimal n.place) none) ∙ parts.name in
-    let place = ap place_of (after_dot n.process (decimal n.place) none) ∙ place_decimal n.place parts.low parts.high in
-    let few = lt-leb 4096 earlier room in
+    let place = ap (place_within limits) (after_dot n.process (decimal n.place) none) ∙ place_decimal limits n.place parts.low parts.high in
+    let few = lt-leb (max_operations limits) earlier room in
     (λ i. tested (dot i) (name i) (place i) (few i))
 
 -- a word writes one name
-pub same_name : (m n : OpName) → is_op_name m ≡ true → is_op_name n ≡ true → name_word m ≡ name_word n → m ≡ n
-same_name m n h k e =
-    let first = writable m h in
-    let second = writable n k in
+pub same_name : (limits : Limits) (m n : OpName) → is_op_name limits m ≡ true → is_op_name limits n ≡ true → name_word m ≡ name_word n → m ≡ n
+same_name limits m n h k e =
+    let first = writable limits m h in
+    let second = writable limits n k in
     let process = sym (before_dot m.process (decimal m.place) (name_undotted m.process first.name)) ∙ ap (before_first is_dot) e ∙ before_dot n.process (decimal n.place) (name_undotted n.process second.name) in
     let digits = sym (after_dot m.process (decimal m.place) (name_undotted m.process first.name)) ∙ ap (after_first is_dot) e ∙ after_dot n.process (decimal n.place) (name_undotted n.process second.name) in
-    let place = decimal_injective m.place n.place (omega (arith, first.high)) (omega (arith, second.high)) digits in
+    let place = decimal_injective m.place n.place (omega (arith, first.small)) (omega (arith, second.small)) digits in
     (λ i. record { process = process i; place = place i })

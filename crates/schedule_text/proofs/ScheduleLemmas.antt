@@ -18,88 +18,90 @@ use Rattle.schedule_text.specs.ScheduleLine.{IsSkippedLine, IsNameLine, line_fau
 use Rattle.schedule_text.specs.ScheduleText.{SpellsSchedule, name_word, is_op_name, schedule_words_fault, schedule_line_fault}
 use Rattle.schedule_text.proofs.OpNameLemmas.{writable, name_clear}
 use Rattle.trace_semantics.proofs.NameByteLemmas.{begins_no_comment}
+use Rattle.trace_semantics.specs.declared.limits.Limits.{Limits}
+use Rattle.trace_semantics.specs.Limits.{max_operations}
 
 -- the line of each name
 abbrev pub name_lines : List OpName → List (List (List ℕ))
 name_lines names = map (λ n. name_word n ∷ []) names
 
 -- the lines are these names, and none has a fault
-pub record AreNames (lines : List (List ℕ)) (names : List OpName) : Type 0 where
+pub record AreNames (limits : Limits) (lines : List (List ℕ)) (names : List OpName) : Type 0 where
   pub spelled : kept lines ≡ name_lines names
-  pub written : list_all is_op_name names ≡ true
-  pub few : length names ≤ 4096
-  pub faultless : IsFaultless schedule_line_fault lines
+  pub written : list_all (is_op_name limits) names ≡ true
+  pub few : length names ≤ max_operations limits
+  pub faultless : IsFaultless (schedule_line_fault limits) lines
 
-pub no_lines : AreNames [] []
-no_lines = record { spelled = refl; written = refl; few = omega arith; faultless = faultless_nil schedule_line_fault }
+pub no_lines : (limits : Limits) → AreNames limits [] []
+no_lines limits = record { spelled = refl; written = refl; few = omega arith; faultless = faultless_nil (schedule_line_fault limits) }
 
 -- as many lines as names
-pub counted : (lines : List (List ℕ)) (names : List OpName) → AreNames lines names → length (kept lines) ≡ length names
-counted lines names h = ap length h.spelled ∙ length-map names (λ n. name_word n ∷ [])
+pub counted : (limits : Limits) (lines : List (List ℕ)) (names : List OpName) → AreNames limits lines names → length (kept lines) ≡ length names
+counted limits lines names h = ap length h.spelled ∙ length-map names (λ n. name_word n ∷ [])
 
 -- what is wrong with the next line
-pub fault_here : (lines : List (List ℕ)) (names : List OpName) (line : List ℕ) → AreNames lines names → schedule_line_fault lines line ≡ line_fault (length names) line
-fault_here lines names line h = ap (λ k. line_fault k line) (counted lines names h)
+pub fault_here : (limits : Limits) (lines : List (List ℕ)) (names : List OpName) (line : List ℕ) → AreNames limits lines names → schedule_line_fault limits lines line ≡ line_fault limits (length names) line
+fault_here limits lines names line h = ap (λ k. line_fault limits k line) (counted limits lines names h)
 
 -- one more line that is skipped
-pub push_skipped : (lines : List (List ℕ)) (names : List OpName) (line : List ℕ) → AreNames lines names → IsSkippedLine line → AreNames (lines ++ line ∷ []) names
-push_skipped lines names line h skipped =
+pub push_skipped : (limits : Limits) (lines : List (List ℕ)) (names : List OpName) (line : List ℕ) → AreNames limits lines names → IsSkippedLine line → AreNames limits (lines ++ line ∷ []) names
+push_skipped limits lines names line h skipped =
     record {
       spelled = kept_append is_skipped lines (line ∷ []) ∙ ap (λ l. kept lines ++ l) (kept_skipped is_skipped line [] skipped) ∙ append-nil (kept lines) ∙ h.spelled;
       written = h.written;
       few = h.few;
-      faultless = faultless_push schedule_line_fault lines line h.faultless (cond-true (is_skipped (words_of line)) None (schedule_words_fault (length (kept lines)) (words_of line)) skipped);
+      faultless = faultless_push (schedule_line_fault limits) lines line h.faultless (cond-true (is_skipped (words_of line)) None (schedule_words_fault limits (length (kept lines)) (words_of line)) skipped);
     }
 
 -- the line of a name is not skipped, and has no fault
-pub name_kept : (earlier : ℕ) (line : List ℕ) (n : OpName) → IsNameLine earlier line n → is_skipped (words_of line) ≡ false
-name_kept earlier line n h = ap is_skipped h.word ∙ begins_no_comment n.process (46 ∷ decimal n.place) (writable n h.written).name
+pub name_kept : (limits : Limits) (earlier : ℕ) (line : List ℕ) (n : OpName) → IsNameLine limits earlier line n → is_skipped (words_of line) ≡ false
+name_kept limits earlier line n h = ap is_skipped h.word ∙ begins_no_comment n.process (46 ∷ decimal n.place) (writable limits n h.written).name
 
-pub name_line_clear : (earlier : ℕ) (line : List ℕ) (n : OpName) → IsNameLine earlier line n → line_fault earlier line ≡ None
-name_line_clear earlier line n h =
-    cond-false (is_skipped (words_of line)) None (schedule_words_fault earlier (words_of line)) (name_kept earlier line n h)
-    ∙ ap (schedule_words_fault earlier) h.word ∙ name_clear earlier n h.written h.room
+pub name_line_clear : (limits : Limits) (earlier : ℕ) (line : List ℕ) (n : OpName) → IsNameLine limits earlier line n → line_fault limits earlier line ≡ None
+name_line_clear limits earlier line n h =
+    cond-false (is_skipped (words_of line)) None (schedule_words_fault limits earlier (words_of line)) (name_kept limits earlier line n h)
+    ∙ ap (schedule_words_fault limits earlier) h.word ∙ name_clear limits earlier n h.written h.room
 
 -- one more line that is a name
-pub push_name : (lines : List (List ℕ)) (names : List OpName) (line : List ℕ) (n : OpName) → AreNames lines names → IsNameLine (length names) line n → AreNames (lines ++ line ∷ []) (names ++ n ∷ [])
-push_name lines names line n h new =
+pub push_name : (limits : Limits) (lines : List (List ℕ)) (names : List OpName) (line : List ℕ) (n : OpName) → AreNames limits lines names → IsNameLine limits (length names) line n → AreNames limits (lines ++ line ∷ []) (names ++ n ∷ [])
+push_name limits lines names line n h new =
     record {
-      spelled = kept_append is_skipped lines (line ∷ []) ∙ (λ i. h.spelled i ++ (kept_more is_skipped line [] (name_kept (length names) line n new) ∙ ap (λ ws. ws ∷ []) new.word) i) ∙ sym (map_push (λ m. name_word m ∷ []) names n);
-      written = list_all-append is_op_name names (n ∷ []) ∙ and_from _ _ h.written (and_from _ true new.written refl);
+      spelled = kept_append is_skipped lines (line ∷ []) ∙ (λ i. h.spelled i ++ (kept_more is_skipped line [] (name_kept limits (length names) line n new) ∙ ap (λ ws. ws ∷ []) new.word) i) ∙ sym (map_push (λ m. name_word m ∷ []) names n);
+      written = list_all-append (is_op_name limits) names (n ∷ []) ∙ and_from _ _ h.written (and_from _ true new.written refl);
       few = omega (arith, new.room, length_push names n);
-      faultless = faultless_push schedule_line_fault lines line h.faultless (fault_here lines names line h ∙ name_line_clear (length names) line n new);
+      faultless = faultless_push (schedule_line_fault limits) lines line h.faultless (fault_here limits lines names line h ∙ name_line_clear limits (length names) line n new);
     }
 
 -- what a reader has read of the text
-pub record IsReadSoFar (text : List ℕ) (number : ℕ) (rest : List ℕ) (names : List OpName) : Type 0 where
+pub record IsReadSoFar (limits : Limits) (text : List ℕ) (number : ℕ) (rest : List ℕ) (names : List OpName) : Type 0 where
   pub done : List (List ℕ)
   pub parts : lines_of text ≡ done ++ lines_of rest
   pub counted : number ≡ length done
-  pub spelled : AreNames done names
+  pub spelled : AreNames limits done names
   pub behind : number + length rest ≤ length text
 
-pub turn_skipped : (text : List ℕ) (number : ℕ) (rest : List ℕ) (names : List OpName) (line after : List ℕ) → IsReadSoFar text number rest names →
-    lines_of rest ≡ line ∷ lines_of after → length after < length rest → IsSkippedLine line → IsReadSoFar text (number + 1) after names
-turn_skipped text number rest names line after h cut shorter skipped =
+pub turn_skipped : (limits : Limits) (text : List ℕ) (number : ℕ) (rest : List ℕ) (names : List OpName) (line after : List ℕ) → IsReadSoFar limits text number rest names →
+    lines_of rest ≡ line ∷ lines_of after → length after < length rest → IsSkippedLine line → IsReadSoFar limits text (number + 1) after names
+turn_skipped limits text number rest names line after h cut shorter skipped =
     record {
       done = h.done ++ line ∷ [];
       parts = next_parts (lines_of text) h.done line (lines_of rest) (lines_of after) h.parts cut;
       counted = omega (arith, h.counted, length_push h.done line);
-      spelled = push_skipped h.done names line h.spelled skipped;
+      spelled = push_skipped limits h.done names line h.spelled skipped;
       behind = omega (arith, h.behind, shorter);
     }
 
-pub turn_name : (text : List ℕ) (number : ℕ) (rest : List ℕ) (names : List OpName) (line after : List ℕ) (n : OpName) → IsReadSoFar text number rest names →
-    lines_of rest ≡ line ∷ lines_of after → length after < length rest → IsNameLine (length names) line n → IsReadSoFar text (number + 1) after (names ++ n ∷ [])
-turn_name text number rest names line after n h cut shorter new =
+pub turn_name : (limits : Limits) (text : List ℕ) (number : ℕ) (rest : List ℕ) (names : List OpName) (line after : List ℕ) (n : OpName) → IsReadSoFar limits text number rest names →
+    lines_of rest ≡ line ∷ lines_of after → length after < length rest → IsNameLine limits (length names) line n → IsReadSoFar limits text (number + 1) after (names ++ n ∷ [])
+turn_name limits text number rest names line after n h cut shorter new =
     record {
       done = h.done ++ line ∷ [];
       parts = next_parts (lines_of text) h.done line (lines_of rest) (lines_of after) h.parts cut;
       counted = omega (arith, h.counted, length_push h.done line);
-      spelled = push_name h.done names line n h.spelled new;
+      spelled = push_name limits h.done names line n h.spelled new;
       behind = omega (arith, h.behind, shorter);
     }
 
 -- names of all lines are the schedule
-pub spelled_by : (text : List ℕ) (names : List OpName) → AreNames (lines_of text) names → SpellsSchedule text names
-spelled_by text names h = record { lines = h.spelled; written = h.written; few = h.few }
+pub spelled_by : (limits : Limits) (text : List ℕ) (names : List OpName) → AreNames limits (lines_of text) names → SpellsSchedule limits text names
+spelled_by limits text names h = record { lines = h.spelled; written = h.written; few = h.few }

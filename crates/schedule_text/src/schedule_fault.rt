@@ -7,9 +7,9 @@ use text_lines::fault::{FaultCause, PlacedFault};
 pub enum ScheduleCause {
     /// More than one word, no `.`, or no name before the first `.`.
     BadName,
-    /// What follows the first `.` is no plain number from 1 to 65535.
+    /// What follows the first `.` is no plain number from 1 to the highest place that the limits allow.
     BadNumber,
-    /// The 4,097th name.
+    /// One name more than the limits allow.
     TooMany,
 }
 

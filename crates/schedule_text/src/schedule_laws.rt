@@ -5,6 +5,8 @@
 
 ghost use Rattle.std.specs.Prelude.{◌≡◌, ◌≤◌, ◌⊎◌, ℕ, List, length, true};
 ghost use Rattle.std.specs.List.{list_all};
+ghost use Rattle.trace_semantics.specs.declared.limits.Limits.{Limits};
+ghost use Rattle.trace_semantics.specs.Limits.{max_operations};
 ghost use Rattle.trace_semantics.specs.declared.operation.OpName.{OpName};
 ghost use Rattle.schedule_text.specs.declared.schedule_fault.ScheduleCause.{ScheduleCause};
 ghost use Rattle.schedule_text.specs.ScheduleText.{SpellsSchedule, HasScheduleFault, is_op_name};
@@ -12,28 +14,28 @@ ghost use Rattle.schedule_text.specs.ScheduleWritten.{canonical_schedule};
 
 /// A text spells at most one schedule.
 pub fn one_schedule()
-    ensures { (text : List ℕ) (m n : List OpName) → SpellsSchedule text m → SpellsSchedule text n → m ≡ n }
+    ensures { (limits : Limits) (text : List ℕ) (m n : List OpName) → SpellsSchedule limits text m → SpellsSchedule limits text n → m ≡ n }
 {}
 
 /// A text has at most one first fault.
 pub fn one_schedule_fault()
-    ensures { (text : List ℕ) (c d : ScheduleCause) (p q : ℕ) → HasScheduleFault text c p → HasScheduleFault text d q → (c ≡ d) × (p ≡ q) }
+    ensures { (limits : Limits) (text : List ℕ) (c d : ScheduleCause) (p q : ℕ) → HasScheduleFault limits text c p → HasScheduleFault limits text d q → (c ≡ d) × (p ≡ q) }
 {}
 
 /// A text that spells a schedule has no fault.
 pub fn never_spelled_and_faulty()
-    ensures { (text : List ℕ) (names : List OpName) (cause : ScheduleCause) (line : ℕ) →
-        SpellsSchedule text names → HasScheduleFault text cause line → ⊥ }
+    ensures { (limits : Limits) (text : List ℕ) (names : List OpName) (cause : ScheduleCause) (line : ℕ) →
+        SpellsSchedule limits text names → HasScheduleFault limits text cause line → ⊥ }
 {}
 
 /// Each text spells a schedule or has a first fault.
 pub fn spelled_or_faulty()
-    ensures { (text : List ℕ) →
-        ((names : List OpName) × SpellsSchedule text names) ⊎ ((cause : ScheduleCause) × (line : ℕ) × HasScheduleFault text cause line) }
+    ensures { (limits : Limits) (text : List ℕ) →
+        ((names : List OpName) × SpellsSchedule limits text names) ⊎ ((cause : ScheduleCause) × (line : ℕ) × HasScheduleFault limits text cause line) }
 {}
 
 /// The canonical text of names that can be written spells them.
 pub fn canonical_spells()
-    ensures { (names : List OpName) → list_all is_op_name names ≡ true → length names ≤ 4096 →
-        SpellsSchedule (canonical_schedule names) names }
+    ensures { (limits : Limits) (names : List OpName) → list_all (is_op_name limits) names ≡ true → length names ≤ max_operations limits →
+        SpellsSchedule limits (canonical_schedule names) names }
 {}

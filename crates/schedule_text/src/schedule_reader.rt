@@ -4,8 +4,7 @@ ghost use Rattle.std.specs.Prelude.{◌≡◌, ◌==◌, true, false, position, 
 ghost use Rattle.std.specs.List.{before_first, after_first, list_any};
 ghost use Rattle.text_lines.specs.Fault.{IsRefusal};
 ghost use Rattle.schedule_text.specs.ScheduleLine.{IsSkippedLine, IsNameLine, line_fault, IsLineRefusal};
-ghost use Rattle.trace_semantics.specs.Place.{place_of};
-ghost use Rattle.schedule_text.specs.ScheduleText.{SpellsSchedule, is_dot, name_fault, HasScheduleFault};
+ghost use Rattle.schedule_text.specs.ScheduleText.{SpellsSchedule, is_dot, place_within, name_fault, HasScheduleFault};
 
 use crate::schedule_fault::{ScheduleCause, ScheduleFault};
 use std::alloc::{AllocError, Global};
@@ -13,7 +12,7 @@ use text_lines::comments::begins_comment;
 use text_lines::fault::PlacedFault;
 use text_lines::lines::cut_line;
 use text_lines::words::cut_word;
-use trace_semantics::limits::MAX_OPERATIONS;
+use trace_semantics::limits::Limits;
 use trace_semantics::name::{Name, is_name_word};
 use trace_semantics::operation::OpName;
 use trace_semantics::place::read_place;
@@ -34,11 +33,21 @@ fn cut_at_dot(word: &[u8]) -> Option<(&[u8], &[u8])>
     Some((&word[..dot], &word[dot + 1..]))
 }
 
+/// The place that the word writes, no higher than these limits allow.
+pub fn read_place_within(limits: Limits, word: &[u8]) -> Option<u32>
+    ensures { result ≡ place_within limits word.now }
+{
+    match read_place(word) {
+        Some(place) if u64::from(place) <= limits.max_place() => Some(place),
+        _ => None,
+    }
+}
+
 /// The process and the place of a name, after that many names.
-fn read_name(word: &[u8], earlier: usize) -> Result<(&[u8], u16), ScheduleCause>
+fn read_name(limits: Limits, word: &[u8], earlier: usize) -> Result<(&[u8], u32), ScheduleCause>
     ensures { MatchResult result
-        (λ name. (name_fault earlier word.now ≡ None) × (name.0.now ≡ before_first is_dot word.now) × (place_of (after_first is_dot word.now) ≡ Some name.1))
-        (λ cause. name_fault earlier word.now ≡ Some cause) }
+        (λ name. (name_fault limits earlier word.now ≡ None) × (name.0.now ≡ before_first is_dot word.now) × (place_within limits (after_first is_dot word.now) ≡ Some name.1))
+        (λ cause. name_fault limits earlier word.now ≡ Some cause) }
 {
     let Some((process, place)) = cut_at_dot(word) else {
         return Err(ScheduleCause::BadName);
@@ -46,20 +55,24 @@ fn read_name(word: &[u8], earlier: usize) -> Result<(&[u8], u16), ScheduleCause>
     if !is_name_word(process) {
         return Err(ScheduleCause::BadName);
     }
-    let Some(place) = read_place(place) else {
+    let Some(place) = read_place_within(limits, place) else {
         return Err(ScheduleCause::BadNumber);
     };
-    if earlier >= MAX_OPERATIONS {
+    if earlier >= limits.max_operations() {
         return Err(ScheduleCause::TooMany);
     }
     Ok((process, place))
 }
 
 /// The process and the place of the name on the line, after that many names; nothing if the line is skipped.
-fn read_line(line: &[u8], earlier: usize) -> Result<Option<(&[u8], u16)>, ScheduleCause>
+fn read_line(
+    limits: Limits,
+    line: &[u8],
+    earlier: usize,
+) -> Result<Option<(&[u8], u32)>, ScheduleCause>
     ensures { MatchResult result
-        (λ found. MatchOption found (IsSkippedLine line.now) (λ name. IsNameLine earlier line.now (record { process = name.0.now; place = name.1 })))
-        (λ cause. line_fault earlier line.now ≡ Some cause) }
+        (λ found. MatchOption found (IsSkippedLine line.now) (λ name. IsNameLine limits earlier line.now (record { process = name.0.now; place = name.1 })))
+        (λ cause. line_fault limits earlier line.now ≡ Some cause) }
 {
     let Some((word, rest)) = cut_word(line) else {
         return Ok(None);
@@ -70,7 +83,7 @@ fn read_line(line: &[u8], earlier: usize) -> Result<Option<(&[u8], u16)>, Schedu
     if cut_word(rest).is_some() {
         return Err(ScheduleCause::BadName);
     }
-    match read_name(word, earlier) {
+    match read_name(limits, word, earlier) {
         Ok(name) => Ok(Some(name)),
         Err(cause) => Err(cause),
     }
@@ -79,15 +92,16 @@ fn read_line(line: &[u8], earlier: usize) -> Result<Option<(&[u8], u16)>, Schedu
 /// The name on the line of this number, after that many names; nothing if the line is skipped.
 fn name_on_line(
     alloc: Global,
+    limits: Limits,
     line: &[u8],
     number: usize,
     earlier: usize,
 ) -> Result<Option<OpName>, ScheduleFault>
     ensures { MatchResult result
-        (λ found. MatchOption found (IsSkippedLine line.now) (λ n. IsNameLine earlier line.now n))
-        (λ fault. IsLineRefusal earlier line.now number fault) }
+        (λ found. MatchOption found (IsSkippedLine line.now) (λ n. IsNameLine limits earlier line.now n))
+        (λ fault. IsLineRefusal limits earlier line.now number fault) }
 {
-    match read_line(line, earlier) {
+    match read_line(limits, line, earlier) {
         Ok(None) => Ok(None),
         Ok(Some((process, place))) => {
             let process = Name::copy_of(alloc, process)?;
@@ -97,21 +111,21 @@ fn name_on_line(
     }
 }
 
-/// The schedule that the text spells, in one pass; memory is taken for the names alone.
+/// The schedule that the text spells, within these limits, in one pass; memory is taken for the names alone.
 ///
 /// A line has one word, the name of an operation as in `P.1`. Blank lines and lines whose first word begins with `#` are
 /// skipped, whatever they hold. The error is the first fault of the text, with its line, counted from 1, or
 /// `OutOfMemory`, which says nothing of the text.
-pub fn read_schedule(alloc: Global, text: &[u8]) -> Result<Schedule, ScheduleFault>
-    ensures spelled { IfOk result (λ schedule. SpellsSchedule text.now schedule) }
-    ensures faulty { IfErr result (λ fault. IsRefusal (HasScheduleFault text.now) fault) }
+pub fn read_schedule(alloc: Global, limits: Limits, text: &[u8]) -> Result<Schedule, ScheduleFault>
+    ensures spelled { IfOk result (λ schedule. SpellsSchedule limits text.now schedule) }
+    ensures faulty { IfErr result (λ fault. IsRefusal (HasScheduleFault limits text.now) fault) }
 {
     let mut names = Vec::new(alloc);
     let mut number = 0usize;
     let mut rest = text;
     while let Some((line, after)) = cut_line(rest) {
         number += 1;
-        if let Some(name) = name_on_line(alloc, line, number, names.len())? {
+        if let Some(name) = name_on_line(alloc, limits, line, number, names.len())? {
             names.push(name)?;
         }
         rest = after;

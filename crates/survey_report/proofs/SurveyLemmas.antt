@@ -38,9 +38,14 @@ use Rattle.verdict_report.specs.RecheckEngine.{InputHasNoLegalSchedule}
 use Rattle.verdict_report.specs.Runs.{SourceRun, SinkRun, HandsOut}
 use Rattle.verdict_report.specs.VerifyEngine.{ReportsLegalSchedule}
 use Rattle.survey_report.specs.SurveyEngine.{AnswersSurvey, CertifiesSurvey, FollowsFromTexts, IsRunOfCertifiedSurvey, IsSaidOfSurvey, IsSurveyedFrom, SpellsHint, SpellsSome, TellsExtent, status_of_survey}
+use Rattle.trace_semantics.specs.ScheduleLimits.{limits_for}
+
+-- what is said of two texts is said of texts that are equal to them
+pub said_of_equal : {first text second hint : List ℕ} → first ≡ text → second ≡ hint → (surveyed : Surveyed) → IsSaidOfSurvey first second (Ok surveyed) → IsSaidOfSurvey text hint (Ok surveyed)
+said_of_equal {first} {text} {second} {hint} p q surveyed said = subst (λ h. IsSaidOfSurvey text h (Ok surveyed)) q (subst (λ t. IsSaidOfSurvey t second (Ok surveyed)) p said)
 
 -- the search has no results
-pub unsearched : (text hint : List ℕ) → SpellsSome text → SpellsHint hint → (fault : PlainFault SearchCause) → IsSaidOfSurvey text hint (Err (fault_of_search fault))
+pub unsearched : (text hint : List ℕ) → (some : SpellsSome text) → SpellsHint some.value hint → (fault : PlainFault SearchCause) → IsSaidOfSurvey text hint (Err (fault_of_search fault))
 unsearched text hint some hinted NoMemoryToSearch = tt
 unsearched text hint some hinted (For cause) = (some, hinted)
 
@@ -94,7 +99,7 @@ module _ (trace hint : SourceRun) (cert names part out : SinkRun) (text hint_tex
 
 -- what follows from the status
 module _ (trace : SourceRun) (text : List ℕ) (handed : HandsOut trace text) (options : OptionsValue) (out : SinkRun)
-    (spells : (value : TraceValue) (names : List OpName) → IsTrace value → IsLegal value names → SpellsSchedule (canonical_schedule names) names) where
+    (spells : (value : TraceValue) (names : List OpName) → IsTrace value → IsLegal value names → SpellsSchedule (limits_for value) (canonical_schedule names) names) where
   tells : (surveyed : Surveyed) → IsSurveyedFrom options text surveyed → out.now ≡ out.before ++ survey_report surveyed → Yes ≡ status_of_survey surveyed → ReportsLegalSchedule trace out
   tells (Decided (Consistent names)) given whole is = record {
     text = text;
@@ -203,7 +208,7 @@ module _ (trace : SourceRun) (cert names part out : SinkRun) (text : List ℕ) (
     (accepted : (options : OptionsValue) (value : TraceValue) (refutation : Refutation) → IsDecided options value (Inconsistent refutation) → IsRechecked (clauses_of (kept_trace value)) (certificate_in refutation) (leaves refutation.tree))
     (certified_core : (options : OptionsValue) (t : TraceValue) (core : RefutedCore) → IsSurveyed options t (Refuted core) → IsCertificateFor core.part.trace (survey_certificate (Refuted core)))
     (part_spells : (options : OptionsValue) (t : TraceValue) (core : RefutedCore) → IsTrace t → IsSurveyed options t (Refuted core) → SpellsTrace (core_part (Refuted core)) core.part.trace)
-    (names_spell : (options : OptionsValue) (t : TraceValue) (core : RefutedCore) → IsTrace t → IsSurveyed options t (Refuted core) → SpellsSchedule (core_names (Refuted core)) core.names)
+    (names_spell : (options : OptionsValue) (t : TraceValue) (core : RefutedCore) → IsTrace t → IsSurveyed options t (Refuted core) → SpellsSchedule (limits_for t) (core_names (Refuted core)) core.names)
     (part_is_trace : (options : OptionsValue) (t : TraceValue) (core : RefutedCore) → IsTrace t → IsSurveyed options t (Refuted core) → IsTrace core.part.trace) where
   certifies : (surveyed : Surveyed) → IsSurveyedFrom options text surveyed → cert.now ≡ cert.before ++ survey_certificate surveyed → names.now ≡ names.before ++ core_names surveyed → part.now ≡ part.before ++ core_part surveyed →
       out.now ≡ out.before ++ survey_report surveyed → No ≡ status_of_survey surveyed → CertifiesSurvey options trace cert names part out

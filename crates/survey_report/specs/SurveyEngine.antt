@@ -26,6 +26,7 @@ use Rattle.verdict_report.specs.Engine.{AtOnce, InPieces, IsRunOfEngine, of_two}
 use Rattle.verdict_report.specs.JudgeEngine.{HasFaultySchedule}
 use Rattle.verdict_report.specs.Runs.{SourceRun, SinkRun, HandsOut}
 use Rattle.verdict_report.specs.VerifyEngine.{status_of_decision}
+use Rattle.trace_semantics.specs.ScheduleLimits.{limits_for}
 
 -- the text spells a trace
 pub record SpellsSome (text : List ℕ) : Type 0 where
@@ -40,10 +41,10 @@ pub record IsSurveyedFrom (options : OptionsValue) (text : List ℕ) (surveyed :
   pub spelled : SpellsTrace text value
   pub decided : IsSurveyed options value surveyed
 
--- the text spells a schedule: all operations of a trace in an order, some of them, or none
-pub record SpellsHint (text : List ℕ) : Type 0 where
+-- the text spells a schedule, within the limits of those of the trace: all operations of a trace in an order, some of them, or none
+pub record SpellsHint (t : TraceValue) (text : List ℕ) : Type 0 where
   pub names : List OpName
-  pub spelled : SpellsSchedule text names
+  pub spelled : SpellsSchedule (limits_for t) text names
 
 -- the text spells a trace, of which this is decided, and another a hint: if that is a legal schedule, it is what is decided, and else this
 -- follows from something that a surveyor may find in the trace
@@ -51,18 +52,18 @@ pub record FollowsFromTexts (options : OptionsValue) (IsFound : TraceValue → O
   pub value : TraceValue
   pub is_trace : IsTrace value
   pub spelled : SpellsTrace text value
-  pub hinted : SpellsHint hint
+  pub hinted : SpellsHint value hint
   pub decided : IsSurveyed options value surveyed
   pub follows : FollowsWithHint options value hinted.names (IsFound value) surveyed
 
 -- what is said of the texts of a trace and of a hint: what is decided of the trace, by some search, or why nothing is, which is the first fault
 -- of the first text that has one; a search that was cut off is reported only of texts that spell a trace and a hint
 abbrev pub IsSaidOfSurvey : List ℕ → List ℕ → Result Surveyed Fault → Type 0
-IsSaidOfSurvey text hint (Ok surveyed) = (options : OptionsValue) × IsSurveyedFrom options text surveyed × SpellsHint hint
+IsSaidOfSurvey text hint (Ok surveyed) = (options : OptionsValue) × (from : IsSurveyedFrom options text surveyed) × SpellsHint from.value hint
 IsSaidOfSurvey text hint (Err OutOfMemory) = ⊤
 IsSaidOfSurvey text hint (Err (Trace cause line)) = HasTraceFault text cause line
 IsSaidOfSurvey text hint (Err (Schedule cause line)) = HasFaultySchedule text hint cause line
-IsSaidOfSurvey text hint (Err (Search cause)) = SpellsSome text × SpellsHint hint
+IsSaidOfSurvey text hint (Err (Search cause)) = (some : SpellsSome text) × SpellsHint some.value hint
 IsSaidOfSurvey text hint (Err fault) = ⊥
 
 -- the status that goes with what is decided
@@ -129,7 +130,7 @@ pub record CertifiesCore (trace : SourceRun) (cert names_sink part_sink : SinkRu
   pub names : List OpName
   pub in_order : names ≡ core_of value names
   pub told : names_sink.now ≡ names_sink.before ++ canonical_schedule names
-  pub names_spelled : SpellsSchedule (canonical_schedule names) names
+  pub names_spelled : SpellsSchedule (limits_for value) (canonical_schedule names) names
   pub made : PartValue
   pub is_part : IsPart value names made
   pub part_is_trace : IsTrace made.trace

@@ -28,6 +28,7 @@ use survey_verdict::{
 use surveyor::Surveyor;
 use trace_decision::Decision;
 use trace_decision::laws::certificate_is_accepted;
+use trace_semantics::trace_size::limits_for;
 use trace_text::trace_reader::read_trace;
 use verdict_report::laws::written_schedule_spells;
 use verdict_report::{Fault, Source, Status, read_two};
@@ -202,7 +203,7 @@ fn survey_texts<R: Threads + Wait + Sync, S: Surveyor, G: Gate + Sync>(
     ensures follows { IfOk result (λ surveyed. FollowsFromTexts options.now (S.finds surveyor.now) text.now hint.now surveyed) }
 {
     let trace = read_trace(alloc, text)?;
-    let names = read_schedule(alloc, hint)?;
+    let names = read_schedule(alloc, limits_for(&trace), hint)?;
     Ok(decide_with_hint(alloc, rt, &trace, names, surveyor, options, gate)?)
 }
 

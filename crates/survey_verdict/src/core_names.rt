@@ -5,6 +5,8 @@ ghost use Rattle.survey_verdict.specs.Surveyed.{core_of};
 ghost use Rattle.trace_semantics.specs.Judgement.{has_come};
 ghost use Rattle.trace_semantics.specs.Operation.{same_op};
 ghost use Rattle.trace_semantics.specs.Trace.{operation_names};
+ghost use Rattle.trace_semantics.specs.declared.limits.Limits.TheVariants.{Large};
+ghost use Rattle.trace_semantics.specs.Limits.{max_operations};
 
 use std::alloc::{AllocError, Global};
 use trace_semantics::name::Name;
@@ -13,14 +15,14 @@ use trace_semantics::trace::{Process, Trace};
 
 /// Puts the names of a process's operations after the others.
 fn push_names(alloc: Global, names: &mut Vec<OpName>, process: &Process) -> Result<(), AllocError>
-    requires { length process.now.operations ≤ 4096 }
+    requires { length process.now.operations ≤ max_operations Large }
     ensures { OnOk result (names.new.items ≡ names.old.items ++ names_of process.now) }
 {
     for k in 0..process.operations.as_slice().len() {
         let name = Name::copy_of(alloc, process.name.as_bytes())?;
         names.push(OpName {
             process: name,
-            place: (k + 1) as u16,
+            place: (k + 1) as u32,
         })?;
     }
     Ok(())

@@ -5,6 +5,7 @@
 
 ghost use Rattle.cube_jobs.specs.Options.{OptionsValue};
 ghost use Rattle.schedule_text.specs.ScheduleText.{SpellsSchedule};
+ghost use Rattle.trace_semantics.specs.ScheduleLimits.{limits_for};
 ghost use Rattle.survey_verdict.specs.declared.surveyed.RefutedCore.{RefutedCore};
 ghost use Rattle.survey_verdict.specs.declared.surveyed.Surveyed.TheVariants.{Refuted};
 ghost use Rattle.survey_verdict.specs.Surveyed.{IsCertificateFor, IsSurveyed, core_names, core_part, survey_certificate};
@@ -35,7 +36,7 @@ pub fn core_part_spells()
 /// The text that is written of a core's names spells them.
 pub fn core_names_spell()
     ensures { (options : OptionsValue) (t : TraceValue) (core : RefutedCore) → IsTrace t → IsSurveyed options t (Refuted core) →
-        SpellsSchedule (core_names (Refuted core)) core.names }
+        SpellsSchedule (limits_for t) (core_names (Refuted core)) core.names }
 {}
 
 /// A core's part is a trace.

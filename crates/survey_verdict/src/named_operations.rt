@@ -74,7 +74,7 @@ fn name_of(
     };
     Ok(Some(OpName {
         process: Name::copy_of(alloc, process.name.as_bytes())?,
-        place: (operation.place & 0xffff) as u16,
+        place: operation.place,
     }))
 }
 

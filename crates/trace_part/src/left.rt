@@ -6,6 +6,8 @@ ghost use Rattle.trace_semantics.specs.declared.operation.OpName.{OpName as Name
 ghost use Rattle.restriction.specs.Left.{is_left, names_of};
 ghost use Rattle.trace_part.specs.Rows.{IsLeftOf, AreLeft};
 ghost use Rattle.trace_part.specs.Selections.{IsSelection, stays_in};
+ghost use Rattle.trace_semantics.specs.declared.limits.Limits.TheVariants.{Large};
+ghost use Rattle.trace_semantics.specs.Limits.{max_operations};
 
 use crate::selection::Selection;
 use crate::staying::stays_at;
@@ -16,7 +18,7 @@ use trace_semantics::trace::Process;
 
 /// What remains of a process: the old places, and the operations.
 pub struct Left {
-    places: Vec<u16>,
+    places: Vec<u32>,
     ops: Vec<Op>,
 }
 
@@ -33,21 +35,25 @@ impl Drop for Left {
 impl Model for Left {
     ghost use Rattle.std.specs.Prelude.{◌≤◌, length};
     ghost use Rattle.trace_part.specs.Rows.{LeftValue};
+    ghost use Rattle.trace_semantics.specs.Limits.{max_operations};
+    ghost use Rattle.trace_semantics.specs.declared.limits.Limits.TheVariants.{Large};
 
     ghost Value = { LeftValue };
 
     ghost view = { λ left. record { places = left.places.items; ops = left.ops.items } };
 
-    ghost invariant = { λ left. length left.places.items ≤ 4096 };
+    ghost invariant = { λ left. length left.places.items ≤ max_operations Large };
 }
 
 impl Left {
     ghost use Rattle.std.specs.Prelude.{◌≡◌, ◌≤◌, length};
+    ghost use Rattle.trace_semantics.specs.Limits.{max_operations};
+    ghost use Rattle.trace_semantics.specs.declared.limits.Limits.TheVariants.{Large};
 
     /// Returns the old places of what remains.
-    pub fn places(&self) -> &[u16]
+    pub fn places(&self) -> &[u32]
         ensures places { result.now ≡ self.now.places }
-        ensures few { length result.now ≤ 4096 }
+        ensures few { length result.now ≤ max_operations Large }
     {
         self.places.as_slice()
     }
@@ -69,14 +75,14 @@ fn left_of<'a>(
 ) -> Result<Left, AllocError>
     requires selection { IsSelection selection.now }
     requires listed { slice_get selection.now.trace.now.processes number ≡ Some process.now }
-    requires few { length process.now.operations ≤ 4096 }
+    requires few { length process.now.operations ≤ max_operations Large }
     ensures { IfOk result (λ left. IsLeftOf (stays_in selection.now) process.now left) }
 {
     let mut places = Vec::new(alloc);
     let mut ops = Vec::new(alloc);
     for k in 0..process.operations.as_slice().len() {
         if let Some(op) = stays_at(alloc, selection, process, number, k)? {
-            places.push((k + 1) as u16)?;
+            places.push((k + 1) as u32)?;
             ops.push(op)?;
         }
     }

@@ -17,7 +17,7 @@ use trace_semantics::trace::Trace;
 #[derive(Clone, Copy, Drop)]
 pub struct LeftName {
     pub name: OperationNumber,
-    pub new: u16,
+    pub new: u32,
 }
 
 /// The names that remain of a process.
@@ -53,7 +53,7 @@ fn names_in(alloc: Global, left: &Left, number: u16) -> Result<LeftNames, AllocE
     let places = left.places();
     let mut names = Vec::new(alloc);
     for k in 0..places.len() {
-        let new = count_up_to(places, places[k]) as u16;
+        let new = count_up_to(places, places[k]) as u32;
         names.push(LeftName {
             name: OperationNumber {
                 process: number,

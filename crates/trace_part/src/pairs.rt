@@ -17,7 +17,6 @@ use crate::left::Left;
 use crate::left_names::{LeftName, LeftNames, left_groups};
 use forced_order::forced_order::ForcedOrder;
 use std::alloc::{AllocError, Global};
-use trace_semantics::limits::MAX_PAIRS;
 use trace_semantics::name::Name;
 use trace_semantics::operation::OpName;
 use trace_semantics::trace::Trace;
@@ -163,7 +162,10 @@ fn new_names(
     Ok((first, second))
 }
 
-/// Returns the first 4,096 pairs, the largest number that a trace may have.
+/// The most pairs that a part has.
+const MAX_TOLD: usize = 4096;
+
+/// Returns the first 4,096 pairs.
 pub fn pairs_left(
     alloc: Global,
     trace: &Trace,
@@ -179,7 +181,7 @@ pub fn pairs_left(
     let groups = left_groups(alloc, trace, all)?;
     let told = told_pairs(alloc, order, groups.as_slice())?;
     let few = told.as_slice();
-    let count = few.len().min(MAX_PAIRS);
+    let count = few.len().min(MAX_TOLD);
     let mut pairs = Vec::new(alloc);
     for k in 0..count {
         pairs.push(new_names(alloc, trace, &few[k])?)?;

@@ -59,7 +59,7 @@ impl TracePart {
     }
 
     /// Returns the place in the whole of each operation that remains of the process of this number; none if there is no such process.
-    pub fn places(&self, process: usize) -> &[u16]
+    pub fn places(&self, process: usize) -> &[u32]
         ensures { result.now ≡ slice_index_or self.now.places process [] }
     {
         match self.left.get(process) {

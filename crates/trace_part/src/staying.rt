@@ -11,6 +11,8 @@ ghost use Rattle.trace_semantics.specs.OpSet.{has};
 ghost use Rattle.part_law.specs.Part as part;
 ghost use Rattle.forced_order.specs.Rows.{numbered};
 ghost use Rattle.trace_part.specs.Selections.{IsSelection, ordered_in, chosen_in, stays_in};
+ghost use Rattle.trace_semantics.specs.declared.limits.Limits.TheVariants.{Large};
+ghost use Rattle.trace_semantics.specs.Limits.{max_operations};
 
 use crate::selection::Selection;
 use crate::sources::sources_chosen;
@@ -229,7 +231,7 @@ pub fn stays_at<'a>(
     requires selection { IsSelection selection.now }
     requires listed { slice_get selection.now.trace.now.processes number ≡ Some process.now }
     requires within { k < length process.now.operations }
-    requires few { length process.now.operations ≤ 4096 }
+    requires few { length process.now.operations ≤ max_operations Large }
     ensures { IfOk result (λ left. left ≡ stays_in selection.now (record { process = process.now.name; place = k + 1 })) }
 {
     selection.trace.recall_invariant();
@@ -238,7 +240,7 @@ pub fn stays_at<'a>(
     }
     let reader = OperationNumber {
         process: number,
-        place: (k + 1) as u16,
+        place: (k + 1) as u32,
     };
     stays_of(alloc, selection, reader, &process.operations.as_slice()[k])
 }

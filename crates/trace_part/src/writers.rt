@@ -3,6 +3,8 @@
 ghost use Rattle.std.specs.Prelude.{◌≡◌, ◌<◌, ◌≤◌, ◌+◌, ◌++◌, length, IfOk, OnOk};
 ghost use Rattle.trace_semantics.specs.OpSet.{has};
 ghost use Rattle.trace_part.specs.Rows.{row_in, rows_in, rows_of};
+ghost use Rattle.trace_semantics.specs.declared.limits.Limits.TheVariants.{Large};
+ghost use Rattle.trace_semantics.specs.Limits.{max_operations};
 
 use forced_order::numbered::OperationNumber;
 use restriction::left_value::left_at;
@@ -27,14 +29,14 @@ fn row_at<'a>(
     location: &[u8],
 ) -> Option<ChosenWriter>
     requires within { k < length process.now.operations }
-    requires few { length process.now.operations ≤ 4096 }
+    requires few { length process.now.operations ≤ max_operations Large }
     ensures { result ≡ row_in process.now number (has set.now) location.now (record { process = process.now.name; place = k + 1 }) }
 {
     match left_at(&process.operations.as_slice()[k], location) {
         Some(left) => Some(ChosenWriter {
             name: OperationNumber {
                 process: number,
-                place: (k + 1) as u16,
+                place: (k + 1) as u32,
             },
             value: Some(left),
             chosen: set.contains(process.name.as_bytes(), k + 1),
@@ -51,7 +53,7 @@ fn push_rows<'a>(
     number: u16,
     location: &[u8],
 ) -> Result<(), AllocError>
-    requires few { length process.now.operations ≤ 4096 }
+    requires few { length process.now.operations ≤ max_operations Large }
     ensures { OnOk result (rows.new.items ≡ rows.old.items ++ rows_in process.now number (has set.now) location.now) }
 {
     for k in 0..process.operations.as_slice().len() {

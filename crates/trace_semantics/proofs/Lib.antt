@@ -2,9 +2,11 @@ pub mod CauseLemmas
 pub mod DistinctLemmas
 pub mod ElementLemmas
 pub mod JudgementLemmas
+pub mod LimitLemmas
 pub mod NameByteLemmas
 pub mod NameLemmas
 pub mod OrderLemmas
 pub mod ProcessOrderLemmas
+pub mod ScheduleLimitLemmas
 pub mod ValueLemmas
 pub mod WrittenLemmas

@@ -2,6 +2,7 @@ pub mod Interleaving
 pub mod Judgement
 pub mod JudgementText
 pub mod Legal
+pub mod Limits
 pub mod Locations
 pub mod NameNumbers
 pub mod Names
@@ -9,5 +10,6 @@ pub mod OpSet
 pub mod Operation
 pub mod PairOrder
 pub mod Place
+pub mod ScheduleLimits
 pub mod Trace
 pub mod ValueAfter

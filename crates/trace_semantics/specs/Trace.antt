@@ -12,6 +12,8 @@ use Rattle.trace_semantics.specs.declared.operation.OpName.{OpName}
 use Rattle.trace_semantics.specs.declared.operation.Origin.{Origin}
 use Rattle.trace_semantics.specs.declared.operation.Origin.TheVariants.{Any, Initial, Operation}
 use Rattle.trace_semantics.specs.declared.trace.Process.{Process}
+use Rattle.trace_semantics.specs.declared.limits.Limits.TheVariants.{Large}
+use Rattle.trace_semantics.specs.Limits.{max_operations, max_locations, max_pairs}
 use Rattle.trace_semantics.specs.Locations.{distinct}
 use Rattle.trace_semantics.specs.Names.{is_name}
 use Rattle.trace_semantics.specs.Operation.{location_of, origin_of}
@@ -73,7 +75,7 @@ is_written_value entry = is_name entry.0 && nat_lt entry.1 (2 ^ 64)
 
 -- the name of an operation that a text can write
 abbrev pub is_written_name : OpName → Bool
-is_written_name n = is_name n.process && (nat_le 1 n.place && nat_le n.place 65535)
+is_written_name n = is_name n.process && (nat_le 1 n.place && nat_le n.place 4294967295)
 
 abbrev pub is_written_origin : Origin → Bool
 is_written_origin Any = true
@@ -91,7 +93,7 @@ is_written_process p = is_name p.name && list_all is_written_op p.operations
 abbrev pub is_written_pair : OpName × OpName → Bool
 is_written_pair pair = is_written_name pair.0 && is_written_name pair.1
 
--- names are names, values are below 2^64, and places are 1 to 65535
+-- names are names, values are below 2^64, and places are 1 to 4294967295
 pub record IsWritten (t : TraceValue) : Type 0 where
   pub processes : list_all is_written_process t.processes ≡ true
   pub initial : list_all is_written_value t.initial ≡ true
@@ -110,10 +112,10 @@ location_count t = length (distinct (locations_of t))
 pub record IsTrace (t : TraceValue) : Type 0 where
   pub distinct : AllPairs (λ (p q : Process). p.name ≢ q.name) t.processes
   pub few_processes : length t.processes ≤ 64
-  pub few_operations : operation_count t ≤ 4096
+  pub few_operations : operation_count t ≤ max_operations Large
   pub initial : IsOneEach t.initial
   pub final_values : IsOneEach t.final_values
-  pub few_pairs : length t.before ≤ 4096
+  pub few_pairs : length t.before ≤ max_pairs Large
   pub known : All (λ (pair : OpName × OpName). IsSome (operation_at t pair.0) × IsSome (operation_at t pair.1)) t.before
   pub written : IsWritten t
   pub initial_order : IsRising t.initial
@@ -121,4 +123,4 @@ pub record IsTrace (t : TraceValue) : Type 0 where
   pub before_apart : All (λ (pair : OpName × OpName). pair.0 ≢ pair.1) t.before
   pub origins : All (λ (p : Process). All (λ (op : Op). IsKnownOrigin t (origin_of op)) p.operations) t.processes
   pub before_order : ArePairsRising t.processes t.before
-  pub few_locations : location_count t ≤ 4096
+  pub few_locations : location_count t ≤ max_locations Large

@@ -17,3 +17,4 @@ pub mod place;
 pub mod process_order;
 pub mod schedule;
 pub mod trace;
+pub mod trace_size;

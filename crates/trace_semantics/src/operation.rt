@@ -5,7 +5,7 @@ use crate::name::Name;
 /// The name of an operation: its process, and its place there, counted from 1.
 pub struct OpName {
     pub process: Name,
-    pub place: u16,
+    pub place: u32,
 }
 
 /// Drops the process's name, in one call at each exit of a function that owns the name of an operation.

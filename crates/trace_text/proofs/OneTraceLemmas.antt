@@ -210,7 +210,7 @@ pairs_told xs ys lines others h k e first second pair c =
 -- a text spells one trace
 pub one_spelled : (text : List ℕ) (s t : TraceValue) → IsTrace s → IsTrace t → SpellsTrace text s → SpellsTrace text t → s ≡ t
 one_spelled text s t h k first second =
-    let lines : header_line first.two ∷ first.body ≡ header_line second.two ∷ second.body = sym first.lines ∙ second.lines in
+    let lines : header_line first.version ∷ first.body ≡ header_line second.version ∷ second.body = sym first.lines ∙ second.lines in
     let body : first.body ≡ second.body = cc in
     let pairs : filter (begins (codes "before")) first.body ≡ filter (begins (codes "before")) second.body = ap (filter (begins (codes "before"))) body in
     let processes = same_processes s.processes t.processes h.written.processes k.written.processes (sym first.processes ∙ ap (filter is_process_line) body ∙ second.processes) in

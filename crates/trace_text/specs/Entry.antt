@@ -4,6 +4,7 @@ use Rattle.std.specs.Fmt.{decimal}
 use Rattle.std.specs.List.{list_all}
 use Rattle.trace_text.specs.declared.entry.Entry.{Entry}
 use Rattle.trace_text.specs.declared.entry.Entry.TheVariants.{Initial as InitialEntry, Final as FinalEntry, Process as ProcessEntry, Operation as OperationEntry, Before as BeforeEntry}
+use Rattle.trace_semantics.specs.declared.limits.Limits.{Limits}
 use Rattle.trace_semantics.specs.declared.operation.Op.{Op}
 use Rattle.trace_semantics.specs.declared.operation.Op.TheVariants.{Read as ReadOp, Write as WriteOp, Update as UpdateOp}
 use Rattle.trace_semantics.specs.declared.operation.OpName.{OpName}
@@ -41,12 +42,12 @@ statement_for (OperationEntry op) = op_statement op
 statement_for (BeforeEntry first second) = before_statement (first, second)
 
 -- the place that a source names is one
-abbrev pub has_place : ReadsFrom → Bool
-has_place source = list_all (λ (r : List ℕ × List ℕ). is_place r.1) (references_of_source source)
+abbrev pub has_place : Limits → ReadsFrom → Bool
+has_place limits source = list_all (λ (r : List ℕ × List ℕ). is_place limits r.1) (references_of_source source)
 
 -- the words that should be numbers are numbers
-abbrev pub has_numbers : Statement → Bool
-has_numbers s = list_all is_value (values_of s) && list_all (λ (r : List ℕ × List ℕ). is_place r.1) (references_of s)
+abbrev pub has_numbers : Limits → Statement → Bool
+has_numbers limits s = list_all is_value (values_of s) && list_all (λ (r : List ℕ × List ℕ). is_place limits r.1) (references_of s)
 
 -- what is wrong where the numbers are fine or not
 abbrev pub number_fault : Bool → Option TraceCause
@@ -57,7 +58,7 @@ abbrev pub fits_value : ℕ → Bool
 fits_value value = nat_lt value (2 ^ 64)
 
 abbrev pub fits_place : ℕ → Bool
-fits_place place = nat_le 1 place && nat_le place 65535
+fits_place place = nat_le 1 place && nat_le place 4294967295
 
 abbrev pub origin_fits : Origin → Bool
 origin_fits Any = true

@@ -1,7 +1,8 @@
 -- The line of a header.
-use Rattle.std.specs.Prelude.{◌≡◌, ℕ, Bool, false, List, Option, Some, None, if◌then◌else◌}
+use Rattle.std.specs.Prelude.{◌≡◌, ℕ, false, List, Option, Some, None, if◌then◌else◌}
 use Rattle.std.specs.List.{list_any}
 use Rattle.text_lines.specs.Words.{words_of}
+use Rattle.trace_text.specs.declared.version.Version.{Version}
 use Rattle.trace_text.specs.declared.trace_fault.TraceCause.{TraceCause}
 use Rattle.trace_text.specs.declared.trace_fault.TraceCause.TheVariants.{NotAscii, Header}
 use Rattle.text_lines.specs.Kept.{is_skipped}
@@ -15,7 +16,7 @@ header_fault line =
     else if list_any is_high line then Some NotAscii
     else if is_header (words_of line) then None else Some Header
 
--- the line is the header of version 1 or 2
-pub record IsHeaderLine (line : List ℕ) (two : Bool) : Type 0 where
-  pub words : words_of line ≡ header_line two
+-- the line is the header of this version
+pub record IsHeaderLine (line : List ℕ) (version : Version) : Type 0 where
+  pub words : words_of line ≡ header_line version
   pub low : list_any is_high line ≡ false

@@ -1,6 +1,7 @@
 pub mod Entry
 pub mod Gathered
 pub mod Header
+pub mod LocationCount
 pub mod Progress
 pub mod Read
 pub mod References

@@ -1,6 +1,7 @@
 -- What the reader of traces has read so far.
 use Rattle.std.specs.Prelude.{◌≡◌, ◌≢◌, true, is_some, List}
 use Rattle.std.specs.List.{list_any, list_all, AllPairs}
+use Rattle.trace_semantics.specs.declared.limits.Limits.{Limits}
 use Rattle.trace_text.specs.declared.trace_builder.TraceBuilder.{TraceBuilder}
 use Rattle.trace_semantics.specs.declared.trace.Process.{Process}
 use Rattle.trace_text.specs.declared.trace_reader.TraceReader.{TraceReader}
@@ -23,9 +24,9 @@ pub record IsWrittenSoFar (g : TraceBuilder) : Type 0 where
   pub final_values : list_all is_written_value g.final_values.items ≡ true
   pub before : list_all is_written_pair g.before.items ≡ true
 
--- what the reader keeps of these statements
-pub record IsProgress (ss : List Statement) (reader : TraceReader) : Type 0 where
-  pub seen : IsSeen ss reader.seen
+-- what the reader keeps of these statements, under these limits
+pub record IsProgress (limits : Limits) (ss : List Statement) (reader : TraceReader) : Type 0 where
+  pub seen : IsSeen limits ss reader.seen
   pub gathered : IsGathered ss reader.gathered
   pub begun : list_any is_proc ss ≡ is_some reader.gathered.last
   pub distinct : IsDistinct reader.gathered

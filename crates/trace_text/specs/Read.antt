@@ -4,47 +4,49 @@ use Rattle.text_lines.specs.FirstFault.{IsFaultless}
 use Rattle.text_lines.specs.Lines.{lines_of}
 use Rattle.trace_text.specs.declared.trace_reader.TraceReader.{TraceReader}
 use Rattle.text_lines.specs.Kept.{kept}
+use Rattle.trace_text.specs.declared.version.Version.{Version}
 use Rattle.trace_text.specs.Progress.{IsProgress}
 use Rattle.trace_text.specs.Statement.{Statement, words_for, statement_of}
 use Rattle.trace_text.specs.TraceFault.{trace_line_fault, statement_fault}
 use Rattle.trace_text.specs.TraceText.{header_line}
+use Rattle.trace_text.specs.Version.{is_two, limits_of}
 
 -- the statement is what its words say
 abbrev pub saying : Bool → Statement → Option Statement
 saying two s = statement_of two (words_for s)
 
 -- these lines say these statements after their header
-pub record AreSaid (two : Bool) (lines : List (List ℕ)) (ss : List Statement) : Type 0 where
-  pub kept_lines : kept lines ≡ header_line two ∷ map words_for ss
-  pub said : map (saying two) ss ≡ map Some ss
-  pub faultless : IsFaultless statement_fault ss
+pub record AreSaid (version : Version) (lines : List (List ℕ)) (ss : List Statement) : Type 0 where
+  pub kept_lines : kept lines ≡ header_line version ∷ map words_for ss
+  pub said : map (saying (is_two version)) ss ≡ map Some ss
+  pub faultless : IsFaultless (statement_fault (limits_of version)) ss
 
 -- a line is taken that says no more, or one more statement
-pub record TakesLine (two : Bool) (before : List (List ℕ)) (line : List ℕ) (new : TraceReader) : Type 0 where
+pub record TakesLine (version : Version) (before : List (List ℕ)) (line : List ℕ) (new : TraceReader) : Type 0 where
   pub faultless : trace_line_fault before line ≡ None
   pub ss : List Statement
-  pub said : AreSaid two (before ++ line ∷ []) ss
-  pub progress : IsProgress ss new
+  pub said : AreSaid version (before ++ line ∷ []) ss
+  pub progress : IsProgress (limits_of version) ss new
 
 -- words are taken that say one more statement
-pub record TakesWords (two : Bool) (ss : List Statement) (words : List (List ℕ)) (new : TraceReader) : Type 0 where
+pub record TakesWords (version : Version) (ss : List Statement) (words : List (List ℕ)) (new : TraceReader) : Type 0 where
   pub s : Statement
-  pub says : statement_of two words ≡ Some s
-  pub faultless : statement_fault ss s ≡ None
-  pub progress : IsProgress (ss ++ s ∷ []) new
+  pub says : statement_of (is_two version) words ≡ Some s
+  pub faultless : statement_fault (limits_of version) ss s ≡ None
+  pub progress : IsProgress (limits_of version) (ss ++ s ∷ []) new
 
 -- the lines up to the header are read, and `next` is the number of the line with which the rest begins
-pub record HasHeader (text : List ℕ) (two : Bool) (rest : List ℕ) (next : ℕ) : Type 0 where
+pub record HasHeader (text : List ℕ) (version : Version) (rest : List ℕ) (next : ℕ) : Type 0 where
   pub lines : List (List ℕ)
   pub counted : next ≡ length lines + 1
   pub parts : lines_of text ≡ lines ++ lines_of rest
   pub faultless : IsFaultless trace_line_fault lines
-  pub header : kept lines ≡ header_line two ∷ []
+  pub header : kept lines ≡ header_line version ∷ []
   pub room : next + length rest ≤ length text + 1
 
 -- the whole text is read
-pub record IsAllRead (text : List ℕ) (two : Bool) (reader : TraceReader) : Type 0 where
+pub record IsAllRead (text : List ℕ) (version : Version) (reader : TraceReader) : Type 0 where
   pub ss : List Statement
-  pub said : AreSaid two (lines_of text) ss
+  pub said : AreSaid version (lines_of text) ss
   pub faultless : IsFaultless trace_line_fault (lines_of text)
-  pub progress : IsProgress ss reader
+  pub progress : IsProgress (limits_of version) ss reader

@@ -37,7 +37,7 @@ words_for (Write location value) = codes "W" ∷ location ∷ value ∷ []
 words_for (Update location read left source) = codes "U" ∷ location ∷ read ∷ left ∷ source_words source
 words_for (Before process place other other_place) = codes "before" ∷ process ∷ place ∷ other ∷ other_place ∷ []
 
--- What the words of a line say, if they are of a form that there is in version 1, or in version 2 where `two` says so.
+-- What the words of a line say, if they are of a form that there is in version 1, or, where `two` says so, in versions 2 and 3.
 abbrev pub statement_of : Bool → List (List ℕ) → Option Statement
 statement_of two (key ∷ name ∷ []) = if bytes_eq key (codes "proc") then Some (Proc name) else None
 statement_of two (key ∷ location ∷ value ∷ []) =

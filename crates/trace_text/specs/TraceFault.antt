@@ -11,10 +11,15 @@ use Rattle.trace_semantics.specs.Place.{place_of}
 use Rattle.trace_text.specs.declared.trace_fault.TraceCause.{TraceCause}
 use Rattle.trace_text.specs.declared.trace_fault.TraceCause.TheVariants.{NotAscii, Header, UnknownLine, BadName, BadNumber, InitTwice, FinalTwice, ProcTwice, OpOutsideProc, LateHeaderLine, TooManyProcs, TooManyOps, TooManyLocations, NoSuchOp, BeforeItself, TooManyBefore}
 use Rattle.text_lines.specs.Kept.{kept, is_skipped}
+use Rattle.trace_semantics.specs.declared.limits.Limits.{Limits}
+use Rattle.trace_semantics.specs.Limits.{max_operations, max_locations, max_pairs, max_place}
 use Rattle.trace_semantics.specs.Locations.{distinct, holds_name}
 use Rattle.trace_semantics.specs.Names.{is_name}
 use Rattle.trace_text.specs.Statement.{ReadsFrom, Unsaid, FromInit, FromOp, Statement, Init, Final, Proc, Read, Write, Update, Before, statement_of}
 use Rattle.trace_text.specs.TraceText.{header_line}
+use Rattle.trace_text.specs.declared.version.Version.{Version}
+use Rattle.trace_text.specs.declared.version.Version.TheVariants.{One, Two, Three}
+use Rattle.trace_text.specs.Version.{is_two, limits_of}
 
 -- kinds of statements
 abbrev pub is_proc : Statement → Bool
@@ -83,8 +88,13 @@ values_of (Before process place other other_place) = []
 abbrev pub is_value : List ℕ → Bool
 is_value word = not (is_none (plain_number_up_to (2 ^ 64 - 1) word))
 
-abbrev pub is_place : List ℕ → Bool
-is_place word = not (is_none (place_of word))
+-- a place that there is, and is no higher than these limits allow
+abbrev pub is_within : Limits → Option ℕ → Bool
+is_within limits None = false
+is_within limits (Some place) = nat_le place (max_place limits)
+
+abbrev pub is_place : Limits → List ℕ → Bool
+is_place limits word = is_within limits (place_of word)
 
 -- two statements of which a text may have only one
 abbrev pub repeats : Statement → Statement → Bool
@@ -99,19 +109,19 @@ twice_cause (Init location value) = InitTwice
 twice_cause (Final location value) = FinalTwice
 twice_cause s = ProcTwice
 
--- whether a statement passes a limit after these: 64 processes, 4,096 operations, 4,096 `before` lines
-abbrev pub limit_fault : List Statement → Statement → Option TraceCause
-limit_fault earlier s =
+-- whether a statement passes a limit after these: of processes, of operations, of `before` lines
+abbrev pub limit_fault : Limits → List Statement → Statement → Option TraceCause
+limit_fault limits earlier s =
     if is_proc s && nat_le 64 (length (filter is_proc earlier)) then Some TooManyProcs
-    else if is_operation s && nat_le 4096 (length (filter is_operation earlier)) then Some TooManyOps
-    else if is_before s && nat_le 4096 (length (filter is_before earlier)) then Some TooManyBefore
+    else if is_operation s && nat_le (max_operations limits) (length (filter is_operation earlier)) then Some TooManyOps
+    else if is_before s && nat_le (max_pairs limits) (length (filter is_before earlier)) then Some TooManyBefore
     else None
 
--- whether a statement names a location that these do not, and they name 4,096
-abbrev pub is_location_too_many : List Statement → Option (List ℕ) → Bool
-is_location_too_many earlier None = false
-is_location_too_many earlier (Some location) =
-    not (holds_name (filter_map location_named earlier) location) && nat_le 4096 (length (distinct (filter_map location_named earlier)))
+-- whether a statement names a location that these do not, and they name as many as may be named
+abbrev pub is_location_too_many : Limits → List Statement → Option (List ℕ) → Bool
+is_location_too_many limits earlier None = false
+is_location_too_many limits earlier (Some location) =
+    not (holds_name (filter_map location_named earlier) location) && nat_le (max_locations limits) (length (distinct (filter_map location_named earlier)))
 
 -- the first of two faults
 abbrev pub or_else : Option TraceCause → Option TraceCause → Option TraceCause
@@ -119,32 +129,33 @@ or_else None other = other
 or_else (Some cause) other = Some cause
 
 -- what is wrong with the place of a statement after these, and with its words
-abbrev pub shape_fault : List Statement → Statement → Option TraceCause
-shape_fault earlier s =
+abbrev pub shape_fault : Limits → List Statement → Statement → Option TraceCause
+shape_fault limits earlier s =
     if is_value_line s && list_any is_proc earlier then Some LateHeaderLine
     else if is_operation s && not (list_any is_proc earlier) then Some OpOutsideProc
     else if not (list_all is_name (names_of s)) then Some BadName
-    else if not (list_all is_value (values_of s) && list_all (λ (r : List ℕ × List ℕ). is_place r.1) (references_of s)) then Some BadNumber
+    else if not (list_all is_value (values_of s) && list_all (λ (r : List ℕ × List ℕ). is_place limits r.1) (references_of s)) then Some BadNumber
     else None
 
 -- what is wrong with a statement after these
-abbrev pub statement_fault : List Statement → Statement → Option TraceCause
-statement_fault earlier s =
-    or_else (shape_fault earlier s)
+abbrev pub statement_fault : Limits → List Statement → Statement → Option TraceCause
+statement_fault limits earlier s =
+    or_else (shape_fault limits earlier s)
     (if list_any (repeats s) earlier then Some (twice_cause s)
-    else or_else (limit_fault earlier s)
-    (if is_location_too_many earlier (location_named s) then Some TooManyLocations else None))
+    else or_else (limit_fault limits earlier s)
+    (if is_location_too_many limits earlier (location_named s) then Some TooManyLocations else None))
 
-abbrev pub said_fault : List Statement → Option Statement → Option TraceCause
-said_fault earlier None = Some UnknownLine
-said_fault earlier (Some s) = statement_fault earlier s
+abbrev pub said_fault : Limits → List Statement → Option Statement → Option TraceCause
+said_fault limits earlier None = Some UnknownLine
+said_fault limits earlier (Some s) = statement_fault limits earlier s
 
--- the words are those of a header, and of the header of version 2
+-- the words are those of a header
 abbrev pub is_header : List (List ℕ) → Bool
-is_header words = pointwise bytes_eq words (header_line false) || pointwise bytes_eq words (header_line true)
+is_header words = pointwise bytes_eq words (header_line One) || (pointwise bytes_eq words (header_line Two) || pointwise bytes_eq words (header_line Three))
 
-abbrev pub is_version_2 : List (List ℕ) → Bool
-is_version_2 words = pointwise bytes_eq words (header_line true)
+-- the version of which they are the header
+abbrev pub version_of : List (List ℕ) → Version
+version_of words = if pointwise bytes_eq words (header_line Three) then Three else if pointwise bytes_eq words (header_line Two) then Two else One
 
 -- what the lines after a header say
 abbrev pub statements_of : Bool → List (List (List ℕ)) → List Statement
@@ -153,7 +164,7 @@ statements_of two body = filter_map (statement_of two) body
 -- what is wrong with the words of a line after those of the lines before it, of which the first is the header
 abbrev pub words_fault : List (List (List ℕ)) → List (List ℕ) → Option TraceCause
 words_fault [] words = if is_header words then None else Some Header
-words_fault (header ∷ earlier) words = said_fault (statements_of (is_version_2 header) earlier) (statement_of (is_version_2 header) words)
+words_fault (header ∷ earlier) words = said_fault (limits_of (version_of header)) (statements_of (is_two (version_of header)) earlier) (statement_of (is_two (version_of header)) words)
 
 -- a byte above 127
 abbrev pub is_high : ℕ → Bool
@@ -205,7 +216,7 @@ abbrev pub line_reference_fault : List (List (List ℕ)) → List ℕ → Option
 line_reference_fault [] line = None
 line_reference_fault (header ∷ body) line =
     if is_skipped (words_of line) then None
-    else reference_fault (statements_of (is_version_2 header) body) (statement_of (is_version_2 header) (words_of line))
+    else reference_fault (statements_of (is_two (version_of header)) body) (statement_of (is_two (version_of header)) (words_of line))
 
 -- no line by itself has a fault
 abbrev pub IsLineByLineFaultless : List ℕ → Type 0

@@ -1,5 +1,5 @@
 -- What a trace text spells.
-use Rattle.std.specs.Prelude.{◌≡◌, ◌≤◌, ◌↔◌, ℕ, Bool, true, false, not, List, [], ◌∷◌, ◌++◌, length, map, codes, ◌||◌, ◌==◌, if◌then◌else◌}
+use Rattle.std.specs.Prelude.{◌≡◌, ◌≤◌, ◌↔◌, ℕ, Bool, true, false, not, List, [], ◌∷◌, ◌++◌, length, map, codes, ◌||◌, ◌==◌, nat_lt}
 use Rattle.std.specs.Fmt.{decimal}
 use Rattle.std.specs.List.{filter, flat_map, list_any, Contains}
 use Rattle.std.specs.List.Sorted.{IsPermutation}
@@ -12,11 +12,22 @@ use Rattle.trace_semantics.specs.declared.operation.Origin.{Origin}
 use Rattle.trace_semantics.specs.declared.operation.Origin.TheVariants.{Any, Initial, Operation}
 use Rattle.trace_semantics.specs.declared.trace.Process.{Process}
 use Rattle.text_lines.specs.Kept.{kept}
-use Rattle.trace_semantics.specs.Trace.{TraceValue}
+use Rattle.trace_semantics.specs.declared.limits.Limits.{Limits}
+use Rattle.trace_semantics.specs.declared.limits.Limits.TheVariants.{Small}
+use Rattle.trace_semantics.specs.Limits.{max_operations, max_locations, max_pairs}
+use Rattle.trace_semantics.specs.Trace.{TraceValue, operation_count, location_count}
+use Rattle.trace_text.specs.declared.version.Version.{Version}
+use Rattle.trace_text.specs.declared.version.Version.TheVariants.{One, Two, Three}
+use Rattle.trace_text.specs.Version.{is_two, limits_of}
 
--- the words of the header of version 1 or 2
-abbrev pub header_line : Bool → List (List ℕ)
-header_line two = codes "vsc" ∷ (if two then codes "2" else codes "1") ∷ []
+abbrev pub version_word : Version → List ℕ
+version_word One = codes "1"
+version_word Two = codes "2"
+version_word Three = codes "3"
+
+-- the words of the header of a version
+abbrev pub header_line : Version → List (List ℕ)
+header_line version = codes "vsc" ∷ version_word version ∷ []
 
 -- the lines of an initial value and of a final value
 abbrev pub init_line : List ℕ × ℕ → List (List ℕ)
@@ -69,17 +80,27 @@ has_origin (Update location read left origin) = true
 abbrev pub needs_version_2 : TraceValue → Bool
 needs_version_2 t = not (length t.before == 0) || list_any (λ (p : Process). list_any has_origin p.operations) t.processes
 
+-- the trace is larger than versions 1 and 2 have room for
+abbrev pub needs_version_3 : TraceValue → Bool
+needs_version_3 t = nat_lt (max_operations Small) (operation_count t) || (nat_lt (max_pairs Small) (length t.before) || nat_lt (max_locations Small) (location_count t))
+
+-- the trace has no more operations and locations than these limits allow
+pub record FitsIn (limits : Limits) (t : TraceValue) : Type 0 where
+  pub few_operations : operation_count t ≤ max_operations limits
+  pub few_locations : location_count t ≤ max_locations limits
+
 -- The lines that are not skipped are a header and a body. In the body stand the lines of the processes, in order;
 -- before the first of them, in any order, those of the initial and the final values; and anywhere those of the pairs, which may
--- be repeated.
+-- be repeated. The version has lines for what the trace says, and room for it.
 pub record SpellsTrace (text : List ℕ) (t : TraceValue) : Type 0 where
-  pub two : Bool
+  pub version : Version
   pub body : List (List (List ℕ))
-  pub lines : kept (lines_of text) ≡ header_line two ∷ body
+  pub lines : kept (lines_of text) ≡ header_line version ∷ body
   pub processes : filter is_process_line body ≡ flat_map process_lines t.processes
   pub initial : IsPermutation (map init_line t.initial) (filter (begins (codes "init")) body)
   pub final_values : IsPermutation (map final_line t.final_values) (filter (begins (codes "final")) body)
   pub in_front : (front behind : List (List (List ℕ))) → body ≡ front ++ behind → list_any (begins (codes "proc")) front ≡ true → list_any (λ words. begins (codes "init") words || begins (codes "final") words) behind ≡ false
   pub before : (words : List (List ℕ)) → Contains (filter (begins (codes "before")) body) words ↔ Contains (map before_line t.before) words
-  pub few_before : length (filter (begins (codes "before")) body) ≤ 4096
-  pub version : two ≡ false → needs_version_2 t ≡ false
+  pub few_before : length (filter (begins (codes "before")) body) ≤ max_pairs (limits_of version)
+  pub lines_known : is_two version ≡ false → needs_version_2 t ≡ false
+  pub fits : FitsIn (limits_of version) t

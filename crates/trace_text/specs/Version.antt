@@ -1,9 +1,18 @@
 -- The versions of trace texts.
 use Rattle.std.specs.Prelude.{Bool, true, false}
+use Rattle.trace_semantics.specs.declared.limits.Limits.{Limits}
+use Rattle.trace_semantics.specs.declared.limits.Limits.TheVariants.{Small, Large}
 use Rattle.trace_text.specs.declared.version.Version.{Version}
-use Rattle.trace_text.specs.declared.version.Version.TheVariants.{One, Two}
+use Rattle.trace_text.specs.declared.version.Version.TheVariants.{One, Two, Three}
 
 -- a text of this version may have the lines of version 2
 abbrev pub is_two : Version → Bool
 is_two One = false
 is_two Two = true
+is_two Three = true
+
+-- the limits of a text of this version
+abbrev pub limits_of : Version → Limits
+limits_of One = Small
+limits_of Two = Small
+limits_of Three = Large

@@ -12,6 +12,7 @@ use crate::trace_fault::{LineRefusal, TraceCause};
 use std::alloc::Global;
 use text_lines::numbers::read_plain;
 use text_lines::plain_fault::PlainFault;
+use trace_semantics::limits::Limits;
 use trace_semantics::name::Name;
 use trace_semantics::operation::{Op, OpName, Origin};
 use trace_semantics::place::read_place;
@@ -54,15 +55,32 @@ fn read_located(alloc: Global, location: &[u8], value: &[u8]) -> Result<(Name, u
     Ok((Name::copy_of(alloc, location)?, value))
 }
 
+/// The place that a word writes, if it is no higher than these limits allow.
+fn place_within(limits: Limits, word: &[u8]) -> Option<u32>
+    ensures known { is_some result ≡ is_place limits word.now }
+    ensures written { IfSome result (λ place. word.now ≡ decimal place) }
+    ensures fits { IfSome result (λ place. fits_place place ≡ true) }
+{
+    match read_place(word) {
+        Some(place) if u64::from(place) <= limits.max_place() => Some(place),
+        _ => None,
+    }
+}
+
 /// The name of an operation.
-fn read_op_name(alloc: Global, process: &[u8], place: &[u8]) -> Result<OpName, LineRefusal>
-    ensures refused { IfErr result (IsRefusedFor (number_fault (is_place place.now))) }
-    ensures fine { IfOk result (λ _. is_place place.now ≡ true) }
+fn read_op_name(
+    alloc: Global,
+    limits: Limits,
+    process: &[u8],
+    place: &[u8],
+) -> Result<OpName, LineRefusal>
+    ensures refused { IfErr result (IsRefusedFor (number_fault (is_place limits place.now))) }
+    ensures fine { IfOk result (λ _. is_place limits place.now ≡ true) }
     ensures process { IfOk result (λ name. name.process ≡ process.now) }
     ensures place { IfOk result (λ name. place.now ≡ decimal name.place) }
     ensures fits { IfOk result (λ name. fits_place name.place ≡ true) }
 {
-    let Some(place) = read_place(place) else {
+    let Some(place) = place_within(limits, place) else {
         return Err(PlainFault::For(TraceCause::BadNumber));
     };
     Ok(OpName {
@@ -72,9 +90,9 @@ fn read_op_name(alloc: Global, process: &[u8], place: &[u8]) -> Result<OpName, L
 }
 
 /// The origin of a value.
-fn read_origin(alloc: Global, source: ReadsFrom<'_>) -> Result<Origin, LineRefusal>
-    ensures refused { IfErr result (IsRefusedFor (number_fault (has_place (said_source source.entry)))) }
-    ensures fine { IfOk result (λ _. has_place (said_source source.entry) ≡ true) }
+fn read_origin(alloc: Global, limits: Limits, source: ReadsFrom<'_>) -> Result<Origin, LineRefusal>
+    ensures refused { IfErr result (IsRefusedFor (number_fault (has_place limits (said_source source.entry)))) }
+    ensures fine { IfOk result (λ _. has_place limits (said_source source.entry) ≡ true) }
     ensures source { IfOk result (λ origin. source_of origin ≡ said_source source.entry) }
     ensures fits { IfOk result (λ origin. origin_fits origin ≡ true) }
 {
@@ -82,7 +100,7 @@ fn read_origin(alloc: Global, source: ReadsFrom<'_>) -> Result<Origin, LineRefus
         ReadsFrom::Unsaid => Ok(Origin::Any),
         ReadsFrom::FromInit => Ok(Origin::Initial),
         ReadsFrom::FromOp(process, place) => Ok(Origin::Operation(read_op_name(
-            alloc, process, place,
+            alloc, limits, process, place,
         )?)),
     }
 }
@@ -90,12 +108,13 @@ fn read_origin(alloc: Global, source: ReadsFrom<'_>) -> Result<Origin, LineRefus
 /// Gives what the line of a plain read adds.
 fn read_read(
     alloc: Global,
+    limits: Limits,
     location: &[u8],
     value: &[u8],
     source: ReadsFrom<'_>,
 ) -> Result<Op, LineRefusal>
-    ensures refused { IfErr result (IsRefusedFor (number_fault (has_numbers (Read location.now value.now (said_source source.entry))))) }
-    ensures fine { IfOk result (λ _. has_numbers (Read location.now value.now (said_source source.entry)) ≡ true) }
+    ensures refused { IfErr result (IsRefusedFor (number_fault (has_numbers limits (Read location.now value.now (said_source source.entry))))) }
+    ensures fine { IfOk result (λ _. has_numbers limits (Read location.now value.now (said_source source.entry)) ≡ true) }
     ensures said { IfOk result (λ op. op_statement op ≡ Read location.now value.now (said_source source.entry)) }
     ensures fits { IfOk result (λ op. op_fits op ≡ true) }
 {
@@ -103,20 +122,21 @@ fn read_read(
     Ok(Op::Read {
         location,
         value,
-        origin: read_origin(alloc, source)?,
+        origin: read_origin(alloc, limits, source)?,
     })
 }
 
 /// Gives what the line of a read-and-write adds.
 fn read_update(
     alloc: Global,
+    limits: Limits,
     location: &[u8],
     read: &[u8],
     left: &[u8],
     source: ReadsFrom<'_>,
 ) -> Result<Op, LineRefusal>
-    ensures refused { IfErr result (IsRefusedFor (number_fault (has_numbers (Update location.now read.now left.now (said_source source.entry))))) }
-    ensures fine { IfOk result (λ _. has_numbers (Update location.now read.now left.now (said_source source.entry)) ≡ true) }
+    ensures refused { IfErr result (IsRefusedFor (number_fault (has_numbers limits (Update location.now read.now left.now (said_source source.entry))))) }
+    ensures fine { IfOk result (λ _. has_numbers limits (Update location.now read.now left.now (said_source source.entry)) ≡ true) }
     ensures said { IfOk result (λ op. op_statement op ≡ Update location.now read.now left.now (said_source source.entry)) }
     ensures fits { IfOk result (λ op. op_fits op ≡ true) }
 {
@@ -128,14 +148,19 @@ fn read_update(
         location,
         read,
         left,
-        origin: read_origin(alloc, source)?,
+        origin: read_origin(alloc, limits, source)?,
     })
 }
 
 /// Gives what the line of a write adds.
-fn read_write(alloc: Global, location: &[u8], value: &[u8]) -> Result<Op, LineRefusal>
-    ensures refused { IfErr result (IsRefusedFor (number_fault (has_numbers (Write location.now value.now)))) }
-    ensures fine { IfOk result (λ _. has_numbers (Write location.now value.now) ≡ true) }
+fn read_write(
+    alloc: Global,
+    limits: Limits,
+    location: &[u8],
+    value: &[u8],
+) -> Result<Op, LineRefusal>
+    ensures refused { IfErr result (IsRefusedFor (number_fault (has_numbers limits (Write location.now value.now)))) }
+    ensures fine { IfOk result (λ _. has_numbers limits (Write location.now value.now) ≡ true) }
     ensures said { IfOk result (λ op. op_statement op ≡ Write location.now value.now) }
     ensures fits { IfOk result (λ op. op_fits op ≡ true) }
 {
@@ -146,25 +171,30 @@ fn read_write(alloc: Global, location: &[u8], value: &[u8]) -> Result<Op, LineRe
 /// The operations that a `before` line names.
 fn read_pair(
     alloc: Global,
+    limits: Limits,
     process: &[u8],
     place: &[u8],
     other: &[u8],
     other_place: &[u8],
 ) -> Result<Entry, LineRefusal>
-    ensures refused { IfErr result (IsRefusedFor (number_fault (has_numbers (Before process.now place.now other.now other_place.now)))) }
-    ensures fine { IfOk result (λ _. has_numbers (Before process.now place.now other.now other_place.now) ≡ true) }
+    ensures refused { IfErr result (IsRefusedFor (number_fault (has_numbers limits (Before process.now place.now other.now other_place.now)))) }
+    ensures fine { IfOk result (λ _. has_numbers limits (Before process.now place.now other.now other_place.now) ≡ true) }
     ensures said { IfOk result (λ entry. statement_for entry ≡ Before process.now place.now other.now other_place.now) }
     ensures fits { IfOk result (λ entry. entry_fits entry ≡ true) }
 {
-    let first = read_op_name(alloc, process, place)?;
-    let second = read_op_name(alloc, other, other_place)?;
+    let first = read_op_name(alloc, limits, process, place)?;
+    let second = read_op_name(alloc, limits, other, other_place)?;
     Ok(Entry::Before(first, second))
 }
 
 /// Gives what a line adds that says this, if its numbers are numbers.
-pub fn read_entry(alloc: Global, statement: Statement<'_>) -> Result<Entry, LineRefusal>
-    ensures refused { IfErr result (IsRefusedFor (number_fault (has_numbers (said statement.entry)))) }
-    ensures fine { IfOk result (λ _. has_numbers (said statement.entry) ≡ true) }
+pub fn read_entry(
+    alloc: Global,
+    limits: Limits,
+    statement: Statement<'_>,
+) -> Result<Entry, LineRefusal>
+    ensures refused { IfErr result (IsRefusedFor (number_fault (has_numbers limits (said statement.entry)))) }
+    ensures fine { IfOk result (λ _. has_numbers limits (said statement.entry) ≡ true) }
     ensures said { IfOk result (λ entry. statement_for entry ≡ said statement.entry) }
     ensures fits { IfOk result (λ entry. entry_fits entry ≡ true) }
 {
@@ -179,16 +209,16 @@ pub fn read_entry(alloc: Global, statement: Statement<'_>) -> Result<Entry, Line
         }
         Statement::Proc(name) => Ok(Entry::Process(Name::copy_of(alloc, name)?)),
         Statement::Read(location, value, source) => {
-            Ok(Entry::Operation(read_read(alloc, location, value, source)?))
+            Ok(Entry::Operation(read_read(alloc, limits, location, value, source)?))
         }
         Statement::Write(location, value) => {
-            Ok(Entry::Operation(read_write(alloc, location, value)?))
+            Ok(Entry::Operation(read_write(alloc, limits, location, value)?))
         }
         Statement::Update(location, read, left, source) => {
-            Ok(Entry::Operation(read_update(alloc, location, read, left, source)?))
+            Ok(Entry::Operation(read_update(alloc, limits, location, read, left, source)?))
         }
         Statement::Before(process, place, other, other_place) => {
-            read_pair(alloc, process, place, other, other_place)
+            read_pair(alloc, limits, process, place, other, other_place)
         }
     }
 }

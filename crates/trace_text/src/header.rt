@@ -12,7 +12,6 @@ ghost use Rattle.trace_text.specs.Read.{HasHeader};
 ghost use Rattle.text_lines.specs.PlainFault.{IsRefusedFor};
 ghost use Rattle.trace_text.specs.TraceFault.{is_header, HasTraceFault};
 ghost use Rattle.trace_text.specs.TraceText.{header_line};
-ghost use Rattle.trace_text.specs.Version.{is_two};
 
 use crate::line::has_high_byte;
 use crate::trace_fault::{LineRefusal, TraceCause, TraceFault};
@@ -43,12 +42,14 @@ fn is_header_of(words: &[&[u8]], version: &str) -> bool
 
 /// Returns the version whose header these words are, if they are those of a header.
 fn version_of(words: &[&[u8]]) -> Option<Version>
-    ensures { MatchOption result (is_header (map (λ word. word.now) words.now) ≡ false) (λ version. map (λ word. word.now) words.now ≡ header_line (is_two version)) }
+    ensures { MatchOption result (is_header (map (λ word. word.now) words.now) ≡ false) (λ version. map (λ word. word.now) words.now ≡ header_line version) }
 {
     if is_header_of(words, "1") {
         Some(Version::One)
     } else if is_header_of(words, "2") {
         Some(Version::Two)
+    } else if is_header_of(words, "3") {
+        Some(Version::Three)
     } else {
         None
     }
@@ -57,7 +58,7 @@ fn version_of(words: &[&[u8]]) -> Option<Version>
 /// Returns the version of the header on this line, or `None` if the line is skipped.
 fn read_header_line(line: &[u8]) -> Result<Option<Version>, LineRefusal>
     ensures refused { IfErr result (IsRefusedFor (header_fault line.now)) }
-    ensures read { IfOk result (λ version. MatchOption version (is_skipped (words_of line.now) ≡ true) (λ version. IsHeaderLine line.now (is_two version))) }
+    ensures read { IfOk result (λ version. MatchOption version (is_skipped (words_of line.now) ≡ true) (λ version. IsHeaderLine line.now version)) }
 {
     let words = first_words(line);
     if is_skipped_line(words.as_slice()) {
@@ -75,7 +76,7 @@ fn read_header_line(line: &[u8]) -> Result<Option<Version>, LineRefusal>
 /// Reads the lines up to the header.
 pub fn read_header(text: &[u8]) -> Result<Header<'_>, TraceFault>
     ensures refused { IfErr result (IsRefusal (HasTraceFault text.now)) }
-    ensures read { IfOk result (λ header. HasHeader text.now (is_two header.version) header.rest.now header.next) }
+    ensures read { IfOk result (λ header. HasHeader text.now header.version header.rest.now header.next) }
 {
     let mut rest = text;
     let mut next = 1usize;

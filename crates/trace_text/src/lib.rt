@@ -1,9 +1,10 @@
-//! The text of a trace, versions 1 and 2: its reader and its writer.
+//! The text of a trace, versions 1 to 3: its reader and its writer.
 #![tactic(auto)]
 
 mod entry;
 mod header;
 mod line;
+mod location_count;
 mod pair_order;
 mod place;
 mod references;

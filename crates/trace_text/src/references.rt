@@ -23,13 +23,13 @@ use trace_semantics::place::read_place;
 use trace_semantics::trace::Process;
 
 /// Returns whether the process has this name, and an operation at this place. Places are counted from 1.
-fn has_place(process: &Process, name: &[u8], place: u16) -> bool
+fn has_place(process: &Process, name: &[u8], place: u32) -> bool
     ensures { result ≡ is_of name.now place process.now }
 {
     process.name.as_bytes() == name && place as usize <= process.operations.as_slice().len()
 }
 
-fn some_has_place(processes: &[Process], name: &[u8], place: u16) -> bool
+fn some_has_place(processes: &[Process], name: &[u8], place: u32) -> bool
     ensures { result ≡ list_any (is_of name.now place) processes.now }
 {
     processes

@@ -1,9 +1,11 @@
 //! What must be known of the earlier lines of a trace text to judge the next one.
 //!
-//! In the contracts `Notes` says too that the earlier lines make no fault of the new one, `IsRefusedFor` for which fault it is refused, and
-//! 4096 is `MAX_LOCATIONS`. Values and places are not looked at here, so `[]` stands for any, and `Write` for each operation.
+//! In the contracts `Notes` says too that the earlier lines make no fault of the new one, and `IsRefusedFor` for which fault it is refused.
+//! Values and places are not looked at here, so `[]` stands for any, and `Write` for each operation.
 
 ghost use Rattle.std.specs.Prelude.{◌≡◌, ◌≤◌, [], List, ℕ, Some, None, false, OnOk, IfErr};
+ghost use Rattle.trace_semantics.specs.declared.limits.Limits.{Limits as Of};
+ghost use Rattle.trace_semantics.specs.Limits.{max_operations, max_locations, max_pairs};
 ghost use Rattle.trace_semantics.specs.NameNumbers.{number_of};
 ghost use Rattle.text_lines.specs.PlainFault.{IsRefusedFor};
 ghost use Rattle.trace_text.specs.Said.{said};
@@ -14,7 +16,7 @@ use crate::statement::Statement;
 use crate::trace_fault::{LineRefusal, TraceCause};
 use std::alloc::Global;
 use text_lines::plain_fault::PlainFault;
-use trace_semantics::limits::{MAX_LOCATIONS, MAX_OPERATIONS, MAX_PAIRS, MAX_PROCESSES};
+use trace_semantics::limits::{Limits, MAX_PROCESSES};
 use trace_semantics::name_table::NameTable;
 
 /// What must be known of the earlier lines to judge the next one: the names that they name, and the number of each kind. The tables are
@@ -55,7 +57,7 @@ fn has_name<'a>(table: &NameTable<'a>, name: &'a [u8]) -> bool
 impl<'a> Seen<'a> {
     /// The state before the first line.
     pub fn new(alloc: Global) -> Seen<'a>
-        ensures { IsSeen [] result }
+        ensures { (limits : Of) → IsSeen limits [] result }
     {
         Seen {
             initial: NameTable::new(alloc),
@@ -69,12 +71,12 @@ impl<'a> Seen<'a> {
         }
     }
 
-    /// Notes the location of a line, unless it is one too many.
-    fn note_location(&mut self, location: &'a [u8]) -> Result<(), LineRefusal>
-        requires { self.old.location_count ≤ 4096 }
-        ensures refused { IfErr result (IsRefusedFor (fault_of_location self.old location.now)) }
-        ensures fine { OnOk result (fault_of_location self.old location.now ≡ None) }
-        ensures noted { OnOk result (NotesLocation self.old self.new (Some location.now)) }
+    /// Notes the location of a line, unless it is one too many for these limits.
+    fn note_location(&mut self, limits: Limits, location: &'a [u8]) -> Result<(), LineRefusal>
+        requires { self.old.location_count ≤ max_locations limits }
+        ensures refused { IfErr result (IsRefusedFor (fault_of_location limits self.old location.now)) }
+        ensures fine { OnOk result (fault_of_location limits self.old location.now ≡ None) }
+        ensures noted { OnOk result (NotesLocation limits self.old self.new (Some location.now)) }
         ensures initial { self.new.initial ≡ self.old.initial }
         ensures final_values { self.new.final_values ≡ self.old.final_values }
         ensures processes { self.new.processes ≡ self.old.processes }
@@ -85,7 +87,7 @@ impl<'a> Seen<'a> {
         if has_name(&self.locations, location) {
             return Ok(());
         }
-        if self.location_count >= MAX_LOCATIONS {
+        if self.location_count >= limits.max_locations() {
             return Err(PlainFault::For(TraceCause::TooManyLocations));
         }
         self.locations.insert(location, 0)?;
@@ -94,36 +96,36 @@ impl<'a> Seen<'a> {
     }
 
     /// Notes that a line gives this location an initial value, and refuses a second such line.
-    fn note_initial(&mut self, location: &'a [u8]) -> Result<(), LineRefusal>
-        requires { self.old.location_count ≤ 4096 }
-        ensures refused { IfErr result (IsRefusedFor (fault_behind self.old (Init location.now []))) }
-        ensures noted { OnOk result (Notes self.old self.new (Init location.now [])) }
+    fn note_initial(&mut self, limits: Limits, location: &'a [u8]) -> Result<(), LineRefusal>
+        requires { self.old.location_count ≤ max_locations limits }
+        ensures refused { IfErr result (IsRefusedFor (fault_behind limits self.old (Init location.now []))) }
+        ensures noted { OnOk result (Notes limits self.old self.new (Init location.now [])) }
     {
         if has_name(&self.initial, location) {
             return Err(PlainFault::For(TraceCause::InitTwice));
         }
         self.initial.insert(location, 0)?;
-        self.note_location(location)
+        self.note_location(limits, location)
     }
 
     /// Notes that a line gives this location a final value, and refuses a second such line.
-    fn note_final(&mut self, location: &'a [u8]) -> Result<(), LineRefusal>
-        requires { self.old.location_count ≤ 4096 }
-        ensures refused { IfErr result (IsRefusedFor (fault_behind self.old (Final location.now []))) }
-        ensures noted { OnOk result (Notes self.old self.new (Final location.now [])) }
+    fn note_final(&mut self, limits: Limits, location: &'a [u8]) -> Result<(), LineRefusal>
+        requires { self.old.location_count ≤ max_locations limits }
+        ensures refused { IfErr result (IsRefusedFor (fault_behind limits self.old (Final location.now []))) }
+        ensures noted { OnOk result (Notes limits self.old self.new (Final location.now [])) }
     {
         if has_name(&self.final_values, location) {
             return Err(PlainFault::For(TraceCause::FinalTwice));
         }
         self.final_values.insert(location, 0)?;
-        self.note_location(location)
+        self.note_location(limits, location)
     }
 
     /// Notes that a process of this name begins, and refuses a second one and one too many.
-    fn note_process(&mut self, name: &'a [u8]) -> Result<(), LineRefusal>
-        requires { self.old.location_count ≤ 4096 }
-        ensures refused { IfErr result (IsRefusedFor (fault_behind self.old (Proc name.now))) }
-        ensures noted { OnOk result (Notes self.old self.new (Proc name.now)) }
+    fn note_process(&mut self, limits: Limits, name: &'a [u8]) -> Result<(), LineRefusal>
+        requires { self.old.location_count ≤ max_locations limits }
+        ensures refused { IfErr result (IsRefusedFor (fault_behind limits self.old (Proc name.now))) }
+        ensures noted { OnOk result (Notes limits self.old self.new (Proc name.now)) }
     {
         if has_name(&self.processes, name) {
             return Err(PlainFault::For(TraceCause::ProcTwice));
@@ -137,25 +139,25 @@ impl<'a> Seen<'a> {
     }
 
     /// Notes that a line is an operation on this location, and refuses one too many.
-    fn note_operation(&mut self, location: &'a [u8]) -> Result<(), LineRefusal>
-        requires { self.old.location_count ≤ 4096 }
-        ensures refused { IfErr result (IsRefusedFor (fault_behind self.old (Write location.now []))) }
-        ensures noted { OnOk result (Notes self.old self.new (Write location.now [])) }
+    fn note_operation(&mut self, limits: Limits, location: &'a [u8]) -> Result<(), LineRefusal>
+        requires { self.old.location_count ≤ max_locations limits }
+        ensures refused { IfErr result (IsRefusedFor (fault_behind limits self.old (Write location.now []))) }
+        ensures noted { OnOk result (Notes limits self.old self.new (Write location.now [])) }
     {
-        if self.operation_count >= MAX_OPERATIONS {
+        if self.operation_count >= limits.max_operations() {
             return Err(PlainFault::For(TraceCause::TooManyOps));
         }
         self.operation_count += 1;
-        self.note_location(location)
+        self.note_location(limits, location)
     }
 
     /// Notes that a line is a `before` line, and refuses one too many.
-    fn note_before(&mut self) -> Result<(), LineRefusal>
-        requires { self.old.location_count ≤ 4096 }
-        ensures refused { IfErr result (IsRefusedFor (fault_behind self.old (Before [] [] [] []))) }
-        ensures noted { OnOk result (Notes self.old self.new (Before [] [] [] [])) }
+    fn note_before(&mut self, limits: Limits) -> Result<(), LineRefusal>
+        requires { self.old.location_count ≤ max_locations limits }
+        ensures refused { IfErr result (IsRefusedFor (fault_behind limits self.old (Before [] [] [] []))) }
+        ensures noted { OnOk result (Notes limits self.old self.new (Before [] [] [] [])) }
     {
-        if self.before_count >= MAX_PAIRS {
+        if self.before_count >= limits.max_pairs() {
             return Err(PlainFault::For(TraceCause::TooManyBefore));
         }
         self.before_count += 1;
@@ -163,19 +165,19 @@ impl<'a> Seen<'a> {
     }
 
     /// Notes what a line says, unless the lines before it make a fault of it.
-    pub fn take(&mut self, statement: Statement<'a>) -> Result<(), LineRefusal>
-        requires { self.old.location_count ≤ 4096 }
-        ensures refused { IfErr result (IsRefusedFor (fault_behind self.old (said statement.entry))) }
-        ensures noted { OnOk result (Notes self.old self.new (said statement.entry)) }
+    pub fn take(&mut self, limits: Limits, statement: Statement<'a>) -> Result<(), LineRefusal>
+        requires { self.old.location_count ≤ max_locations limits }
+        ensures refused { IfErr result (IsRefusedFor (fault_behind limits self.old (said statement.entry))) }
+        ensures noted { OnOk result (Notes limits self.old self.new (said statement.entry)) }
     {
         match statement {
-            Statement::Init(location, _) => self.note_initial(location),
-            Statement::Final(location, _) => self.note_final(location),
-            Statement::Proc(name) => self.note_process(name),
-            Statement::Read(location, _, _) => self.note_operation(location),
-            Statement::Write(location, _) => self.note_operation(location),
-            Statement::Update(location, _, _, _) => self.note_operation(location),
-            Statement::Before(_, _, _, _) => self.note_before(),
+            Statement::Init(location, _) => self.note_initial(limits, location),
+            Statement::Final(location, _) => self.note_final(limits, location),
+            Statement::Proc(name) => self.note_process(limits, name),
+            Statement::Read(location, _, _) => self.note_operation(limits, location),
+            Statement::Write(location, _) => self.note_operation(limits, location),
+            Statement::Update(location, _, _, _) => self.note_operation(limits, location),
+            Statement::Before(_, _, _, _) => self.note_before(limits),
         }
     }
 }

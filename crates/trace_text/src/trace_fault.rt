@@ -28,15 +28,15 @@ pub enum TraceCause {
     LateHeaderLine,
     /// The 65th process.
     TooManyProcs,
-    /// The 4,097th operation.
+    /// The 4,097th operation, in version 3 the 1,048,577th.
     TooManyOps,
-    /// The 4,097th location.
+    /// The 4,097th location, in version 3 the 65,537th.
     TooManyLocations,
     /// A `before` or `from` that names no operation of the trace.
     NoSuchOp,
     /// A `before` of an operation and itself.
     BeforeItself,
-    /// The 4,097th `before` line.
+    /// The 4,097th `before` line, in version 3 the 4,194,305th.
     TooManyBefore,
 }
 

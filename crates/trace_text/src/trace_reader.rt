@@ -9,7 +9,9 @@ ghost use Rattle.trace_text.specs.Said.{said};
 ghost use Rattle.trace_text.specs.Statement.{Statement as Said, statement_of};
 ghost use Rattle.trace_text.specs.TraceFault.{statement_fault, said_fault, trace_line_fault, HasTraceFault};
 ghost use Rattle.trace_text.specs.TraceText.{SpellsTrace};
-ghost use Rattle.trace_text.specs.Version.{is_two};
+ghost use Rattle.trace_text.specs.Version.{is_two, limits_of};
+ghost use Rattle.trace_semantics.specs.declared.limits.Limits.{Limits as Of};
+ghost use Rattle.trace_semantics.specs.Limits.{max_locations};
 ghost use Rattle.trace_semantics.specs.Trace.{IsTrace};
 
 use crate::entry::read_entry;
@@ -27,6 +29,7 @@ use text_lines::comments::is_skipped_line;
 use text_lines::lines::cut_line;
 use text_lines::plain_fault::PlainFault;
 use text_lines::words::first_words;
+use trace_semantics::limits::Limits;
 use trace_semantics::trace::Trace;
 
 /// What has been read so far of the lines after the header.
@@ -38,7 +41,7 @@ pub struct TraceReader<'a> {
 
 impl<'a> TraceReader<'a> {
     fn new(alloc: Global) -> TraceReader<'a>
-        ensures { IsProgress [] result }
+        ensures { (limits : Of) → IsProgress limits [] result }
     {
         TraceReader {
             seen: Seen::new(alloc),
@@ -47,17 +50,22 @@ impl<'a> TraceReader<'a> {
     }
 
     /// Takes what a line says.
-    fn take_statement(&mut self, alloc: Global, statement: Statement<'a>) -> Result<(), LineRefusal>
-        requires { self.old.seen.location_count ≤ 4096 }
-        ensures refused { IfErr result (λ refusal. (ss : List Said) → IsProgress ss self.old → IsRefusedFor (statement_fault ss (said statement.entry)) refusal) }
-        ensures taken { OnOk result ((ss : List Said) → IsProgress ss self.old →
-            (statement_fault ss (said statement.entry) ≡ None) × IsProgress (ss ++ said statement.entry ∷ []) self.new) }
+    fn take_statement(
+        &mut self,
+        alloc: Global,
+        limits: Limits,
+        statement: Statement<'a>,
+    ) -> Result<(), LineRefusal>
+        requires { self.old.seen.location_count ≤ max_locations limits }
+        ensures refused { IfErr result (λ refusal. (ss : List Said) → IsProgress limits ss self.old → IsRefusedFor (statement_fault limits ss (said statement.entry)) refusal) }
+        ensures taken { OnOk result ((ss : List Said) → IsProgress limits ss self.old →
+            (statement_fault limits ss (said statement.entry) ≡ None) × IsProgress limits (ss ++ said statement.entry ∷ []) self.new) }
     {
         if let Some(cause) = fault_of_place(self.gathered.has_open_process(), statement) {
             return Err(PlainFault::For(cause));
         }
-        let entry = read_entry(alloc, statement)?;
-        self.seen.take(statement)?;
+        let entry = read_entry(alloc, limits, statement)?;
+        self.seen.take(limits, statement)?;
         self.gathered.add(alloc, entry)
     }
 
@@ -68,13 +76,13 @@ impl<'a> TraceReader<'a> {
         version: Version,
         words: &[&'a [u8]],
     ) -> Result<(), LineRefusal>
-        requires { self.old.seen.location_count ≤ 4096 }
-        ensures refused { IfErr result (λ refusal. (ss : List Said) → IsProgress ss self.old →
-            IsRefusedFor (said_fault ss (statement_of (is_two version) (map (λ word. word.now) words.now))) refusal) }
-        ensures taken { OnOk result ((ss : List Said) → IsProgress ss self.old → TakesWords (is_two version) ss (map (λ word. word.now) words.now) self.new) }
+        requires { self.old.seen.location_count ≤ max_locations (limits_of version) }
+        ensures refused { IfErr result (λ refusal. (ss : List Said) → IsProgress (limits_of version) ss self.old →
+            IsRefusedFor (said_fault (limits_of version) ss (statement_of (is_two version) (map (λ word. word.now) words.now))) refusal) }
+        ensures taken { OnOk result ((ss : List Said) → IsProgress (limits_of version) ss self.old → TakesWords version ss (map (λ word. word.now) words.now) self.new) }
     {
         match read_statement(version, words) {
-            Some(statement) => self.take_statement(alloc, statement),
+            Some(statement) => self.take_statement(alloc, version.limits(), statement),
             None => Err(PlainFault::For(TraceCause::UnknownLine)),
         }
     }
@@ -86,10 +94,10 @@ impl<'a> TraceReader<'a> {
         version: Version,
         line: &'a [u8],
     ) -> Result<(), LineRefusal>
-        requires { self.old.seen.location_count ≤ 4096 }
-        ensures refused { IfErr result (λ refusal. (before : List (List ℕ)) (ss : List Said) → AreSaid (is_two version) before ss → IsProgress ss self.old →
+        requires { self.old.seen.location_count ≤ max_locations (limits_of version) }
+        ensures refused { IfErr result (λ refusal. (before : List (List ℕ)) (ss : List Said) → AreSaid version before ss → IsProgress (limits_of version) ss self.old →
             IsRefusedFor (trace_line_fault before line.now) refusal) }
-        ensures taken { OnOk result ((before : List (List ℕ)) (ss : List Said) → AreSaid (is_two version) before ss → IsProgress ss self.old → TakesLine (is_two version) before line.now self.new) }
+        ensures taken { OnOk result ((before : List (List ℕ)) (ss : List Said) → AreSaid version before ss → IsProgress (limits_of version) ss self.old → TakesLine version before line.now self.new) }
     {
         let words = first_words(line);
         if is_skipped_line(words.as_slice()) {
@@ -108,9 +116,9 @@ fn read_body<'a>(
     text: &'a [u8],
     header: &Header<'a>,
 ) -> Result<TraceReader<'a>, TraceFault>
-    requires { HasHeader text.now (is_two header.now.version) header.now.rest.now header.now.next }
+    requires { HasHeader text.now header.now.version header.now.rest.now header.now.next }
     ensures refused { IfErr result (IsRefusal (HasTraceFault text.now)) }
-    ensures read { IfOk result (λ reader. IsAllRead text.now (is_two header.now.version) reader) }
+    ensures read { IfOk result (λ reader. IsAllRead text.now header.now.version reader) }
 {
     let mut reader = TraceReader::new(alloc);
     let mut rest = header.rest;
@@ -127,7 +135,7 @@ fn read_body<'a>(
 
 /// The trace of a text whose lines are all read.
 fn finish(text: &[u8], version: Version, reader: TraceReader<'_>) -> Result<Trace, TraceFault>
-    requires { IsAllRead text.now (is_two version) reader }
+    requires { IsAllRead text.now version reader }
     ensures refused { IfErr result (IsRefusal (HasTraceFault text.now)) }
     ensures spelled { IfOk result (SpellsTrace text.now) }
 {

@@ -6,15 +6,17 @@ ghost use Rattle.std.specs.List.{list_any, flat_map};
 ghost use Rattle.trace_semantics.specs.declared.trace.Process.{Process};
 ghost use Rattle.trace_text.specs.TraceText as spelled;
 ghost use Rattle.trace_text.specs.TraceLines.{spaced, entry_line, joined};
-ghost use Rattle.trace_text.specs.TraceWritten.{line_text, canonical_trace};
-ghost use Rattle.trace_text.specs.Version.{is_two};
+ghost use Rattle.trace_text.specs.TraceWritten.{line_text, version_for, canonical_body, canonical_trace};
 
+use crate::location_count::has_many_locations;
 use crate::version::Version;
 use itoa::Buffer;
 use std::alloc::{AllocError, Global};
+use trace_semantics::limits::Limits;
 use trace_semantics::name::Name;
 use trace_semantics::operation::{Op, OpName, Origin};
 use trace_semantics::trace::{Process, Trace};
+use trace_semantics::trace_size::count_operations;
 
 /// Returns whether it is said where the value of the operation comes from.
 fn says_origin(op: &Op) -> bool
@@ -58,15 +60,31 @@ fn wants_version_2(trace: &Trace) -> bool
     !trace.before().is_empty() || any_says_origin(trace.processes())
 }
 
-/// Returns the version of the trace's canonical text: version 2 only if the trace says what version 1 has no line for.
-pub fn wanted_version(trace: &Trace) -> Version
-    ensures { is_two result ≡ spelled.needs_version_2 trace.now }
+/// Returns whether the trace is larger than versions 1 and 2 have room for.
+fn wants_version_3(alloc: Global, trace: &Trace) -> Result<bool, AllocError>
+    ensures { IfOk result (λ wants. wants ≡ spelled.needs_version_3 trace.now) }
 {
-    if wants_version_2(trace) {
+    if count_operations(trace) > Limits::Small.max_operations() {
+        return Ok(true);
+    }
+    if trace.before().len() > Limits::Small.max_pairs() {
+        return Ok(true);
+    }
+    has_many_locations(alloc, trace)
+}
+
+/// Returns the version of the trace's canonical text: the earliest that has lines for what the trace says, and room for it.
+fn wanted_version(alloc: Global, trace: &Trace) -> Result<Version, AllocError>
+    ensures { IfOk result (λ version. version ≡ version_for trace.now) }
+{
+    if wants_version_3(alloc, trace)? {
+        return Ok(Version::Three);
+    }
+    Ok(if wants_version_2(trace) {
         Version::Two
     } else {
         Version::One
-    }
+    })
 }
 
 /// Appends a space and the word.
@@ -208,27 +226,47 @@ pub fn push_pairs(text: &mut Vec<u8>, pairs: &[(OpName, OpName)]) -> Result<(), 
 }
 
 /// Appends the header of this version.
-pub fn push_header(text: &mut Vec<u8>, version: Version) -> Result<(), AllocError>
-    ensures { OnOk result (text.new.items ≡ text.old.items ++ line_text (spelled.header_line (is_two version))) }
+fn push_header(text: &mut Vec<u8>, version: Version) -> Result<(), AllocError>
+    ensures { OnOk result (text.new.items ≡ text.old.items ++ line_text (spelled.header_line version)) }
 {
-    text.extend_from_slice(if version.is_two() {
-        b"vsc 2\n"
-    } else {
-        b"vsc 1\n"
+    text.extend_from_slice(match version {
+        Version::One => b"vsc 1\n",
+        Version::Two => b"vsc 2\n",
+        Version::Three => b"vsc 3\n",
     })?;
     Ok(())
 }
 
-/// The canonical text of the trace: the header, of version 2 only where the trace needs it, the initial values,
-/// the final values, the processes with their operations, and the pairs, each in its order, one line each.
+/// Appends the header of the trace's canonical text.
+pub fn push_wanted_header(
+    alloc: Global,
+    text: &mut Vec<u8>,
+    trace: &Trace,
+) -> Result<(), AllocError>
+    ensures { OnOk result (text.new.items ≡ text.old.items ++ line_text (spelled.header_line (version_for trace.now))) }
+{
+    let version = wanted_version(alloc, trace)?;
+    push_header(text, version)
+}
+
+/// Appends the lines after the header: the initial values, the final values, the processes with their operations, and the pairs, each in
+/// its order, one line each.
+fn push_body(text: &mut Vec<u8>, trace: &Trace) -> Result<(), AllocError>
+    ensures { OnOk result (text.new.items ≡ text.old.items ++ flat_map line_text (canonical_body trace.now)) }
+{
+    push_entries(text, b"init", trace.initial())?;
+    push_entries(text, b"final", trace.final_values())?;
+    push_processes(text, trace.processes())?;
+    let pairs = trace.before();
+    push_pairs(text, pairs)
+}
+
+/// The canonical text of the trace: the header, of a later version only where the trace needs it, and the lines after it.
 pub fn write_trace(alloc: Global, trace: &Trace) -> Result<Vec<u8>, AllocError>
     ensures { IfOk result (λ text. text.items ≡ canonical_trace trace.now) }
 {
     let mut text = Vec::new(alloc);
-    push_header(&mut text, wanted_version(trace))?;
-    push_entries(&mut text, b"init", trace.initial())?;
-    push_entries(&mut text, b"final", trace.final_values())?;
-    push_processes(&mut text, trace.processes())?;
-    push_pairs(&mut text, trace.before())?;
+    push_wanted_header(alloc, &mut text, trace)?;
+    push_body(&mut text, trace)?;
     Ok(text)
 }

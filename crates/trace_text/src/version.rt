@@ -1,15 +1,19 @@
 //! The versions of trace texts.
 
 ghost use Rattle.std.specs.Prelude.{◌≡◌};
-ghost use Rattle.trace_text.specs.Version.{is_two};
+ghost use Rattle.trace_text.specs.Version.{is_two, limits_of};
 
-/// A version of trace texts: the lines that a text may have.
+use trace_semantics::limits::Limits;
+
+/// A version of trace texts: the lines that a text may have, and how many.
 #[derive(Clone, Copy)]
 pub enum Version {
     /// Values, processes and operations.
     One,
     /// Known orders and known sources too.
     Two,
+    /// The same lines, and more of them.
+    Three,
 }
 
 impl Version {
@@ -17,6 +21,17 @@ impl Version {
     pub fn is_two(self) -> bool
         ensures { result ≡ is_two self }
     {
-        matches!(self, Version::Two)
+        matches!(self, Version::Two | Version::Three)
+    }
+
+    /// Returns the limits of such texts.
+    pub fn limits(self) -> Limits
+        ensures { result ≡ limits_of self }
+    {
+        match self {
+            Version::One => Limits::Small,
+            Version::Two => Limits::Small,
+            Version::Three => Limits::Large,
+        }
     }
 }

@@ -5,7 +5,7 @@ use Rattle.std.specs.List.{All, enumerate_from, filter, flat_map, range_with_len
 use Rattle.std.specs.Option.{option_map_or, option_and_then}
 use Rattle.std.proofs.lemmas.Nat.{mul-le}
 use Rattle.std.proofs.lemmas.List.FromFn.{length-range_with_len, length-enumerate_from}
-use Rattle.std.proofs.lemmas.List.Sums.{sum_by-le, sum_by-take-le, sum_by_more}
+use Rattle.std.proofs.lemmas.List.Sums.{sum_by-cons, sum_by-le, sum_by-take-le, sum_by_more}
 use Rattle.std.proofs.lemmas.List.Elements.{Contains-append_left, Contains-append_right}
 use Rattle.std.proofs.lemmas.Bool.{eqb-true, eqb-false, and_parts, or_from}
 use Rattle.std.proofs.lemmas.Option.{slice_get-get_or}
@@ -31,6 +31,9 @@ use Rattle.var_layout.specs.OrderVariables.{order_count}
 use Rattle.var_layout.specs.Tables.{OpTableValue, op_table, FinalTableValue, final_table, final_table_of}
 use Rattle.var_layout.proofs.ListLemmas.{sum_more}
 use Rattle.var_layout.proofs.OrderLemmas.{order_small}
+use Rattle.var_layout.proofs.WrittenOnceLemmas.{written_in, none_written, more_written, few_written}
+use Rattle.trace_semantics.specs.declared.limits.Limits.TheVariants.{Large}
+use Rattle.trace_semantics.specs.Limits.{max_locations}
 
 length_mapped : {A B : Type 0} (f : A → B) (xs : List A) → length (map f xs) ≡ length xs
 length_mapped f [] = refl
@@ -126,7 +129,7 @@ one_each_counted (x ∷ values) each =
     ap (λ b. length (if b then distinct names else x.0 ∷ distinct names)) (none_among x.0 values (λ k d l. each 0 (suc k) d (omega arith) (omega arith)))
     ∙ ap suc (one_each_counted values (λ i j d l m. each (suc i) (suc j) d (omega arith) (omega arith)))
 
-pub few_finals : (t : TraceValue) → IsTrace t → length t.final_values ≤ 4096
+pub few_finals : (t : TraceValue) → IsTrace t → length t.final_values ≤ max_locations Large
 few_finals t ok =
     let names = map (λ (entry : List ℕ × ℕ). entry.0) t.final_values in
     let few : length (distinct names) ≤ location_count t = few_named names (locations_of t) (λ q c. Contains-append_right (map (λ (entry : List ℕ × ℕ). entry.0) t.initial) (names ++ flat_map (λ (p : Process). map location_of p.operations) t.processes) q
@@ -136,17 +139,19 @@ few_finals t ok =
 pub few_leavers : (t : TraceValue) (entry : List ℕ × ℕ) → length (final_candidates t entry) ≤ operation_count t
 few_leavers t entry = omega (arith, few_pass (λ w. is_held (left_at t entry.0 w) entry.1) (writers t entry.0), few_writers t entry.0)
 
-at_most_max : (u : Bool) (m : ℕ) → m ≤ 160 → (if u then 0 else max 1 m) ≤ 160
-at_most_max true m h = omega arith
-at_most_max false m h = omega (arith, h)
+at_most_one_more : (u : Bool) (m n : ℕ) → m ≤ n → (if u then 0 else max 1 m) ≤ 1 + n
+at_most_one_more true m n h = omega arith
+at_most_one_more false m n h = omega (arith, h)
 
-few_final_count : (t : TraceValue) (entry : List ℕ × ℕ) → operation_count t ≤ 160 → final_count t entry ≤ 160
-few_final_count t entry few = at_most_max (is_untouched t entry) (length (final_candidates t entry)) (omega (arith, few_leavers t entry))
+few_final_count : (t : TraceValue) (entry : List ℕ × ℕ) → final_count t entry ≤ 1 + length (writers t entry.0)
+few_final_count t entry = at_most_one_more (is_untouched t entry) (length (final_candidates t entry)) (length (writers t entry.0)) (few_pass (λ w. is_held (left_at t entry.0 w) entry.1) (writers t entry.0))
 
-final_sum : (t : TraceValue) (values : List (List ℕ × ℕ)) → operation_count t ≤ 160 → length values ≤ 4096 → sum_by (final_count t) values ≤ 655360
-final_sum t values few short =
-    let all : sum_by (final_count t) values ≤ length values * 160 = sum_by-le (final_count t) 160 values (λ k d l. few_final_count t (get_or values k d) few) in
-    omega (arith, all)
+final_sum_by : (t : TraceValue) (values : List (List ℕ × ℕ)) → sum_by (final_count t) values ≤ length values + written_in t values
+final_sum_by t [] = omega (arith, none_written t)
+final_sum_by t (entry ∷ values) = omega (arith, sum_by-cons (final_count t) entry values, few_final_count t entry, final_sum_by t values, more_written t entry values)
+
+final_sum : (t : TraceValue) → IsTrace t → operation_count t ≤ 160 → sum_by (final_count t) t.final_values ≤ 655360
+final_sum t ok few = omega (arith, final_sum_by t t.final_values, few_finals t ok, few_written t ok, few)
 
 in_all : (a b c : ℕ) → a ≤ 12720 → b ≤ 25920 → c ≤ 655360 → a + b + c ≤ 694000
 in_all a b c p q r = omega arith
@@ -155,11 +160,11 @@ pub few_first_final : (t : TraceValue) (k : ℕ) → IsTrace t → operation_cou
 few_first_final t k ok few =
     let front : sum_by (final_count t) (take k t.final_values) ≤ sum_by (final_count t) t.final_values = sum_by-take-le (final_count t) t.final_values k in
     let most = in_all (order_count (operation_count t)) (all_choices t) (sum_by (final_count t) (take k t.final_values)) (order_small (operation_count t) few) (few_before t (operation_count t) few (omega arith))
-    (omega (arith, front, final_sum t t.final_values few (few_finals t ok))) in
+    (omega (arith, front, final_sum t ok few)) in
     omega (arith, most)
 
 pub few_variables : (t : TraceValue) → IsTrace t → operation_count t ≤ 160 → variable_count t ≤ 694000
-few_variables t ok few = in_all (order_count (operation_count t)) (all_choices t) (sum_by (final_count t) t.final_values) (order_small (operation_count t) few) (few_before t (operation_count t) few (omega arith)) (final_sum t t.final_values few (few_finals t ok))
+few_variables t ok few = in_all (order_count (operation_count t)) (all_choices t) (sum_by (final_count t) t.final_values) (order_small (operation_count t) few) (few_before t (operation_count t) few (omega arith)) (final_sum t ok few)
 
 pub finals_fit : (t : TraceValue) (k first : ℕ) (entry : List ℕ × ℕ) → IsTrace t → operation_count t ≤ 160 → first ≡ first_final t k → first + length (final_candidates t entry) < 2 ^ 32
 finals_fit t k first entry ok few e = omega (arith, few_first_final t k ok few, few_leavers t entry, e)

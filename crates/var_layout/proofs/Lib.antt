@@ -8,3 +8,4 @@ pub mod RangeLemmas
 pub mod SplitLemmas
 pub mod VariableLemmas
 pub mod WriterLemmas
+pub mod WrittenOnceLemmas

@@ -3,6 +3,8 @@
 ghost use Rattle.std.specs.Prelude.{◌≡◌, ◌≤◌, ◌++◌, length, OnOk};
 ghost use Rattle.trace_semantics.specs.Operation.{same_op};
 ghost use Rattle.var_layout.specs.Numbered.{numbered_in};
+ghost use Rattle.trace_semantics.specs.declared.limits.Limits.TheVariants.{Large};
+ghost use Rattle.trace_semantics.specs.Limits.{max_operations};
 
 use restriction::left_value::left_at;
 use std::alloc::{AllocError, Global};
@@ -16,7 +18,7 @@ use trace_semantics::trace::{Process, Trace};
 #[derive(Drop)]
 struct NamedOp<'a> {
     process: &'a Name,
-    place: u16,
+    place: u32,
     op: &'a Op,
 }
 
@@ -33,14 +35,14 @@ fn push_process<'a>(
     operations: &mut Vec<NamedOp<'a>>,
     process: &'a Process,
 ) -> Result<(), AllocError>
-    requires { length process.now.operations ≤ 4096 }
+    requires { length process.now.operations ≤ max_operations Large }
     ensures { OnOk result (operations.new.items ≡ operations.old.items ++ numbered_in process.now) }
 {
     let ops = process.operations.as_slice();
     for k in 0..ops.len() {
         operations.push(NamedOp {
             process: &process.name,
-            place: (k + 1) as u16,
+            place: (k + 1) as u32,
             op: &ops[k],
         })?;
     }

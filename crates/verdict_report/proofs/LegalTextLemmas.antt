@@ -18,6 +18,10 @@ use Rattle.trace_semantics.specs.Legal.{IsLegal}
 use Rattle.trace_semantics.specs.Names.{is_name}
 use Rattle.trace_semantics.specs.Trace.{TraceValue, IsTrace, is_written_op, is_written_process, operation_count, operation_names}
 use Rattle.var_layout.proofs.NumberLemmas.{names_counted}
+use Rattle.trace_semantics.specs.Limits.{max_operations}
+use Rattle.trace_semantics.specs.ScheduleLimits.{limits_for}
+use Rattle.trace_semantics.proofs.LimitLemmas.{all_named}
+use Rattle.trace_semantics.proofs.ScheduleLimitLemmas.{schedule_room}
 
 -- ---- how many names a schedule has
 
@@ -54,17 +58,17 @@ operations_within t p (k, l, e) = subst (λ (q : Process). length q.operations �
 -- ---- its text
 
 module _ (t : TraceValue) (names : List OpName) (ok : IsTrace t) (legal : IsLegal t names) where
-  few : length names ≤ 4096
+  few : length names ≤ max_operations (limits_for t)
   few =
       let most = no_more names (operation_names t) (λ n c. known_listed t n (legal.interleaving.only n c)) legal.interleaving.once in
-      omega (arith, most, names_counted t, ok.few_operations)
+      omega (arith, most, names_counted t, schedule_room t ok)
 
-  writable : (n : OpName) → Contains names n → is_op_name n ≡ true
+  writable : (n : OpName) → Contains names n → is_op_name (limits_for t) n ≡ true
   writable n c =
       let at = known_named t n (legal.interleaving.only n c) in
       let written = all_pass is_written_process t.processes ok.written.processes at.process at.listed in
       let name = (and_parts (is_name at.process.name) (list_all is_written_op at.process.operations) written).0 in
-      op_name_from n (subst (λ (p : List ℕ). is_name p ≡ true) at.called name) at.least (omega (arith, at.most, operations_within t at.process at.listed, ok.few_operations))
+      op_name_from (limits_for t) n (subst (λ (p : List ℕ). is_name p ≡ true) at.called name) at.least (omega (arith, at.most, operations_within t at.process at.listed, schedule_room t ok, all_named (limits_for t)))
 
-  pub spells : SpellsSchedule (canonical_schedule names) names
-  spells = written_spells names (pass_all is_op_name names writable) few
+  pub spells : SpellsSchedule (limits_for t) (canonical_schedule names) names
+  spells = written_spells (limits_for t) names (pass_all (is_op_name (limits_for t)) names writable) few

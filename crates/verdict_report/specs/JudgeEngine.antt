@@ -15,6 +15,7 @@ use Rattle.verdict_report.specs.declared.status.Status.{Status}
 use Rattle.verdict_report.specs.Fault.{status_after}
 use Rattle.verdict_report.specs.Runs.{SourceRun, SinkRun}
 use Rattle.verdict_report.specs.Engine.{AtOnce, IsRunOfEngine, of_two}
+use Rattle.trace_semantics.specs.ScheduleLimits.{limits_for}
 
 -- the texts spell a trace and a schedule, of which this is the judgement
 pub record AreJudged (trace_text schedule_text : List ℕ) (judgement : Judgement) : Type 0 where
@@ -22,7 +23,7 @@ pub record AreJudged (trace_text schedule_text : List ℕ) (judgement : Judgemen
   pub is_trace : IsTrace value
   pub spelled : SpellsTrace trace_text value
   pub names : List OpName
-  pub scheduled : SpellsSchedule schedule_text names
+  pub scheduled : SpellsSchedule (limits_for value) schedule_text names
   pub judged : IsJudgement value names judgement
 
 -- the first text spells a trace, and the second one has this first fault
@@ -30,7 +31,7 @@ pub record HasFaultySchedule (trace_text schedule_text : List ℕ) (cause : Sche
   pub value : TraceValue
   pub is_trace : IsTrace value
   pub spelled : SpellsTrace trace_text value
-  pub faulty : HasScheduleFault schedule_text cause line
+  pub faulty : HasScheduleFault (limits_for value) schedule_text cause line
 
 -- what is said of two texts: the judgement, or the first fault of the first text that has one
 abbrev pub IsSaidOfTexts : List ℕ → List ℕ → Result Judgement Fault → Type 0

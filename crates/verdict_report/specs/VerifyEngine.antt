@@ -24,6 +24,7 @@ use Rattle.verdict_report.specs.declared.status.Status.TheVariants.{Yes, No, Unk
 use Rattle.verdict_report.specs.Admitted.{Admits, IsTooLarge}
 use Rattle.verdict_report.specs.Engine.{AtOnce, InPieces, IsRunOfEngine, of_one}
 use Rattle.verdict_report.specs.Runs.{SourceRun, SinkRun, HandsOut}
+use Rattle.trace_semantics.specs.ScheduleLimits.{limits_for}
 
 -- the text spells an admitted trace, of which this is decided; cubes that are left open are some that a search with these options can leave open
 pub record IsDecidedFrom (options : OptionsValue) (text : List ℕ) (decision : Decision) : Type 0 where
@@ -73,7 +74,7 @@ pub record ReportsLegalSchedule (trace : SourceRun) (out : SinkRun) : Type 0 whe
   pub schedule : List ℕ
   pub whole : out.now ≡ out.before ++ (codes "CONSISTENT\n" ++ schedule)
   pub names : List OpName
-  pub told : SpellsSchedule schedule names
+  pub told : SpellsSchedule (limits_for value) schedule names
   pub legal : IsLegal value names
 
 -- the source handed out the text of a trace, and the sink took the report of cubes that a search with these options can leave open; each

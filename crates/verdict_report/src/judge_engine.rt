@@ -15,6 +15,7 @@ use schedule_judge::judge::judge;
 use schedule_text::schedule_reader::read_schedule;
 use std::alloc::Global;
 use trace_semantics::judgement::Judgement;
+use trace_semantics::trace_size::limits_for;
 use trace_text::trace_reader::read_trace;
 
 /// Judges the schedule of the second source by the trace of the first, and writes `LEGAL`, or `ILLEGAL` with the
@@ -47,7 +48,7 @@ fn judge_texts(alloc: Global, trace_text: &[u8], schedule_text: &[u8]) -> Result
     ensures { IsSaidOfTexts trace_text.now schedule_text.now result }
 {
     let trace = read_trace(alloc, trace_text)?;
-    let schedule = read_schedule(alloc, schedule_text)?;
+    let schedule = read_schedule(alloc, limits_for(&trace), schedule_text)?;
     Ok(judge(alloc, &trace, &schedule)?)
 }
 

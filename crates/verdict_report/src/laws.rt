@@ -14,6 +14,7 @@ ghost use Rattle.trace_semantics.specs.declared.operation.OpName.{OpName};
 ghost use Rattle.trace_semantics.specs.Legal.{IsLegal};
 ghost use Rattle.trace_semantics.specs.Trace.{TraceValue, IsTrace};
 ghost use Rattle.schedule_text.specs.ScheduleText.{SpellsSchedule};
+ghost use Rattle.trace_semantics.specs.ScheduleLimits.{limits_for};
 ghost use Rattle.schedule_text.specs.ScheduleWritten.{canonical_schedule};
 ghost use Rattle.reducer.specs.Reduction.{kept_trace};
 ghost use Rattle.cnf_text.specs.CnfReading.{SpellsCnf};
@@ -59,7 +60,7 @@ pub fn written_text_spells()
 
 /// The text that is written of a legal schedule of a trace spells it, as a reader of schedules takes it.
 pub fn written_schedule_spells()
-    ensures { (value : TraceValue) (names : List OpName) → IsTrace value → IsLegal value names → SpellsSchedule (canonical_schedule names) names }
+    ensures { (value : TraceValue) (names : List OpName) → IsTrace value → IsLegal value names → SpellsSchedule (limits_for value) (canonical_schedule names) names }
 {}
 
 /// A proof that is accepted for the text that is written of an admitted trace shows that the whole trace has no legal schedule.

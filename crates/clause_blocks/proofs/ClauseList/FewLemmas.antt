@@ -25,6 +25,7 @@ use Rattle.var_layout.specs.ChoiceVariables.{choices, first_choice}
 use Rattle.var_layout.specs.FinalVariables.{final_candidates, final_choices, first_final, is_untouched}
 use Rattle.var_layout.specs.Numbers.{in_one_process, left_at, name_at, number_of, numbers, others, other_writers, read_at, readers, writers}
 use Rattle.var_layout.proofs.BoundLemmas.{few_candidates, few_finals, few_leavers, few_others}
+use Rattle.var_layout.proofs.WrittenOnceLemmas.{written_in, none_written, more_written, few_written}
 use Rattle.clause_blocks.specs.Blocks.{before_clauses, clauses_of_final, clauses_of_read, final_clauses, implies, program_order, read_clauses, reads_from, stands_before, transitivity, void_clauses, writes_last}
 use Rattle.clause_blocks.specs.Clauses.{clauses_of}
 use Rattle.clause_blocks.proofs.TransitivityClauses.CountLemmas.{few_transitivity}
@@ -90,92 +91,19 @@ few_of_final t k entry few =
     (few_if (eqb (length (final_candidates t entry)) 0) (void_clauses (first_final t k)) (map (λ (c : FinalChoice). pos c.variable) (final_choices t k entry) ∷ meanings) (2 + 160 * w)
     (omega arith) (omega (arith, all, most)))
 
--- how many numbers pass one of some tests
-module _ {E : Type 0} (p : E → ℕ → Bool) where
-  passed : List E → List ℕ → ℕ
-  passed [] xs = 0
-  passed (e ∷ es) xs = length (filter (p e) xs) + passed es xs
-
-  hits : List E → ℕ → ℕ
-  hits [] x = 0
-  hits (e ∷ es) x = cond (p e x) 1 0 + hits es x
-
-  none_passed : (es : List E) → passed es [] ≡ 0
-  unfolding passed
-  none_passed [] = refl
-  none_passed (e ∷ es) = ap (λ m. 0 + m) (none_passed es)
-
-  one_counted : (b : Bool) (x : ℕ) (kept : List ℕ) (a h q : ℕ) → a ≡ h + q → length (cond b (x ∷ kept) kept) + a ≡ cond b 1 0 + h + (length kept + q)
-  one_counted true x kept a h q e = omega (arith, e)
-  one_counted false x kept a h q e = omega (arith, e)
-
-  one_more : (es : List E) (x : ℕ) (xs : List ℕ) → passed es (x ∷ xs) ≡ hits es x + passed es xs
-  unfolding passed hits
-  one_more [] x xs = refl
-  one_more (e ∷ es) x xs = one_counted (p e x) x (filter (p e) xs) (passed es (x ∷ xs)) (hits es x) (passed es xs) (one_more es x xs)
-
-  none_hit : (es : List E) (x : ℕ) → ((k : ℕ) (d : E) → k < length es → p (get_or es k d) x ≡ false) → hits es x ≡ 0
-  unfolding hits
-  none_hit [] x h = refl
-  none_hit (e ∷ es) x h =
-      let here : p e x ≡ false = h 0 e (omega arith) in
-      let rest : hits es x ≡ 0 = none_hit es x (λ k d l. h (suc k) d (omega (arith, l))) in
-      λ i. cond (here i) 1 0 + rest i
-
-  hit_or_not : (b : Bool) (rest : ℕ) → (b ≡ true → rest ≡ 0) → rest ≤ 1 → cond b 1 0 + rest ≤ 1
-  hit_or_not true rest h g = omega (arith, h refl)
-  hit_or_not false rest h g = omega (arith, g)
-
-  one_hit : (es : List E) (x : ℕ) → AllPairs (λ (d e : E). p d x ≡ true → p e x ≡ false) es → hits es x ≤ 1
-  unfolding hits
-  one_hit [] x h = omega arith
-  one_hit (e ∷ es) x h =
-      hit_or_not (p e x) (hits es x) (λ here. none_hit es x (λ k d l. h 0 (suc k) d (omega arith) (omega (arith, l)) here))
-      (one_hit es x (λ i j d l m. h (suc i) (suc j) d (omega (arith, l)) (omega (arith, m))))
-
-  few_hits : (es : List E) (xs : List ℕ) → ((x : ℕ) → AllPairs (λ (d e : E). p d x ≡ true → p e x ≡ false) es) → passed es xs ≤ length xs
-  few_hits es [] h = omega (arith, none_passed es)
-  few_hits es (x ∷ xs) h = omega (arith, one_more es x xs, one_hit es x (h x), few_hits es xs h)
-
--- no operation writes two locations
-apart_at : (a b : List ℕ) → a ≢ b → (op : Op) (x y : Bool) → bytes_eq (location_of op) a ≡ x → bytes_eq (location_of op) b ≡ y → (o : Option ℕ) → is_some (cond x o None) ≡ true → is_some (cond y o None) ≡ false
-apart_at a b apart op true true e f o h = absurd (apart (sym (same_bytes (location_of op) a e) ∙ same_bytes (location_of op) b f))
-apart_at a b apart op false true e f o h = absurd (cc)
-apart_at a b apart op x false e f o h = refl
-
-one_location : (t : TraceValue) (a b : List ℕ) (i : ℕ) → a ≢ b → is_some (left_at t a i) ≡ true → is_some (left_at t b i) ≡ false
-one_location t a b i apart = at (name_at t i)
-  where
-    under : (o : Option Op) → is_some (option_and_then (λ (op : Op). if bytes_eq (location_of op) a then written_value op else None) o) ≡ true → is_some (option_and_then (λ (op : Op). if bytes_eq (location_of op) b then written_value op else None) o) ≡ false
-    under None h = refl
-    under (Some op) h = apart_at a b apart op (bytes_eq (location_of op) a) (bytes_eq (location_of op) b) refl refl (written_value op) h
-
-    at : (n : Option OpName) → is_some (option_and_then (value_left_at t a) n) ≡ true → is_some (option_and_then (value_left_at t b) n) ≡ false
-    at None h = refl
-    at (Some n) h = under (operation_at t n) h
-
-abbrev writes_at : TraceValue → List ℕ × ℕ → ℕ → Bool
-writes_at t entry i = is_some (left_at t entry.0 i)
-
-few_written : (t : TraceValue) → IsTrace t → passed (writes_at t) t.final_values (numbers t) ≤ operation_count t
-few_written t ok =
-    let all = few_hits (writes_at t) t.final_values (numbers t) (λ x i j d l m. one_location t (get_or t.final_values i d).0 (get_or t.final_values j d).0 x (ok.final_values i j d l m)) in
-    omega (arith, all, length-range_with_len 0 (operation_count t))
-
 more_final : (a b c v w : ℕ) → a ≤ 2 + 160 * w → b ≤ 2 * v + 160 * c → a + b ≤ 2 * suc v + 160 * (w + c)
 more_final a b c v w h g = omega (arith, h, g)
 
 final_sum : (t : TraceValue) (m : ℕ) (values : List (List ℕ × ℕ)) → operation_count t ≤ 160 →
-    length (flat_map (λ (numbered : ℕ × (List ℕ × ℕ)). clauses_of_final t numbered.0 numbered.1) (enumerate_from m values)) ≤ 2 * length values + 160 * passed (writes_at t) values (numbers t)
-unfolding passed
-final_sum t m [] few = omega arith
+    length (flat_map (λ (numbered : ℕ × (List ℕ × ℕ)). clauses_of_final t numbered.0 numbered.1) (enumerate_from m values)) ≤ 2 * length values + 160 * written_in t values
+final_sum t m [] few = omega (arith, none_written t)
 final_sum t m (entry ∷ values) few =
     let rest = flat_map (λ (numbered : ℕ × (List ℕ × ℕ)). clauses_of_final t numbered.0 numbered.1) (enumerate_from (m + 1) values) in
     let both : length (clauses_of_final t m entry ++ rest) ≡ length (clauses_of_final t m entry) + length rest = length-append (clauses_of_final t m entry) rest in
-    let most = more_final (length (clauses_of_final t m entry)) (length rest) (passed (writes_at t) values (numbers t)) (length values) (length (writers t entry.0)) (few_of_final t m entry few) (final_sum t (m + 1) values few) in
-    omega (arith, both, most)
+    let most = more_final (length (clauses_of_final t m entry)) (length rest) (written_in t values) (length values) (length (writers t entry.0)) (few_of_final t m entry few) (final_sum t (m + 1) values few) in
+    omega (arith, both, most, more_written t entry values)
 
-few_finals_in_all : (t : TraceValue) → IsTrace t → operation_count t ≤ 160 → length (final_clauses t) ≤ 33792
+few_finals_in_all : (t : TraceValue) → IsTrace t → operation_count t ≤ 160 → length (final_clauses t) ≤ 156672
 few_finals_in_all t ok few = omega (arith, final_sum t 0 t.final_values few, few_finals t ok, few_written t ok, few)
 
 pub few_in_list : (t : TraceValue) → IsTrace t → operation_count t ≤ 160 → length (clauses_of t) ≤ 16777216

@@ -9,6 +9,8 @@ use Rattle.std.proofs.lemmas.List.Elements.{Contains-get_or, filter-append}
 use Rattle.std.proofs.lemmas.List.Sums.{get_or-le-sum_by}
 use Rattle.trace_semantics.specs.declared.operation.OpName.{OpName}
 use Rattle.trace_semantics.specs.declared.trace.Process.{Process}
+use Rattle.trace_semantics.specs.declared.limits.Limits.TheVariants.{Large}
+use Rattle.trace_semantics.specs.Limits.{max_operations}
 use Rattle.trace_semantics.specs.Trace.{TraceValue, IsTrace, at_place, process_named, operation_at, first_names}
 use Rattle.trace_semantics.proofs.ElementLemmas.{head_in, tail_in}
 use Rattle.trace_semantics.proofs.NameLemmas.{from_first}
@@ -61,7 +63,7 @@ bounds_more t ok set named ps same i p all bounds l at e f =
     ∙ ap (λ q. map (bounds_of t) (take i ps) ++ bounds_of t q ∷ []) at
     ∙ sym (map_more (bounds_of t) ps i p l)
 
-pub few_operations : (t : TraceValue) → IsTrace t → (ps : List Process) → ps ≡ t.processes → (i : ℕ) (p : Process) → i < length ps → p ≡ get_or ps i p → length p.operations ≤ 4096
+pub few_operations : (t : TraceValue) → IsTrace t → (ps : List Process) → ps ≡ t.processes → (i : ℕ) (p : Process) → i < length ps → p ≡ get_or ps i p → length p.operations ≤ max_operations Large
 few_operations t ok ps same i p l at =
     let one = get_or-le-sum_by (λ (q : Process). length q.operations) ps i p l in
     let here : length p.operations ≡ length (get_or ps i p).operations = ap (λ (q : Process). length q.operations) at in

@@ -10,6 +10,8 @@ use Rattle.std.proofs.lemmas.Option.{slice_get-get_or}
 use Rattle.trace_semantics.specs.declared.operation.Op.{Op}
 use Rattle.trace_semantics.specs.declared.operation.OpName.{OpName}
 use Rattle.trace_semantics.specs.declared.trace.Process.{Process}
+use Rattle.trace_semantics.specs.declared.limits.Limits.TheVariants.{Large}
+use Rattle.trace_semantics.specs.Limits.{max_operations}
 use Rattle.trace_semantics.specs.Trace.{TraceValue, IsTrace, at_place, process_named, operation_at, operation_count}
 use Rattle.trace_semantics.proofs.ElementLemmas.{from_filter}
 use Rattle.trace_semantics.proofs.NameLemmas.{from_first}
@@ -78,7 +80,7 @@ some_bound t all are i bounds l e =
     let long : length bounds ≡ length (bounds_of t p) = ap length here in
     omega (arith, long, length_bounds t p)
 
-pub few_so_far : (t : TraceValue) → IsTrace t → (all : List (List ℕ)) → AreBounds t all → (i count : ℕ) (bounds : List ℕ) → i < length all → bounds ≡ get_or all i bounds → count ≡ sum_by kept_in (take i all) → count + (length bounds - 1) ≤ 4096
+pub few_so_far : (t : TraceValue) → IsTrace t → (all : List (List ℕ)) → AreBounds t all → (i count : ℕ) (bounds : List ℕ) → i < length all → bounds ≡ get_or all i bounds → count ≡ sum_by kept_in (take i all) → count + (length bounds - 1) ≤ max_operations Large
 few_so_far t ok all are i count bounds l at e =
     let more = sum_by_more_le kept_in all i bounds l in
     let here : kept_in bounds ≡ kept_in (get_or all i bounds) = ap kept_in at in

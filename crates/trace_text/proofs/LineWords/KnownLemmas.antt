@@ -40,12 +40,14 @@ use Rattle.trace_semantics.proofs.NameLemmas.{Named, same_bytes, bytes_same, wit
 use Rattle.trace_text.proofs.LineWords.ReferenceLemmas.{has_operation-listed}
 use Rattle.trace_text.proofs.LineWords.SaidLemmas.{statements_said}
 use Rattle.trace_text.proofs.LineWords.SpellLemmas.{said_each}
+use Rattle.trace_text.specs.declared.version.Version.{Version}
+use Rattle.trace_text.specs.Version.{is_two}
 
 -- a place that is written is read
-pub place_read : (i : ℕ) → nat_le 1 i ≡ true → nat_le i 65535 ≡ true → place_of (decimal i) ≡ Some i
+pub place_read : (i : ℕ) → nat_le 1 i ≡ true → nat_le i 4294967295 ≡ true → place_of (decimal i) ≡ Some i
 place_read i low high =
     let small : i < 2 ^ 64 = grind (arith, nat_tests) in
-    ap (λ o. option_and_then (λ n. if nat_le 1 n then Some n else None) (option_and_then (λ n. if nat_le n 65535 then Some n else None) o)) (decimal_is_plain i small)
+    ap (λ o. option_and_then (λ n. if nat_le 1 n then Some n else None) (option_and_then (λ n. if nat_le n 4294967295 then Some n else None) o)) (decimal_is_plain i small)
     ∙ ap (λ b. option_and_then (λ n. if nat_le 1 n then Some n else None) (if b then Some i else None)) high
     ∙ ap (λ b. if b then Some i else None) low
 
@@ -59,7 +61,7 @@ named_known t distinct n at =
 
 pub among_known : (t : TraceValue) → AllPairs (λ (p q : Process). p.name ≢ q.name) t.processes → (n : OpName) → is_written_name n ≡ true → is_among t.processes (n.process, decimal n.place) ≡ true → IsSome (operation_at t n)
 among_known t distinct n w h =
-    let range = and_parts (nat_le 1 n.place) (nat_le n.place 65535) (and_parts (is_name n.process) (nat_le 1 n.place && nat_le n.place 65535) w).1 in
+    let range = and_parts (nat_le 1 n.place) (nat_le n.place 4294967295) (and_parts (is_name n.process) (nat_le 1 n.place && nat_le n.place 4294967295) w).1 in
     let there : list_any (is_of n.process n.place) t.processes ≡ true = ap (some_is_of t.processes n.process) (sym (place_read n.place range.0 range.1)) ∙ h in
     let at = some_passes (is_of n.process n.place) t.processes there in
     let parts = and_parts (bytes_eq at.0.name n.process) (nat_le n.place (length at.0.operations)) at.2 in
@@ -72,28 +74,28 @@ among_known t distinct n w h =
     })
 
 -- no statement names an operation wrongly where no line does
-pub each_known : (two : Bool) (lines : List (List ℕ)) (ss : List Statement) (ps : List Process) → AreSaid two lines ss → IsFaultless (λ (before : List (List ℕ)) (here : List ℕ). fault_of_line two ps here) lines →
+pub each_known : (version : Version) (lines : List (List ℕ)) (ss : List Statement) (ps : List Process) → AreSaid version lines ss → IsFaultless (λ (before : List (List ℕ)) (here : List ℕ). fault_of_line (is_two version) ps here) lines →
     (s : Statement) → Contains ss s → fault_of_references ps (Some s) ≡ None
-each_known two lines ss ps a f s c =
-    let in_kept : Contains (kept lines) (words_for s) = subst (λ (l : List (List (List ℕ))). Contains l (words_for s)) (sym a.kept_lines) (tail_in (header_line two) (map words_for ss) (words_for s) (to_map words_for ss s c)) in
+each_known version lines ss ps a f s c =
+    let in_kept : Contains (kept lines) (words_for s) = subst (λ (l : List (List (List ℕ))). Contains l (words_for s)) (sym a.kept_lines) (tail_in (header_line version) (map words_for ss) (words_for s) (to_map words_for ss s c)) in
     let unskipped = from_filter (λ ws. not (is_skipped ws)) (map words_of lines) (words_for s) in_kept in
     let line = from_map words_of lines (words_for s) unskipped.0 in
     let at = placed lines line.0 line.1 in
-    let none : fault_of_line two ps line.0 ≡ None = f at.front line.0 at.back at.parts in
+    let none : fault_of_line (is_two version) ps line.0 ≡ None = f at.front line.0 at.back at.parts in
     let skip : is_skipped (words_of line.0) ≡ false = ap is_skipped line.2 ∙ not-true (is_skipped (words_for s)) unskipped.1 in
-    ap (fault_of_references ps) (sym (ap (statement_of two) line.2 ∙ said_each two ss s a.said c))
-    ∙ sym (ap (λ b. if b then None else fault_of_references ps (statement_of two (words_of line.0))) skip) ∙ none
+    ap (fault_of_references ps) (sym (ap (statement_of (is_two version)) line.2 ∙ said_each (is_two version) ss s a.said c))
+    ∙ sym (ap (λ b. if b then None else fault_of_references ps (statement_of (is_two version) (words_of line.0))) skip) ∙ none
 
 no_such : (b c : Bool) → (if not b then Some NoSuchOp else if c then Some BeforeItself else None) ≡ None → b ≡ true
 no_such true c h = refl
 no_such false c h = absurd (cc)
 
 -- the pairs are of known operations
-pub pairs_known : (t : TraceValue) (pairs : List (OpName × OpName)) (two : Bool) (lines : List (List ℕ)) (ss : List Statement) → AllPairs (λ (p q : Process). p.name ≢ q.name) t.processes → AreSaid two lines ss → filter is_before ss ≡ map before_statement pairs → list_all is_written_pair pairs ≡ true →
-    IsFaultless (λ (before : List (List ℕ)) (here : List ℕ). fault_of_line two t.processes here) lines → (pair : OpName × OpName) → Contains pairs pair → IsSome (operation_at t pair.0) × IsSome (operation_at t pair.1)
-pairs_known t pairs two lines ss distinct a e w f pair c =
+pub pairs_known : (t : TraceValue) (pairs : List (OpName × OpName)) (version : Version) (lines : List (List ℕ)) (ss : List Statement) → AllPairs (λ (p q : Process). p.name ≢ q.name) t.processes → AreSaid version lines ss → filter is_before ss ≡ map before_statement pairs → list_all is_written_pair pairs ≡ true →
+    IsFaultless (λ (before : List (List ℕ)) (here : List ℕ). fault_of_line (is_two version) t.processes here) lines → (pair : OpName × OpName) → Contains pairs pair → IsSome (operation_at t pair.0) × IsSome (operation_at t pair.1)
+pairs_known t pairs version lines ss distinct a e w f pair c =
     let there : Contains ss (before_statement pair) = (from_filter is_before ss (before_statement pair) (subst (λ (l : List Statement). Contains l (before_statement pair)) (sym e) (to_map before_statement pairs pair c))).0 in
-    let none = each_known two lines ss t.processes a f (before_statement pair) there in
+    let none = each_known version lines ss t.processes a f (before_statement pair) there in
     let known = no_such (list_all (is_among t.processes) (references_of (before_statement pair))) (is_before_itself (before_statement pair)) none in
     let first = and_parts (is_among t.processes (pair.0.process, decimal pair.0.place)) (is_among t.processes (pair.1.process, decimal pair.1.place) && true) known in
     let written = and_parts (is_written_name pair.0) (is_written_name pair.1) (all_pass is_written_pair pairs w pair c) in
@@ -105,11 +107,11 @@ not_itself true false h = refl
 not_itself false c h = absurd (cc)
 
 -- and of two
-pub pairs_apart : (pairs : List (OpName × OpName)) (two : Bool) (lines : List (List ℕ)) (ss : List Statement) (ps : List Process) → AreSaid two lines ss → filter is_before ss ≡ map before_statement pairs →
-    IsFaultless (λ (before : List (List ℕ)) (here : List ℕ). fault_of_line two ps here) lines → (pair : OpName × OpName) → Contains pairs pair → pair.0 ≢ pair.1
-pairs_apart pairs two lines ss ps a e f pair c same =
+pub pairs_apart : (pairs : List (OpName × OpName)) (version : Version) (lines : List (List ℕ)) (ss : List Statement) (ps : List Process) → AreSaid version lines ss → filter is_before ss ≡ map before_statement pairs →
+    IsFaultless (λ (before : List (List ℕ)) (here : List ℕ). fault_of_line (is_two version) ps here) lines → (pair : OpName × OpName) → Contains pairs pair → pair.0 ≢ pair.1
+pairs_apart pairs version lines ss ps a e f pair c same =
     let there : Contains ss (before_statement pair) = (from_filter is_before ss (before_statement pair) (subst (λ (l : List Statement). Contains l (before_statement pair)) (sym e) (to_map before_statement pairs pair c))).0 in
-    let none = each_known two lines ss ps a f (before_statement pair) there in
+    let none = each_known version lines ss ps a f (before_statement pair) there in
     let other : is_before_itself (before_statement pair) ≡ false = not_itself (list_all (is_among ps) (references_of (before_statement pair))) (is_before_itself (before_statement pair)) none in
     let one : is_before_itself (before_statement pair) ≡ true = (λ i. bytes_eq pair.0.process (sym same i).process && bytes_eq (decimal pair.0.place) (decimal (sym same i).place)) ∙ and_from (bytes_eq pair.0.process pair.0.process) (bytes_eq (decimal pair.0.place) (decimal pair.0.place)) (bytes_same pair.0.process pair.0.process refl) (bytes_same (decimal pair.0.place) (decimal pair.0.place) refl) in
     let clash : true ≡ false = sym one ∙ other in cc
@@ -128,12 +130,12 @@ op_known t distinct (UpdateOp a d e o) w h =
     origin_known t distinct o (and_parts (nat_lt e (2 ^ 64)) (is_written_origin o) values.1).1 h
 
 -- each origin names a known operation
-pub origins_known : (t : TraceValue) (two : Bool) (lines : List (List ℕ)) (ss : List Statement) → AllPairs (λ (p q : Process). p.name ≢ q.name) t.processes → AreSaid two lines ss → filter is_of_process ss ≡ flat_map process_statements t.processes → list_all is_written_process t.processes ≡ true →
-    IsFaultless (λ (before : List (List ℕ)) (here : List ℕ). fault_of_line two t.processes here) lines → (p : Process) → Contains t.processes p → (op : Op) → Contains p.operations op → IsKnownOrigin t (origin_of op)
-origins_known t two lines ss distinct a e w f p c op d =
+pub origins_known : (t : TraceValue) (version : Version) (lines : List (List ℕ)) (ss : List Statement) → AllPairs (λ (p q : Process). p.name ≢ q.name) t.processes → AreSaid version lines ss → filter is_of_process ss ≡ flat_map process_statements t.processes → list_all is_written_process t.processes ≡ true →
+    IsFaultless (λ (before : List (List ℕ)) (here : List ℕ). fault_of_line (is_two version) t.processes here) lines → (p : Process) → Contains t.processes p → (op : Op) → Contains p.operations op → IsKnownOrigin t (origin_of op)
+origins_known t version lines ss distinct a e w f p c op d =
     let listed : Contains (flat_map process_statements t.processes) (op_statement op) = to_flat_map process_statements t.processes p (op_statement op) c (tail_in (Proc p.name) (map op_statement p.operations) (op_statement op) (to_map op_statement p.operations op d)) in
     let there : Contains ss (op_statement op) = (from_filter is_of_process ss (op_statement op) (subst (λ (l : List Statement). Contains l (op_statement op)) (sym e) listed)).0 in
-    let known = no_such (list_all (is_among t.processes) (references_of (op_statement op))) (is_before_itself (op_statement op)) (each_known two lines ss t.processes a f (op_statement op) there) in
+    let known = no_such (list_all (is_among t.processes) (references_of (op_statement op))) (is_before_itself (op_statement op)) (each_known version lines ss t.processes a f (op_statement op) there) in
     let written = and_parts (is_name p.name) (list_all is_written_op p.operations) (all_pass is_written_process t.processes w p c) in
     op_known t distinct op (all_pass is_written_op p.operations written.1 op d) known
 
@@ -147,19 +149,19 @@ same_references : (ss : List Statement) (ps : List Process) (o : Option Statemen
 same_references ss ps None h = refl
 same_references ss ps (Some s) h = λ i. if not (list_all (λ (r : List ℕ × List ℕ). same_place ss ps r.0 (place_of r.1) h i) (references_of s)) then Some NoSuchOp else if is_before_itself s then Some BeforeItself else None
 
-pub same_fault : (two : Bool) (lines : List (List ℕ)) (ss : List Statement) (ps : List Process) (line : List ℕ) → AreSaid two lines ss → filter is_of_process ss ≡ flat_map process_statements ps →
-    line_reference_fault (kept lines) line ≡ fault_of_line two ps line
-same_fault two lines ss ps line a h =
+pub same_fault : (version : Version) (lines : List (List ℕ)) (ss : List Statement) (ps : List Process) (line : List ℕ) → AreSaid version lines ss → filter is_of_process ss ≡ flat_map process_statements ps →
+    line_reference_fault (kept lines) line ≡ fault_of_line (is_two version) ps line
+same_fault version lines ss ps line a h =
     ap (λ k. line_reference_fault k line) a.kept_lines
-    ∙ ap (λ v. if is_skipped (words_of line) then None else reference_fault (statements_of v (map words_for ss)) (statement_of v (words_of line))) (version_is two)
-    ∙ ap (λ l. if is_skipped (words_of line) then None else reference_fault l (statement_of two (words_of line))) (statements_said two ss a.said)
-    ∙ ap (λ f. if is_skipped (words_of line) then None else f) (same_references ss ps (statement_of two (words_of line)) h)
+    ∙ ap (λ (v : Version). if is_skipped (words_of line) then None else reference_fault (statements_of (is_two v) (map words_for ss)) (statement_of (is_two v) (words_of line))) (version_is version)
+    ∙ ap (λ l. if is_skipped (words_of line) then None else reference_fault l (statement_of (is_two version) (words_of line))) (statements_said (is_two version) ss a.said)
+    ∙ ap (λ f. if is_skipped (words_of line) then None else f) (same_references ss ps (statement_of (is_two version) (words_of line)) h)
 
 -- a refusal by references is one of the text
-pub refused_by_references : (two : Bool) (text : List ℕ) (ss : List Statement) (ps : List Process) (fault : PlacedFault TraceCause) → AreSaid two (lines_of text) ss → filter is_of_process ss ≡ flat_map process_statements ps → IsFaultless trace_line_fault (lines_of text) →
-    IsRefusedByReferences two ps text fault → IsRefusal (HasTraceFault text) fault
-refused_by_references two text ss ps OutOfMemory a h f r = tt
-refused_by_references two text ss ps (At cause line) a h f r = inr (inr (record {
+pub refused_by_references : (version : Version) (text : List ℕ) (ss : List Statement) (ps : List Process) (fault : PlacedFault TraceCause) → AreSaid version (lines_of text) ss → filter is_of_process ss ≡ flat_map process_statements ps → IsFaultless trace_line_fault (lines_of text) →
+    IsRefusedByReferences (is_two version) ps text fault → IsRefusal (HasTraceFault text) fault
+refused_by_references version text ss ps OutOfMemory a h f r = tt
+refused_by_references version text ss ps (At cause line) a h f r = inr (inr (record {
   faultless = f;
   found = record {
     before = r.before;
@@ -167,7 +169,7 @@ refused_by_references two text ss ps (At cause line) a h f r = inr (inr (record 
     after = r.after;
     parts = r.parts;
     counted = r.counted;
-    faulty = same_fault two (lines_of text) ss ps r.item a h ∙ r.faulty;
-    first = λ b x c e. same_fault two (lines_of text) ss ps x a h ∙ r.first b x c e;
+    faulty = same_fault version (lines_of text) ss ps r.item a h ∙ r.faulty;
+    first = λ b x c e. same_fault version (lines_of text) ss ps x a h ∙ r.first b x c e;
   };
 }))

@@ -23,9 +23,12 @@ use Rattle.trace_text.specs.Progress.{IsProgress}
 use Rattle.trace_text.specs.Read.{saying, AreSaid, TakesLine, TakesWords, HasHeader}
 use Rattle.text_lines.specs.PlainFault.{IsRefusedFor, fault_at}
 use Rattle.trace_text.specs.Statement.{Statement, statement_of, words_for}
-use Rattle.trace_text.specs.TraceFault.{trace_line_fault, words_fault, said_fault, statement_fault, statements_of, is_header, is_version_2, is_high, HasTraceFault}
+use Rattle.trace_text.specs.TraceFault.{trace_line_fault, words_fault, said_fault, statement_fault, statements_of, is_header, version_of, is_high, HasTraceFault}
 use Rattle.trace_text.specs.TraceText.{header_line}
 use Rattle.trace_text.proofs.LineWords.SaidLemmas.{said_first, words_said, statements_said}
+use Rattle.trace_text.specs.declared.version.Version.{Version}
+use Rattle.trace_text.specs.declared.version.Version.TheVariants.{One, Two, Three}
+use Rattle.trace_text.specs.Version.{is_two, limits_of}
 
 -- the first words suffice to see whether a line is skipped
 pub skipped_first : (words : List (List ℕ)) → is_skipped (take 8 words) ≡ is_skipped words
@@ -52,54 +55,55 @@ line_fault before line s h =
     ap (λ b. if b then None else if list_any is_high line then Some NotAscii else words_fault (kept before) (words_of line)) s
     ∙ ap (λ b. if b then Some NotAscii else words_fault (kept before) (words_of line)) h
 
-pub version_is : (two : Bool) → is_version_2 (header_line two) ≡ two
-version_is true = refl
-version_is false = refl
+pub version_is : (version : Version) → version_of (header_line version) ≡ version
+version_is One = refl
+version_is Two = refl
+version_is Three = refl
 
 -- the fault of words after statements
-pub fault_said : (two : Bool) (before : List (List ℕ)) (ss : List Statement) (words : List (List ℕ)) → AreSaid two before ss → words_fault (kept before) words ≡ said_fault ss (statement_of two words)
-fault_said two before ss words a =
+pub fault_said : (version : Version) (before : List (List ℕ)) (ss : List Statement) (words : List (List ℕ)) → AreSaid version before ss → words_fault (kept before) words ≡ said_fault (limits_of version) ss (statement_of (is_two version) words)
+fault_said version before ss words a =
     ap (λ k. words_fault k words) a.kept_lines
-    ∙ ap (λ v. said_fault (statements_of v (map words_for ss)) (statement_of v words)) (version_is two)
-    ∙ ap (λ l. said_fault l (statement_of two words)) (statements_said two ss a.said)
+    ∙ ap (λ (v : Version). said_fault (limits_of v) (statements_of (is_two v) (map words_for ss)) (statement_of (is_two v) words)) (version_is version)
+    ∙ ap (λ l. said_fault (limits_of version) l (statement_of (is_two version) words)) (statements_said (is_two version) ss a.said)
 
 -- a line is refused by its first words
-pub line_refused : (two : Bool) (before : List (List ℕ)) (ss : List Statement) (line : List ℕ) (refusal : PlainFault TraceCause) → AreSaid two before ss → is_skipped (words_of line) ≡ false → list_any is_high line ≡ false →
-    IsRefusedFor (said_fault ss (statement_of two (take 8 (words_of line)))) refusal → IsRefusedFor (trace_line_fault before line) refusal
-line_refused two before ss line refusal a s h r = subst (λ f. IsRefusedFor f refusal)
-    (ap (said_fault ss) (said_first two (words_of line)) ∙ sym (fault_said two before ss (words_of line) a) ∙ sym (line_fault before line s h)) r
+pub line_refused : (version : Version) (before : List (List ℕ)) (ss : List Statement) (line : List ℕ) (refusal : PlainFault TraceCause) → AreSaid version before ss → is_skipped (words_of line) ≡ false → list_any is_high line ≡ false →
+    IsRefusedFor (said_fault (limits_of version) ss (statement_of (is_two version) (take 8 (words_of line)))) refusal → IsRefusedFor (trace_line_fault before line) refusal
+line_refused version before ss line refusal a s h r = subst (λ f. IsRefusedFor f refusal)
+    (ap (said_fault (limits_of version) ss) (said_first (is_two version) (words_of line)) ∙ sym (fault_said version before ss (words_of line) a) ∙ sym (line_fault before line s h)) r
 
 -- a line is taken by its first words
-pub line_taken : (two : Bool) (before : List (List ℕ)) (ss : List Statement) (line : List ℕ) (new : TraceReader) → AreSaid two before ss → is_skipped (words_of line) ≡ false → list_any is_high line ≡ false →
-    TakesWords two ss (take 8 (words_of line)) new → TakesLine two before line new
-line_taken two before ss line new a s h t =
-    let says : statement_of two (words_of line) ≡ Some t.s = sym (said_first two (words_of line)) ∙ t.says in
-    let words : words_of line ≡ words_for t.s = words_said two (words_of line) t.s says in
+pub line_taken : (version : Version) (before : List (List ℕ)) (ss : List Statement) (line : List ℕ) (new : TraceReader) → AreSaid version before ss → is_skipped (words_of line) ≡ false → list_any is_high line ≡ false →
+    TakesWords version ss (take 8 (words_of line)) new → TakesLine version before line new
+line_taken version before ss line new a s h t =
+    let says : statement_of (is_two version) (words_of line) ≡ Some t.s = sym (said_first (is_two version) (words_of line)) ∙ t.says in
+    let words : words_of line ≡ words_for t.s = words_said (is_two version) (words_of line) t.s says in
     record {
-      faultless = line_fault before line s h ∙ fault_said two before ss (words_of line) a ∙ ap (said_fault ss) says ∙ t.faultless;
+      faultless = line_fault before line s h ∙ fault_said version before ss (words_of line) a ∙ ap (said_fault (limits_of version) ss) says ∙ t.faultless;
       ss = ss ++ t.s ∷ [];
       said = record {
-        kept_lines = kept_more before line false s ∙ (λ i. a.kept_lines i ++ words i ∷ []) ∙ ap (λ l. header_line two ∷ l) (sym (map-append words_for ss (t.s ∷ [])));
-        said = map-append (saying two) ss (t.s ∷ []) ∙ (λ i. a.said i ++ (ap (statement_of two) (sym words) ∙ says) i ∷ []) ∙ sym (map-append Some ss (t.s ∷ []));
-        faultless = faultless_push statement_fault ss t.s a.faultless t.faultless;
+        kept_lines = kept_more before line false s ∙ (λ i. a.kept_lines i ++ words i ∷ []) ∙ ap (λ l. header_line version ∷ l) (sym (map-append words_for ss (t.s ∷ [])));
+        said = map-append (saying (is_two version)) ss (t.s ∷ []) ∙ (λ i. a.said i ++ (ap (statement_of (is_two version)) (sym words) ∙ says) i ∷ []) ∙ sym (map-append Some ss (t.s ∷ []));
+        faultless = faultless_push (statement_fault (limits_of version)) ss t.s a.faultless t.faultless;
       };
       progress = t.progress;
     }
 
 -- what is read so far, of which this is left
-pub record IsReadSoFar (text : List ℕ) (two : Bool) (next : ℕ) (rest : List ℕ) (reader : TraceReader) : Type 0 where
+pub record IsReadSoFar (text : List ℕ) (version : Version) (next : ℕ) (rest : List ℕ) (reader : TraceReader) : Type 0 where
   pub lines : List (List ℕ)
   pub ss : List Statement
   pub counted : next ≡ length lines + 1
   pub parts : lines_of text ≡ lines ++ lines_of rest
   pub faultless : IsFaultless trace_line_fault lines
-  pub said : AreSaid two lines ss
-  pub progress : IsProgress ss reader
+  pub said : AreSaid version lines ss
+  pub progress : IsProgress (limits_of version) ss reader
   pub room : next + length rest ≤ length text + 1
 
-pub one_more_line : (text : List ℕ) (two : Bool) (next : ℕ) (rest : List ℕ) (old new : TraceReader) (line after : List ℕ) (so_far : IsReadSoFar text two next rest old) → lines_of rest ≡ line ∷ lines_of after → length after < length rest →
-    TakesLine two so_far.lines line new → IsReadSoFar text two (next + 1) after new
-one_more_line text two next rest old new line after so_far e l t = record {
+pub one_more_line : (text : List ℕ) (version : Version) (next : ℕ) (rest : List ℕ) (old new : TraceReader) (line after : List ℕ) (so_far : IsReadSoFar text version next rest old) → lines_of rest ≡ line ∷ lines_of after → length after < length rest →
+    TakesLine version so_far.lines line new → IsReadSoFar text version (next + 1) after new
+one_more_line text version next rest old new line after so_far e l t = record {
   lines = so_far.lines ++ line ∷ [];
   ss = t.ss;
   counted = omega (arith, so_far.counted, length-append so_far.lines (line ∷ []));
@@ -124,19 +128,19 @@ fault_here text next lines rest line after (For cause) n p f e r = inl (record {
   first = f;
 })
 
-pub refused_at : (text : List ℕ) (two : Bool) (next : ℕ) (rest : List ℕ) (reader : TraceReader) (line after : List ℕ) (refusal : PlainFault TraceCause) (so_far : IsReadSoFar text two next rest reader) → lines_of rest ≡ line ∷ lines_of after →
+pub refused_at : (text : List ℕ) (version : Version) (next : ℕ) (rest : List ℕ) (reader : TraceReader) (line after : List ℕ) (refusal : PlainFault TraceCause) (so_far : IsReadSoFar text version next rest reader) → lines_of rest ≡ line ∷ lines_of after →
     IsRefusedFor (trace_line_fault so_far.lines line) refusal → IsRefusal (HasTraceFault text) (fault_at refusal next)
-refused_at text two next rest reader line after refusal so_far e r = fault_here text next so_far.lines rest line after refusal so_far.counted so_far.parts so_far.faultless e r
+refused_at text version next rest reader line after refusal so_far e r = fault_here text next so_far.lines rest line after refusal so_far.counted so_far.parts so_far.faultless e r
 
 -- the header is read
-pub header_read : (text : List ℕ) (two : Bool) (next : ℕ) (rest : List ℕ) (reader : TraceReader) → HasHeader text two rest next → IsProgress [] reader → IsReadSoFar text two next rest reader
-header_read text two next rest reader h p = record {
+pub header_read : (text : List ℕ) (version : Version) (next : ℕ) (rest : List ℕ) (reader : TraceReader) → HasHeader text version rest next → IsProgress (limits_of version) [] reader → IsReadSoFar text version next rest reader
+header_read text version next rest reader h p = record {
   lines = h.lines;
   ss = [];
   counted = h.counted;
   parts = h.parts;
   faultless = h.faultless;
-  said = record { kept_lines = h.header; said = refl; faultless = faultless_nil statement_fault };
+  said = record { kept_lines = h.header; said = refl; faultless = faultless_nil (statement_fault (limits_of version)) };
   progress = p;
   room = h.room;
 }
@@ -145,13 +149,15 @@ header_read text two next rest reader h p = record {
 pub pointwise_pair : (words texts : List (List ℕ)) → pointwise bytes_eq words texts ≡ true → words ≡ texts
 pointwise_pair words texts h = (slice_eq-Decides bytes_eq-Decides words texts true (sym h)).0 refl
 
-pub header_passes : (two : Bool) → is_header (header_line two) ≡ true
-header_passes true = refl
-header_passes false = refl
+pub header_passes : (version : Version) → is_header (header_line version) ≡ true
+header_passes One = refl
+header_passes Two = refl
+header_passes Three = refl
 
-header_unskipped : (two : Bool) → is_skipped (header_line two) ≡ false
-header_unskipped true = refl
-header_unskipped false = refl
+header_unskipped : (version : Version) → is_skipped (header_line version) ≡ false
+header_unskipped One = refl
+header_unskipped Two = refl
+header_unskipped Three = refl
 
 -- what is read before the header
 pub record IsBeforeHeader (text : List ℕ) (next : ℕ) (rest : List ℕ) : Type 0 where
@@ -175,15 +181,15 @@ skipped_line text next rest line after b e l s = record {
   room = omega (arith, b.room, l);
 }
 
-pub header_line_read : (text : List ℕ) (next : ℕ) (rest line after : List ℕ) (two : Bool) → IsBeforeHeader text next rest → lines_of rest ≡ line ∷ lines_of after → length after < length rest → IsHeaderLine line two → HasHeader text two after (next + 1)
-header_line_read text next rest line after two b e l h =
-    let unskipped : is_skipped (words_of line) ≡ false = ap is_skipped h.words ∙ header_unskipped two in
+pub header_line_read : (text : List ℕ) (next : ℕ) (rest line after : List ℕ) (version : Version) → IsBeforeHeader text next rest → lines_of rest ≡ line ∷ lines_of after → length after < length rest → IsHeaderLine line version → HasHeader text version after (next + 1)
+header_line_read text next rest line after version b e l h =
+    let unskipped : is_skipped (words_of line) ≡ false = ap is_skipped h.words ∙ header_unskipped version in
     record {
       lines = b.lines ++ line ∷ [];
       counted = omega (arith, b.counted, length-append b.lines (line ∷ []));
       parts = b.parts ∙ ap (λ ls. b.lines ++ ls) e ∙ sym (append_assoc b.lines (line ∷ []) (lines_of after));
       faultless = faultless_push trace_line_fault b.lines line b.faultless
-          (line_fault b.lines line unskipped h.low ∙ (λ i. words_fault (b.none i) (h.words i)) ∙ ap (λ c. if c then None else Some Header) (header_passes two));
+          (line_fault b.lines line unskipped h.low ∙ (λ i. words_fault (b.none i) (h.words i)) ∙ ap (λ c. if c then None else Some Header) (header_passes version));
       header = kept_more b.lines line false unskipped ∙ (λ i. b.none i ++ h.words i ∷ []);
       room = omega (arith, b.room, l);
     }

@@ -20,6 +20,7 @@ use Rattle.trace_text.specs.Statement.{Statement, Init, Final, Proc, Read, Write
 use Rattle.trace_text.specs.TraceFault.{is_proc, is_before, is_value_line, statement_fault, or_else}
 use Rattle.trace_text.specs.TraceText.{proc_line, op_line, process_lines, begins, is_process_line, has_origin}
 use Rattle.trace_semantics.proofs.ElementLemmas.{placed, head_in, tail_in, cases_in, none_in, from_filter, to_map, to_flat_map, some_passes, passes_some}
+use Rattle.trace_semantics.specs.declared.limits.Limits.{Limits}
 
 -- lines that pass, by the statements that do
 kept_line : (p : List (List ℕ) → Bool) (q : Statement → Bool) (s : Statement) (ss : List Statement) (b : Bool) → p (words_for s) ≡ b → q s ≡ b → filter p (map words_for ss) ≡ map words_for (filter q ss) →
@@ -118,15 +119,15 @@ not_late true true rest other h k = absurd (cc)
 not_late true false rest other h k = refl
 not_late false b rest other h k = absurd (cc)
 
-pub value_not_late : (ss : List Statement) (s : Statement) → statement_fault ss s ≡ None → is_value_line s ≡ true → list_any is_proc ss ≡ false
-value_not_late ss s h k = not_late (is_value_line s) (list_any is_proc ss) _ _ h k
+pub value_not_late : (limits : Limits) (ss : List Statement) (s : Statement) → statement_fault limits ss s ≡ None → is_value_line s ≡ true → list_any is_proc ss ≡ false
+value_not_late limits ss s h k = not_late (is_value_line s) (list_any is_proc ss) _ _ h k
 
-pub values_in_front : (ss front behind : List Statement) → IsFaultless statement_fault ss → ss ≡ front ++ behind → list_any is_proc front ≡ true → list_any is_value_line behind ≡ false
-values_in_front ss front behind f e p = false_from_ne_true (list_any is_value_line behind) (λ (v : list_any is_value_line behind ≡ true).
+pub values_in_front : (limits : Limits) (ss front behind : List Statement) → IsFaultless (statement_fault limits) ss → ss ≡ front ++ behind → list_any is_proc front ≡ true → list_any is_value_line behind ≡ false
+values_in_front limits ss front behind f e p = false_from_ne_true (list_any is_value_line behind) (λ (v : list_any is_value_line behind ≡ true).
     let found = some_passes is_value_line behind v in
     let here = placed behind found.0 found.1 in
     let parts : ss ≡ (front ++ here.front) ++ found.0 ∷ here.back = e ∙ ap (λ l. front ++ l) here.parts ∙ sym (append_assoc front here.front (found.0 ∷ here.back)) in
-    let none : list_any is_proc (front ++ here.front) ≡ false = value_not_late (front ++ here.front) found.0 (f (front ++ here.front) found.0 here.back parts) found.2 in
+    let none : list_any is_proc (front ++ here.front) ≡ false = value_not_late limits (front ++ here.front) found.0 (f (front ++ here.front) found.0 here.back parts) found.2 in
     let proc = some_passes is_proc front p in
     let some : list_any is_proc (front ++ here.front) ≡ true = passes_some is_proc (front ++ here.front) proc.0 (Contains-append_left front here.front proc.0 proc.1) proc.2 in
     let clash : true ≡ false = sym some ∙ none in cc)

@@ -21,16 +21,19 @@ use Rattle.trace_text.proofs.InOrder.OrderedLemmas.{one_each_moved}
 use Rattle.trace_text.proofs.LineWords.SaidLemmas.{statements_said}
 use Rattle.trace_text.proofs.LineWords.SpellLemmas.{filter_lines, any_line, of_process, of_before, of_proc, of_value, processes_words}
 use Rattle.trace_text.proofs.NeverFaulty.ToldLemmas.{Has, are_told, line_tells, had_said, has_writable}
+use Rattle.trace_semantics.specs.Limits.{max_pairs}
+use Rattle.trace_text.specs.declared.version.Version.{Version}
+use Rattle.trace_text.specs.Version.{is_two, limits_of}
 
 -- the statement is of an entry of the trace
 abbrev pub IsHad : TraceValue → Statement → Type 0
 IsHad t s = (e : Entry) × Has t e × (statement_for e ≡ s)
 
 -- the statements of the lines after the header, and which of them are of which kind
-pub record AreStated (t : TraceValue) (two : Bool) (body : List (List (List ℕ))) : Type 0 where
+pub record AreStated (t : TraceValue) (version : Version) (body : List (List (List ℕ))) : Type 0 where
   pub ss : List Statement
   pub words : body ≡ map words_for ss
-  pub said : map (saying two) ss ≡ map Some ss
+  pub said : map (saying (is_two version)) ss ≡ map Some ss
   pub each : (s : Statement) → Contains ss s → IsHad t s
   pub processes : filter is_of_process ss ≡ flat_map process_statements t.processes
   pub initial : List (List ℕ × ℕ)
@@ -39,7 +42,7 @@ pub record AreStated (t : TraceValue) (two : Bool) (body : List (List (List ℕ)
   pub finals : List (List ℕ × ℕ)
   pub finals_are : filter is_final ss ≡ map final_statement finals
   pub finals_apart : IsOneEach finals
-  pub few_before : length (filter is_before ss) ≤ 4096
+  pub few_before : length (filter is_before ss) ≤ max_pairs (limits_of version)
   pub in_front : (front behind : List Statement) → ss ≡ front ++ behind → list_any is_proc front ≡ true → list_any is_value_line behind ≡ false
 
 -- the values that entries give
@@ -122,7 +125,7 @@ lines_in_front text t h front behind e p =
     ∙ h.in_front (map words_for front) (map words_for behind) (e ∙ map-append words_for front behind) (any_line (begins (codes "proc")) is_proc of_proc front ∙ p)
 
 -- a text that spells a trace is of its statements
-pub stated : (text : List ℕ) (t : TraceValue) → IsTrace t → (h : SpellsTrace text t) → AreStated t h.two h.body
+pub stated : (text : List ℕ) (t : TraceValue) → IsTrace t → (h : SpellsTrace text t) → AreStated t h.version h.body
 stated text t ok h =
     let told = are_told t h.body (line_tells text t h) in
     let es = told.entries in
@@ -139,11 +142,11 @@ stated text t ok h =
     record {
       ss = ss;
       words = told.words;
-      said = said_map h.two ss (λ s c. had_says h.two t h.version s (each s c));
+      said = said_map (is_two h.version) ss (λ s c. had_says (is_two h.version) t h.lines_known s (each s c));
       each = each;
-      processes = same_statements h.two (filter is_of_process ss) (flat_map process_statements t.processes)
-          (said_map h.two (filter is_of_process ss) (λ s c. had_says h.two t h.version s (each s (from_filter is_of_process ss s c).0)))
-          (said_map h.two (flat_map process_statements t.processes) (λ s c. had_says h.two t h.version s (process_had t s c)))
+      processes = same_statements (is_two h.version) (filter is_of_process ss) (flat_map process_statements t.processes)
+          (said_map (is_two h.version) (filter is_of_process ss) (λ s c. had_says (is_two h.version) t h.lines_known s (each s (from_filter is_of_process ss s c).0)))
+          (said_map (is_two h.version) (flat_map process_statements t.processes) (λ s c. had_says (is_two h.version) t h.lines_known s (process_had t s c)))
           (sym (filter_lines is_process_line is_of_process of_process ss) ∙ ap (filter is_process_line) (sym told.words) ∙ h.processes ∙ sym (processes_words t.processes));
       initial = initial_of es;
       initial_are = initial_filtered es;

@@ -15,7 +15,7 @@ use Rattle.trace_text.specs.Read.{saying, AreSaid}
 use Rattle.trace_text.specs.References.{fault_of_references}
 use Rattle.trace_text.specs.Statement.{Statement, statement_of, words_for}
 use Rattle.trace_semantics.specs.Trace.{TraceValue, IsTrace}
-use Rattle.trace_text.specs.TraceFault.{is_header, is_version_2, statements_of, said_fault, statement_fault, words_fault, trace_line_fault, line_reference_fault, HasTraceFault}
+use Rattle.trace_text.specs.TraceFault.{is_header, version_of, statements_of, said_fault, statement_fault, words_fault, trace_line_fault, line_reference_fault, HasTraceFault}
 use Rattle.trace_text.specs.TraceText.{SpellsTrace, header_line}
 use Rattle.trace_text.proofs.NeverFaulty.ApartLemmas.{cut_map}
 use Rattle.trace_text.proofs.NeverFaulty.ClearLemmas.{statements_clear}
@@ -30,46 +30,51 @@ use Rattle.trace_text.proofs.LineWords.SpellLemmas.{said_each}
 use Rattle.trace_text.proofs.NeverFaulty.StatedLemmas.{AreStated, IsHad, stated, said_map}
 use Rattle.trace_text.proofs.NeverFaulty.ToldLemmas.{has_writable}
 use Rattle.trace_text.proofs.Writing.WritableLemmas.{entry_low}
+use Rattle.trace_text.specs.declared.version.Version.{Version}
+use Rattle.trace_text.specs.declared.version.Version.TheVariants.{One, Two, Three}
+use Rattle.trace_text.specs.Version.{is_two, limits_of}
 
-header_low : (two : Bool) → high_words (header_line two) ≡ false
-header_low true = refl
-header_low false = refl
+header_low : (version : Version) → high_words (header_line version) ≡ false
+header_low One = refl
+header_low Two = refl
+header_low Three = refl
 
-header_says_nothing : (two : Bool) → statement_of two (header_line two) ≡ None
-header_says_nothing true = refl
-header_says_nothing false = refl
+header_says_nothing : (version : Version) → statement_of (is_two version) (header_line version) ≡ None
+header_says_nothing One = refl
+header_says_nothing Two = refl
+header_says_nothing Three = refl
 
 -- the header and the lines of statements without a fault have none
-words_clear : (two : Bool) (ss : List Statement) → map (saying two) ss ≡ map Some ss → IsFaultless statement_fault ss → IsFaultless words_fault (header_line two ∷ map words_for ss)
-words_clear two ss said clear [] words after e =
-    let same : header_line two ≡ words = cc in
-    ap (λ b. if b then None else Some Header) (ap is_header (sym same) ∙ header_passes two)
-words_clear two ss said clear (header ∷ earlier) words after e =
-    let same : header_line two ≡ header = cc in
+words_clear : (version : Version) (ss : List Statement) → map (saying (is_two version)) ss ≡ map Some ss → IsFaultless (statement_fault (limits_of version)) ss → IsFaultless words_fault (header_line version ∷ map words_for ss)
+words_clear version ss said clear [] words after e =
+    let same : header_line version ≡ words = cc in
+    ap (λ b. if b then None else Some Header) (ap is_header (sym same) ∙ header_passes version)
+words_clear version ss said clear (header ∷ earlier) words after e =
+    let same : header_line version ≡ header = cc in
     let rest : map words_for ss ≡ earlier ++ words ∷ after = cc in
     let cut = cut_map words_for ss earlier words after rest in
-    let version : is_version_2 header ≡ two = ap is_version_2 (sym same) ∙ version_is two in
-    let each : (s : Statement) → Contains cut.before s → statement_of two (words_for s) ≡ Some s = λ (s : Statement) (c : Contains cut.before s).
-    said_each two ss s said (subst (λ (l : List Statement). Contains l s) (sym cut.parts) (Contains-append_left cut.before (cut.at ∷ cut.after) s c)) in
-    let here : statement_of two (words_for cut.at) ≡ Some cut.at = said_each two ss cut.at said (subst (λ (l : List Statement). Contains l cut.at) (sym cut.parts) (in_middle cut.before cut.at cut.after)) in
-    (λ i. said_fault (statements_of (version i) (cut.front_is i)) (statement_of (version i) (sym cut.here_is i)))
-    ∙ (λ i. said_fault (statements_said two cut.before (said_map two cut.before each) i) (here i))
+    let same_version : version_of header ≡ version = ap version_of (sym same) ∙ version_is version in
+    let each : (s : Statement) → Contains cut.before s → statement_of (is_two version) (words_for s) ≡ Some s = λ (s : Statement) (c : Contains cut.before s).
+    said_each (is_two version) ss s said (subst (λ (l : List Statement). Contains l s) (sym cut.parts) (Contains-append_left cut.before (cut.at ∷ cut.after) s c)) in
+    let here : statement_of (is_two version) (words_for cut.at) ≡ Some cut.at = said_each (is_two version) ss cut.at said (subst (λ (l : List Statement). Contains l cut.at) (sym cut.parts) (in_middle cut.before cut.at cut.after)) in
+    (λ i. said_fault (limits_of (same_version i)) (statements_of (is_two (same_version i)) (cut.front_is i)) (statement_of (is_two (same_version i)) (sym cut.here_is i)))
+    ∙ (λ i. said_fault (limits_of version) (statements_said (is_two version) cut.before (said_map (is_two version) cut.before each) i) (here i))
     ∙ clear cut.before cut.at cut.after cut.parts
 
 -- the lines of a text that spells a trace
-module _ (text : List ℕ) (t : TraceValue) (ok : IsTrace t) (h : SpellsTrace text t) (st : AreStated t h.two h.body) where
-  kept_lines : kept (lines_of text) ≡ header_line h.two ∷ map words_for st.ss
-  kept_lines = h.lines ∙ ap (λ l. header_line h.two ∷ l) st.words
+module _ (text : List ℕ) (t : TraceValue) (ok : IsTrace t) (h : SpellsTrace text t) (st : AreStated t h.version h.body) where
+  kept_lines : kept (lines_of text) ≡ header_line h.version ∷ map words_for st.ss
+  kept_lines = h.lines ∙ ap (λ l. header_line h.version ∷ l) st.words
 
-  said : AreSaid h.two (lines_of text) st.ss
-  said = record { kept_lines = kept_lines; said = st.said; faultless = statements_clear t h.two h.body ok st }
+  said : AreSaid h.version (lines_of text) st.ss
+  said = record { kept_lines = kept_lines; said = st.said; faultless = statements_clear t h.version h.body ok h.fits st }
 
-  split : (before : List (List ℕ)) (line : List ℕ) (after : List (List ℕ)) → lines_of text ≡ before ++ line ∷ after → is_skipped (words_of line) ≡ false → header_line h.two ∷ map words_for st.ss ≡ kept before ++ words_of line ∷ kept after
+  split : (before : List (List ℕ)) (line : List ℕ) (after : List (List ℕ)) → lines_of text ≡ before ++ line ∷ after → is_skipped (words_of line) ≡ false → header_line h.version ∷ map words_for st.ss ≡ kept before ++ words_of line ∷ kept after
   split before line after e says = sym kept_lines ∙ ap kept e ∙ kept_append is_skipped before (line ∷ after) ∙ ap (λ l. kept before ++ l) (kept_more is_skipped line after says)
 
-  low : (words : List (List ℕ)) → Contains (header_line h.two ∷ map words_for st.ss) words → high_words words ≡ false
-  low words c = elim (cases_in (header_line h.two) (map words_for st.ss) words c) [
-    | inl e ↦ ap high_words (sym e) ∙ header_low h.two
+  low : (words : List (List ℕ)) → Contains (header_line h.version ∷ map words_for st.ss) words → high_words words ≡ false
+  low words c = elim (cases_in (header_line h.version) (map words_for st.ss) words c) [
+    | inl e ↦ ap high_words (sym e) ∙ header_low h.version
     | inr d ↦ (
         let at = from_map words_for st.ss words d in
         let had : IsHad t at.0 = st.each at.0 at.1 in
@@ -79,8 +84,8 @@ module _ (text : List ℕ) (t : TraceValue) (ok : IsTrace t) (h : SpellsTrace te
   line_clear : (before : List (List ℕ)) (line : List ℕ) (after : List (List ℕ)) → lines_of text ≡ before ++ line ∷ after → is_skipped (words_of line) ≡ false → trace_line_fault before line ≡ None
   line_clear before line after e says =
       let all = split before line after e says in
-      let there : Contains (header_line h.two ∷ map words_for st.ss) (words_of line) = subst (λ (l : List (List (List ℕ))). Contains l (words_of line)) (sym all) (in_middle (kept before) (words_of line) (kept after)) in
-      line_fault before line says (high_line line ∙ low (words_of line) there) ∙ words_clear h.two st.ss st.said said.faultless (kept before) (words_of line) (kept after) all
+      let there : Contains (header_line h.version ∷ map words_for st.ss) (words_of line) = subst (λ (l : List (List (List ℕ))). Contains l (words_of line)) (sym all) (in_middle (kept before) (words_of line) (kept after)) in
+      line_fault before line says (high_line line ∙ low (words_of line) there) ∙ words_clear h.version st.ss st.said said.faultless (kept before) (words_of line) (kept after) all
 
   lines_clear : IsFaultless trace_line_fault (lines_of text)
   lines_clear before line after e = elim (cases_Bool (is_skipped (words_of line))) [
@@ -88,20 +93,20 @@ module _ (text : List ℕ) (t : TraceValue) (ok : IsTrace t) (h : SpellsTrace te
     | inr says ↦ line_clear before line after e says
   ]
 
-  named_clear : (words : List (List ℕ)) → Contains (header_line h.two ∷ map words_for st.ss) words → fault_of_references t.processes (statement_of h.two words) ≡ None
-  named_clear words c = elim (cases_in (header_line h.two) (map words_for st.ss) words c) [
-    | inl e ↦ ap (λ ws. fault_of_references t.processes (statement_of h.two ws)) (sym e) ∙ ap (fault_of_references t.processes) (header_says_nothing h.two)
+  named_clear : (words : List (List ℕ)) → Contains (header_line h.version ∷ map words_for st.ss) words → fault_of_references t.processes (statement_of (is_two h.version) words) ≡ None
+  named_clear words c = elim (cases_in (header_line h.version) (map words_for st.ss) words c) [
+    | inl e ↦ ap (λ ws. fault_of_references t.processes (statement_of (is_two h.version) ws)) (sym e) ∙ ap (fault_of_references t.processes) (header_says_nothing h.version)
     | inr d ↦ (
         let at = from_map words_for st.ss words d in
-        ap (λ ws. fault_of_references t.processes (statement_of h.two ws)) (sym at.2) ∙ ap (fault_of_references t.processes) (said_each h.two st.ss at.0 st.said at.1) ∙ references_clear t at.0 ok (st.each at.0 at.1))
+        ap (λ ws. fault_of_references t.processes (statement_of (is_two h.version) ws)) (sym at.2) ∙ ap (fault_of_references t.processes) (said_each (is_two h.version) st.ss at.0 st.said at.1) ∙ references_clear t at.0 ok (st.each at.0 at.1))
   ]
 
   references_named : IsFaultless (λ (before : List (List ℕ)) (here : List ℕ). line_reference_fault (kept (lines_of text)) here) (lines_of text)
   references_named before line after e =
-      same_fault h.two (lines_of text) st.ss t.processes line said st.processes
+      same_fault h.version (lines_of text) st.ss t.processes line said st.processes
       ∙ elim (cases_Bool (is_skipped (words_of line))) [
         | inl skipped ↦ cond-true (is_skipped (words_of line)) None _ skipped
-        | inr says ↦ ap (λ b. if b then None else fault_of_references t.processes (statement_of h.two (words_of line))) says
+        | inr says ↦ ap (λ b. if b then None else fault_of_references t.processes (statement_of (is_two h.version) (words_of line))) says
             ∙ named_clear (words_of line) (subst (λ (l : List (List (List ℕ))). Contains l (words_of line)) (sym (split before line after e says)) (in_middle (kept before) (words_of line) (kept after)))
       ]
 
@@ -110,6 +115,6 @@ never_both text t cause line ok h fault =
     let st = stated text t ok h in
     elim fault [
       | inl first ↦ none_is_some cause (sym (lines_clear text t ok h st first.before first.item first.after first.parts) ∙ first.faulty)
-      | inr (inl missing) ↦ (let none : header_line h.two ∷ h.body ≡ [] = sym h.lines ∙ missing.0.empty in cc)
+      | inr (inl missing) ↦ (let none : header_line h.version ∷ h.body ≡ [] = sym h.lines ∙ missing.0.empty in cc)
       | inr (inr named) ↦ none_is_some cause (sym (references_named text t ok h st named.found.before named.found.item named.found.after named.found.parts) ∙ named.found.faulty)
     ]

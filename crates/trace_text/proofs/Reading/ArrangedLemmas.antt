@@ -29,9 +29,14 @@ use Rattle.trace_semantics.proofs.ElementLemmas.{from_map, to_map, all_pass, pas
 use Rattle.trace_semantics.proofs.DistinctLemmas.{few_named}
 use Rattle.trace_text.proofs.InOrder.PairOrderLemmas.{IsKnownPair, pair_kept}
 use Rattle.trace_text.proofs.LineWords.SpellLemmas.{filter_lines, any_line, of_process, of_init, of_final, of_before, of_proc, of_value, processes_words, mapped_words, values_in_front, split_lines, no_origins, no_pairs}
+use Rattle.trace_semantics.specs.declared.limits.Limits.{Limits}
+use Rattle.trace_semantics.specs.Limits.{max_operations, max_locations, max_pairs}
+use Rattle.trace_semantics.proofs.LimitLemmas.{operations_in, pairs_in, locations_in}
+use Rattle.trace_text.specs.declared.version.Version.{Version}
+use Rattle.trace_text.specs.Version.{is_two, limits_of}
 
 -- what is gathered from statements in their order, where none has a fault
-pub record AreGathered (ss : List Statement) (u : TraceValue) : Type 0 where
+pub record AreGathered (limits : Limits) (ss : List Statement) (u : TraceValue) : Type 0 where
   pub processes : filter is_of_process ss ≡ flat_map process_statements u.processes
   pub initial : filter is_init ss ≡ map init_statement u.initial
   pub final_values : filter is_final ss ≡ map final_statement u.final_values
@@ -41,21 +46,21 @@ pub record AreGathered (ss : List Statement) (u : TraceValue) : Type 0 where
   pub finals_apart : IsOneEach u.final_values
   pub written : IsWritten u
   pub few_processes : length (filter is_proc ss) ≤ 64
-  pub few_operations : length (filter is_operation ss) ≤ 4096
-  pub few_before : length (filter is_before ss) ≤ 4096
-  pub few_locations : length (distinct (filter_map location_named ss)) ≤ 4096
+  pub few_operations : length (filter is_operation ss) ≤ max_operations limits
+  pub few_before : length (filter is_before ss) ≤ max_pairs limits
+  pub few_locations : length (distinct (filter_map location_named ss)) ≤ max_locations limits
 
 all_moved : {A : Type 0} (p : A → Bool) (xs ys : List A) → IsPermutation xs ys → list_all p xs ≡ true → list_all p ys ≡ true
 all_moved p xs ys m h = list_all-from_AllPass p ys (All-permutation (λ x. p x ≡ true) xs ys m (AllPass-from_list_all p xs h))
 
 -- the operations of the pairs are known
-pairs_of : (two : Bool) (lines : List (List ℕ)) (ss : List Statement) (u t : TraceValue) → AreSaid two lines ss → AreGathered ss u → IsArranged u t → IsFaultless (λ (before : List (List ℕ)) (here : List ℕ). fault_of_line two t.processes here) lines →
+pairs_of : (version : Version) (lines : List (List ℕ)) (ss : List Statement) (u t : TraceValue) → AreSaid version lines ss → AreGathered (limits_of version) ss u → IsArranged u t → IsFaultless (λ (before : List (List ℕ)) (here : List ℕ). fault_of_line (is_two version) t.processes here) lines →
     (pair : OpName × OpName) → Contains u.before pair → IsKnownPair t pair
-pairs_of two lines ss u t r g a f = pairs_known t u.before two lines ss (subst (λ (ps : List Process). AllPairs (λ (p q : Process). p.name ≢ q.name) ps) (sym a.processes) g.processes_apart) r g.before g.written.before f
+pairs_of version lines ss u t r g a f = pairs_known t u.before version lines ss (subst (λ (ps : List Process). AllPairs (λ (p q : Process). p.name ≢ q.name) ps) (sym a.processes) g.processes_apart) r g.before g.written.before f
 
 -- what is gathered, in order, is a trace
-pub trace_arranged : (two : Bool) (lines : List (List ℕ)) (ss : List Statement) (u t : TraceValue) → AreSaid two lines ss → AreGathered ss u → IsArranged u t → IsFaultless (λ (before : List (List ℕ)) (here : List ℕ). fault_of_line two t.processes here) lines → IsTrace t
-trace_arranged two lines ss u t r g a f =
+pub trace_arranged : (version : Version) (lines : List (List ℕ)) (ss : List Statement) (u t : TraceValue) → AreSaid version lines ss → AreGathered (limits_of version) ss u → IsArranged u t → IsFaultless (λ (before : List (List ℕ)) (here : List ℕ). fault_of_line (is_two version) t.processes here) lines → IsTrace t
+trace_arranged version lines ss u t r g a f =
     let distinct_ones = subst (λ (ps : List Process). AllPairs (λ (p q : Process). p.name ≢ q.name) ps) (sym a.processes) g.processes_apart in
     let processes : filter is_of_process ss ≡ flat_map process_statements t.processes = g.processes ∙ ap (flat_map process_statements) (sym a.processes) in
     let pairs : length (filter is_before ss) ≡ length u.before = ap length g.before ∙ length-map u.before before_statement in
@@ -65,11 +70,11 @@ trace_arranged two lines ss u t r g a f =
     record {
       distinct = distinct_ones;
       few_processes = omega (arith, g.few_processes, count_procs ss t.processes processes);
-      few_operations = omega (arith, g.few_operations, count_operations ss t.processes processes);
+      few_operations = omega (arith, operations_in (limits_of version), g.few_operations, count_operations ss t.processes processes);
       initial = initial;
       final_values = finals;
-      few_pairs = omega (arith, g.few_before, pairs, a.before.few);
-      known = λ k d l. pairs_of two lines ss u t r g a f (get_or t.before k d) (a.before.taken (get_or t.before k d) (Contains-get_or t.before k d l));
+      few_pairs = omega (arith, pairs_in (limits_of version), g.few_before, pairs, a.before.few);
+      known = λ k d l. pairs_of version lines ss u t r g a f (get_or t.before k d) (a.before.taken (get_or t.before k d) (Contains-get_or t.before k d l));
       written = record {
         processes = written_processes;
         initial = all_moved is_written_value u.initial t.initial a.initial g.written.initial;
@@ -78,19 +83,19 @@ trace_arranged two lines ss u t r g a f =
       };
       initial_order = rising t.initial a.initial_sorted initial;
       final_order = rising t.final_values a.final_sorted finals;
-      before_apart = λ k d l. pairs_apart u.before two lines ss t.processes r g.before f (get_or t.before k d) (a.before.taken (get_or t.before k d) (Contains-get_or t.before k d l));
-      origins = λ k d l j e m. origins_known t two lines ss distinct_ones r processes written_processes f (get_or t.processes k d) (Contains-get_or t.processes k d l) (get_or (get_or t.processes k d).operations j e) (Contains-get_or (get_or t.processes k d).operations j e m);
+      before_apart = λ k d l. pairs_apart u.before version lines ss t.processes r g.before f (get_or t.before k d) (a.before.taken (get_or t.before k d) (Contains-get_or t.before k d l));
+      origins = λ k d l j e m. origins_known t version lines ss distinct_ones r processes written_processes f (get_or t.processes k d) (Contains-get_or t.processes k d l) (get_or (get_or t.processes k d).operations j e) (Contains-get_or (get_or t.processes k d).operations j e m);
       before_order = a.before.rising;
-      few_locations = omega (arith, g.few_locations, few_named (locations_of t) (filter_map location_named ss) (named_by_some ss t u.initial u.final_values a.initial a.final_values g.initial g.final_values processes));
+      few_locations = omega (arith, locations_in (limits_of version), g.few_locations, few_named (locations_of t) (filter_map location_named ss) (named_by_some ss t u.initial u.final_values a.initial a.final_values g.initial g.final_values processes));
     }
 
-lines_in_front : (ss : List Statement) (front behind : List (List (List ℕ))) → IsFaultless statement_fault ss → map words_for ss ≡ front ++ behind → list_any (begins (codes "proc")) front ≡ true → list_any (λ words. begins (codes "init") words || begins (codes "final") words) behind ≡ false
-lines_in_front ss front behind f e p =
+lines_in_front : (limits : Limits) (ss : List Statement) (front behind : List (List (List ℕ))) → IsFaultless (statement_fault limits) ss → map words_for ss ≡ front ++ behind → list_any (begins (codes "proc")) front ≡ true → list_any (λ words. begins (codes "init") words || begins (codes "final") words) behind ≡ false
+lines_in_front limits ss front behind f e p =
     let split = split_lines ss front behind e in
     let proc : list_any is_proc split.first ≡ true = sym (any_line (begins (codes "proc")) is_proc of_proc split.first) ∙ ap (list_any (begins (codes "proc"))) (sym split.front_is) ∙ p in
     ap (list_any (λ words. begins (codes "init") words || begins (codes "final") words)) split.behind_is
     ∙ any_line (λ words. begins (codes "init") words || begins (codes "final") words) is_value_line of_value split.last
-    ∙ values_in_front ss split.first split.last f split.parts proc
+    ∙ values_in_front limits ss split.first split.last f split.parts proc
 
 none_left : (old new : List (OpName × OpName)) → old ≡ [] → length new ≤ length old → new ≡ []
 none_left old [] e l = refl
@@ -124,19 +129,23 @@ same_lines t old new lines e a known words = (
 )
 
 -- the text of these lines spells it
-pub spells_arranged : (two : Bool) (text : List ℕ) (ss : List Statement) (u t : TraceValue) → AreSaid two (lines_of text) ss → AreGathered ss u → IsArranged u t → IsFaultless (λ (before : List (List ℕ)) (here : List ℕ). fault_of_line two t.processes here) (lines_of text) → SpellsTrace text t
-spells_arranged two text ss u t r g a f =
+pub spells_arranged : (version : Version) (text : List ℕ) (ss : List Statement) (u t : TraceValue) → AreSaid version (lines_of text) ss → AreGathered (limits_of version) ss u → IsArranged u t → IsFaultless (λ (before : List (List ℕ)) (here : List ℕ). fault_of_line (is_two version) t.processes here) (lines_of text) → SpellsTrace text t
+spells_arranged version text ss u t r g a f =
     let before = before_lines ss u.before g.before in
     let processes : filter is_of_process ss ≡ flat_map process_statements t.processes = g.processes ∙ ap (flat_map process_statements) (sym a.processes) in
     record {
-      two = two;
+      version = version;
       body = map words_for ss;
       lines = r.kept_lines;
       processes = filter_lines is_process_line is_of_process of_process ss ∙ ap (map words_for) processes ∙ processes_words t.processes;
       initial = subst (λ (l : List (List (List ℕ))). IsPermutation (map init_line t.initial) l) (sym (init_lines ss u.initial g.initial)) (IsPermutation-map init_line t.initial u.initial (IsPermutation-sym u.initial t.initial a.initial));
       final_values = subst (λ (l : List (List (List ℕ))). IsPermutation (map final_line t.final_values) l) (sym (final_lines ss u.final_values g.final_values)) (IsPermutation-map final_line t.final_values u.final_values (IsPermutation-sym u.final_values t.final_values a.final_values));
-      in_front = λ front behind e p. lines_in_front ss front behind r.faultless e p;
-      before = same_lines t u.before t.before (filter (begins (codes "before")) (map words_for ss)) before a.before (pairs_of two (lines_of text) ss u t r g a f);
+      in_front = λ front behind e p. lines_in_front (limits_of version) ss front behind r.faultless e p;
+      before = same_lines t u.before t.before (filter (begins (codes "before")) (map words_for ss)) before a.before (pairs_of version (lines_of text) ss u t r g a f);
       few_before = omega (arith, g.few_before, ap length before, length-map u.before before_line, ap length g.before, length-map u.before before_statement);
-      version = plain_version two ss t u.before r.said processes g.before a.before.few;
+      lines_known = plain_version (is_two version) ss t u.before r.said processes g.before a.before.few;
+      fits = record {
+        few_operations = omega (arith, g.few_operations, count_operations ss t.processes processes);
+        few_locations = omega (arith, g.few_locations, few_named (locations_of t) (filter_map location_named ss) (named_by_some ss t u.initial u.final_values a.initial a.final_values g.initial g.final_values processes));
+      };
     }

@@ -14,8 +14,9 @@ use Rattle.trace_semantics.specs.declared.operation.Origin.TheVariants.{Any, Ini
 use Rattle.trace_text.specs.Entry.{source_of, statement_for, has_numbers, fits_value, fits_place, origin_fits, entry_fits}
 use Rattle.trace_text.specs.Statement.{ReadsFrom, Unsaid, FromInit, FromOp, Statement, Init, Final, Proc, Read, Write, Update, Before}
 use Rattle.trace_semantics.specs.Place.{place_of}
-use Rattle.trace_text.specs.TraceFault.{is_value, is_place, references_of_source}
+use Rattle.trace_text.specs.TraceFault.{is_value, is_within, is_place, references_of_source}
 use Rattle.trace_semantics.proofs.WrittenLemmas.{number_written}
+use Rattle.trace_semantics.specs.declared.limits.Limits.{Limits}
 
 some_of : {X : Type 0} (o : Option X) → not (is_none o) ≡ true → (x : X) × (o ≡ Some x)
 some_of None h = absurd (cc)
@@ -33,16 +34,20 @@ value_of word h =
     let written = number_written (2 ^ 64 - 1) word found.0 (omega arith) (sym found.1) in
     record { number = found.0; digits = sym written.0; in_range = lt-ltb found.0 (2 ^ 64) (omega (arith, written.1)) }
 
-place_written : (word : List ℕ) → is_place word ≡ true → Writes fits_place word
-place_written word h =
-    let found = some_of (place_of word) h in
-    option_and_then_some (λ n. if nat_le 1 n then Some n else None) (plain_number_up_to 65535 word) found.0 found.1 (λ m plain low.
-    let least = cond_some (nat_le 1 m) m found.0 low in
-    let written = number_written 65535 word m (omega arith) (sym plain) in
-    record { number = m; digits = sym written.0; in_range = and_from (nat_le 1 m) (nat_le m 65535) least.0 (le-leb m 65535 written.1) })
+some_place : (limits : Limits) (o : Option ℕ) → is_within limits o ≡ true → (place : ℕ) × (o ≡ Some place)
+some_place limits None h = absurd (cc)
+some_place limits (Some place) h = (place, refl)
 
-abbrev are_places : List (List ℕ × List ℕ) → Bool
-are_places rs = list_all (λ (r : List ℕ × List ℕ). is_place r.1) rs
+place_written : (limits : Limits) (word : List ℕ) → is_place limits word ≡ true → Writes fits_place word
+place_written limits word h =
+    let found = some_place limits (place_of word) h in
+    option_and_then_some (λ n. if nat_le 1 n then Some n else None) (plain_number_up_to 4294967295 word) found.0 found.1 (λ m plain low.
+    let least = cond_some (nat_le 1 m) m found.0 low in
+    let written = number_written 4294967295 word m (omega arith) (sym plain) in
+    record { number = m; digits = sym written.0; in_range = and_from (nat_le 1 m) (nat_le m 4294967295) least.0 (le-leb m 4294967295 written.1) })
+
+abbrev are_places : Limits → List (List ℕ × List ℕ) → Bool
+are_places limits rs = list_all (λ (r : List ℕ × List ℕ). is_place limits r.1) rs
 
 -- the origin that a source says
 record SaysOrigin (source : ReadsFrom) : Type 0 where
@@ -50,11 +55,11 @@ record SaysOrigin (source : ReadsFrom) : Type 0 where
   says : source_of origin ≡ source
   in_range : origin_fits origin ≡ true
 
-origin_said : (source : ReadsFrom) → are_places (references_of_source source) ≡ true → SaysOrigin source
-origin_said Unsaid h = record { origin = Any; says = refl; in_range = refl }
-origin_said FromInit h = record { origin = Initial; says = refl; in_range = refl }
-origin_said (FromOp process place) h =
-    let at = place_written place (and_parts (is_place place) true h).0 in
+origin_said : (limits : Limits) (source : ReadsFrom) → are_places limits (references_of_source source) ≡ true → SaysOrigin source
+origin_said limits Unsaid h = record { origin = Any; says = refl; in_range = refl }
+origin_said limits FromInit h = record { origin = Initial; says = refl; in_range = refl }
+origin_said limits (FromOp process place) h =
+    let at = place_written limits place (and_parts (is_place limits place) true h).0 in
     record { origin = Operation (record { process = process; place = at.number }); says = ap (FromOp process) at.digits; in_range = at.in_range }
 
 -- the entry that a statement says
@@ -66,30 +71,30 @@ pub record SaysEntry (s : Statement) : Type 0 where
 one_value : (value : List ℕ) (b : Bool) → ((is_value value && true) && b) ≡ true → is_value value ≡ true
 one_value value b h = (and_parts (is_value value) true (and_parts (is_value value && true) b h).0).0
 
-pub entry_of : (s : Statement) → has_numbers s ≡ true → SaysEntry s
-entry_of (Init a value) h = let v = value_of value (one_value value true h) in record { entry = InitialEntry a v.number; says = ap (Init a) v.digits; in_range = v.in_range }
-entry_of (Final a value) h = let v = value_of value (one_value value true h) in record { entry = FinalEntry a v.number; says = ap (Final a) v.digits; in_range = v.in_range }
-entry_of (Proc name) h = record { entry = ProcessEntry name; says = refl; in_range = refl }
-entry_of (Read a value source) h =
-    let v = value_of value (one_value value (are_places (references_of_source source)) h) in
-    let o = origin_said source (and_parts (is_value value && true) (are_places (references_of_source source)) h).1 in
+pub entry_of : (limits : Limits) (s : Statement) → has_numbers limits s ≡ true → SaysEntry s
+entry_of limits (Init a value) h = let v = value_of value (one_value value true h) in record { entry = InitialEntry a v.number; says = ap (Init a) v.digits; in_range = v.in_range }
+entry_of limits (Final a value) h = let v = value_of value (one_value value true h) in record { entry = FinalEntry a v.number; says = ap (Final a) v.digits; in_range = v.in_range }
+entry_of limits (Proc name) h = record { entry = ProcessEntry name; says = refl; in_range = refl }
+entry_of limits (Read a value source) h =
+    let v = value_of value (one_value value (are_places limits (references_of_source source)) h) in
+    let o = origin_said limits source (and_parts (is_value value && true) (are_places limits (references_of_source source)) h).1 in
     record { entry = OperationEntry (ReadOp a v.number o.origin); says = λ i. Read a (v.digits i) (o.says i); in_range = and_from (fits_value v.number) (origin_fits o.origin) v.in_range o.in_range }
-entry_of (Write a value) h = let v = value_of value (one_value value true h) in record { entry = OperationEntry (WriteOp a v.number); says = ap (Write a) v.digits; in_range = v.in_range }
-entry_of (Update a read left source) h =
-    let outer = and_parts (is_value read && (is_value left && true)) (are_places (references_of_source source)) h in
+entry_of limits (Write a value) h = let v = value_of value (one_value value true h) in record { entry = OperationEntry (WriteOp a v.number); says = ap (Write a) v.digits; in_range = v.in_range }
+entry_of limits (Update a read left source) h =
+    let outer = and_parts (is_value read && (is_value left && true)) (are_places limits (references_of_source source)) h in
     let inner = and_parts (is_value read) (is_value left && true) outer.0 in
     let v = value_of read inner.0 in
     let w = value_of left (and_parts (is_value left) true inner.1).0 in
-    let o = origin_said source outer.1 in
+    let o = origin_said limits source outer.1 in
     record {
       entry = OperationEntry (UpdateOp a v.number w.number o.origin);
       says = λ i. Update a (v.digits i) (w.digits i) (o.says i);
       in_range = and_from (fits_value v.number) (fits_value w.number && origin_fits o.origin) v.in_range (and_from (fits_value w.number) (origin_fits o.origin) w.in_range o.in_range);
     }
-entry_of (Before process place other other_place) h =
-    let parts = and_parts (is_place place) (is_place other_place && true) h in
-    let one = place_written place parts.0 in
-    let two = place_written other_place (and_parts (is_place other_place) true parts.1).0 in
+entry_of limits (Before process place other other_place) h =
+    let parts = and_parts (is_place limits place) (is_place limits other_place && true) h in
+    let one = place_written limits place parts.0 in
+    let two = place_written limits other_place (and_parts (is_place limits other_place) true parts.1).0 in
     record {
       entry = BeforeEntry (record { process = process; place = one.number }) (record { process = other; place = two.number });
       says = λ i. Before process (one.digits i) other (two.digits i);

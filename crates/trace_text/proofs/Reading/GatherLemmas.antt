@@ -23,17 +23,19 @@ use Rattle.trace_text.proofs.Reading.EntryLemmas.{processes_written, initial_wri
 use Rattle.trace_text.proofs.Reading.EntryOfLemmas.{entry_of}
 use Rattle.trace_text.proofs.Reading.GatheredLemmas.{processes_push, initial_push, final_push, before_push, processes_apart, initial_apart, final_apart}
 use Rattle.trace_text.proofs.Reading.SeenLemmas.{distinct_push}
+use Rattle.trace_semantics.specs.declared.limits.Limits.{Limits}
+use Rattle.trace_semantics.specs.Limits.{max_operations, max_locations, max_pairs}
 
 -- a statement that has no fault after these
-record IsFine (ss : List Statement) (s : Statement) : Type 0 where
+record IsFine (limits : Limits) (ss : List Statement) (s : Statement) : Type 0 where
   inside : (is_operation s && not (list_any is_proc ss)) ≡ false
   named : list_all is_name (names_of s) ≡ true
-  numbered : has_numbers s ≡ true
+  numbered : has_numbers limits s ≡ true
   once : list_any (repeats s) ss ≡ false
   few_processes : (is_proc s && nat_le 64 (length (filter is_proc ss))) ≡ false
-  few_operations : (is_operation s && nat_le 4096 (length (filter is_operation ss))) ≡ false
-  few_before : (is_before s && nat_le 4096 (length (filter is_before ss))) ≡ false
-  few_locations : is_location_too_many ss (location_named s) ≡ false
+  few_operations : (is_operation s && nat_le (max_operations limits) (length (filter is_operation ss))) ≡ false
+  few_before : (is_before s && nat_le (max_pairs limits) (length (filter is_before ss))) ≡ false
+  few_locations : is_location_too_many limits ss (location_named s) ≡ false
 
 none_first : (o p : Option TraceCause) → or_else o p ≡ None → (o ≡ None) × (p ≡ None)
 none_first None p h = (refl, h)
@@ -43,23 +45,23 @@ passed : (b : Bool) (cause : TraceCause) (rest : Option TraceCause) → (if b th
 passed true cause rest h = absurd (cc)
 passed false cause rest h = (refl, h)
 
-fine : (ss : List Statement) (s : Statement) → statement_fault ss s ≡ None → IsFine ss s
-fine ss s h =
-    let outer = none_first (shape_fault ss s) _ h in
+fine : (limits : Limits) (ss : List Statement) (s : Statement) → statement_fault limits ss s ≡ None → IsFine limits ss s
+fine limits ss s h =
+    let outer = none_first (shape_fault limits ss s) _ h in
     let late = passed (is_value_line s && list_any is_proc ss) LateHeaderLine _ outer.0 in
     let inside = passed (is_operation s && not (list_any is_proc ss)) OpOutsideProc _ late.1 in
     let named = passed (not (list_all is_name (names_of s))) BadName _ inside.1 in
-    let numbered = passed (not (has_numbers s)) BadNumber None named.1 in
+    let numbered = passed (not (has_numbers limits s)) BadNumber None named.1 in
     let once = passed (list_any (repeats s) ss) (twice_cause s) _ outer.1 in
-    let limits = none_first (limit_fault ss s) _ once.1 in
-    let processes = passed (is_proc s && nat_le 64 (length (filter is_proc ss))) TooManyProcs _ limits.0 in
-    let operations = passed (is_operation s && nat_le 4096 (length (filter is_operation ss))) TooManyOps _ processes.1 in
-    let before = passed (is_before s && nat_le 4096 (length (filter is_before ss))) TooManyBefore None operations.1 in
-    let locations = passed (is_location_too_many ss (location_named s)) TooManyLocations None limits.1 in
+    let bounded = none_first (limit_fault limits ss s) _ once.1 in
+    let processes = passed (is_proc s && nat_le 64 (length (filter is_proc ss))) TooManyProcs _ bounded.0 in
+    let operations = passed (is_operation s && nat_le (max_operations limits) (length (filter is_operation ss))) TooManyOps _ processes.1 in
+    let before = passed (is_before s && nat_le (max_pairs limits) (length (filter is_before ss))) TooManyBefore None operations.1 in
+    let locations = passed (is_location_too_many limits ss (location_named s)) TooManyLocations None bounded.1 in
     record {
       inside = inside.0;
       named = not-false (list_all is_name (names_of s)) named.0;
-      numbered = not-false (has_numbers s) numbered.0;
+      numbered = not-false (has_numbers limits s) numbered.0;
       once = once.0;
       few_processes = processes.0;
       few_operations = operations.0;
@@ -75,14 +77,14 @@ few_by xs x n false h few = omega (arith, few, ap length (append-nil xs))
 few_more : (p : Statement → Bool) (ss : List Statement) (s : Statement) (n : ℕ) → (p s && nat_le n (length (filter p ss))) ≡ false → length (filter p ss) ≤ n → length (filter p (ss ++ s ∷ [])) ≤ n
 few_more p ss s n h few = omega (arith, few_by (filter p ss) s n (p s) h few, ap length (filter-append p ss (s ∷ [])))
 
-located_by : (n : ℕ) (b : Bool) → (not b && nat_le 4096 n) ≡ false → n ≤ 4096 → (if not b then n + 1 else n) ≤ 4096
-located_by n true h few = few
-located_by n false h few = let less = leb-false 4096 n h in omega (arith, less)
+located_by : (most n : ℕ) (b : Bool) → (not b && nat_le most n) ≡ false → n ≤ most → (if not b then n + 1 else n) ≤ most
+located_by most n true h few = few
+located_by most n false h few = let less = leb-false most n h in omega (arith, less)
 
-located : (ss : List Statement) (o : Option (List ℕ)) → is_location_too_many ss o ≡ false → length (distinct (filter_map location_named ss)) ≤ 4096 → length (distinct (filter_map location_named ss ++ cons_option o [])) ≤ 4096
-located ss None h few = omega (arith, few, ap (λ l. length (distinct l)) (append-nil (filter_map location_named ss)))
-located ss (Some a) h few =
-    omega (arith, located_by (length (distinct (filter_map location_named ss))) (holds_name (filter_map location_named ss) a) h few, distinct_push (filter_map location_named ss) a)
+located : (limits : Limits) (ss : List Statement) (o : Option (List ℕ)) → is_location_too_many limits ss o ≡ false → length (distinct (filter_map location_named ss)) ≤ max_locations limits → length (distinct (filter_map location_named ss ++ cons_option o [])) ≤ max_locations limits
+located limits ss None h few = omega (arith, few, ap (λ l. length (distinct l)) (append-nil (filter_map location_named ss)))
+located limits ss (Some a) h few =
+    omega (arith, located_by (max_locations limits) (length (distinct (filter_map location_named ss))) (holds_name (filter_map location_named ss) a) h few, distinct_push (filter_map location_named ss) a)
 
 -- an operation has a process
 of_process : (s : Statement) → is_proc s ≡ true → is_of_process s ≡ true
@@ -98,8 +100,8 @@ some_process ss (p ∷ ps) e h = omega arith
 abbrev with_entry : TraceValue → Entry → TraceValue
 with_entry u e = record { processes = processes_with u.processes e; initial = initial_with u.initial e; final_values = final_with u.final_values e; before = before_with u.before e }
 
-one_more : (ss : List Statement) (u : TraceValue) (e : Entry) → AreGathered ss u → IsFine ss (statement_for e) → entry_fits e ≡ true → AreGathered (ss ++ statement_for e ∷ []) (with_entry u e)
-one_more ss u e g f fits = record {
+one_more : (limits : Limits) (ss : List Statement) (u : TraceValue) (e : Entry) → AreGathered limits ss u → IsFine limits ss (statement_for e) → entry_fits e ≡ true → AreGathered limits (ss ++ statement_for e ∷ []) (with_entry u e)
+one_more limits ss u e g f fits = record {
   processes = processes_push ss e u.processes (λ o. some_process ss u.processes g.processes (never_without (is_operation (statement_for e)) (list_any is_proc ss) f.inside o)) g.processes;
   initial = initial_push ss e u.initial g.initial;
   final_values = final_push ss e u.final_values g.final_values;
@@ -114,32 +116,32 @@ one_more ss u e g f fits = record {
     before = before_written e u.before f.named fits g.written.before;
   };
   few_processes = few_more is_proc ss (statement_for e) 64 f.few_processes g.few_processes;
-  few_operations = few_more is_operation ss (statement_for e) 4096 f.few_operations g.few_operations;
-  few_before = few_more is_before ss (statement_for e) 4096 f.few_before g.few_before;
-  few_locations = omega (arith, located ss (location_named (statement_for e)) f.few_locations g.few_locations, ap (λ l. length (distinct l)) (filter_map-append location_named ss (statement_for e ∷ [])));
+  few_operations = few_more is_operation ss (statement_for e) (max_operations limits) f.few_operations g.few_operations;
+  few_before = few_more is_before ss (statement_for e) (max_pairs limits) f.few_before g.few_before;
+  few_locations = omega (arith, located limits ss (location_named (statement_for e)) f.few_locations g.few_locations, ap (λ l. length (distinct l)) (filter_map-append location_named ss (statement_for e ∷ [])));
 }
 
 -- what is gathered of these statements
-pub record Gathers (ss : List Statement) : Type 0 where
+pub record Gathers (limits : Limits) (ss : List Statement) : Type 0 where
   pub value : TraceValue
-  pub gathered : AreGathered ss value
+  pub gathered : AreGathered limits ss value
 
-one_statement : (ss : List Statement) (s : Statement) → Gathers ss → statement_fault ss s ≡ None → Gathers (ss ++ s ∷ [])
-one_statement ss s g h =
-    let f = fine ss s h in
-    let e = entry_of s f.numbered in
-    let pushed = one_more ss g.value e.entry g.gathered (subst (λ (t : Statement). IsFine ss t) (sym e.says) f) e.in_range in
-    record { value = with_entry g.value e.entry; gathered = subst (λ (t : Statement). AreGathered (ss ++ t ∷ []) (with_entry g.value e.entry)) e.says pushed }
+one_statement : (limits : Limits) (ss : List Statement) (s : Statement) → Gathers limits ss → statement_fault limits ss s ≡ None → Gathers limits (ss ++ s ∷ [])
+one_statement limits ss s g h =
+    let f = fine limits ss s h in
+    let e = entry_of limits s f.numbered in
+    let pushed = one_more limits ss g.value e.entry g.gathered (subst (λ (t : Statement). IsFine limits ss t) (sym e.says) f) e.in_range in
+    record { value = with_entry g.value e.entry; gathered = subst (λ (t : Statement). AreGathered limits (ss ++ t ∷ []) (with_entry g.value e.entry)) e.says pushed }
 
-gather_from : (done rest : List Statement) → Gathers done → IsFaultless statement_fault (done ++ rest) → Gathers (done ++ rest)
-gather_from done [] g h = subst (λ (l : List Statement). Gathers l) (sym (append-nil done)) g
-gather_from done (s ∷ rest) g h =
+gather_from : (limits : Limits) (done rest : List Statement) → Gathers limits done → IsFaultless (statement_fault limits) (done ++ rest) → Gathers limits (done ++ rest)
+gather_from limits done [] g h = subst (λ (l : List Statement). Gathers limits l) (sym (append-nil done)) g
+gather_from limits done (s ∷ rest) g h =
     let joined : (done ++ s ∷ []) ++ rest ≡ done ++ s ∷ rest = append_assoc done (s ∷ []) rest in
-    subst (λ (l : List Statement). Gathers l) joined
-    (gather_from (done ++ s ∷ []) rest (one_statement done s g (h done s rest refl)) (subst (λ (l : List Statement). IsFaultless statement_fault l) (sym joined) h))
+    subst (λ (l : List Statement). Gathers limits l) joined
+    (gather_from limits (done ++ s ∷ []) rest (one_statement limits done s g (h done s rest refl)) (subst (λ (l : List Statement). IsFaultless (statement_fault limits) l) (sym joined) h))
 
-pub gather : (ss : List Statement) → IsFaultless statement_fault ss → Gathers ss
-gather ss h = gather_from [] ss (record {
+pub gather : (limits : Limits) (ss : List Statement) → IsFaultless (statement_fault limits) ss → Gathers limits ss
+gather limits ss h = gather_from limits [] ss (record {
   value = record { processes = []; initial = []; final_values = []; before = [] };
   gathered = record {
     processes = refl;

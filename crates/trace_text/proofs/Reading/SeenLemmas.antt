@@ -22,6 +22,8 @@ use Rattle.trace_semantics.proofs.DistinctLemmas.{length_chosen}
 use Rattle.trace_text.specs.Seen.{has, early_fault, fault_behind, fault_of_operation, NotesLocation, Notes, IsSeen}
 use Rattle.trace_text.specs.Statement.{Statement, Init, Final, Proc, Read, Write, Update, Before}
 use Rattle.trace_text.specs.TraceFault.{is_proc, is_operation, is_before, is_value_line, names_of, location_named, repeats, twice_cause, limit_fault, is_location_too_many, or_else, statement_fault}
+use Rattle.trace_semantics.specs.declared.limits.Limits.{Limits}
+use Rattle.trace_semantics.specs.Limits.{max_operations, max_locations, max_pairs}
 
 -- some element passes, with one more element
 pub any_push : {A : Type 0} (p : A → Bool) (xs : List A) (x : A) (b c : Bool) → b ≡ (p x || c) → c ≡ list_any p xs → b ≡ list_any p (xs ++ x ∷ [])
@@ -57,24 +59,24 @@ distinct_push (n ∷ ns) a =
     ∙ counts_agree (holds_name ns n) (bytes_eq n a) (holds_name ns a) (length (distinct ns)) (length (distinct (ns ++ a ∷ []))) same (distinct_push ns a)
     ∙ ap (λ m. if not (bytes_eq n a || holds_name ns a) then m + 1 else m) (sym (length_chosen (holds_name ns n) n (distinct ns)))
 
-locations_push : (names : List (List ℕ)) (old new : Seen) (o : Option (List ℕ)) → NotesLocation old new o → ((q : List ℕ) → has old.locations q ≡ holds_name names q) → (q : List ℕ) → has new.locations q ≡ holds_name (names ++ cons_option o []) q
-locations_push names old new None n h q = n.locations q ∙ h q ∙ ap (λ l. holds_name l q) (sym (append-nil names))
-locations_push names old new (Some a) n h q = any_push (λ other. bytes_eq other q) names a (has new.locations q) (has old.locations q) (n.locations q) (h q)
+locations_push : (limits : Limits) (names : List (List ℕ)) (old new : Seen) (o : Option (List ℕ)) → NotesLocation limits old new o → ((q : List ℕ) → has old.locations q ≡ holds_name names q) → (q : List ℕ) → has new.locations q ≡ holds_name (names ++ cons_option o []) q
+locations_push limits names old new None n h q = n.locations q ∙ h q ∙ ap (λ l. holds_name l q) (sym (append-nil names))
+locations_push limits names old new (Some a) n h q = any_push (λ other. bytes_eq other q) names a (has new.locations q) (has old.locations q) (n.locations q) (h q)
 
-locations_counted : (names : List (List ℕ)) (old new : Seen) (o : Option (List ℕ)) → NotesLocation old new o → ((q : List ℕ) → has old.locations q ≡ holds_name names q) → old.location_count ≡ length (distinct names) → new.location_count ≡ length (distinct (names ++ cons_option o []))
-locations_counted names old new None n h e = n.location_count ∙ e ∙ ap (λ l. length (distinct l)) (sym (append-nil names))
-locations_counted names old new (Some a) n h e = n.location_count ∙ (λ i. if not (h a i) then e i + 1 else e i) ∙ sym (distinct_push names a)
+locations_counted : (limits : Limits) (names : List (List ℕ)) (old new : Seen) (o : Option (List ℕ)) → NotesLocation limits old new o → ((q : List ℕ) → has old.locations q ≡ holds_name names q) → old.location_count ≡ length (distinct names) → new.location_count ≡ length (distinct (names ++ cons_option o []))
+locations_counted limits names old new None n h e = n.location_count ∙ e ∙ ap (λ l. length (distinct l)) (sym (append-nil names))
+locations_counted limits names old new (Some a) n h e = n.location_count ∙ (λ i. if not (h a i) then e i + 1 else e i) ∙ sym (distinct_push names a)
 
 -- one more statement
-pub seen_more : (ss : List Statement) (s : Statement) (old new : Seen) → IsSeen ss old → Notes old new s → IsSeen (ss ++ s ∷ []) new
-seen_more ss s old new h n =
+pub seen_more : (limits : Limits) (ss : List Statement) (s : Statement) (old new : Seen) → IsSeen limits ss old → Notes limits old new s → IsSeen limits (ss ++ s ∷ []) new
+seen_more limits ss s old new h n =
     let names : filter_map location_named (ss ++ s ∷ []) ≡ filter_map location_named ss ++ cons_option (location_named s) [] = filter_map-append location_named ss (s ∷ []) in
     record {
       initial = λ q. any_push (repeats (Init q [])) ss s (has new.initial q) (has old.initial q) (n.initial q) (h.initial q);
       final_values = λ q. any_push (repeats (Final q [])) ss s (has new.final_values q) (has old.final_values q) (n.final_values q) (h.final_values q);
       processes = λ q. any_push (repeats (Proc q)) ss s (has new.processes q) (has old.processes q) (n.processes q) (h.processes q);
-      locations = λ q. locations_push (filter_map location_named ss) old new (location_named s) n.location h.locations q ∙ ap (λ l. holds_name l q) (sym names);
-      location_count = locations_counted (filter_map location_named ss) old new (location_named s) n.location h.locations h.location_count ∙ ap (λ l. length (distinct l)) (sym names);
+      locations = λ q. locations_push limits (filter_map location_named ss) old new (location_named s) n.location h.locations q ∙ ap (λ l. holds_name l q) (sym names);
+      location_count = locations_counted limits (filter_map location_named ss) old new (location_named s) n.location h.locations h.location_count ∙ ap (λ l. length (distinct l)) (sym names);
       process_count = count_push is_proc ss s new.process_count old.process_count n.process_count h.process_count;
       operation_count = count_push is_operation ss s new.operation_count old.operation_count n.operation_count h.operation_count;
       before_count = count_push is_before ss s new.before_count old.before_count n.before_count h.before_count;
@@ -85,10 +87,10 @@ seen_more ss s old new h n =
     }
 
 -- what the statements before a statement make wrong with it
-abbrev pub late_fault : List Statement → Statement → Option TraceCause
-late_fault earlier s = if list_any (repeats s) earlier then Some (twice_cause s)
-    else or_else (limit_fault earlier s)
-    (if is_location_too_many earlier (location_named s) then Some TooManyLocations else None)
+abbrev pub late_fault : Limits → List Statement → Statement → Option TraceCause
+late_fault limits earlier s = if list_any (repeats s) earlier then Some (twice_cause s)
+    else or_else (limit_fault limits earlier s)
+    (if is_location_too_many limits earlier (location_named s) then Some TooManyLocations else None)
 
 any_same : {A : Type 0} (p q : A → Bool) → ((x : A) → p x ≡ q x) → (xs : List A) → list_any p xs ≡ list_any q xs
 any_same p q h xs = λ i. list_any (λ x. h x i) xs
@@ -116,11 +118,11 @@ or_else_chosen true cause other = refl
 or_else_chosen false cause other = refl
 
 -- the fault of an operation
-fault_at_operation : (ss : List Statement) (seen : Seen) (a : List ℕ) → IsSeen ss seen → fault_of_operation seen a ≡
-    or_else (if nat_le 4096 (length (filter is_operation ss)) then Some TooManyOps else None) (if is_location_too_many ss (Some a) then Some TooManyLocations else None)
-fault_at_operation ss seen a h =
-    (λ i. if nat_le 4096 (h.operation_count i) then Some TooManyOps else if not (h.locations a i) && nat_le 4096 (h.location_count i) then Some TooManyLocations else None)
-    ∙ sym (or_else_chosen (nat_le 4096 (length (filter is_operation ss))) TooManyOps (if is_location_too_many ss (Some a) then Some TooManyLocations else None))
+fault_at_operation : (limits : Limits) (ss : List Statement) (seen : Seen) (a : List ℕ) → IsSeen limits ss seen → fault_of_operation limits seen a ≡
+    or_else (if nat_le (max_operations limits) (length (filter is_operation ss)) then Some TooManyOps else None) (if is_location_too_many limits ss (Some a) then Some TooManyLocations else None)
+fault_at_operation limits ss seen a h =
+    (λ i. if nat_le (max_operations limits) (h.operation_count i) then Some TooManyOps else if not (h.locations a i) && nat_le (max_locations limits) (h.location_count i) then Some TooManyLocations else None)
+    ∙ sym (or_else_chosen (nat_le (max_operations limits) (length (filter is_operation ss))) TooManyOps (if is_location_too_many limits ss (Some a) then Some TooManyLocations else None))
 
 no_repeats : (ss : List Statement) (cause : TraceCause) (rest : Option TraceCause) → rest ≡ (if list_any (λ (t : Statement). false) ss then Some cause else rest)
 no_repeats ss cause rest = ap (λ b. if b then Some cause else rest) (sym (none_passes ss))
@@ -130,19 +132,19 @@ none_after true cause = refl
 none_after false cause = refl
 
 -- the fault of a statement after the others, by what is kept
-pub fault_seen : (ss : List Statement) (seen : Seen) (s : Statement) → IsSeen ss seen → fault_behind seen s ≡ late_fault ss s
-fault_seen ss seen (Init a d) h = λ i. if (h.initial a ∙ any_same (repeats (Init a [])) (repeats (Init a d)) (init_repeats a d) ss) i then Some InitTwice else if not (h.locations a i) && nat_le 4096 (h.location_count i) then Some TooManyLocations else None
-fault_seen ss seen (Final a d) h = λ i. if (h.final_values a ∙ any_same (repeats (Final a [])) (repeats (Final a d)) (final_repeats a d) ss) i then Some FinalTwice else if not (h.locations a i) && nat_le 4096 (h.location_count i) then Some TooManyLocations else None
-fault_seen ss seen (Proc name) h =
+pub fault_seen : (limits : Limits) (ss : List Statement) (seen : Seen) (s : Statement) → IsSeen limits ss seen → fault_behind limits seen s ≡ late_fault limits ss s
+fault_seen limits ss seen (Init a d) h = λ i. if (h.initial a ∙ any_same (repeats (Init a [])) (repeats (Init a d)) (init_repeats a d) ss) i then Some InitTwice else if not (h.locations a i) && nat_le (max_locations limits) (h.location_count i) then Some TooManyLocations else None
+fault_seen limits ss seen (Final a d) h = λ i. if (h.final_values a ∙ any_same (repeats (Final a [])) (repeats (Final a d)) (final_repeats a d) ss) i then Some FinalTwice else if not (h.locations a i) && nat_le (max_locations limits) (h.location_count i) then Some TooManyLocations else None
+fault_seen limits ss seen (Proc name) h =
     (λ i. if h.processes name i then Some ProcTwice else if nat_le 64 (h.process_count i) then Some TooManyProcs else None)
     ∙ ap (λ f. if list_any (repeats (Proc name)) ss then Some ProcTwice else f) (none_after (nat_le 64 (length (filter is_proc ss))) TooManyProcs)
-fault_seen ss seen (Read a d source) h = fault_at_operation ss seen a h ∙ no_repeats ss ProcTwice (or_else (limit_fault ss (Read a d source)) (if is_location_too_many ss (Some a) then Some TooManyLocations else None))
-fault_seen ss seen (Write a d) h = fault_at_operation ss seen a h ∙ no_repeats ss ProcTwice (or_else (limit_fault ss (Write a d)) (if is_location_too_many ss (Some a) then Some TooManyLocations else None))
-fault_seen ss seen (Update a d e source) h = fault_at_operation ss seen a h ∙ no_repeats ss ProcTwice (or_else (limit_fault ss (Update a d e source)) (if is_location_too_many ss (Some a) then Some TooManyLocations else None))
-fault_seen ss seen (Before p i q j) h =
-    (λ k. if nat_le 4096 (h.before_count k) then Some TooManyBefore else None)
-    ∙ none_after (nat_le 4096 (length (filter is_before ss))) TooManyBefore
-    ∙ no_repeats ss ProcTwice (or_else (limit_fault ss (Before p i q j)) None)
+fault_seen limits ss seen (Read a d source) h = fault_at_operation limits ss seen a h ∙ no_repeats ss ProcTwice (or_else (limit_fault limits ss (Read a d source)) (if is_location_too_many limits ss (Some a) then Some TooManyLocations else None))
+fault_seen limits ss seen (Write a d) h = fault_at_operation limits ss seen a h ∙ no_repeats ss ProcTwice (or_else (limit_fault limits ss (Write a d)) (if is_location_too_many limits ss (Some a) then Some TooManyLocations else None))
+fault_seen limits ss seen (Update a d e source) h = fault_at_operation limits ss seen a h ∙ no_repeats ss ProcTwice (or_else (limit_fault limits ss (Update a d e source)) (if is_location_too_many limits ss (Some a) then Some TooManyLocations else None))
+fault_seen limits ss seen (Before p i q j) h =
+    (λ k. if nat_le (max_pairs limits) (h.before_count k) then Some TooManyBefore else None)
+    ∙ none_after (nat_le (max_pairs limits) (length (filter is_before ss))) TooManyBefore
+    ∙ no_repeats ss ProcTwice (or_else (limit_fault limits ss (Before p i q j)) None)
 
 -- the first of the faults of a statement
 abbrev pub shape_of : Bool → Bool → Bool → Bool → Option TraceCause
@@ -172,16 +174,16 @@ early_none false false true true rest h n = refl
 early_none false false true false rest h n = absurd (cc)
 
 -- the fault of a statement, where its place or a name is wrong
-pub fault_early : (ss : List Statement) (s : Statement) (begun : Bool) (cause : TraceCause) → list_any is_proc ss ≡ begun → early_fault begun s ≡ Some cause → statement_fault ss s ≡ Some cause
-fault_early ss s begun cause b h = early_some (is_value_line s && list_any is_proc ss) (is_operation s && not (list_any is_proc ss)) (list_all is_name (names_of s)) (has_numbers s) cause
-    (late_fault ss s) (ap (λ c. early_fault c s) b ∙ h)
+pub fault_early : (limits : Limits) (ss : List Statement) (s : Statement) (begun : Bool) (cause : TraceCause) → list_any is_proc ss ≡ begun → early_fault begun s ≡ Some cause → statement_fault limits ss s ≡ Some cause
+fault_early limits ss s begun cause b h = early_some (is_value_line s && list_any is_proc ss) (is_operation s && not (list_any is_proc ss)) (list_all is_name (names_of s)) (has_numbers limits s) cause
+    (late_fault limits ss s) (ap (λ c. early_fault c s) b ∙ h)
 
 -- where a number is wrong
-pub fault_number : (ss : List Statement) (s : Statement) (begun : Bool) (refusal : PlainFault TraceCause) → list_any is_proc ss ≡ begun → early_fault begun s ≡ None → IsRefusedFor (number_fault (has_numbers s)) refusal → IsRefusedFor (statement_fault ss s) refusal
-fault_number ss s begun OutOfMemory b h r = tt
-fault_number ss s begun (For cause) b h r = early_number (is_value_line s && list_any is_proc ss) (is_operation s && not (list_any is_proc ss)) (list_all is_name (names_of s)) (has_numbers s) cause
-    (late_fault ss s) (ap (λ c. early_fault c s) b ∙ h) r
+pub fault_number : (limits : Limits) (ss : List Statement) (s : Statement) (begun : Bool) (refusal : PlainFault TraceCause) → list_any is_proc ss ≡ begun → early_fault begun s ≡ None → IsRefusedFor (number_fault (has_numbers limits s)) refusal → IsRefusedFor (statement_fault limits ss s) refusal
+fault_number limits ss s begun OutOfMemory b h r = tt
+fault_number limits ss s begun (For cause) b h r = early_number (is_value_line s && list_any is_proc ss) (is_operation s && not (list_any is_proc ss)) (list_all is_name (names_of s)) (has_numbers limits s) cause
+    (late_fault limits ss s) (ap (λ c. early_fault c s) b ∙ h) r
 
 -- where its words are fine
-pub fault_late : (ss : List Statement) (s : Statement) (begun : Bool) → list_any is_proc ss ≡ begun → early_fault begun s ≡ None → has_numbers s ≡ true → statement_fault ss s ≡ late_fault ss s
-fault_late ss s begun b h n = early_none (is_value_line s && list_any is_proc ss) (is_operation s && not (list_any is_proc ss)) (list_all is_name (names_of s)) (has_numbers s) (late_fault ss s) (ap (λ c. early_fault c s) b ∙ h) n
+pub fault_late : (limits : Limits) (ss : List Statement) (s : Statement) (begun : Bool) → list_any is_proc ss ≡ begun → early_fault begun s ≡ None → has_numbers limits s ≡ true → statement_fault limits ss s ≡ late_fault limits ss s
+fault_late limits ss s begun b h n = early_none (is_value_line s && list_any is_proc ss) (is_operation s && not (list_any is_proc ss)) (list_all is_name (names_of s)) (has_numbers limits s) (late_fault limits ss s) (ap (λ c. early_fault c s) b ∙ h) n

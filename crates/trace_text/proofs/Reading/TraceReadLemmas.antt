@@ -1,5 +1,5 @@
 -- A text without a fault spells a trace.
-use Rattle.std.proofs.Common.{◌≡◌, ◌⊎◌, ℕ, ◌+◌, List, [], ◌∷◌, ◌++◌, length, Bool, true, false, refl, inl, inr, ap, sym, ◌∙◌, subst, append-nil, append_assoc}
+use Rattle.std.proofs.Common.{◌≡◌, ◌⊎◌, ℕ, ◌+◌, List, [], ◌∷◌, ◌++◌, length, Bool, true, false, ◌||◌, refl, inl, inr, ap, sym, ◌∙◌, subst, append-nil, append_assoc}
 use Rattle.std.specs.Prelude.{Option, Some, None, if◌then◌else◌}
 use Rattle.std.specs.Cmp.Lexicographic.{pointwise}
 use Rattle.std.specs.List.{list_any}
@@ -24,43 +24,51 @@ use Rattle.trace_text.proofs.LineWords.KnownLemmas.{same_fault}
 use Rattle.trace_text.proofs.LineWords.LineLemmas.{kept_more, fault_said, pointwise_pair}
 use Rattle.trace_text.proofs.LineWords.SaidLemmas.{words_said}
 use Rattle.trace_text.proofs.InOrder.SortLemmas.{in_order, arranged}
+use Rattle.trace_semantics.specs.declared.limits.Limits.{Limits}
+use Rattle.trace_text.specs.declared.version.Version.{Version}
+use Rattle.trace_text.specs.declared.version.Version.TheVariants.{One, Two, Three}
+use Rattle.trace_text.specs.Version.{is_two, limits_of}
 
 -- no line says anything yet, or the lines are a header and statements
 abbrev IsReadSoFar : List (List ℕ) → Type 0
-IsReadSoFar lines = (kept lines ≡ []) ⊎ ((two : Bool) × (ss : List Statement) × AreSaid two lines ss)
+IsReadSoFar lines = (kept lines ≡ []) ⊎ ((version : Version) × (ss : List Statement) × AreSaid version lines ss)
 
 chosen : (b : Bool) → (if b then None else Some Header) ≡ None → b ≡ true
 chosen true h = refl
 chosen false h = absurd (cc)
 
-header_of : (two : Bool) (done : List (List ℕ)) (line : List ℕ) → kept done ≡ [] → is_skipped (words_of line) ≡ false → pointwise bytes_eq (words_of line) (header_line two) ≡ true → AreSaid two (done ++ line ∷ []) []
-header_of two done line none says same = record {
-  kept_lines = kept_more done line false says ∙ (λ i. none i ++ pointwise_pair (words_of line) (header_line two) same i ∷ []);
+header_of : (version : Version) (done : List (List ℕ)) (line : List ℕ) → kept done ≡ [] → is_skipped (words_of line) ≡ false → pointwise bytes_eq (words_of line) (header_line version) ≡ true → AreSaid version (done ++ line ∷ []) []
+header_of version done line none says same = record {
+  kept_lines = kept_more done line false says ∙ (λ i. none i ++ pointwise_pair (words_of line) (header_line version) same i ∷ []);
   said = refl;
-  faultless = faultless_nil statement_fault;
+  faultless = faultless_nil (statement_fault (limits_of version));
 }
 
-header_said : (done : List (List ℕ)) (line : List ℕ) → kept done ≡ [] → is_skipped (words_of line) ≡ false → words_fault (kept done) (words_of line) ≡ None → (two : Bool) × AreSaid two (done ++ line ∷ []) []
+header_said : (done : List (List ℕ)) (line : List ℕ) → kept done ≡ [] → is_skipped (words_of line) ≡ false → words_fault (kept done) (words_of line) ≡ None → (version : Version) × AreSaid version (done ++ line ∷ []) []
 header_said done line none says clear =
     let passes : is_header (words_of line) ≡ true = chosen (is_header (words_of line)) (ap (λ k. words_fault k (words_of line)) (sym none) ∙ clear) in
-    elim (or_cases (pointwise bytes_eq (words_of line) (header_line false)) (pointwise bytes_eq (words_of line) (header_line true)) passes) [
-      | inl one ↦ (false, header_of false done line none says one)
-      | inr two ↦ (true, header_of true done line none says two)
+    let same : Version → Bool = λ version. pointwise bytes_eq (words_of line) (header_line version) in
+    elim (or_cases (same One) (same Two || same Three) passes) [
+      | inl first ↦ (One, header_of One done line none says first)
+      | inr more ↦ elim (or_cases (same Two) (same Three) more) [
+        | inl second ↦ (Two, header_of Two done line none says second)
+        | inr third ↦ (Three, header_of Three done line none says third)
+      ]
     ]
 
-some_said : (ss : List Statement) (o : Option Statement) → said_fault ss o ≡ None → (s : Statement) × (o ≡ Some s) × (statement_fault ss s ≡ None)
-some_said ss None h = absurd (cc)
-some_said ss (Some s) h = (s, refl, h)
+some_said : (limits : Limits) (ss : List Statement) (o : Option Statement) → said_fault limits ss o ≡ None → (s : Statement) × (o ≡ Some s) × (statement_fault limits ss s ≡ None)
+some_said limits ss None h = absurd (cc)
+some_said limits ss (Some s) h = (s, refl, h)
 
-one_said : (two : Bool) (done : List (List ℕ)) (ss : List Statement) (line : List ℕ) → AreSaid two done ss → is_skipped (words_of line) ≡ false → words_fault (kept done) (words_of line) ≡ None → (new : List Statement) × AreSaid two (done ++ line ∷ []) new
-one_said two done ss line a says clear =
-    let at = some_said ss (statement_of two (words_of line)) (sym (fault_said two done ss (words_of line) a) ∙ clear) in
-    let words : words_of line ≡ words_for at.0 = words_said two (words_of line) at.0 at.1 in (
+one_said : (version : Version) (done : List (List ℕ)) (ss : List Statement) (line : List ℕ) → AreSaid version done ss → is_skipped (words_of line) ≡ false → words_fault (kept done) (words_of line) ≡ None → (new : List Statement) × AreSaid version (done ++ line ∷ []) new
+one_said version done ss line a says clear =
+    let at = some_said (limits_of version) ss (statement_of (is_two version) (words_of line)) (sym (fault_said version done ss (words_of line) a) ∙ clear) in
+    let words : words_of line ≡ words_for at.0 = words_said (is_two version) (words_of line) at.0 at.1 in (
       ss ++ at.0 ∷ [],
       record {
-        kept_lines = kept_more done line false says ∙ (λ i. a.kept_lines i ++ words i ∷ []) ∙ ap (λ l. header_line two ∷ l) (sym (map-append words_for ss (at.0 ∷ [])));
-        said = map-append (saying two) ss (at.0 ∷ []) ∙ (λ i. a.said i ++ (ap (statement_of two) (sym words) ∙ at.1) i ∷ []) ∙ sym (map-append Some ss (at.0 ∷ []));
-        faultless = faultless_push statement_fault ss at.0 a.faultless at.2;
+        kept_lines = kept_more done line false says ∙ (λ i. a.kept_lines i ++ words i ∷ []) ∙ ap (λ l. header_line version ∷ l) (sym (map-append words_for ss (at.0 ∷ [])));
+        said = map-append (saying (is_two version)) ss (at.0 ∷ []) ∙ (λ i. a.said i ++ (ap (statement_of (is_two version)) (sym words) ∙ at.1) i ∷ []) ∙ sym (map-append Some ss (at.0 ∷ []));
+        faultless = faultless_push (statement_fault (limits_of version)) ss at.0 a.faultless at.2;
       },
     )
 
@@ -74,13 +82,13 @@ one_line : (done : List (List ℕ)) (line : List ℕ) → IsReadSoFar done → t
 one_line done line h clear = elim (cases_Bool (is_skipped (words_of line))) [
   | inl skipped ↦ elim h [
     | inl none ↦ inl (kept_more done line true skipped ∙ append-nil (kept done) ∙ none)
-    | inr (two, ss, a) ↦ inr (two, ss, record { kept_lines = kept_more done line true skipped ∙ append-nil (kept done) ∙ a.kept_lines; said = a.said; faultless = a.faultless })
+    | inr (version, ss, a) ↦ inr (version, ss, record { kept_lines = kept_more done line true skipped ∙ append-nil (kept done) ∙ a.kept_lines; said = a.said; faultless = a.faultless })
   ]
   | inr says ↦ (
       let fine = words_clear (is_skipped (words_of line)) (list_any is_high line) (words_fault (kept done) (words_of line)) says clear in
       elim h [
         | inl none ↦ (let header = header_said done line none says fine in inr (header.0, [], header.1))
-        | inr (two, ss, a) ↦ (let more = one_said two done ss line a says fine in inr (two, more.0, more.1))
+        | inr (version, ss, a) ↦ (let more = one_said version done ss line a says fine in inr (version, more.0, more.1))
       ])
 ]
 
@@ -95,15 +103,15 @@ abbrev IsEither : List ℕ → Type 0
 IsEither text = ((t : TraceValue) × IsTrace t × SpellsTrace text t) ⊎ ((cause : TraceCause) × (line : ℕ) × HasTraceFault text cause line)
 
 -- lines that say statements without a fault spell a trace, or name an operation wrongly
-by_references : (text : List ℕ) (two : Bool) (ss : List Statement) → IsFaultless trace_line_fault (lines_of text) → AreSaid two (lines_of text) ss → IsEither text
-by_references text two ss clear a =
-    let g = gather ss a.faultless in
+by_references : (text : List ℕ) (version : Version) (ss : List Statement) → IsFaultless trace_line_fault (lines_of text) → AreSaid version (lines_of text) ss → IsEither text
+by_references text version ss clear a =
+    let g = gather (limits_of version) ss a.faultless in
     let order = arranged g.value in
     elim (either (λ (before : List (List ℕ)) (here : List ℕ). line_reference_fault (kept (lines_of text)) here) (lines_of text)) [
       | inr (place, found, h) ↦ inr (found, place, inr (inr (record { faultless = clear; found = h })))
       | inl known ↦ (
-          let fine = λ (before : List (List ℕ)) (line : List ℕ) (after : List (List ℕ)) (e : lines_of text ≡ before ++ line ∷ after). sym (same_fault two (lines_of text) ss g.value.processes line a g.gathered.processes) ∙ known before line after e in
-          inl (in_order g.value, trace_arranged two (lines_of text) ss g.value (in_order g.value) a g.gathered order fine, spells_arranged two text ss g.value (in_order g.value) a g.gathered order fine))
+          let fine = λ (before : List (List ℕ)) (line : List ℕ) (after : List (List ℕ)) (e : lines_of text ≡ before ++ line ∷ after). sym (same_fault version (lines_of text) ss g.value.processes line a g.gathered.processes) ∙ known before line after e in
+          inl (in_order g.value, trace_arranged version (lines_of text) ss g.value (in_order g.value) a g.gathered order fine, spells_arranged version text ss g.value (in_order g.value) a g.gathered order fine))
     ]
 
 pub spelled_or_refused : (text : List ℕ) → IsEither text
@@ -111,6 +119,6 @@ spelled_or_refused text = elim (either trace_line_fault (lines_of text)) [
   | inr (place, found, h) ↦ inr (found, place, inl h)
   | inl clear ↦ elim (read_lines (lines_of text) [] (inl refl) clear) [
     | inl none ↦ inr (Header, length (lines_of text) + 1, inr (inl (record { faultless = clear; empty = none }, refl, refl)))
-    | inr (two, ss, a) ↦ by_references text two ss clear a
+    | inr (version, ss, a) ↦ by_references text version ss clear a
   ]
 ]

@@ -1,10 +1,10 @@
 -- The canonical text of a trace spells it.
-use Rattle.std.proofs.Common.{◌≡◌, ℕ, ◌^◌, ◌<◌, List, [], ◌∷◌, ◌++◌, length, map, Bool, true, false, cond, ◌||◌, refl, ap, sym, ◌∙◌, subst, arith, append_assoc, append-nil}
-use Rattle.std.specs.Prelude.{◌↔◌, codes}
+use Rattle.std.proofs.Common.{◌≡◌, ℕ, ◌^◌, ◌<◌, ◌≤◌, List, [], ◌∷◌, ◌++◌, length, map, Bool, true, false, cond, ◌||◌, refl, ap, sym, ◌∙◌, subst, arith, append_assoc, append-nil}
+use Rattle.std.specs.Prelude.{◌↔◌, codes, nat_lt, if◌then◌else◌}
 use Rattle.std.specs.Fmt.{decimal}
 use Rattle.std.specs.List.{list_all, list_any, filter, flat_map, Contains}
 use Rattle.std.specs.List.Sorted.{IsPermutation}
-use Rattle.std.proofs.lemmas.Bool.{and_parts, and_from, or_from, or_parts, false≢true}
+use Rattle.std.proofs.lemmas.Bool.{and_parts, and_from, or_from, or_parts, ltb-false, false≢true}
 use Rattle.std.proofs.lemmas.List.{length-map}
 use Rattle.std.proofs.lemmas.List.Elements.{filter-append}
 use Rattle.std.proofs.lemmas.List.Folds.{list_any-append, list_all-append}
@@ -16,11 +16,16 @@ use Rattle.trace_semantics.specs.declared.operation.Origin.{Origin}
 use Rattle.trace_semantics.specs.declared.operation.Origin.TheVariants.{Any, Initial, Operation}
 use Rattle.trace_semantics.specs.declared.trace.Process.{Process}
 use Rattle.trace_semantics.specs.Names.{is_name}
-use Rattle.trace_semantics.specs.Trace.{TraceValue, IsTrace, IsWritten, is_written_value, is_written_name, is_written_origin, is_written_op, is_written_process, is_written_pair}
-use Rattle.trace_text.specs.TraceText.{SpellsTrace, begins, is_process_line, header_line, init_line, final_line, proc_line, origin_words, op_line, process_lines, before_line, needs_version_2}
-use Rattle.trace_text.specs.TraceWritten.{canonical_body, canonical_lines, canonical_trace}
+use Rattle.trace_semantics.specs.Trace.{TraceValue, IsTrace, IsWritten, operation_count, location_count, is_written_value, is_written_name, is_written_origin, is_written_op, is_written_process, is_written_pair}
+use Rattle.trace_text.specs.TraceText.{SpellsTrace, begins, is_process_line, header_line, init_line, final_line, proc_line, origin_words, op_line, process_lines, before_line, needs_version_2, needs_version_3, FitsIn}
+use Rattle.trace_text.specs.TraceWritten.{version_for, canonical_body, canonical_lines, canonical_trace}
 use Rattle.trace_text.proofs.Writing.LineTextLemmas.{is_word, is_line, name_is_word, number_is_word, written_kept}
 use Rattle.trace_text.proofs.Writing.WritableLemmas.{name_parts, value_parts, read_parts, update_parts}
+use Rattle.trace_semantics.specs.declared.limits.Limits.TheVariants.{Small}
+use Rattle.trace_semantics.specs.Limits.{max_operations, max_locations, max_pairs}
+use Rattle.trace_text.specs.declared.version.Version.{Version}
+use Rattle.trace_text.specs.declared.version.Version.TheVariants.{One, Two, Three}
+use Rattle.trace_text.specs.Version.{is_two, limits_of}
 
 -- tests over lists that are made of others
 all_map : {A B : Type 0} (p : B → Bool) (q : A → Bool) (f : A → B) → ((x : A) → q x ≡ true → p (f x) ≡ true) → (xs : List A) → list_all q xs ≡ true → list_all p (map f xs) ≡ true
@@ -50,9 +55,10 @@ origin_are_words Initial h = refl
 origin_are_words (Operation n) h = named n h [] refl
 
 -- lines
-header_is_line : (two : Bool) → is_line (header_line two) ≡ true
-header_is_line true = refl
-header_is_line false = refl
+header_is_line : (version : Version) → is_line (header_line version) ≡ true
+header_is_line One = refl
+header_is_line Two = refl
+header_is_line Three = refl
 
 entry_words : (entry : List ℕ × ℕ) → is_written_value entry ≡ true → list_all is_word (entry.0 ∷ decimal entry.1 ∷ []) ≡ true
 entry_words entry h = let parts = value_parts entry.0 entry.1 h in valued entry.0 entry.1 [] parts.0 parts.1 refl
@@ -94,7 +100,7 @@ body_are_lines t h =
     ∙ and_from _ _ (all_flat_map is_line is_written_process process_lines process_are_lines t.processes h.processes) (all_map is_line is_written_pair before_line before_is_line t.before h.before)))
 
 pub lines_kept_of : (t : TraceValue) → IsWritten t → list_all is_line (canonical_lines t) ≡ true
-lines_kept_of t h = and_from _ _ (header_is_line (needs_version_2 t)) (body_are_lines t h)
+lines_kept_of t h = and_from _ _ (header_is_line (version_for t)) (body_are_lines t h)
 
 -- which lines a test keeps
 keep_all : {A : Type 0} (p : A → Bool) (xs : List A) → list_all p xs ≡ true → filter p xs ≡ xs
@@ -224,11 +230,42 @@ same_permutation {A} xs ys e = subst (λ (l : List A). IsPermutation l xs) e (Is
 same_elements : {A : Type 0} (xs ys : List A) → xs ≡ ys → (x : A) → Contains xs x ↔ Contains ys x
 same_elements {A} xs ys e x = (subst (λ (l : List A). Contains l x) e, subst (λ (l : List A). Contains l x) (sym e))
 
+-- the version of the canonical text has lines and room
+record HasVersion (t : TraceValue) (version : Version) : Type 0 where
+  lines_known : is_two version ≡ false → needs_version_2 t ≡ false
+  fits : FitsIn (limits_of version) t
+  few_pairs : length t.before ≤ max_pairs (limits_of version)
+
+small_fits : (t : TraceValue) → needs_version_3 t ≡ false → FitsIn Small t × (length t.before ≤ max_pairs Small)
+small_fits t few =
+    let parts = or_parts (nat_lt (max_operations Small) (operation_count t)) (nat_lt (max_pairs Small) (length t.before) || nat_lt (max_locations Small) (location_count t)) few in
+    let more = or_parts (nat_lt (max_pairs Small) (length t.before)) (nat_lt (max_locations Small) (location_count t)) parts.1 in
+    let operations = ltb-false (max_operations Small) (operation_count t) parts.0 in
+    let pairs = ltb-false (max_pairs Small) (length t.before) more.0 in
+    let locations = ltb-false (max_locations Small) (location_count t) more.1 in
+    (record { few_operations = omega (arith, operations); few_locations = omega (arith, locations) }, omega (arith, pairs))
+
+small_version : (t : TraceValue) (two : Bool) → needs_version_2 t ≡ two → FitsIn Small t → length t.before ≤ max_pairs Small → HasVersion t (if two then Two else One)
+small_version t true says fits pairs = record { lines_known = λ h. absurd (let clash : true ≡ false = h in cc); fits = fits; few_pairs = pairs }
+small_version t false says fits pairs = record { lines_known = λ h. says; fits = fits; few_pairs = pairs }
+
+version_by : (t : TraceValue) → IsTrace t → (large : Bool) → needs_version_3 t ≡ large → HasVersion t (if large then Three else if needs_version_2 t then Two else One)
+version_by t ok true says = record {
+  lines_known = λ h. absurd (let clash : true ≡ false = h in cc);
+  fits = record { few_operations = ok.few_operations; few_locations = ok.few_locations };
+  few_pairs = ok.few_pairs;
+}
+version_by t ok false says = let small = small_fits t says in small_version t (needs_version_2 t) refl small.0 small.1
+
+version_right : (t : TraceValue) → IsTrace t → HasVersion t (version_for t)
+version_right t ok = version_by t ok (needs_version_3 t) refl
+
 pub written_spells : (t : TraceValue) → IsTrace t → SpellsTrace (canonical_trace t) t
 written_spells t ok =
     let pairs = before_part t in
+    let right = version_right t ok in
     record {
-      two = needs_version_2 t;
+      version = version_for t;
       body = canonical_body t;
       lines = written_kept (canonical_lines t) (lines_kept_of t ok.written);
       processes = process_part t;
@@ -236,6 +273,7 @@ written_spells t ok =
       final_values = same_permutation (filter (begins (codes "final")) (canonical_body t)) (map final_line t.final_values) (final_part t);
       in_front = values_in_front t;
       before = same_elements (filter (begins (codes "before")) (canonical_body t)) (map before_line t.before) pairs;
-      few_before = omega (arith, ap length pairs, length-map t.before before_line, ok.few_pairs);
-      version = λ one. one;
+      few_before = omega (arith, ap length pairs, length-map t.before before_line, right.few_pairs);
+      lines_known = right.lines_known;
+      fits = right.fits;
     }

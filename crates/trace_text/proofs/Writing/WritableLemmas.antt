@@ -19,9 +19,12 @@ use Rattle.trace_text.specs.Seen.{names_of_source}
 use Rattle.trace_text.specs.Statement.{source_words, words_for}
 use Rattle.trace_semantics.specs.Trace.{is_written_value, is_written_name, is_written_origin, is_written_op, is_written_pair}
 use Rattle.trace_semantics.specs.Place.{place_of}
-use Rattle.trace_text.specs.TraceFault.{is_value, is_place, names_of, references_of_source}
+use Rattle.trace_text.specs.TraceFault.{is_value, is_within, is_place, names_of, references_of_source}
 use Rattle.trace_text.proofs.LineWords.HighLemmas.{high_word, high_words, low_name, low_decimal}
 use Rattle.trace_text.proofs.LineWords.KnownLemmas.{place_read}
+use Rattle.trace_semantics.specs.declared.limits.Limits.{Limits}
+use Rattle.trace_semantics.specs.Limits.{max_place}
+use Rattle.trace_semantics.specs.Operation.{origin_of}
 
 -- an entry that can be written
 abbrev pub is_writable : Entry → Bool
@@ -35,13 +38,13 @@ is_writable (BeforeEntry first second) = is_written_pair (first, second)
 pub record IsWritableName (n : OpName) : Type 0 where
   pub named : is_name n.process ≡ true
   pub least : 1 ≤ n.place
-  pub most : n.place ≤ 65535
+  pub most : n.place ≤ 4294967295
 
 pub name_parts : (n : OpName) → is_written_name n ≡ true → IsWritableName n
 name_parts n h =
-    let outer = and_parts (is_name n.process) (nat_le 1 n.place && nat_le n.place 65535) h in
-    let inner = and_parts (nat_le 1 n.place) (nat_le n.place 65535) outer.1 in
-    record { named = outer.0; least = leb-true 1 n.place inner.0; most = leb-true n.place 65535 inner.1 }
+    let outer = and_parts (is_name n.process) (nat_le 1 n.place && nat_le n.place 4294967295) h in
+    let inner = and_parts (nat_le 1 n.place) (nat_le n.place 4294967295) outer.1 in
+    record { named = outer.0; least = leb-true 1 n.place inner.0; most = leb-true n.place 4294967295 inner.1 }
 
 -- the parts of an operation that can be written
 pub record IsWritableRead (location : List ℕ) (value : ℕ) (origin : Origin) : Type 0 where
@@ -84,10 +87,23 @@ decimal_is_value n small =
     ∙ ap (λ o. not (is_none o)) (cond-true (leb n (2 ^ 64 - 1)) (Some n) None (le-leb n (2 ^ 64 - 1) (omega (arith, small))))
 
 pub place_decimal : (n : OpName) → IsWritableName n → place_of (decimal n.place) ≡ Some n.place
-place_decimal n w = place_read n.place (le-leb 1 n.place w.least) (le-leb n.place 65535 w.most)
+place_decimal n w = place_read n.place (le-leb 1 n.place w.least) (le-leb n.place 4294967295 w.most)
 
-decimal_is_place : (n : OpName) → IsWritableName n → is_place (decimal n.place) ≡ true
-decimal_is_place n w = ap (λ o. not (is_none o)) (place_decimal n w)
+decimal_is_place : (limits : Limits) (n : OpName) → IsWritableName n → nat_le n.place (max_place limits) ≡ true → is_place limits (decimal n.place) ≡ true
+decimal_is_place limits n w high = ap (is_within limits) (place_decimal n w) ∙ high
+
+-- the places that are named are no higher than limits allow
+abbrev pub is_origin_within : Limits → Origin → Bool
+is_origin_within limits Any = true
+is_origin_within limits Initial = true
+is_origin_within limits (Operation n) = nat_le n.place (max_place limits)
+
+abbrev pub is_entry_within : Limits → Entry → Bool
+is_entry_within limits (InitialEntry location value) = true
+is_entry_within limits (FinalEntry location value) = true
+is_entry_within limits (ProcessEntry name) = true
+is_entry_within limits (OperationEntry op) = is_origin_within limits (origin_of op)
+is_entry_within limits (BeforeEntry first second) = nat_le first.place (max_place limits) && nat_le second.place (max_place limits)
 
 -- names are names
 origin_names : (o : Origin) → is_written_origin o ≡ true → list_all is_name (names_of_source (source_of o)) ≡ true
@@ -110,29 +126,30 @@ entry_names (BeforeEntry m n) h =
     and_from (is_name m.process) (is_name n.process && true) (name_parts m parts.0).named (and_from (is_name n.process) true (name_parts n parts.1).named refl)
 
 -- numbers are in their ranges
-origin_places : (o : Origin) → is_written_origin o ≡ true → list_all (λ (r : List ℕ × List ℕ). is_place r.1) (references_of_source (source_of o)) ≡ true
-origin_places Any h = refl
-origin_places Initial h = refl
-origin_places (Operation n) h = and_from (is_place (decimal n.place)) true (decimal_is_place n (name_parts n h)) refl
+origin_places : (limits : Limits) (o : Origin) → is_written_origin o ≡ true → is_origin_within limits o ≡ true → list_all (λ (r : List ℕ × List ℕ). is_place limits r.1) (references_of_source (source_of o)) ≡ true
+origin_places limits Any h k = refl
+origin_places limits Initial h k = refl
+origin_places limits (Operation n) h k = and_from (is_place limits (decimal n.place)) true (decimal_is_place limits n (name_parts n h) k) refl
 
 one_value : (d : ℕ) → d < 2 ^ 64 → (is_value (decimal d) && true) ≡ true
 one_value d small = and_from (is_value (decimal d)) true (decimal_is_value d small) refl
 
-op_numbers : (op : Op) → is_written_op op ≡ true → has_numbers (op_statement op) ≡ true
-op_numbers (ReadOp a d o) h = let w = read_parts a d o h in and_from (is_value (decimal d) && true) _ (one_value d w.small) (origin_places o w.origin_is)
-op_numbers (WriteOp a d) h = and_from (is_value (decimal d) && true) true (one_value d (value_parts a d h).1) refl
-op_numbers (UpdateOp a d e o) h =
+op_numbers : (limits : Limits) (op : Op) → is_written_op op ≡ true → is_origin_within limits (origin_of op) ≡ true → has_numbers limits (op_statement op) ≡ true
+op_numbers limits (ReadOp a d o) h k = let w = read_parts a d o h in and_from (is_value (decimal d) && true) _ (one_value d w.small) (origin_places limits o w.origin_is k)
+op_numbers limits (WriteOp a d) h k = and_from (is_value (decimal d) && true) true (one_value d (value_parts a d h).1) refl
+op_numbers limits (UpdateOp a d e o) h k =
     let w = update_parts a d e o h in
-    and_from (is_value (decimal d) && (is_value (decimal e) && true)) _ (and_from (is_value (decimal d)) (is_value (decimal e) && true) (decimal_is_value d w.read_small) (one_value e w.left_small)) (origin_places o w.origin_is)
+    and_from (is_value (decimal d) && (is_value (decimal e) && true)) _ (and_from (is_value (decimal d)) (is_value (decimal e) && true) (decimal_is_value d w.read_small) (one_value e w.left_small)) (origin_places limits o w.origin_is k)
 
-pub entry_numbers : (e : Entry) → is_writable e ≡ true → has_numbers (statement_for e) ≡ true
-entry_numbers (InitialEntry a d) h = and_from (is_value (decimal d) && true) true (one_value d (value_parts a d h).1) refl
-entry_numbers (FinalEntry a d) h = and_from (is_value (decimal d) && true) true (one_value d (value_parts a d h).1) refl
-entry_numbers (ProcessEntry name) h = refl
-entry_numbers (OperationEntry op) h = op_numbers op h
-entry_numbers (BeforeEntry m n) h =
+pub entry_numbers : (limits : Limits) (e : Entry) → is_writable e ≡ true → is_entry_within limits e ≡ true → has_numbers limits (statement_for e) ≡ true
+entry_numbers limits (InitialEntry a d) h k = and_from (is_value (decimal d) && true) true (one_value d (value_parts a d h).1) refl
+entry_numbers limits (FinalEntry a d) h k = and_from (is_value (decimal d) && true) true (one_value d (value_parts a d h).1) refl
+entry_numbers limits (ProcessEntry name) h k = refl
+entry_numbers limits (OperationEntry op) h k = op_numbers limits op h k
+entry_numbers limits (BeforeEntry m n) h k =
     let parts = and_parts (is_written_name m) (is_written_name n) h in
-    and_from (is_place (decimal m.place)) (is_place (decimal n.place) && true) (decimal_is_place m (name_parts m parts.0)) (and_from (is_place (decimal n.place)) true (decimal_is_place n (name_parts n parts.1)) refl)
+    let high = and_parts (nat_le m.place (max_place limits)) (nat_le n.place (max_place limits)) k in
+    and_from (is_place limits (decimal m.place)) (is_place limits (decimal n.place) && true) (decimal_is_place limits m (name_parts m parts.0) high.0) (and_from (is_place limits (decimal n.place)) true (decimal_is_place limits n (name_parts n parts.1) high.1) refl)
 
 -- no byte is above 127
 low_pair : (word : List ℕ) (n : ℕ) (rest : List (List ℕ)) → is_name word ≡ true → n < 2 ^ 64 → high_words rest ≡ false → high_words (word ∷ decimal n ∷ rest) ≡ false

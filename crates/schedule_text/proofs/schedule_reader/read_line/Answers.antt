@@ -12,6 +12,6 @@ none_since (Some x) P Q h e = absurd (false≢true (sym e))
 pub returns-in-Ok : goal.returns-in-Ok
 returns-in-Ok c =
     let n : OpName = record { process = c.in-Ok.name.0.now; place = c.in-Ok.name.1 } in
-    let read = name_read c.args.earlier c.in-Some.word.now n c.in-Ok.ensures.0 c.in-Ok.ensures.1 c.in-Ok.ensures.2 in
+    let read = name_read c.args.limits c.args.earlier c.in-Some.word.now n c.in-Ok.ensures.0 c.in-Ok.ensures.1 c.in-Ok.ensures.2 in
     let alone = none_since c.cut_word-2.result _ _ c.cut_word-2.ensures.words (sym c.is_some.ensures ∙ c.if-is_some.false) in
     record { word = c.in-Some.ensures.words ∙ (λ i. read.reads i ∷ alone i); written = read.written; room = read.room }

@@ -4,7 +4,7 @@ use Rattle.verdict_report.specs.Engine.{InPieces, of_two}
 use Rattle.verdict_report.specs.Runs.{SourceRun, SinkRun, source_run, sink_run}
 use Rattle.verdict_report.proofs.EngineLemmas.{unread, refused}
 use Rattle.survey_report.specs.SurveyEngine.{FollowsFromTexts, IsSaidOfSurvey, status_of_survey, texts_with_core}
-use Rattle.survey_report.proofs.SurveyLemmas.{answered, cert_cut_off, certified, consistent, names_cut_off, part_cut_off, report_written, silent, undecided}
+use Rattle.survey_report.proofs.SurveyLemmas.{answered, cert_cut_off, certified, consistent, names_cut_off, part_cut_off, report_written, said_of_equal, silent, undecided}
 use Rattle.survey_report.proofs.survey_engine.run_certified_survey.Goals as goal
 
 pub returns-clause-run : goal.returns-clause-run
@@ -15,7 +15,7 @@ returns-clause-run g c =
     let names : SinkRun = sink_run g.N.Sink.written g.N.Sink.failures c.args.names.now c.write_names.new.names in
     let part : SinkRun = sink_run g.P.Sink.written g.P.Sink.failures c.args.part.now c.write_core_part.new.part in
     let out : SinkRun = sink_run g.W.Sink.written g.W.Sink.failures c.args.out.now c.write_report.new.out in
-    report_written trace hint cert names part out c.in_ok-texts.texts.0.items c.in_ok-texts.texts.1.items c.in_ok-texts.ensures.read c.in_ok-surveyed.surveyed (search rules)
+    report_written trace hint cert names part out c.in_ok-texts.texts.0.items c.in_ok-texts.texts.1.items c.in_ok-texts.ensures.read c.in_ok-surveyed.surveyed (said_of_equal c.as_slice.ensures.value c.as_slice-2.ensures.value c.in_ok-surveyed.surveyed c.in_ok-surveyed.ensures.said)
     (c.in_ok-write_survey_certificate.ensures.whole, c.in_ok-write_survey_certificate.ensures.well) (c.in_ok-write_names.ensures.whole, c.in_ok-write_names.ensures.well) (c.in_ok-write_core_part.ensures.whole, c.in_ok-write_core_part.ensures.well) c.write_report.result c.write_report.ensures.run
 
 pub returns-clause-consistent : goal.returns-clause-consistent
@@ -79,7 +79,7 @@ returns-in_err-write_survey_certificate-clause-run g c =
     let part : SinkRun = sink_run g.P.Sink.written g.P.Sink.failures c.args.part.now c.args.part.now in
     let out : SinkRun = sink_run g.W.Sink.written g.W.Sink.failures c.args.out.now c.args.out.now in
     let p = err_from_is_err_and c.from_residual-in_err-write_survey_certificate.result c.from_residual-in_err-write_survey_certificate.ensures.1 in
-    rw (p.1, p.2) (cert_cut_off trace hint cert names part out c.in_ok-texts.texts.0.items c.in_ok-texts.texts.1.items c.in_ok-texts.ensures.read c.in_ok-surveyed.surveyed (search rules) c.in_err-write_survey_certificate.field-0.0 c.in_err-write_survey_certificate.ensures.front c.in_err-write_survey_certificate.ensures.failed (refl, refl) (refl, refl) (refl, refl))
+    rw (p.1, p.2) (cert_cut_off trace hint cert names part out c.in_ok-texts.texts.0.items c.in_ok-texts.texts.1.items c.in_ok-texts.ensures.read c.in_ok-surveyed.surveyed (said_of_equal c.as_slice.ensures.value c.as_slice-2.ensures.value c.in_ok-surveyed.surveyed c.in_ok-surveyed.ensures.said) c.in_err-write_survey_certificate.field-0.0 c.in_err-write_survey_certificate.ensures.front c.in_err-write_survey_certificate.ensures.failed (refl, refl) (refl, refl) (refl, refl))
 
 pub returns-in_err-write_names-clause-run : goal.returns-in_err-write_names-clause-run
 returns-in_err-write_names-clause-run g c =
@@ -90,7 +90,7 @@ returns-in_err-write_names-clause-run g c =
     let part : SinkRun = sink_run g.P.Sink.written g.P.Sink.failures c.args.part.now c.args.part.now in
     let out : SinkRun = sink_run g.W.Sink.written g.W.Sink.failures c.args.out.now c.args.out.now in
     let p = err_from_is_err_and c.from_residual-in_err-write_names.result c.from_residual-in_err-write_names.ensures.1 in
-    rw (p.1, p.2) (names_cut_off trace hint cert names part out c.in_ok-texts.texts.0.items c.in_ok-texts.texts.1.items c.in_ok-texts.ensures.read c.in_ok-surveyed.surveyed (search rules) (c.in_ok-write_survey_certificate.ensures.whole, c.in_ok-write_survey_certificate.ensures.well) c.in_err-write_names.field-0.0 c.in_err-write_names.ensures.front c.in_err-write_names.ensures.failed (refl, refl) (refl, refl))
+    rw (p.1, p.2) (names_cut_off trace hint cert names part out c.in_ok-texts.texts.0.items c.in_ok-texts.texts.1.items c.in_ok-texts.ensures.read c.in_ok-surveyed.surveyed (said_of_equal c.as_slice.ensures.value c.as_slice-2.ensures.value c.in_ok-surveyed.surveyed c.in_ok-surveyed.ensures.said) (c.in_ok-write_survey_certificate.ensures.whole, c.in_ok-write_survey_certificate.ensures.well) c.in_err-write_names.field-0.0 c.in_err-write_names.ensures.front c.in_err-write_names.ensures.failed (refl, refl) (refl, refl))
 
 pub returns-in_err-write_core_part-clause-run : goal.returns-in_err-write_core_part-clause-run
 returns-in_err-write_core_part-clause-run g c =
@@ -101,7 +101,7 @@ returns-in_err-write_core_part-clause-run g c =
     let part : SinkRun = sink_run g.P.Sink.written g.P.Sink.failures c.args.part.now c.write_core_part.new.part in
     let out : SinkRun = sink_run g.W.Sink.written g.W.Sink.failures c.args.out.now c.args.out.now in
     let p = err_from_is_err_and c.from_residual-in_err-write_core_part.result c.from_residual-in_err-write_core_part.ensures.1 in
-    rw (p.1, p.2) (part_cut_off trace hint cert names part out c.in_ok-texts.texts.0.items c.in_ok-texts.texts.1.items c.in_ok-texts.ensures.read c.in_ok-surveyed.surveyed (search rules) (c.in_ok-write_survey_certificate.ensures.whole, c.in_ok-write_survey_certificate.ensures.well) (c.in_ok-write_names.ensures.whole, c.in_ok-write_names.ensures.well) c.in_err-write_core_part.field-0.0 c.in_err-write_core_part.ensures.front c.in_err-write_core_part.ensures.failed (refl, refl))
+    rw (p.1, p.2) (part_cut_off trace hint cert names part out c.in_ok-texts.texts.0.items c.in_ok-texts.texts.1.items c.in_ok-texts.ensures.read c.in_ok-surveyed.surveyed (said_of_equal c.as_slice.ensures.value c.as_slice-2.ensures.value c.in_ok-surveyed.surveyed c.in_ok-surveyed.ensures.said) (c.in_ok-write_survey_certificate.ensures.whole, c.in_ok-write_survey_certificate.ensures.well) (c.in_ok-write_names.ensures.whole, c.in_ok-write_names.ensures.well) c.in_err-write_core_part.field-0.0 c.in_err-write_core_part.ensures.front c.in_err-write_core_part.ensures.failed (refl, refl))
 
 pub returns-clause-answered : goal.returns-clause-answered
 returns-clause-answered g c =

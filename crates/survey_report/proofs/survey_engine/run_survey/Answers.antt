@@ -5,7 +5,7 @@ use Rattle.verdict_report.specs.Engine.{AtOnce, of_two}
 use Rattle.verdict_report.specs.Runs.{SourceRun, SinkRun, source_run, sink_run}
 use Rattle.verdict_report.proofs.EngineLemmas.{unread, refused, written}
 use Rattle.survey_report.specs.SurveyEngine.{FollowsFromTexts, IsSaidOfSurvey, status_of_survey, texts_of_survey}
-use Rattle.survey_report.proofs.SurveyLemmas.{answered, consistent, inconsistent, undecided}
+use Rattle.survey_report.proofs.SurveyLemmas.{answered, consistent, inconsistent, said_of_equal, undecided}
 use Rattle.survey_report.proofs.survey_engine.run_survey.Goals as goal
 
 pub returns-clause-run : goal.returns-clause-run
@@ -13,7 +13,7 @@ returns-clause-run g c =
     let trace : SourceRun = source_run g.T.Source.handed_out g.T.Source.is_at_end g.T.Source.failures c.args.trace.now c.read_two.new.first in
     let hint : SourceRun = source_run g.U.Source.handed_out g.U.Source.is_at_end g.U.Source.failures c.args.hint.now c.read_two.new.second in
     let out : SinkRun = sink_run g.W.Sink.written g.W.Sink.failures c.args.out.now c.write_report.new.out in
-    written (of_two IsSaidOfSurvey) survey_report status_of_survey (trace ∷ hint ∷ []) out (c.in_ok-texts.texts.0.items ∷ c.in_ok-texts.texts.1.items ∷ []) (search rules) c.in_ok-surveyed.surveyed (search rules) c.write_report.result c.write_report.ensures.run
+    written (of_two IsSaidOfSurvey) survey_report status_of_survey (trace ∷ hint ∷ []) out (c.in_ok-texts.texts.0.items ∷ c.in_ok-texts.texts.1.items ∷ []) (search rules) c.in_ok-surveyed.surveyed (said_of_equal c.as_slice.ensures.value c.as_slice-2.ensures.value c.in_ok-surveyed.surveyed c.in_ok-surveyed.ensures.said) c.write_report.result c.write_report.ensures.run
 
 pub returns-in_err-texts-clause-run : goal.returns-in_err-texts-clause-run
 returns-in_err-texts-clause-run g c =

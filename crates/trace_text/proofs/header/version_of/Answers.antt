@@ -7,3 +7,6 @@ returns-then-is_header_of c = pointwise_pair _ _ (sym c.is_header_of.ensures ∙
 
 pub returns-then-is_header_of-2 : goal.returns-then-is_header_of-2
 returns-then-is_header_of-2 c = pointwise_pair _ _ (sym c.is_header_of-else-is_header_of.ensures ∙ c.if-is_header_of-2.true)
+
+pub returns-then-is_header_of-3 : goal.returns-then-is_header_of-3
+returns-then-is_header_of-3 c = pointwise_pair _ _ (sym c.is_header_of-else-is_header_of-2.ensures ∙ c.if-is_header_of-3.true)

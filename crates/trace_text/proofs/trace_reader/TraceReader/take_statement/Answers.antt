@@ -20,20 +20,21 @@ use Rattle.trace_text.proofs.Reading.EntryLemmas.{written_more}
 use Rattle.trace_text.proofs.Reading.GatheredLemmas.{gathered_more, begun_more, distinct_more}
 use Rattle.trace_text.proofs.Reading.SeenLemmas.{fault_early, fault_number, fault_late, fault_seen, seen_more, early_of, late_fault}
 use Rattle.trace_text.proofs.trace_reader.TraceReader.take_statement.Goals as goal
+use Rattle.trace_semantics.specs.declared.limits.Limits.{Limits}
 
 -- One more statement.
 
 -- a fault of the place or of a name
-refused_early : (ss : List Statement) (r : TraceReader) (s : Statement) (cause : TraceCause) → IsProgress ss r → Some cause ≡ early_fault (is_some r.gathered.last) s → statement_fault ss s ≡ Some cause
-refused_early ss r s cause p h = fault_early ss s (is_some r.gathered.last) cause p.begun (sym h)
+refused_early : (limits : Limits) (ss : List Statement) (r : TraceReader) (s : Statement) (cause : TraceCause) → IsProgress limits ss r → Some cause ≡ early_fault (is_some r.gathered.last) s → statement_fault limits ss s ≡ Some cause
+refused_early limits ss r s cause p h = fault_early limits ss s (is_some r.gathered.last) cause p.begun (sym h)
 
 -- a number is wrong
-refused_number : (ss : List Statement) (r : TraceReader) (s : Statement) (refusal : PlainFault TraceCause) → IsProgress ss r → None ≡ early_fault (is_some r.gathered.last) s → IsRefusedFor (number_fault (has_numbers s)) refusal → IsRefusedFor (statement_fault ss s) refusal
-refused_number ss r s refusal p h n = fault_number ss s (is_some r.gathered.last) refusal p.begun (sym h) n
+refused_number : (limits : Limits) (ss : List Statement) (r : TraceReader) (s : Statement) (refusal : PlainFault TraceCause) → IsProgress limits ss r → None ≡ early_fault (is_some r.gathered.last) s → IsRefusedFor (number_fault (has_numbers limits s)) refusal → IsRefusedFor (statement_fault limits ss s) refusal
+refused_number limits ss r s refusal p h n = fault_number limits ss s (is_some r.gathered.last) refusal p.begun (sym h) n
 
 -- a fault after the others
-refused_late : (ss : List Statement) (r : TraceReader) (s : Statement) (refusal : PlainFault TraceCause) → IsProgress ss r → None ≡ early_fault (is_some r.gathered.last) s → has_numbers s ≡ true → IsRefusedFor (fault_behind r.seen s) refusal → IsRefusedFor (statement_fault ss s) refusal
-refused_late ss r s refusal p h n f = subst (λ o. IsRefusedFor o refusal) (fault_seen ss r.seen s p.seen ∙ sym (fault_late ss s (is_some r.gathered.last) p.begun (sym h) n)) f
+refused_late : (limits : Limits) (ss : List Statement) (r : TraceReader) (s : Statement) (refusal : PlainFault TraceCause) → IsProgress limits ss r → None ≡ early_fault (is_some r.gathered.last) s → has_numbers limits s ≡ true → IsRefusedFor (fault_behind limits r.seen s) refusal → IsRefusedFor (statement_fault limits ss s) refusal
+refused_late limits ss r s refusal p h n f = subst (λ o. IsRefusedFor o refusal) (fault_seen limits ss r.seen s p.seen ∙ sym (fault_late limits ss s (is_some r.gathered.last) p.begun (sym h) n)) f
 
 not_outside : (a b c : Bool) → early_of a b c ≡ None → b ≡ false
 not_outside a false c h = refl
@@ -55,15 +56,15 @@ unrepeated_late true cause rest h = absurd (cc)
 unrepeated_late false cause rest h = refl
 
 -- a statement without a fault is taken
-taken : (ss : List Statement) (old new : TraceReader) (s : Statement) (e : Entry) → IsProgress ss old → None ≡ early_fault (is_some old.gathered.last) s → has_numbers s ≡ true → statement_for e ≡ s → entry_fits e ≡ true → Notes old.seen new.seen s → Adds old.gathered new.gathered e →
-    (statement_fault ss s ≡ None) × IsProgress (ss ++ s ∷ []) new
-taken ss old new s e p h n said fits notes adds =
-    let late : late_fault ss s ≡ None = sym (fault_seen ss old.seen s p.seen) ∙ notes.faultless in
+taken : (limits : Limits) (ss : List Statement) (old new : TraceReader) (s : Statement) (e : Entry) → IsProgress limits ss old → None ≡ early_fault (is_some old.gathered.last) s → has_numbers limits s ≡ true → statement_for e ≡ s → entry_fits e ≡ true → Notes limits old.seen new.seen s → Adds old.gathered new.gathered e →
+    (statement_fault limits ss s ≡ None) × IsProgress limits (ss ++ s ∷ []) new
+taken limits ss old new s e p h n said fits notes adds =
+    let late : late_fault limits ss s ≡ None = sym (fault_seen limits ss old.seen s p.seen) ∙ notes.faultless in
     let once : list_any (repeats (statement_for e)) ss ≡ false = ap (λ t. list_any (repeats t) ss) said ∙ unrepeated_late (list_any (repeats s) ss) (twice_cause s) _ late in
     let inside_one : is_operation (statement_for e) ≡ true → IsSome old.gathered.last = λ (o : is_operation (statement_for e) ≡ true). is_open old s h (ap is_operation (sym said) ∙ o) in (
-      fault_late ss s (is_some old.gathered.last) p.begun (sym h) n ∙ late,
+      fault_late limits ss s (is_some old.gathered.last) p.begun (sym h) n ∙ late,
       record {
-        seen = seen_more ss s old.seen new.seen p.seen notes;
+        seen = seen_more limits ss s old.seen new.seen p.seen notes;
         gathered = subst (λ (t : Statement). IsGathered (ss ++ t ∷ []) new.gathered) said (gathered_more ss e old.gathered new.gathered inside_one p.gathered adds);
         begun = ap (λ t. list_any is_proc (ss ++ t ∷ [])) (sym said) ∙ begun_more ss e old.gathered new.gathered p.begun adds;
         distinct = distinct_more ss e old.gathered new.gathered once p.gathered p.distinct adds;
@@ -72,17 +73,17 @@ taken ss old new s e p h n said fits notes adds =
     )
 
 pub returns-in-Some-clause-refused : goal.returns-in-Some-clause-refused
-returns-in-Some-clause-refused c ss p = refused_early ss c.args.self.now (said c.args.statement) c.in-Some.cause p (c.in-Some.ensures ∙ ap (λ b. early_fault b (said c.args.statement)) c.has_open_process.ensures)
+returns-in-Some-clause-refused c ss p = refused_early c.args.limits ss c.args.self.now (said c.args.statement) c.in-Some.cause p (c.in-Some.ensures ∙ ap (λ b. early_fault b (said c.args.statement)) c.has_open_process.ensures)
 
 pub returns-in_err-entry-clause-refused : goal.returns-in_err-entry-clause-refused
 returns-in_err-entry-clause-refused c =
     let p = err_from_is_err_and c.from_residual.result c.from_residual.ensures.1 in
-    rw (p.1, p.2) (λ ss q. refused_number ss c.args.self.now (said c.args.statement) c.in_err-entry.field-0.0 q (c.in_default.ensures ∙ ap (λ b. early_fault b (said c.args.statement)) c.has_open_process.ensures) c.in_err-entry.ensures.refused)
+    rw (p.1, p.2) (λ ss q. refused_number c.args.limits ss c.args.self.now (said c.args.statement) c.in_err-entry.field-0.0 q (c.in_default.ensures ∙ ap (λ b. early_fault b (said c.args.statement)) c.has_open_process.ensures) c.in_err-entry.ensures.refused)
 
 pub returns-in_err-take-clause-refused : goal.returns-in_err-take-clause-refused
 returns-in_err-take-clause-refused c =
     let p = err_from_is_err_and c.from_residual-in_err-take.result c.from_residual-in_err-take.ensures.1 in
-    rw (p.1, p.2) (λ ss q. refused_late ss c.args.self.now (said c.args.statement) c.in_err-take.field-0.0 q (c.in_default.ensures ∙ ap (λ b. early_fault b (said c.args.statement)) c.has_open_process.ensures) c.in_ok-entry.ensures.fine c.in_err-take.ensures.refused)
+    rw (p.1, p.2) (λ ss q. refused_late c.args.limits ss c.args.self.now (said c.args.statement) c.in_err-take.field-0.0 q (c.in_default.ensures ∙ ap (λ b. early_fault b (said c.args.statement)) c.has_open_process.ensures) c.in_ok-entry.ensures.fine c.in_err-take.ensures.refused)
 
 pub add-requires : goal.add-requires
 add-requires c o = is_open c.args.self.now (said c.args.statement) (c.in_default.ensures ∙ ap (λ b. early_fault b (said c.args.statement)) c.has_open_process.ensures) (ap is_operation (sym c.in_ok-entry.ensures.said) ∙ o)
@@ -92,5 +93,5 @@ returns-clause-refused c = IfErr-weaker c.add.result _ _ (λ y r ss q. rw r tt) 
 
 pub returns-clause-taken : goal.returns-clause-taken
 returns-clause-taken c = on_ok_weaker c.add.result (λ adds ss p.
-    taken ss c.args.self.now (record { seen = c.take.new.self; gathered = c.add.new.self }) (said c.args.statement) c.in_ok-entry.entry p (c.in_default.ensures ∙ ap (λ b. early_fault b (said c.args.statement)) c.has_open_process.ensures)
+    taken c.args.limits ss c.args.self.now (record { seen = c.take.new.self; gathered = c.add.new.self }) (said c.args.statement) c.in_ok-entry.entry p (c.in_default.ensures ∙ ap (λ b. early_fault b (said c.args.statement)) c.has_open_process.ensures)
     c.in_ok-entry.ensures.fine c.in_ok-entry.ensures.said c.in_ok-entry.ensures.fits c.in_ok-take.ensures.noted adds) c.add.ensures.added
