@@ -1,5 +1,5 @@
 -- A certificate of reasons that is accepted of a trace shows that it has no legal schedule.
-use Rattle.std.proofs.Common.{◌≡◌, ◌⊎◌, ℕ, ℤ, List, [], ◌∷◌, Bool, true, refl, sym, inl, inr, subst, map, length}
+use Rattle.std.proofs.Common.{◌≡◌, ◌⊎◌, ℕ, ℤ, List, [], ◌∷◌, true, refl, sym, inl, inr, subst, map, length}
 use Rattle.std.specs.List.{AllZip, Contains, filter, list_all}
 use Rattle.std.proofs.lemmas.Bool.{and_parts, and_from}
 use Rattle.dimacs.specs.Literal.{is_clause}
@@ -29,7 +29,7 @@ use Rattle.reason_counting.proofs.CountLemmas.{too_few}
 use Rattle.reason_text.specs.declared.reason_line.ReasonLine.{ReasonLine}
 use Rattle.reason_text.specs.declared.reason_line.ReasonLine.TheVariants.{Skipped, Cycle, Before, Variable, Source, Last, TooFew, Counting, Waiting, Derivation}
 use Rattle.reason_check.specs.Accepted.{IsAcceptedReasons, EndsEmpty, HasDerivation}
-use Rattle.reason_check.specs.LineClauses.{IsClauseOfLine, is_silent}
+use Rattle.reason_check.specs.LineClauses.{IsClauseOfLine}
 use Rattle.reason_check.proofs.LineLemmas.{Made, speaks}
 
 -- steps that can be written add clauses

@@ -2,3 +2,4 @@ pub mod AcceptedLemmas
 pub mod LawLemmas
 pub mod LineLemmas
 pub mod ReadSoFar
+pub mod RefusedLemmas

@@ -1,5 +1,5 @@
 -- What comes of a line keeps what the clauses of a list are.
-use Rattle.std.proofs.Common.{◌≡◌, ◌⊎◌, ℕ, suc, ℤ, pos, negsuc, List, [], ◌∷◌, ◌++◌, Bool, true, false, refl, ap, sym, ◌∙◌, inl, inr, subst, map, length, append-nil}
+use Rattle.std.proofs.Common.{◌≡◌, ℕ, ℤ, pos, negsuc, List, [], ◌∷◌, ◌++◌, Bool, true, false, refl, ap, sym, ◌∙◌, inl, inr, subst, length, append-nil}
 use Rattle.std.specs.Prelude.{◌≢◌, not, Result, Ok, Err, OnOk, IfOk}
 use Rattle.std.specs.List.{AllZip, Contains, filter, list_all}
 use Rattle.std.proofs.lemmas.Bool.{and_parts, and_from, cond-true, cond-false}
@@ -13,7 +13,7 @@ use Rattle.trace_semantics.proofs.ElementLemmas.{all_pass, pass_all, from_map, t
 use Rattle.order_reasons.specs.Orders.{order_said, orders_said}
 use Rattle.order_clauses.specs.Appended.{HasSameClauses, IsAppended}
 use Rattle.order_clauses.specs.ClauseOf.{IsClauseOf}
-use Rattle.order_clauses.specs.Numbered.{named_order, named_orders}
+use Rattle.order_clauses.specs.Numbered.{named_order}
 use Rattle.order_clauses.specs.OrderVariables.{order_of, IsExtended}
 use Rattle.order_clauses.specs.ReasonList.{named_pairs}
 use Rattle.order_clauses.specs.declared.order_pair.OrderPair.{OrderPair}

@@ -1,4 +1,5 @@
 pub mod Accepted
 pub mod LineClauses
 pub mod Reading
+pub mod Refused
 pub mod Taken

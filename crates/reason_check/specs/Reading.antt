@@ -1,5 +1,5 @@
 -- The lines of a certificate of reasons that were read.
-use Rattle.std.specs.Prelude.{◌≡◌, ◌⊎◌, true, ℕ, ℤ, List, [], ◌∷◌, ◌++◌, map, Option, Some, None, codes}
+use Rattle.std.specs.Prelude.{◌≡◌, ◌⊎◌, ◌+◌, true, ℕ, ℤ, List, [], ◌∷◌, ◌++◌, length, map, Option, Some, None, codes}
 use Rattle.std.specs.List.{AllZip}
 use Rattle.lrat_check.specs.Checked.{IsAccepted}
 use Rattle.lrat_check.specs.LratText.{SpellsDerivation}
@@ -31,6 +31,10 @@ pub record IsReadTo (t : TraceValue) (text : List ℕ) (list : ReasonList) (rest
   pub lines : List ReasonLine
   pub read : AllZip (IsReasonLine t) (map words_of front) lines
   pub made : AreMade t lines list
+
+-- this many lines are in front of these, the header among them
+abbrev pub IsReadBehind : TraceValue → List ℕ → ReasonList → ℕ → List (List ℕ) → Type 0
+IsReadBehind t text list before rest = (read : IsReadTo t text list rest) × (before ≡ length read.front + 1)
 
 -- the text is what follows the line `p`, which is the first of these lines; or there are none
 abbrev pub IsBehindMark : List ℕ → List (List ℕ) → Type 0

@@ -1,9 +1,12 @@
 //! The lines of a certificate of reasons up to its derivation.
 
-ghost use Rattle.std.specs.Prelude.{◌≡◌, [], IfOk};
+ghost use Rattle.std.specs.Prelude.{◌≡◌, [], IfOk, IfErr};
 ghost use Rattle.text_lines.specs.Words.{words_of};
 ghost use Rattle.reason_clauses.specs.Tables.{HoldTables};
 ghost use Rattle.reason_check.specs.Reading.{IsReadAndTaken, IsReadUpTo};
+ghost use Rattle.reason_check.specs.Refused.{IsRefusedLine, IsRefusedReading};
+ghost use Rattle.reason_text.specs.LineFault.{IsRefusedBy};
+ghost use Rattle.reason_text.specs.OperationNumbers.{HoldsTrace};
 
 use crate::line_clause::{LineOutcome, take_line};
 use crate::reasons_fault::ReasonsFault;
@@ -33,7 +36,8 @@ fn read_and_take<'a>(
 ) -> Result<LineOutcome, ReasonRefusal>
     requires operations { tables.now.operations.trace.now ≡ trace.now }
     requires writers { HoldTables trace.now tables.now.writers }
-    ensures { IfOk result (IsReadAndTaken trace.now (words_of line.now) list.old list.new) }
+    ensures taken { IfOk result (IsReadAndTaken trace.now (words_of line.now) list.old list.new) }
+    ensures refused { IfErr result (λ refusal. HoldsTrace tables.now.operations → IsRefusedBy (IsRefusedLine trace.now (words_of line.now)) refusal) }
 {
     let read = read_reason_line(alloc, &tables.operations, line)?;
     take_line(alloc, trace, tables, read, list)
@@ -48,7 +52,8 @@ pub fn read_clauses<'a>(
     list: &mut ReasonList,
 ) -> Result<Option<DerivationText<'a>>, ReasonsFault>
     requires { list.old.clauses.items ≡ [] }
-    ensures { IfOk result (IsReadUpTo trace.now text.now list.new) }
+    ensures read { IfOk result (IsReadUpTo trace.now text.now list.new) }
+    ensures refused { IfErr result (IsRefusedReading trace.now text.now) }
 {
     let mut rest = match cut_header(text) {
         Ok(rest) => rest,

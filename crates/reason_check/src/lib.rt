@@ -1,11 +1,11 @@
 //! The check of certificates of reasons: the clauses of its lines, and the derivation that refutes them.
 #![tactic(auto)]
 
-mod before_places;
+pub mod before_places;
 mod clause_lines;
-mod gathered_pieces;
+pub mod gathered_pieces;
 pub mod laws;
 mod line_clause;
 pub mod reasons_check;
 pub mod reasons_fault;
-mod trace_tables;
+pub mod trace_tables;

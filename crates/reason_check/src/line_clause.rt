@@ -1,6 +1,6 @@
 //! The clause of a line of a certificate of reasons.
 
-ghost use Rattle.std.specs.Prelude.{◌≡◌, ◌≢◌, [], map, OnOk, IfOk};
+ghost use Rattle.std.specs.Prelude.{◌≡◌, ◌≢◌, [], true, map, OnErr, OnOk, IfOk};
 ghost use Rattle.order_clauses.specs.Appended.{HasSameClauses, IsAppended};
 ghost use Rattle.order_clauses.specs.Numbered.{named};
 ghost use Rattle.order_clauses.specs.declared.reason_list.ClauseOutcome.TheVariants.{Made};
@@ -10,6 +10,7 @@ ghost use Rattle.reason_clauses.specs.Made.{IsCycleOf, IsLastOf};
 ghost use Rattle.reason_clauses.specs.Tables.{HoldTables};
 ghost use Rattle.reason_counting.specs.Counts.{AreTooFew};
 ghost use Rattle.reason_check.specs.LineClauses.{IsCountingOf, IsWaitingOf};
+ghost use Rattle.reason_check.specs.Refused.{asks_trace};
 ghost use Rattle.reason_check.specs.Taken.{HasNext, IsPassed, IsTaken};
 ghost use Rattle.reason_check.specs.declared.line_clause.LineOutcome.TheVariants.{Derivation, Refuted};
 
@@ -210,7 +211,8 @@ pub fn take_line<'a>(
     list: &mut ReasonList,
 ) -> Result<LineOutcome, ReasonRefusal>
     requires tables { HoldTables trace.now tables.now.writers }
-    ensures { IfOk result (IsTaken trace.now line.entry list.old list.new) }
+    ensures taken { IfOk result (IsTaken trace.now line.entry list.old list.new) }
+    ensures refused { OnErr result (asks_trace line.entry ≡ true) }
 {
     match line {
         ReasonLine::Skipped => Ok(LineOutcome::More),

@@ -1,9 +1,10 @@
 //! The check of a certificate of reasons.
 
-ghost use Rattle.std.specs.Prelude.{IfOk, OnOk};
+ghost use Rattle.std.specs.Prelude.{IfErr, IfOk, OnOk};
 ghost use Rattle.trace_semantics.specs.Legal.{HasNoSchedule};
 ghost use Rattle.reason_check.specs.Accepted.{IsAcceptedReasons};
 ghost use Rattle.reason_check.specs.Reading.{IsDerivationFor};
+ghost use Rattle.reason_check.specs.Refused.{IsRefusedDerivation, IsRefusedReasons};
 ghost use Rattle.reason_check.specs.Taken.{AreOver};
 
 use crate::clause_lines::{DerivationText, read_clauses};
@@ -29,7 +30,8 @@ fn check_derivation(
     derivation: DerivationText<'_>,
 ) -> Result<(), ReasonsFault>
     requires { AreOver list }
-    ensures { OnOk result (IsDerivationFor list.clauses.items derivation.entry.text.now) }
+    ensures refutes { OnOk result (IsDerivationFor list.clauses.items derivation.entry.text.now) }
+    ensures refused { IfErr result (IsRefusedDerivation list.clauses.items derivation.entry.text.now) }
 {
     let steps = match read_lrat(alloc, derivation.text) {
         Ok(steps) => steps,
@@ -46,7 +48,8 @@ fn read_and_check<'a>(
     trace: &'a Trace,
     text: &'a [u8],
 ) -> Result<AcceptedReasons, ReasonsFault>
-    ensures { IfOk result (λ reasons. IsAcceptedReasons trace.now text.now reasons.clauses) }
+    ensures accepted { IfOk result (λ reasons. IsAcceptedReasons trace.now text.now reasons.clauses) }
+    ensures refused { IfErr result (IsRefusedReasons trace.now text.now) }
 {
     let mut list = ReasonList::new(alloc);
     let end = read_clauses(alloc, trace, text, &mut list)?;
@@ -69,6 +72,7 @@ pub fn check_reasons<'a>(
 ) -> Result<AcceptedReasons, ReasonsFault>
     ensures accepted { IfOk result (λ reasons. IsAcceptedReasons trace.now text.now reasons.clauses) }
     ensures sound { OnOk result (HasNoSchedule trace.now) }
+    ensures refused { IfErr result (IsRefusedReasons trace.now text.now) }
 {
     accepted_has_no_schedule();
     trace.recall_invariant();

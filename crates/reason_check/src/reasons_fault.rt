@@ -19,8 +19,13 @@ pub enum ReasonsFault {
 }
 
 impl ReasonsFault {
+    ghost use Rattle.std.specs.Prelude.{◌≡◌};
+    ghost use Rattle.reason_check.specs.Refused.{IsOfLrat, fault_of_line};
+
     /// The refusal of the line of this number.
-    pub fn of_line(refusal: ReasonRefusal, line: usize) -> ReasonsFault {
+    pub fn of_line(refusal: ReasonRefusal, line: usize) -> ReasonsFault
+        ensures { result ≡ fault_of_line refusal line }
+    {
         match refusal {
             ReasonRefusal::OutOfMemory => ReasonsFault::OutOfMemory,
             ReasonRefusal::For(cause) => ReasonsFault::Line(cause, line),
@@ -28,7 +33,9 @@ impl ReasonsFault {
     }
 
     /// The fault of the text of a derivation that begins after this number of lines.
-    pub fn of_lrat(fault: LratFault, before: usize) -> ReasonsFault {
+    pub fn of_lrat(fault: LratFault, before: usize) -> ReasonsFault
+        ensures { IsOfLrat fault result }
+    {
         match fault {
             LratFault::OutOfMemory => ReasonsFault::OutOfMemory,
             LratFault::At(cause, line) => ReasonsFault::Lrat(cause, line.saturating_add(before)),
@@ -37,6 +44,11 @@ impl ReasonsFault {
 }
 
 impl From<Refusal> for ReasonsFault {
+    ghost use Rattle.std.specs.Prelude.{◌≡◌};
+    ghost use Rattle.reason_check.specs.Refused.{fault_of_step};
+
+    ghost from_gives = { λ refusal fault. fault ≡ fault_of_step refusal };
+
     fn from(refusal: Refusal) -> ReasonsFault {
         match refusal {
             Refusal::OutOfMemory => ReasonsFault::OutOfMemory,

@@ -2,6 +2,7 @@
 
 ghost use Rattle.std.specs.Prelude.{◌≡◌, IfOk};
 ghost use Rattle.reason_clauses.specs.Tables.{HoldTables};
+ghost use Rattle.reason_text.specs.OperationNumbers.{HoldsTrace};
 
 use crate::before_places::BeforePlaces;
 use reason_clauses::writer_tables::WriterTables;
@@ -20,6 +21,7 @@ pub struct TraceTables<'a> {
 /// The tables of the trace.
 pub fn tables_of<'a>(alloc: Global, trace: &'a Trace) -> Result<TraceTables<'a>, AllocError>
     ensures operations { IfOk result (λ tables. tables.operations.trace.now ≡ trace.now) }
+    ensures holds { IfOk result (λ tables. HoldsTrace tables.operations) }
     ensures writers { IfOk result (λ tables. HoldTables trace.now tables.writers) }
 {
     let operations = OperationTable::of(alloc, trace)?;

@@ -8,7 +8,7 @@ use text_lines::plain_fault::PlainFault;
 pub enum ReasonCause {
     /// The trace has no such operation.
     NoOperation,
-    /// The operation reads nothing.
+    /// The operation reads nothing; or a counting line counts it, and it is no update.
     NoReader,
     /// The operation neither writes the location nor reads another value there, or it is the reader itself.
     NoWitness,
@@ -20,7 +20,7 @@ pub enum ReasonCause {
     BadCycle,
     /// The trace does not put the first operation before the second.
     NoPair,
-    /// There are enough sources.
+    /// There are enough sources for those that are counted.
     EnoughSources,
     /// The clause always holds.
     AlwaysTrue,
@@ -32,9 +32,10 @@ pub enum ReasonCause {
     BadLine,
     /// Both operations of a variable are of one process.
     OneProcess,
-    /// A second piece where there may be one: of one kind for a process, for the initial value, or for all others.
+    /// A second piece where there may be one, of one kind for a process, for the initial value, or for all others; or a member that a counting
+    /// line counts twice.
     SecondPiece,
-    /// No operation writes the location, and its final value is the initial one, or none.
+    /// No operation writes the location, and its final value is the initial one, or none; or no operation writes a location whose end is counted.
     NoWriter,
     /// An operation may be the last writer, and no piece takes it.
     LastLeft,

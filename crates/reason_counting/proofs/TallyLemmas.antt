@@ -11,6 +11,8 @@ use Rattle.trace_semantics.specs.declared.trace.Process.{Process}
 use Rattle.trace_semantics.specs.Trace.{TraceValue, IsTrace}
 use Rattle.reason_counting.specs.declared.tally.Tally.{Tally}
 use Rattle.reason_counting.specs.Tallies.{IsTallyOf, does_want, does_leave}
+use Rattle.trace_semantics.specs.declared.limits.Limits.TheVariants.{Large}
+use Rattle.trace_semantics.specs.Limits.{max_operations}
 
 pub few_wanting : (location : List ℕ) (value : ℕ) (ops : List Op) (tally : Tally) → IsTallyOf location value ops tally → tally.wanting ≤ length ops
 few_wanting location value ops tally h = let few = few_pass (does_want location value) ops in let is = h.wanting in omega (arith, few, is)
@@ -21,11 +23,11 @@ few_leaving location value ops tally h = let few = few_pass (does_leave location
 abbrev pub operations_in : List Process → List Op
 operations_in processes = flat_map (λ (p : Process). p.operations) processes
 
-pub few_operations : (t : TraceValue) → IsTrace t → length (operations_in t.processes) ≤ 4096
+pub few_operations : (t : TraceValue) → IsTrace t → length (operations_in t.processes) ≤ max_operations Large
 few_operations t ok = let most = ok.few_operations in let is = length-flat_map (λ (p : Process). p.operations) t.processes in omega (arith, most, is)
 
 -- those of the first processes and of the next one
-pub few_so_far : (t : TraceValue) → IsTrace t → (q : ℕ) (p : Process) → q < length t.processes → get_or t.processes q p ≡ p → length (operations_in (take q t.processes)) + length p.operations ≤ 4096
+pub few_so_far : (t : TraceValue) → IsTrace t → (q : ℕ) (p : Process) → q < length t.processes → get_or t.processes q p ≡ p → length (operations_in (take q t.processes)) + length p.operations ≤ max_operations Large
 few_so_far t ok q p low at =
     let part = length-flat_map-take (λ (x : Process). x.operations) t.processes q p low in
     let whole = few_operations t ok in
@@ -48,7 +50,7 @@ one_more location value ops k op tally low at h = subst (λ l. IsTallyOf locatio
 
 -- a tally of the first processes and of the next one counts no more than a trace has operations
 pub few_with_process : (t : TraceValue) → IsTrace t → (location : List ℕ) (value q : ℕ) (p : Process) (tally one : Tally) → q < length t.processes → get_or t.processes q p ≡ p → IsTallyOf location value (operations_in (take q t.processes)) tally →
-    IsTallyOf location value p.operations one → (tally.wanting + one.wanting ≤ 4096) × (tally.leaving + one.leaving ≤ 4096)
+    IsTallyOf location value p.operations one → (tally.wanting + one.wanting ≤ max_operations Large) × (tally.leaving + one.leaving ≤ max_operations Large)
 few_with_process t ok location value q p tally one low at h g =
     let most = few_so_far t ok q p low at in
     let wanting = few_wanting location value (operations_in (take q t.processes)) tally h in

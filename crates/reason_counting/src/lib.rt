@@ -6,5 +6,5 @@ pub mod counting;
 mod distinct_sources;
 pub mod left_ends;
 pub mod left_sources;
-mod tally;
+pub mod tally;
 pub mod waiting;

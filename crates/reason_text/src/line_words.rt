@@ -1,7 +1,11 @@
 //! The words of a line of a certificate of reasons.
 
-ghost use Rattle.std.specs.Prelude.{◌≡◌, ◌<◌, ◌∷◌, [], true, decimal, length, OnOk, IfOk, IfSome};
+ghost use Rattle.std.specs.Prelude.{◌≡◌, ◌≢◌, ◌<◌, ◌^◌, ◌∷◌, ℕ, [], true, false, decimal, length, OnOk, IfOk, IfErr, MatchOption};
 ghost use Rattle.text_lines.specs.Words.{words_of};
+ghost use Rattle.reason_clauses.specs.declared.cause.ReasonCause.TheVariants.{BadLine};
+ghost use Rattle.order_clauses.specs.Numbered.{IsKnown};
+ghost use Rattle.reason_text.specs.LineFault.{HasOperandFault, HasNamesFault, HasPairFault, IsRefusedBy};
+ghost use Rattle.reason_text.specs.OperationNumbers.{IsTrueRefusal};
 ghost use Rattle.reason_text.specs.OperationWord.{operation_word, operation_words};
 
 use crate::operation_table::OperationTable;
@@ -14,24 +18,26 @@ use writer_table::operation_place::OperationPlace;
 
 /// Returns whether the word is this one.
 pub fn is_kind(word: &[u8], kind: &str) -> bool
-    ensures { result ≡ true → word.now ≡ kind.now }
+    ensures same { result ≡ true → word.now ≡ kind.now }
+    ensures other { result ≡ false → word.now ≢ kind.now }
 {
     is_word(word, kind)
 }
 
 /// The value that the word writes, in decimal without leading zeros.
 pub fn read_value(word: &[u8]) -> Option<u64>
-    ensures { IfSome result (λ value. word.now ≡ decimal value) }
+    ensures { MatchOption result ((value : ℕ) → value < 2 ^ 64 → word.now ≡ decimal value → ⊥) (λ value. word.now ≡ decimal value) }
 {
     read_plain(word, u64::MAX)
 }
 
 /// Refuses a line that has more words.
 pub fn want_end(rest: &[u8]) -> Result<(), ReasonRefusal>
-    ensures { OnOk result (words_of rest.now ≡ []) }
+    ensures ended { OnOk result (words_of rest.now ≡ []) }
+    ensures faulty { IfErr result (IsRefusedBy (λ cause. (words_of rest.now ≢ []) × (cause ≡ BadLine))) }
 {
     match cut_word(rest) {
-        Some(_) => Err(ReasonRefusal::For(ReasonCause::BadLine)),
+        Some((_word, _more)) => Err(ReasonRefusal::For(ReasonCause::BadLine)),
         None => Ok(()),
     }
 }
@@ -43,7 +49,8 @@ pub fn read_operations<'a>(
     table: &OperationTable<'a>,
     line: &'a [u8],
 ) -> Result<Vec<OperationPlace>, ReasonRefusal>
-    ensures { IfOk result (λ operations. words_of line.now ≡ operation_words table.now.trace.now operations.items) }
+    ensures named { IfOk result (λ operations. words_of line.now ≡ operation_words table.now.trace.now operations.items) }
+    ensures faulty { IfErr result (IsTrueRefusal table.now (λ t. HasNamesFault t (words_of line.now))) }
 {
     let mut operations = Vec::new(alloc);
     let mut rest = line;
@@ -61,6 +68,8 @@ pub fn cut_operation<'a>(
 ) -> Result<(OperationPlace, &'a [u8]), ReasonRefusal>
     ensures named { IfOk result (λ cut. words_of line.now ≡ operation_word table.now.trace.now cut.0 ∷ words_of cut.1.now) }
     ensures shorter { IfOk result (λ cut. length cut.1.now < length line.now) }
+    ensures known { IfOk result (λ cut. IsKnown table.now.trace.now cut.0) }
+    ensures faulty { IfErr result (IsTrueRefusal table.now (λ t. HasOperandFault t (words_of line.now))) }
 {
     match cut_word(line) {
         Some((word, rest)) => Ok((table.operation(word)?, rest)),
@@ -70,7 +79,8 @@ pub fn cut_operation<'a>(
 
 /// The two operations that the words of the line name.
 pub fn read_pair<'a>(table: &OperationTable<'a>, line: &'a [u8]) -> Result<OrderPair, ReasonRefusal>
-    ensures { IfOk result (λ pair. words_of line.now ≡ operation_words table.now.trace.now (pair.first ∷ pair.second ∷ [])) }
+    ensures named { IfOk result (λ pair. words_of line.now ≡ operation_words table.now.trace.now (pair.first ∷ pair.second ∷ [])) }
+    ensures faulty { IfErr result (IsTrueRefusal table.now (λ t. HasPairFault t (words_of line.now))) }
 {
     let (first, rest) = cut_operation(table, line)?;
     let (second, end) = cut_operation(table, rest)?;

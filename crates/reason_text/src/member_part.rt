@@ -1,10 +1,13 @@
 //! Members of a line: operations that wait, updates, and ends of locations, each with its pieces behind it.
 
-ghost use Rattle.std.specs.Prelude.{◌≡◌, ◌<◌, ◌∷◌, ◌++◌, codes, length, IfOk};
+ghost use Rattle.std.specs.Prelude.{◌≡◌, ◌<◌, ◌∷◌, ◌++◌, [], codes, length, IfOk, IfErr};
 ghost use Rattle.std.specs.List.{flat_map};
 ghost use Rattle.text_lines.specs.Words.{words_of};
 ghost use Rattle.trace_semantics.specs.Trace.{TraceValue};
-ghost use Rattle.reason_text.specs.MemberPart.{part_words};
+ghost use Rattle.reason_clauses.specs.declared.cause.ReasonCause.TheVariants.{BadLine};
+ghost use Rattle.reason_text.specs.LineFault.{HasOperandsFault, HasPartFault, HasPartsFault, IsRefusedBy};
+ghost use Rattle.reason_text.specs.MemberPart.{part_words, IsKnownPart};
+ghost use Rattle.reason_text.specs.OperationNumbers.{IsTrueRefusal};
 
 use crate::line_words::{cut_operation, is_kind};
 use crate::operation_table::OperationTable;
@@ -35,6 +38,8 @@ fn cut_reader<'a>(
 ) -> Result<(MemberPart<'a>, &'a [u8]), ReasonRefusal>
     ensures shorter { IfOk result (λ cut. length cut.1.now < length rest.now) }
     ensures words { IfOk result (λ cut. codes "r" ∷ words_of rest.now ≡ part_words table.now.trace.now cut.0 ++ words_of cut.1.now) }
+    ensures known { IfOk result (λ cut. IsKnownPart table.now.trace.now cut.0) }
+    ensures faulty { IfErr result (IsTrueRefusal table.now (λ t. HasOperandsFault t 1 (words_of rest.now))) }
 {
     let (reader, end) = cut_operation(table, rest)?;
     Ok((MemberPart::Reads(reader), end))
@@ -47,6 +52,8 @@ fn cut_waiting<'a>(
 ) -> Result<(MemberPart<'a>, &'a [u8]), ReasonRefusal>
     ensures shorter { IfOk result (λ cut. length cut.1.now < length rest.now) }
     ensures words { IfOk result (λ cut. codes "m" ∷ words_of rest.now ≡ part_words table.now.trace.now cut.0 ++ words_of cut.1.now) }
+    ensures known { IfOk result (λ cut. IsKnownPart table.now.trace.now cut.0) }
+    ensures faulty { IfErr result (IsTrueRefusal table.now (λ t. HasOperandsFault t 2 (words_of rest.now))) }
 {
     let (first, after) = cut_operation(table, rest)?;
     let (second, end) = cut_operation(table, after)?;
@@ -57,6 +64,8 @@ fn cut_waiting<'a>(
 fn cut_end<'a>(rest: &'a [u8]) -> Result<(MemberPart<'a>, &'a [u8]), ReasonRefusal>
     ensures shorter { IfOk result (λ cut. length cut.1.now < length rest.now) }
     ensures words { IfOk result (λ cut. (t : TraceValue) → codes "l" ∷ words_of rest.now ≡ part_words t cut.0 ++ words_of cut.1.now) }
+    ensures known { IfOk result (λ cut. (t : TraceValue) → IsKnownPart t cut.0) }
+    ensures faulty { IfErr result (IsRefusedBy (λ cause. (words_of rest.now ≡ []) × (cause ≡ BadLine))) }
 {
     match cut_word(rest) {
         Some((location, end)) => Ok((MemberPart::Ends(location), end)),
@@ -72,6 +81,8 @@ fn cut_part<'a>(
 ) -> Result<(MemberPart<'a>, &'a [u8]), ReasonRefusal>
     ensures shorter { IfOk result (λ cut. length cut.1.now < length rest.now) }
     ensures words { IfOk result (λ cut. kind.now ∷ words_of rest.now ≡ part_words table.now.trace.now cut.0 ++ words_of cut.1.now) }
+    ensures known { IfOk result (λ cut. IsKnownPart table.now.trace.now cut.0) }
+    ensures faulty { IfErr result (IsTrueRefusal table.now (λ t. HasPartFault t kind.now (words_of rest.now))) }
 {
     if is_kind(kind, "r") {
         return cut_reader(table, rest);
@@ -93,7 +104,8 @@ pub fn read_parts<'a>(
     table: &OperationTable<'a>,
     line: &'a [u8],
 ) -> Result<Vec<MemberPart<'a>>, ReasonRefusal>
-    ensures { IfOk result (λ parts. words_of line.now ≡ flat_map (part_words table.now.trace.now) parts.items) }
+    ensures words { IfOk result (λ parts. words_of line.now ≡ flat_map (part_words table.now.trace.now) parts.items) }
+    ensures faulty { IfErr result (IsTrueRefusal table.now (λ t. HasPartsFault t (words_of line.now))) }
 {
     let mut parts = Vec::new(alloc);
     let mut rest = line;

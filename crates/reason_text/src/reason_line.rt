@@ -1,8 +1,10 @@
 //! The lines of a certificate of reasons.
 
-ghost use Rattle.std.specs.Prelude.{◌≡◌, ◌∷◌, codes, IfOk};
+ghost use Rattle.std.specs.Prelude.{◌≡◌, ◌∷◌, codes, IfOk, IfErr};
 ghost use Rattle.text_lines.specs.Words.{words_of};
 ghost use Rattle.trace_semantics.specs.Trace.{TraceValue};
+ghost use Rattle.reason_text.specs.LineFault.{HasKindFault, HasLineFault, IsRefusedBy};
+ghost use Rattle.reason_text.specs.OperationNumbers.{IsTrueRefusal};
 ghost use Rattle.reason_text.specs.ReasonLine.{IsReasonLine};
 
 use crate::line_words::{cut_operation, is_kind, read_operations, read_pair, read_value, want_end};
@@ -43,7 +45,8 @@ pub enum ReasonLine<'a> {
 
 /// Reads a location and a value.
 fn read_too_few<'a>(line: &'a [u8]) -> Result<ReasonLine<'a>, ReasonRefusal>
-    ensures { IfOk result (λ read. (t : TraceValue) → IsReasonLine t (codes "N" ∷ words_of line.now) read) }
+    ensures read { IfOk result (λ read. (t : TraceValue) → IsReasonLine t (codes "N" ∷ words_of line.now) read) }
+    ensures faulty { IfErr result (IsRefusedBy (λ cause. (t : TraceValue) → HasKindFault t (codes "N") (words_of line.now) cause)) }
 {
     let Some((location, rest)) = cut_word(line) else {
         return Err(ReasonRefusal::For(ReasonCause::BadLine));
@@ -64,7 +67,8 @@ fn read_source<'a>(
     table: &OperationTable<'a>,
     line: &'a [u8],
 ) -> Result<ReasonLine<'a>, ReasonRefusal>
-    ensures { IfOk result (IsReasonLine table.now.trace.now (codes "s" ∷ words_of line.now)) }
+    ensures read { IfOk result (IsReasonLine table.now.trace.now (codes "s" ∷ words_of line.now)) }
+    ensures faulty { IfErr result (IsTrueRefusal table.now (λ t. HasKindFault t (codes "s") (words_of line.now))) }
 {
     let (reader, rest) = cut_operation(table, line)?;
     let pieces = read_pieces(alloc, table, rest)?;
@@ -77,7 +81,8 @@ fn read_last<'a>(
     table: &OperationTable<'a>,
     line: &'a [u8],
 ) -> Result<ReasonLine<'a>, ReasonRefusal>
-    ensures { IfOk result (IsReasonLine table.now.trace.now (codes "l" ∷ words_of line.now)) }
+    ensures read { IfOk result (IsReasonLine table.now.trace.now (codes "l" ∷ words_of line.now)) }
+    ensures faulty { IfErr result (IsTrueRefusal table.now (λ t. HasKindFault t (codes "l") (words_of line.now))) }
 {
     let Some((location, rest)) = cut_word(line) else {
         return Err(ReasonRefusal::For(ReasonCause::BadLine));
@@ -93,7 +98,8 @@ fn read_kind<'a>(
     kind: &'a [u8],
     rest: &'a [u8],
 ) -> Result<ReasonLine<'a>, ReasonRefusal>
-    ensures { IfOk result (IsReasonLine table.now.trace.now (kind.now ∷ words_of rest.now)) }
+    ensures read { IfOk result (IsReasonLine table.now.trace.now (kind.now ∷ words_of rest.now)) }
+    ensures faulty { IfErr result (IsTrueRefusal table.now (λ t. HasKindFault t kind.now (words_of rest.now))) }
 {
     if is_kind(kind, "c") {
         return Ok(ReasonLine::Cycle(read_operations(alloc, table, rest)?));
@@ -132,7 +138,8 @@ pub fn read_reason_line<'a>(
     table: &OperationTable<'a>,
     line: &'a [u8],
 ) -> Result<ReasonLine<'a>, ReasonRefusal>
-    ensures { IfOk result (IsReasonLine table.now.trace.now (words_of line.now)) }
+    ensures read { IfOk result (IsReasonLine table.now.trace.now (words_of line.now)) }
+    ensures faulty { IfErr result (IsTrueRefusal table.now (λ t. HasLineFault t (words_of line.now))) }
 {
     match cut_word(line) {
         Some((kind, rest)) => {

@@ -1,11 +1,15 @@
 //! Pieces: what a line says of some of the sources of a reader.
 
-ghost use Rattle.std.specs.Prelude.{◌≡◌, ◌<◌, ◌∷◌, ◌++◌, [], codes, length, IfOk, IfSome};
+ghost use Rattle.std.specs.Prelude.{◌≡◌, ◌<◌, ◌∷◌, ◌++◌, [], false, codes, length, true, IfOk, IfErr, IfSome, MatchOption};
 ghost use Rattle.std.specs.List.{flat_map};
 ghost use Rattle.text_lines.specs.Words.{words_of};
 ghost use Rattle.trace_semantics.specs.Trace.{TraceValue};
+ghost use Rattle.order_clauses.specs.Numbered.{IsKnown};
+ghost use Rattle.reason_clauses.specs.declared.cause.ReasonCause.TheVariants.{BadLine};
+ghost use Rattle.reason_text.specs.LineFault.{HasOperandsFault, HasPieceFault, HasPiecesFault, is_single};
+ghost use Rattle.reason_text.specs.OperationNumbers.{IsTrueRefusal};
 ghost use Rattle.reason_text.specs.OperationWord.{operation_word};
-ghost use Rattle.reason_text.specs.SourcePiece.{piece_words};
+ghost use Rattle.reason_text.specs.SourcePiece.{piece_words, IsKnownPiece};
 
 use crate::line_words::{cut_operation, is_kind};
 use crate::operation_table::OperationTable;
@@ -30,13 +34,16 @@ pub enum SourcePiece {
 }
 
 /// Returns whether the word begins a piece of one operation.
-fn begins_piece(kind: &[u8]) -> bool {
+fn begins_piece(kind: &[u8]) -> bool
+    ensures { result ≡ is_single kind.now }
+{
     is_kind(kind, "f") || is_kind(kind, "i") || is_kind(kind, "H") || is_kind(kind, "L")
 }
 
 /// The piece that the word begins, of this operation.
 fn piece_of(kind: &[u8], operation: OperationPlace) -> Option<SourcePiece>
-    ensures { IfSome result (λ piece. (t : TraceValue) → kind.now ∷ operation_word t operation ∷ [] ≡ piece_words t piece) }
+    ensures words { MatchOption result (is_single kind.now ≡ false) (λ piece. (t : TraceValue) → kind.now ∷ operation_word t operation ∷ [] ≡ piece_words t piece) }
+    ensures known { IfSome result (λ piece. (t : TraceValue) → IsKnown t operation → IsKnownPiece t piece) }
 {
     if is_kind(kind, "f") {
         return Some(SourcePiece::Later(operation));
@@ -60,6 +67,8 @@ fn cut_hidden<'a>(
 ) -> Result<(SourcePiece, &'a [u8]), ReasonRefusal>
     ensures shorter { IfOk result (λ cut. length cut.1.now < length rest.now) }
     ensures words { IfOk result (λ cut. codes "h" ∷ words_of rest.now ≡ piece_words table.now.trace.now cut.0 ++ words_of cut.1.now) }
+    ensures known { IfOk result (λ cut. IsKnownPiece table.now.trace.now cut.0) }
+    ensures faulty { IfErr result (IsTrueRefusal table.now (λ t. HasOperandsFault t 2 (words_of rest.now))) }
 {
     let (witness, after) = cut_operation(table, rest)?;
     let (bound, end) = cut_operation(table, after)?;
@@ -74,6 +83,8 @@ fn cut_single<'a>(
 ) -> Result<(SourcePiece, &'a [u8]), ReasonRefusal>
     ensures shorter { IfOk result (λ cut. length cut.1.now < length rest.now) }
     ensures words { IfOk result (λ cut. kind.now ∷ words_of rest.now ≡ piece_words table.now.trace.now cut.0 ++ words_of cut.1.now) }
+    ensures known { IfOk result (λ cut. IsKnownPiece table.now.trace.now cut.0) }
+    ensures faulty { IfErr result (IsTrueRefusal table.now (λ t cause. is_single kind.now ≡ true → HasOperandsFault t 1 (words_of rest.now) cause)) }
 {
     let (operation, end) = cut_operation(table, rest)?;
     match piece_of(kind, operation) {
@@ -90,6 +101,8 @@ pub fn cut_piece<'a>(
 ) -> Result<(SourcePiece, &'a [u8]), ReasonRefusal>
     ensures shorter { IfOk result (λ cut. length cut.1.now < length rest.now) }
     ensures words { IfOk result (λ cut. kind.now ∷ words_of rest.now ≡ piece_words table.now.trace.now cut.0 ++ words_of cut.1.now) }
+    ensures known { IfOk result (λ cut. IsKnownPiece table.now.trace.now cut.0) }
+    ensures faulty { IfErr result (IsTrueRefusal table.now (λ t. HasPieceFault t kind.now (words_of rest.now))) }
 {
     if is_kind(kind, "h") {
         return cut_hidden(table, rest);
@@ -107,7 +120,8 @@ pub fn read_pieces<'a>(
     table: &OperationTable<'a>,
     line: &'a [u8],
 ) -> Result<Vec<SourcePiece>, ReasonRefusal>
-    ensures { IfOk result (λ pieces. words_of line.now ≡ flat_map (piece_words table.now.trace.now) pieces.items) }
+    ensures words { IfOk result (λ pieces. words_of line.now ≡ flat_map (piece_words table.now.trace.now) pieces.items) }
+    ensures faulty { IfErr result (IsTrueRefusal table.now (λ t. HasPiecesFault t (words_of line.now))) }
 {
     let mut pieces = Vec::new(alloc);
     let mut rest = line;
