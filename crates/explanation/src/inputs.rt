@@ -5,6 +5,7 @@ use schedule_text::schedule_reader::read_schedule;
 use std::alloc::{AllocError, Global};
 use text_lines::lines::cut_line;
 use text_lines::words::first_words;
+use trace_semantics::limits::Limits;
 use trace_semantics::schedule::Schedule;
 use trace_semantics::trace::Trace;
 use trace_text::trace_reader::read_trace;
@@ -42,7 +43,7 @@ pub(crate) fn schedule_of(alloc: Global, text: &NamedText<'_>) -> Option<Schedul
     let Some(bytes) = text.bytes else {
         return None;
     };
-    match read_schedule(alloc, bytes) {
+    match read_schedule(alloc, Limits::Large, bytes) {
         Ok(schedule) => Some(schedule),
         Err(_) => None,
     }
@@ -65,7 +66,7 @@ pub(crate) fn core_of_report(alloc: Global, report: &[u8]) -> Option<Schedule> {
     if !first.starts_with(b"INCONSISTENT operations=") {
         return None;
     }
-    match read_schedule(alloc, rest) {
+    match read_schedule(alloc, Limits::Large, rest) {
         Ok(names) => Some(names),
         Err(_) => None,
     }

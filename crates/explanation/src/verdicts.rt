@@ -7,8 +7,10 @@ use crate::inputs::{
 };
 use derivation_notes::{Telling, explain_derivation};
 use note_text::{NamedText, Notes};
+use reason_notes::explain_reasons;
 use std::alloc::{AllocError, Global};
 use survey::BySaturation;
+use surveyor::{Finding, Surveyor};
 use trace_semantics::operation::OpName;
 use trace_semantics::trace::Trace;
 use verdict_notes::{
@@ -19,6 +21,9 @@ use verdict_report::{MAX_INPUT_BYTES, Status};
 
 /// The steps that a survey may take: a fraction of a second.
 const SURVEY_STEPS: u64 = 20_000_000;
+
+/// The most bytes of a certificate of reasons that is checked once more to be explained: a second or two.
+const MOST_CERTIFICATE_BYTES: usize = 16_777_216;
 
 /// The conflicts that the search for a derivation may have: about a second.
 const SEARCH_CONFLICTS: u64 = 10_000;
@@ -43,8 +48,8 @@ pub(crate) fn explain_verdict(
             explain_decided(alloc, notes, trace, *effort, *report, status)?;
             explain_length(notes, *certificate_length);
         }
-        AskedCommand::Recheck { trace, names, .. } => {
-            explain_rechecked(alloc, notes, trace, names.is_some(), status)?;
+        AskedCommand::Recheck { trace, cert, names } => {
+            explain_rechecked(alloc, notes, trace, cert, names.is_some(), status)?;
         }
         AskedCommand::Survey { trace, report, .. } => {
             explain_surveyed(alloc, notes, trace, *report, status)?;
@@ -219,11 +224,39 @@ fn explain_length(notes: &mut Notes, length: Option<u64>) {
     }
 }
 
+/// Notes the lines of the certificate, if it is one of reasons for the trace in this file. The answer is whether it is.
+fn explain_lines(
+    alloc: Global,
+    notes: &mut Notes,
+    trace: &NamedText<'_>,
+    cert: &NamedText<'_>,
+) -> Result<bool, AllocError> {
+    let (Some(trace), Some(text)) = (trace_of(alloc, trace), cert.bytes) else {
+        return Ok(false);
+    };
+    explain_if_short(alloc, notes, &trace, text)
+}
+
+/// Notes the lines of the certificate, if it is short and one of reasons for the trace. The answer is whether it is: it is checked once more
+/// for that, which takes as long as it is.
+fn explain_if_short(
+    alloc: Global,
+    notes: &mut Notes,
+    trace: &Trace,
+    text: &[u8],
+) -> Result<bool, AllocError> {
+    if text.len() > MOST_CERTIFICATE_BYTES {
+        return Ok(false);
+    }
+    explain_reasons(alloc, notes, trace, text)
+}
+
 /// Notes what an accepted certificate says.
 fn explain_rechecked(
     alloc: Global,
     notes: &mut Notes,
     trace: &NamedText<'_>,
+    cert: &NamedText<'_>,
     is_of_part: bool,
     status: Status,
 ) -> Result<(), AllocError> {
@@ -236,6 +269,9 @@ fn explain_rechecked(
     ]);
     if is_of_part {
         notes.note(&[b"the operations that are named suffice for that"]);
+        return Ok(());
+    }
+    if explain_lines(alloc, notes, trace, cert)? {
         return Ok(());
     }
     explain_contradiction(alloc, notes, trace)
@@ -260,15 +296,50 @@ fn explain_reported_core(
     Ok(())
 }
 
-/// Notes why the trace has no legal schedule, for which a certificate of reasons was accepted: by counting, or else that it was.
+/// Notes the lines of the certificate of reasons that was found, if it is one. The answer is whether it is.
+fn explain_finding(
+    alloc: Global,
+    notes: &mut Notes,
+    trace: &Trace,
+    finding: &Finding,
+) -> Result<bool, AllocError> {
+    match finding {
+        Finding::Reasons(text) => explain_if_short(alloc, notes, trace, text.as_slice()),
+        Finding::Core(_names) => Ok(false),
+        Finding::Schedule(_schedule) => Ok(false),
+        Finding::Nothing => Ok(false),
+    }
+}
+
+/// Notes the lines of a certificate of reasons, if a short survey finds one. The answer is whether it does: that of the report is not at hand.
+fn explain_found_lines(
+    alloc: Global,
+    notes: &mut Notes,
+    trace: &Trace,
+) -> Result<bool, AllocError> {
+    let surveyor = BySaturation {
+        budget: SURVEY_STEPS,
+    };
+    let overview = surveyor.survey(alloc, trace, &[])?;
+    if explain_finding(alloc, notes, trace, &overview.finding)? {
+        return Ok(true);
+    }
+    explain_finding(alloc, notes, trace, &overview.otherwise)
+}
+
+/// Notes why the trace has no legal schedule, for which a certificate of reasons was accepted: what rules out all of them at once, or the
+/// lines of a certificate, or else that there is one.
 fn explain_reasoned(
     alloc: Global,
     notes: &mut Notes,
     placed: &PlacedTrace,
 ) -> Result<(), AllocError> {
-    if !explain_at_once(alloc, notes, &placed.trace, &placed.places)? {
+    if explain_at_once(alloc, notes, &placed.trace, &placed.places)? {
+        return Ok(());
+    }
+    if !explain_found_lines(alloc, notes, &placed.trace)? {
         notes.note(&[
-            b"a certificate of reasons was checked, which --cert keeps: no order of the operations meets all its lines",
+            b"a certificate of reasons was checked: --cert keeps it, and vsc recheck --explain says what its lines say",
         ]);
     }
     Ok(())

@@ -4,10 +4,26 @@ use crate::text_kinds::first_kept_line;
 use note_text::word_at;
 use text_lines::lines::cut_line;
 use text_lines::words::is_word;
+use trace_semantics::limits::Limits;
 
-/// Returns whether the header says version 2.
-pub(crate) fn is_version_2(bytes: &[u8]) -> bool {
-    is_word(word_at(first_kept_line(bytes), 1), "2")
+/// The word of the header that says the version.
+fn version_word(bytes: &[u8]) -> &[u8] {
+    word_at(first_kept_line(bytes), 1)
+}
+
+/// Returns whether the header says a version that has lines of known orders and sources.
+pub(crate) fn has_known_orders(bytes: &[u8]) -> bool {
+    let version = version_word(bytes);
+    is_word(version, "2") || is_word(version, "3")
+}
+
+/// The limits of the version that the header says.
+pub(crate) fn limits_of_header(bytes: &[u8]) -> Limits {
+    if is_word(version_word(bytes), "3") {
+        Limits::Large
+    } else {
+        Limits::Small
+    }
 }
 
 /// Returns whether the first word of the line is the key, and the second one this word, or any if none is given.

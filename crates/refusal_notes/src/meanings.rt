@@ -26,9 +26,11 @@ impl Explained for ScheduleCause {
                 "a line has one word, the name of an operation: its process, a dot and its place, as P.1"
             }
             ScheduleCause::BadNumber => {
-                "after the dot stands the place of an operation in its process: decimal, 1 to 65535, without a leading zero"
+                "after the dot stands the place of an operation in its process: decimal, 1 to 65535 (4294967295 if the trace has more than 4096 operations), without a leading zero"
             }
-            ScheduleCause::TooMany => "a schedule has at most 4096 names",
+            ScheduleCause::TooMany => {
+                "a schedule has at most 4096 names, or 1048576 if its trace has more than 4096 operations"
+            }
         }
     }
 }

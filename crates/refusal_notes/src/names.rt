@@ -9,7 +9,7 @@ pub(crate) fn is_value(word: &[u8]) -> bool {
     read_plain(word, u64::MAX).is_some()
 }
 
-/// The place that the word is, or 0 if it is none.
+/// The place that the word is, or 0 if it is none that any trace has.
 pub(crate) fn place_of(word: &[u8]) -> u64 {
     match read_place(word) {
         Some(place) => u64::from(place),

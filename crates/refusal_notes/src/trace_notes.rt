@@ -1,6 +1,6 @@
 //! Why a trace was refused.
 
-use crate::earlier_lines::{first_line_with, is_version_2};
+use crate::earlier_lines::{first_line_with, has_known_orders, limits_of_header};
 use crate::meanings::Explained;
 use crate::name_notes::note_missing;
 use crate::names::{has_byte, is_word_in_any_case};
@@ -48,10 +48,10 @@ fn marked_word(cause: TraceCause, refused: &RefusedLine<'_>) -> Option<usize> {
     let bad = match cause {
         TraceCause::NotAscii => return high_place(refused.line),
         TraceCause::UnknownLine => {
-            return Some(hint_of_line(refused.line, is_version_2(refused.bytes)).word);
+            return Some(hint_of_line(refused.line, has_known_orders(refused.bytes)).word);
         }
         TraceCause::BadName => bad_name(refused.line),
-        TraceCause::BadNumber => bad_number(refused.line),
+        TraceCause::BadNumber => bad_number(refused.line, limits_of_header(refused.bytes)),
         _ => return Some(0),
     };
     match bad {
@@ -113,10 +113,10 @@ fn says_of_header(line: &[u8]) -> Option<&'static str> {
         Some("lines end at a line feed: is a carriage return alone between them?")
     } else if is_word_in_any_case(first, "vsc") && !is_word(first, "vsc") {
         Some("the header is in small letters")
-    } else if is_word(first, "vsc1") || is_word(first, "vsc2") {
+    } else if is_word(first, "vsc1") || is_word(first, "vsc2") || is_word(first, "vsc3") {
         Some("a space stands between `vsc` and the number")
     } else if is_word(first, "vsc") {
-        Some("there are the versions 1 and 2, and nothing follows the number")
+        Some("there are the versions 1, 2 and 3, and nothing follows the number")
     } else {
         says_of_first_key(first)
     }
@@ -202,7 +202,8 @@ fn note_cause(
             return note_bad_word(alloc, notes, cause, refused.line, bad_name(refused.line));
         }
         TraceCause::BadNumber => {
-            return note_bad_word(alloc, notes, cause, refused.line, bad_number(refused.line));
+            let bad = bad_number(refused.line, limits_of_header(refused.bytes));
+            return note_bad_word(alloc, notes, cause, refused.line, bad);
         }
         _ => notes.note(&[cause.meaning().as_bytes()]),
     }
@@ -214,7 +215,7 @@ fn note_cause(
             note_if(notes, says_of_log(refused.bytes))
         }
         TraceCause::UnknownLine => {
-            let hint = hint_of_line(refused.line, is_version_2(refused.bytes));
+            let hint = hint_of_line(refused.line, has_known_orders(refused.bytes));
             notes.note(&[hint.says.as_bytes()])
         }
         _ => note_related(alloc, notes, cause, refused),

@@ -36,12 +36,12 @@ fn from_place(line: &[u8]) -> Option<usize> {
 }
 
 /// Of a line with the word `from` at this place.
-fn hint_of_from(line: &[u8], is_version_2: bool, place: usize) -> Hint {
+fn hint_of_from(line: &[u8], has_known_orders: bool, place: usize) -> Hint {
     let key = word_at(line, 0);
-    if !is_version_2 {
+    if !has_known_orders {
         return Hint {
             word: place,
-            says: "`from` needs the header `vsc 2`",
+            says: "`from` needs the header `vsc 2` or `vsc 3`",
         };
     }
     if is_word(key, "W") {
@@ -63,9 +63,9 @@ fn hint_of_from(line: &[u8], is_version_2: bool, place: usize) -> Hint {
 }
 
 /// Of a line whose key is R, W or U.
-fn hint_of_operation(line: &[u8], is_version_2: bool) -> Hint {
+fn hint_of_operation(line: &[u8], has_known_orders: bool) -> Hint {
     if let Some(place) = from_place(line) {
-        return hint_of_from(line, is_version_2, place);
+        return hint_of_from(line, has_known_orders, place);
     }
     if is_word(word_at(line, 0), "U") {
         return Hint {
@@ -80,8 +80,8 @@ fn hint_of_operation(line: &[u8], is_version_2: bool) -> Hint {
 }
 
 /// Of a line whose key is `before`.
-fn hint_of_before(is_version_2: bool) -> Hint {
-    if is_version_2 {
+fn hint_of_before(has_known_orders: bool) -> Hint {
+    if has_known_orders {
         return Hint {
             word: 0,
             says: "`before` takes two operations, each by its process and its place as two words, as `before P 1 Q 1`",
@@ -89,17 +89,17 @@ fn hint_of_before(is_version_2: bool) -> Hint {
     }
     Hint {
         word: 0,
-        says: "`before` needs the header `vsc 2`",
+        says: "`before` needs the header `vsc 2` or `vsc 3`",
     }
 }
 
 /// Of a line whose key a trace has, if it is one.
-fn hint_of_key(line: &[u8], is_version_2: bool) -> Option<Hint> {
+fn hint_of_key(line: &[u8], has_known_orders: bool) -> Option<Hint> {
     let key = word_at(line, 0);
     let says = if is_word(key, "R") || is_word(key, "W") || is_word(key, "U") {
-        return Some(hint_of_operation(line, is_version_2));
+        return Some(hint_of_operation(line, has_known_orders));
     } else if is_word(key, "before") {
-        return Some(hint_of_before(is_version_2));
+        return Some(hint_of_before(has_known_orders));
     } else if is_word(key, "init") || is_word(key, "final") {
         "`init` and `final` take one location and one value; each location has a line of its own"
     } else if is_word(key, "proc") {
@@ -155,19 +155,19 @@ fn says_of_other_key(key: &[u8]) -> &'static str {
     } else if has_byte(key, b'=') {
         "an operation, its location and its value are words of their own, as `W x 1`"
     } else {
-        "a line is `init A V`, `final A V`, `proc P`, `R A V`, `W A V` or `U A V V`; with `vsc 2` also `before P I Q J`"
+        "a line is `init A V`, `final A V`, `proc P`, `R A V`, `W A V` or `U A V V`; with `vsc 2` or `vsc 3` also `before P I Q J`"
     }
 }
 
 /// Gives what was probably meant by the line.
-pub(crate) fn hint_of_line(line: &[u8], is_version_2: bool) -> Hint {
+pub(crate) fn hint_of_line(line: &[u8], has_known_orders: bool) -> Hint {
     if let Some(word) = comment_place(line) {
         return Hint {
             word,
             says: "a comment stands on a line of its own",
         };
     }
-    match hint_of_key(line, is_version_2) {
+    match hint_of_key(line, has_known_orders) {
         Some(hint) => hint,
         None => Hint {
             word: 0,

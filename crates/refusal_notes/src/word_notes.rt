@@ -4,6 +4,7 @@ use crate::names::{is_value, place_of};
 use note_text::{GrowingText, Notes, add_quoted, word_at};
 use std::alloc::Global;
 use text_lines::words::is_word;
+use trace_semantics::limits::Limits;
 use trace_semantics::name::is_name_word;
 
 /// What is wrong with a word.
@@ -11,7 +12,7 @@ use trace_semantics::name::is_name_word;
 pub(crate) enum WordFault {
     Name,
     Value,
-    Place,
+    Place(Limits),
 }
 
 /// A word of a line, by its place, and what is wrong with it.
@@ -29,8 +30,11 @@ fn says_of(fault: WordFault) -> &'static str {
         WordFault::Value => {
             " is no value: decimal, 0 to 18446744073709551615, without a leading zero"
         }
-        WordFault::Place => {
+        WordFault::Place(Limits::Small) => {
             " is no place of an operation: decimal, 1 to 65535, without a leading zero"
+        }
+        WordFault::Place(Limits::Large) => {
+            " is no place of an operation: decimal, 1 to 4294967295, without a leading zero"
         }
     }
 }
@@ -87,14 +91,15 @@ pub(crate) fn bad_name(line: &[u8]) -> Option<BadWord> {
     }
 }
 
-/// The word at this place, if it should be an operation's place and is none.
-fn bad_place(line: &[u8], word: usize) -> Option<BadWord> {
-    if place_of(word_at(line, word)) > 0 {
+/// The word at this place, if it should be an operation's place and is none within these limits.
+fn bad_place(line: &[u8], limits: Limits, word: usize) -> Option<BadWord> {
+    let place = place_of(word_at(line, word));
+    if place > 0 && place <= limits.max_place() {
         return None;
     }
     Some(BadWord {
         word,
-        fault: WordFault::Place,
+        fault: WordFault::Place(limits),
     })
 }
 
@@ -110,10 +115,10 @@ fn bad_value(line: &[u8], word: usize) -> Option<BadWord> {
 }
 
 /// The place in the source of the line's value, if it is none.
-fn bad_source_place(line: &[u8]) -> Option<BadWord> {
+fn bad_source_place(line: &[u8], limits: Limits) -> Option<BadWord> {
     match source_place(line) {
-        Some(4) => bad_place(line, 5),
-        Some(_) => bad_place(line, 6),
+        Some(4) => bad_place(line, limits, 5),
+        Some(_) => bad_place(line, limits, 6),
         None => None,
     }
 }
@@ -127,16 +132,16 @@ fn bad_value_of_line(line: &[u8]) -> Option<BadWord> {
     }
 }
 
-/// The first word in the place of a number that is none.
-pub(crate) fn bad_number(line: &[u8]) -> Option<BadWord> {
+/// The first word in the place of a number that is none, or is a place beyond these limits.
+pub(crate) fn bad_number(line: &[u8], limits: Limits) -> Option<BadWord> {
     if is_before(line) {
-        return match bad_place(line, 2) {
+        return match bad_place(line, limits, 2) {
             Some(bad) => Some(bad),
-            None => bad_place(line, 4),
+            None => bad_place(line, limits, 4),
         };
     }
     match bad_value_of_line(line) {
         Some(bad) => Some(bad),
-        None => bad_source_place(line),
+        None => bad_source_place(line, limits),
     }
 }

@@ -72,7 +72,7 @@ static CASES: [Case; 22] = [
         notes: "note: t:2: before P 1 Q 1\n\
             note:      ^\n\
             note: a trace has no line of this form\n\
-            note: `before` needs the header `vsc 2`\n",
+            note: `before` needs the header `vsc 2` or `vsc 3`\n",
     },
     Case {
         fault: Fault::Trace(TraceCause::UnknownLine, 3),
@@ -81,7 +81,7 @@ static CASES: [Case; 22] = [
         notes: "note: t:3: R x 1 from init\n\
             note:            ^\n\
             note: a trace has no line of this form\n\
-            note: `from` needs the header `vsc 2`\n",
+            note: `from` needs the header `vsc 2` or `vsc 3`\n",
     },
     Case {
         fault: Fault::Trace(TraceCause::UnknownLine, 3),
@@ -97,7 +97,7 @@ static CASES: [Case; 22] = [
         first: b"",
         second: b"",
         notes: "note: t:1: the text ends here\n\
-            note: the first line that is no comment is not `vsc 1` or `vsc 2`\n\
+            note: the first line that is no comment is not `vsc 1`, `vsc 2` or `vsc 3`\n\
             note: t is empty\n",
     },
     Case {
@@ -106,7 +106,7 @@ static CASES: [Case; 22] = [
         second: b"vsc 1\nproc P\nW x 1\n",
         notes: "note: t:1: P.1\n\
             note:      ^\n\
-            note: the first line that is no comment is not `vsc 1` or `vsc 2`\n\
+            note: the first line that is no comment is not `vsc 1`, `vsc 2` or `vsc 3`\n\
             note: t looks like a schedule, and not like a trace\n\
             note: s looks like a trace: are the files in the right order?\n",
     },
@@ -116,7 +116,7 @@ static CASES: [Case; 22] = [
         second: b"",
         notes: "note: t:1: proc P\n\
             note:      ^\n\
-            note: the first line that is no comment is not `vsc 1` or `vsc 2`\n\
+            note: the first line that is no comment is not `vsc 1`, `vsc 2` or `vsc 3`\n\
             note: the header is missing: `vsc 1` stands above this line\n",
     },
     Case {

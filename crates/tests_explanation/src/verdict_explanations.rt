@@ -197,7 +197,7 @@ fn says_what_a_certificate_shows(rt: HostRuntime) {
 #[test]
 fn says_why_a_text_is_refused(rt: HostRuntime) {
     let asked = AskedCommand::Cnf {
-        trace: file("t.trace", "vsc 3\n"),
+        trace: file("t.trace", "vsc 4\n"),
     };
     let outcome: Result<Status, Fault> = Err(Fault::Trace(TraceCause::Header, 1));
     let notes = explain(rt.alloc(), &asked, &outcome, None);

@@ -5,3 +5,5 @@
 mod certificates;
 #[cfg(test)]
 mod expectations;
+#[cfg(test)]
+mod sentences;
