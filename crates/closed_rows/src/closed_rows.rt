@@ -138,10 +138,12 @@ impl ClosedRows {
         let later = log.operation(second);
         for process in 0..self.width {
             let mut place = self.before(first, process);
+            let mut is_news = place > self.before(second, process);
             if process == earlier.process {
                 place = earlier.place;
+                is_news = true;
             }
-            if place > self.before(second, process) && process != later.process {
+            if is_news && process != later.process {
                 self.floors.push(RowEntry { process, place })?;
             }
             let mut place = self.after(second, process);

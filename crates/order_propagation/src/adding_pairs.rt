@@ -15,6 +15,8 @@ impl<'a> Propagation<'a> {
             return Ok(());
         }
         self.store(first, second, reason)?;
+        self.catch_up(first)?;
+        self.catch_up(second)?;
         self.rows.begin_pair(self.log, first, second)?;
         for number in 0..self.rows.ceilings() {
             let bound = self.rows.ceiling(number);
@@ -32,10 +34,11 @@ impl<'a> Propagation<'a> {
     }
 
     /// Raises the rows of the process's operations from this place on, up to the first that has the pair's first operation already: rows are
-    /// closed and grow along a process, so all behind it have what the pair says.
+    /// closed and grow along a process, so all behind it have what the pair says. Of what is too far ahead of the front only the first is raised:
+    /// the others are when they come into reach.
     fn raise_from(&mut self, bound: RowEntry, first: u32) -> Result<(), AllocError> {
         let earlier = self.log.operation(first);
-        let end = self.log.length(bound.process).wrapping_add(1);
+        let end = self.end_of_reach(bound.process, bound.place);
         for place in bound.place..end {
             let number = self.log.number(bound.process, place);
             if self.rows.before(number, earlier.process) >= earlier.place {

@@ -80,6 +80,12 @@ impl Agenda {
         at(self.waits.as_slice(), reader, false)
     }
 
+    /// Returns whether a reader waits again.
+    #[inline(always)]
+    pub fn has_waiting(&self) -> bool {
+        self.count != 0
+    }
+
     /// Has the reader wait.
     #[inline(always)]
     pub fn add(&mut self, reader: u32) {

@@ -9,6 +9,7 @@ mod agenda;
 mod conflict;
 mod narrowing;
 mod propagation;
+mod reach;
 mod reader_rules;
 mod rounds;
 mod waking;

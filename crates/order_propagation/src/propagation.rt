@@ -2,6 +2,7 @@
 
 use crate::agenda::Agenda;
 use crate::conflict::{Conflict, Propagated, Stop};
+use crate::reach::Reach;
 use closed_rows::{ClosedRows, NO_PAIR, OrderedPair, OrderedPairs, PairReason};
 use numbered_log::{Budget, NOBODY, NumberedLog};
 use order_sets::tables::{at, put, size};
@@ -54,6 +55,7 @@ pub struct Propagation<'a> {
     /// For each process a place: up to which all is before the reader at hand, and after which all is behind its sources.
     pub(crate) lows: Vec<u32>,
     pub(crate) highs: Vec<u32>,
+    pub(crate) reach: Reach,
 }
 
 /// Drops each table, in one call for each exit of a function that owns an order.
@@ -78,6 +80,7 @@ impl Drop for Propagation<'_> {
             hiders: _hiders,
             lows: _lows,
             highs: _highs,
+            reach: _reach,
         } = self;
     }
 }
@@ -130,6 +133,7 @@ impl<'a> Propagation<'a> {
             hiders: Vec::with_capacity(alloc, width)?,
             lows: vec![in alloc; 0; width]?,
             highs: vec![in alloc; 0; width]?,
+            reach: Reach::new(alloc, log.processes())?,
         };
         order.store_first_pairs()?;
         order.note_ends();

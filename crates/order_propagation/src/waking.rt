@@ -11,6 +11,9 @@ impl<'a> Propagation<'a> {
     /// More stands before the operation.
     #[inline(always)]
     pub(crate) fn wake_raised(&mut self, number: u32, operation: Operation, has_news: bool) {
+        if self.is_out_of_reach(operation) {
+            return;
+        }
         if operation.reads && has_news {
             self.agenda.add(number);
         }
@@ -22,6 +25,9 @@ impl<'a> Propagation<'a> {
     /// More stands after the operation.
     #[inline(always)]
     pub(crate) fn wake_lowered(&mut self, number: u32, operation: Operation, has_news: bool) {
+        if self.is_out_of_reach(operation) {
+            return;
+        }
         if operation.reads && self.sources.has_several(number) {
             self.agenda.add(number);
         }
@@ -38,7 +44,7 @@ impl<'a> Propagation<'a> {
 
     /// Wakes the readers that have the writer at an end of their interval, all of them or those of several sources: what lies within an
     /// interval says nothing.
-    fn wake_readers(&mut self, writer: u32, all: bool) {
+    pub(crate) fn wake_readers(&mut self, writer: u32, all: bool) {
         let class = self.classes.class_of(writer);
         let begin = self.readers.begin(class);
         let end = self.readers.end(class);
@@ -49,6 +55,9 @@ impl<'a> Propagation<'a> {
             self.budget
                 .spend((end.saturating_sub(begin) as u64).wrapping_mul(4));
             return;
+        }
+        if self.is_reaching() {
+            return self.wake_in_reach(writer, (begin, end), all);
         }
         let mut position = begin;
         for _ in 0..self.log.processes() {
@@ -129,7 +138,7 @@ impl<'a> Propagation<'a> {
 
     /// Wakes the reader at this position if the writer is at an end of its interval.
     #[inline(always)]
-    fn wake_at(&mut self, position: u32, writer: u32, all: bool) {
+    pub(crate) fn wake_at(&mut self, position: u32, writer: u32, all: bool) {
         let reader = self.readers.reader(position);
         if reader == NOBODY || !(all || self.sources.has_several(reader)) {
             return;
@@ -137,7 +146,7 @@ impl<'a> Propagation<'a> {
         let (low, high) = self.ends_at(position, writer);
         let own = self.classes.position_of(writer);
         if low < high && (low == own || high.wrapping_sub(1) == own) {
-            self.agenda.add(reader);
+            self.wake(reader);
         }
     }
 }

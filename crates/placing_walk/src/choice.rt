@@ -18,10 +18,26 @@ const LOSS: i64 = 3000;
 /// The gain of each reader that waits for the new value.
 const GAIN: i64 = 1500;
 
-/// The cost of a place that is this number of operations behind.
-const PROGRESS: i64 = 2000;
+/// The cost of a plain write over a value of which no write can be spared.
+const NEEDED: i64 = 1_000_000_000;
 
-const PROGRESS_LENGTH: i64 = 4096;
+/// The cost if one write can be spared. It is a part of that if more can.
+const SCARCE: u64 = 1_000_000;
+
+/// The cost of a place that is this number of operations behind, or all of them if there are fewer.
+const PROGRESS: u64 = 2000;
+
+const PROGRESS_LENGTH: u32 = 4096;
+
+/// The cost of an estimated place in a log of this number of operations.
+fn cost_of_place(estimate: u32, count: u32) -> i64 {
+    let length = count.min(PROGRESS_LENGTH);
+    if length == 0 {
+        return 0;
+    }
+    let cost = (estimate as u64).wrapping_mul(PROGRESS) / (length as u64);
+    ((cost & 0xffff_ffff) as u32) as i64
+}
 
 impl PlacingWalk {
     /// The next operation: a plain read that can come, since it changes nothing for others, or else a writer.
@@ -48,14 +64,15 @@ impl PlacingWalk {
     /// The worth of the writer as the next operation; the highest is placed. If the walk decides only when it is stuck, the one with the lowest
     /// estimated place is.
     fn worth(&self, order: &mut Propagation<'_>, number: u32) -> i64 {
-        let estimate = at(self.estimates.as_slice(), number, 0) as i64;
-        if self.deciding == Deciding::WhenStuck {
-            return 0i64.wrapping_sub(estimate);
-        }
+        let estimate = at(self.estimates.as_slice(), number, 0);
         let log = order.log();
         let operation = log.operation(number);
+        let loss = self.cost_of_loss(operation);
+        if self.deciding == Deciding::WhenStuck {
+            return 0i64.wrapping_sub(estimate as i64).wrapping_sub(loss);
+        }
         let held = self.held_value(order, operation.location);
-        let mut worth: i64 = 0;
+        let mut worth: i64 = 0i64.wrapping_sub(loss);
         let mut is_open = false;
         for process in 0..log.processes() {
             if process != operation.process {
@@ -75,7 +92,23 @@ impl PlacingWalk {
         if is_open {
             worth = worth.wrapping_sub(OPEN);
         }
-        worth.wrapping_sub(estimate.wrapping_mul(PROGRESS) / PROGRESS_LENGTH)
+        worth.wrapping_sub(cost_of_place(estimate, log.count()))
+    }
+
+    /// The cost of a plain write over what its location holds, since updates may need all writes of that value which are left.
+    fn cost_of_loss(&self, operation: Operation) -> i64 {
+        if operation.reads {
+            return 0;
+        }
+        let spare = self.memory.spare(operation.location);
+        if spare == 0 {
+            return NEEDED;
+        }
+        if self.deciding == Deciding::WhenStuck {
+            return 0;
+        }
+        let cost = SCARCE / (spare as u64);
+        ((cost & 0xffff_ffff) as u32) as i64
     }
 
     /// The gain by a reader that waits for the value of the writer.

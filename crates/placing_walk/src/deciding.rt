@@ -37,12 +37,15 @@ impl PlacingWalk {
                 }
             }
         }
-        if order.pairs().count() != before {
+        if order.pairs().count() != before || order.has_waiting() {
             match self.learning.clauses.propagate(order)? {
-                Propagated::Done => self.heed(order, NOBODY),
+                Propagated::Done => {}
                 Propagated::Spent => return Ok(Some(WalkEnding::GivenUp)),
                 Propagated::Conflict => return self.resolve(order),
             }
+        }
+        if order.pairs().count() != before {
+            self.heed(order, NOBODY);
             let is_next = operation.place == self.memory.front(operation.process);
             if !is_next || self.awaited_by(order, operation.process) != Awaited::Nothing {
                 return Ok(None);
@@ -126,6 +129,7 @@ impl PlacingWalk {
             match self.settled(order, added)? {
                 Propagated::Done => {
                     self.heed(order, target);
+                    order.wake_from_fronts(order.reach());
                     return Ok(None);
                 }
                 Propagated::Spent => break,
@@ -171,7 +175,7 @@ impl PlacingWalk {
 
     /// Takes back what is not placed in the order of all pairs, with all behind it; if the walk decides always, also what was placed after the
     /// decisions that were undone.
-    pub(crate) fn heed(&mut self, order: &Propagation<'_>, target: u32) {
+    pub(crate) fn heed(&mut self, order: &mut Propagation<'_>, target: u32) {
         let log = order.log();
         let mut left = self.memory.count();
         if self.deciding != Deciding::WhenStuck {
@@ -186,9 +190,39 @@ impl PlacingWalk {
             }
         }
         self.heeded = order.pairs().count();
-        self.memory.take_back(log, left);
-        self.memory.note_sources(order);
+        self.take_back(order, left);
+        if self.deciding == Deciding::WhenStuck {
+            self.memory.note_sources(order);
+        }
         self.change_all(log.processes());
+    }
+
+    /// Takes operations back, the last first, until this number is placed.
+    fn take_back(&mut self, order: &mut Propagation<'_>, left: u32) {
+        let log = order.log();
+        self.memory.take_back(log, left);
+        for process in 0..log.processes() {
+            order.set_front(process, self.memory.front(process));
+        }
+    }
+
+    /// Looks at the readers that come next once more, and at what waits. Returns how the walk goes on, if that says anything new.
+    fn look_at_fronts(
+        &mut self,
+        order: &mut Propagation<'_>,
+    ) -> Result<Option<Option<WalkEnding>>, AllocError> {
+        let before = order.pairs().count();
+        order.wake_from_fronts(1);
+        match self.learning.clauses.propagate(order)? {
+            Propagated::Spent => return Ok(Some(Some(WalkEnding::GivenUp))),
+            Propagated::Conflict => return Ok(Some(self.resolve(order)?)),
+            Propagated::Done => {}
+        }
+        if order.pairs().count() == before {
+            return Ok(None);
+        }
+        self.heed(order, NOBODY);
+        Ok(Some(None))
     }
 
     /// Goes on if no operation can come next: an order is decided by which processes stop to wait for one another, or it is a conflict.
@@ -201,8 +235,13 @@ impl PlacingWalk {
         if self.stuck > MOST_STUCK || self.conflicts > self.most_conflicts {
             return Ok(Some(WalkEnding::GivenUp));
         }
-        if self.deciding != Deciding::WhenStuck && self.ask_closed_set(alloc, order)? {
-            return self.learn(order);
+        if self.deciding != Deciding::WhenStuck {
+            if let Some(found) = self.look_at_fronts(order)? {
+                return Ok(found);
+            }
+            if self.ask_closed_set(alloc, order)? {
+                return self.learn(order);
+            }
         }
         if let Some((first, second)) = self.untie(alloc, order)? {
             return self.decide(order, first, second);
@@ -214,7 +253,7 @@ impl PlacingWalk {
         if self.restarts > MOST_RESTARTS {
             return Ok(Some(WalkEnding::GivenUp));
         }
-        self.memory.take_back(order.log(), 0);
+        self.take_back(order, 0);
         self.change_all(order.log().processes());
         Ok(None)
     }

@@ -10,7 +10,9 @@ mod closed_set;
 mod deciding;
 mod memory;
 mod placing_walk;
+mod spare_values;
 mod waiting;
 mod waiting_ring;
 
 pub use placing_walk::{Deciding, PlacingWalk, WalkEnding};
+pub use spare_values::has_many_updates;

@@ -1,5 +1,6 @@
 //! What is placed, and what memory holds by it.
 
+use crate::spare_values::SpareValues;
 use numbered_log::{NOBODY, NumberedLog, Operation};
 use order_propagation::Propagation;
 use order_sets::tables::{at, put, size};
@@ -27,6 +28,7 @@ pub(crate) struct PlacedMemory {
     unread_initial: Vec<u32>,
     /// The reading operations that had several sources when the walk began.
     open: Vec<u32>,
+    spare: SpareValues,
 }
 
 /// Drops each table, in one call for each exit of a function that owns it.
@@ -42,6 +44,7 @@ impl Drop for PlacedMemory {
             unread: _unread,
             unread_initial: _unread_initial,
             open: _open,
+            spare: _spare,
         } = self;
     }
 }
@@ -69,6 +72,7 @@ impl PlacedMemory {
             unread: vec![in alloc; 0; count]?,
             unread_initial: vec![in alloc; 0; log.locations() as usize]?,
             open: Vec::new(alloc),
+            spare: SpareValues::new(alloc, order)?,
         };
         for number in 0..log.count() {
             if order.sources().is_reader(number) {
@@ -164,6 +168,11 @@ impl PlacedMemory {
         at(self.held_before.as_slice(), writer, NOBODY)
     }
 
+    /// Number of plain writes that may still come over the value that the location holds.
+    pub(crate) fn spare(&self, location: u32) -> u32 {
+        self.spare.of_held(location, self.held(location))
+    }
+
     /// The number of readers that wait for what the location holds.
     #[inline(always)]
     pub(crate) fn unread(&self, location: u32) -> u32 {
@@ -192,6 +201,9 @@ impl PlacedMemory {
             let held = self.held(operation.location);
             put(self.held_before.as_mut_slice(), number, held);
             put(self.held.as_mut_slice(), operation.location, number);
+            if !operation.reads {
+                self.spare.lose(operation.location, held);
+            }
             is_free = true;
         }
         Ok(is_free)
@@ -213,6 +225,9 @@ impl PlacedMemory {
             if operation.writes {
                 let before = self.held_before(number);
                 put(self.held.as_mut_slice(), operation.location, before);
+                if !operation.reads {
+                    self.spare.give_back(operation.location, before);
+                }
             }
             if operation.reads {
                 let source = self.source(number);

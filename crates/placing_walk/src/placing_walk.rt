@@ -262,6 +262,7 @@ impl PlacingWalk {
         let log = order.log();
         let operation = log.operation(number);
         let is_free = self.memory.place(number, operation)?;
+        order.move_front(operation.process, operation.place.wrapping_add(1))?;
         self.most_placed = self.most_placed.max(self.memory.count());
         for process in 0..log.processes() {
             let is_changed = match at(self.awaited.as_slice(), process, Awaited::Never) {

@@ -4,10 +4,10 @@ use crate::counted_cores::{operations_of, takers_of_class};
 use crate::estimated_places::EstimatedPlaces;
 use crate::guessed_windows::guess_window;
 use conflict_analysis::{LearnedClauses, Learning, core_of_conflict};
-use numbered_log::Budget;
+use numbered_log::{Budget, NumberedLog};
 use order_propagation::{Propagated, Propagation, TrailMark};
 use order_sets::tables::{at, size};
-use placing_walk::{Deciding, PlacingWalk, WalkEnding};
+use placing_walk::{Deciding, PlacingWalk, WalkEnding, has_many_updates};
 use source_counting::{Counted, count_sources, crowded_class};
 use std::alloc::{AllocError, Global};
 
@@ -73,6 +73,28 @@ const LAST_CLAUSES: u32 = 5;
 
 /// The same of the last walk.
 const MORE_CLAUSES: u32 = 20;
+
+/// Number of places from its front up to which a walk that decides always looks at readers, and the least if many operations are updates.
+const REACH: u32 = 20;
+
+const SHORT_REACH: u32 = 6;
+
+/// The operations of all processes together that are in reach then.
+const IN_REACH: u32 = 100;
+
+/// Number of places from its front up to which a walk of this log looks.
+fn reach_of(log: &NumberedLog) -> u32 {
+    let processes = log.processes();
+    if processes == 0 || !has_many_updates(log) {
+        return REACH;
+    }
+    (IN_REACH / processes).max(SHORT_REACH).min(REACH)
+}
+
+/// The share of the budget that the first walk has which decides always, as a part of one.
+fn first_part(log: &NumberedLog) -> u64 {
+    if has_many_updates(log) { 8 } else { 32 }
+}
 
 /// The number of windows that are tried after all others.
 const OTHER_WINDOWS: u32 = 5;
@@ -264,7 +286,8 @@ impl ScheduleSearch {
                 return Ok(found);
             }
         }
-        self.walk(alloc, order, places, learning(LAST_CLAUSES, 32))
+        let part = first_part(order.log());
+        self.walk(alloc, order, places, learning(LAST_CLAUSES, part))
     }
 
     /// Makes the rows anew, without guesses, and walks with the rest of the budget.
@@ -307,6 +330,10 @@ impl ScheduleSearch {
         if manner.deciding == Deciding::WhenStuck {
             most = FEW_CONFLICTS;
         }
+        if manner.deciding != Deciding::WhenStuck {
+            let reach = reach_of(order.log());
+            order.set_reach(reach);
+        }
         let learning = self.begin_learning(alloc, order)?;
         let manners = (manner.deciding, most);
         let mut walk = PlacingWalk::new(alloc, order, places.as_slice(), manners, learning)?;
@@ -319,6 +346,7 @@ impl ScheduleSearch {
             self.core = walk.find_core(alloc, order)?;
         }
         self.keep_learning(walk.into_learning());
+        order.set_reach(0);
         order.take_back(0);
         give_back(order, rest);
         Ok(ending)

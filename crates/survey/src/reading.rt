@@ -185,7 +185,7 @@ fn fill(
 fn name_at(alloc: Global, process: &Process, place: u32) -> Result<OpName, AllocError> {
     Ok(OpName {
         process: Name::copy_of(alloc, process.name.as_bytes())?,
-        place: (place & 0xffff) as u16,
+        place,
     })
 }
 

@@ -10,9 +10,9 @@ use trace_semantics::trace::Trace;
 #[derive(Clone, Copy)]
 pub enum Lie {
     /// The schedule of these places of the process P.
-    Schedule(u16, u16),
+    Schedule(u32, u32),
     /// The core of these places of the process P.
-    Core(u16, u16),
+    Core(u32, u32),
     /// A certificate that counts a value at this location.
     Reasons(u8),
     /// Nothing.
@@ -27,7 +27,7 @@ pub struct Liar {
 }
 
 /// The operation of P at this place.
-fn name_at(alloc: Global, place: u16) -> Result<OpName, AllocError> {
+fn name_at(alloc: Global, place: u32) -> Result<OpName, AllocError> {
     Ok(OpName {
         process: Name::copy_of(alloc, b"P")?,
         place,
@@ -35,7 +35,7 @@ fn name_at(alloc: Global, place: u16) -> Result<OpName, AllocError> {
 }
 
 /// The operations of P at these places.
-fn names_at(alloc: Global, first: u16, second: u16) -> Result<Vec<OpName>, AllocError> {
+fn names_at(alloc: Global, first: u32, second: u32) -> Result<Vec<OpName>, AllocError> {
     let mut names = Vec::new(alloc);
     names.push(name_at(alloc, first)?)?;
     names.push(name_at(alloc, second)?)?;

@@ -1,0 +1,186 @@
+//! Readers that are too far from what a walk places next to be looked at.
+
+use crate::propagation::Propagation;
+use closed_rows::RowEntry;
+use numbered_log::Operation;
+use order_sets::tables::{at, put, size};
+use std::alloc::{AllocError, Global};
+
+/// For each process the place of its next operation, and how far from it readers are looked at while decisions stand. What lies far ahead
+/// says little of what comes next, and most decisions are taken back before it does.
+#[derive(Drop)]
+pub(crate) struct Reach {
+    fronts: Vec<u32>,
+    /// A number of places; 0 if all are in reach.
+    width: u32,
+}
+
+impl Reach {
+    /// All is in reach, of this number of processes.
+    pub(crate) fn new(alloc: Global, processes: u32) -> Result<Reach, AllocError> {
+        Ok(Reach {
+            fronts: vec![in alloc; 1; processes as usize]?,
+            width: 0,
+        })
+    }
+
+    /// The process's next place.
+    #[inline(always)]
+    fn front(&self, process: u32) -> u32 {
+        at(self.fronts.as_slice(), process, 0)
+    }
+
+    /// The process's last place in reach.
+    #[inline(always)]
+    fn last(&self, process: u32) -> u32 {
+        self.front(process).saturating_add(self.width)
+    }
+
+    #[inline(always)]
+    fn is_ahead(&self, operation: Operation) -> bool {
+        operation.place > self.last(operation.process)
+    }
+
+    #[inline(always)]
+    fn is_behind(&self, operation: Operation) -> bool {
+        operation.place.saturating_add(self.width) < self.front(operation.process)
+    }
+}
+
+impl<'a> Propagation<'a> {
+    /// Has readers be looked at while decisions stand only this number of places from the fronts, which are at the first operations; or all of
+    /// them, if it is 0.
+    pub fn set_reach(&mut self, width: u32) {
+        self.reach.width = width;
+        for process in 0..size(self.reach.fronts.as_slice()) {
+            put(self.reach.fronts.as_mut_slice(), process, 1);
+        }
+    }
+
+    /// Sets the place of the process's next operation.
+    pub fn set_front(&mut self, process: u32, place: u32) {
+        put(self.reach.fronts.as_mut_slice(), process, place);
+    }
+
+    /// Sets the place of the process's next operation, one further on. What comes into reach is looked at.
+    pub fn move_front(&mut self, process: u32, place: u32) -> Result<(), AllocError> {
+        self.set_front(process, place);
+        let last = self.reach.last(process);
+        if self.reach.width == 0 || last > self.log.length(process) {
+            return Ok(());
+        }
+        let number = self.log.number(process, last);
+        let operation = self.log.operation(number);
+        if last > 1 {
+            self.raise_to_earlier(number, number.wrapping_sub(1))?;
+        }
+        if operation.reads {
+            self.agenda.add(number);
+        }
+        if operation.writes {
+            self.wake_readers(number, true);
+        }
+        Ok(())
+    }
+
+    /// Raises the row of what stands before the operation to that of one before it in its process.
+    fn raise_to_earlier(&mut self, number: u32, earlier: u32) -> Result<(), AllocError> {
+        let own = self.log.operation(number).process;
+        for process in 0..self.rows.width() {
+            let place = self.rows.before(earlier, process);
+            if process != own && place > self.rows.before(number, process) {
+                self.rows.raise(number, RowEntry { process, place })?;
+            }
+        }
+        self.budget.spend(self.rows.width() as u64);
+        Ok(())
+    }
+
+    /// Raises the row of what stands before the operation, if it is too far ahead of the front, to that of the last one in reach.
+    #[inline(always)]
+    pub(crate) fn catch_up(&mut self, number: u32) -> Result<(), AllocError> {
+        let operation = self.log.operation(number);
+        if self.is_reaching() && self.reach.is_ahead(operation) {
+            let last = self.reach.last(operation.process);
+            let earlier = self.log.number(operation.process, last);
+            return self.raise_to_earlier(number, earlier);
+        }
+        Ok(())
+    }
+
+    /// The place behind the process's last operation in reach, or behind this place, if that is later; behind all if no decision stands.
+    #[inline(always)]
+    pub(crate) fn end_of_reach(&self, process: u32, place: u32) -> u32 {
+        let end = self.log.length(process).wrapping_add(1);
+        if !self.is_reaching() {
+            return end;
+        }
+        end.min(self.reach.last(process).max(place).saturating_add(1))
+    }
+
+    /// Wakes the readers in reach that have the writer at an end of their interval, of these positions of its class.
+    pub(crate) fn wake_in_reach(&mut self, writer: u32, positions: (u32, u32), all: bool) {
+        let (begin, end) = positions;
+        let mut position = begin;
+        for process in 0..self.log.processes() {
+            let first = self.log.number(process, self.reach.front(process));
+            let last = self.log.number(process, self.end_of_reach(process, 0));
+            position = self.readers.first_from(position, end, first);
+            for _ in position..end {
+                if self.readers.reader(position) >= last {
+                    break;
+                }
+                self.wake_at(position, writer, all);
+                self.budget.spend(4);
+                position = position.wrapping_add(1);
+            }
+        }
+        self.budget
+            .spend((self.log.processes() as u64).wrapping_mul(8));
+    }
+
+    /// Has all readers in reach wait, from the fronts on up to this number of places.
+    pub fn wake_from_fronts(&mut self, places: u32) {
+        for process in 0..self.log.processes() {
+            let front = self.reach.front(process);
+            let end = self.log.length(process).wrapping_add(1);
+            for place in front..end.min(front.saturating_add(places)) {
+                let number = self.log.number(process, place);
+                if self.log.operation(number).reads {
+                    self.agenda.add(number);
+                }
+            }
+        }
+    }
+
+    /// Number of places ahead of its front up to which readers of a process are looked at while decisions stand.
+    pub fn reach(&self) -> u32 {
+        self.reach.width
+    }
+
+    /// Returns whether the walk looks only at what is in reach.
+    #[inline(always)]
+    pub(crate) fn is_reaching(&self) -> bool {
+        self.reach.width != 0 && self.decisions() != 0
+    }
+
+    /// Returns whether readers wait for a look.
+    pub fn has_waiting(&self) -> bool {
+        self.agenda.has_waiting()
+    }
+
+    /// Returns whether the operation is too far from the front for a look.
+    #[inline(always)]
+    pub(crate) fn is_out_of_reach(&self, operation: Operation) -> bool {
+        self.is_reaching() && (self.reach.is_ahead(operation) || self.reach.is_behind(operation))
+    }
+
+    /// Has the reading operation wait, unless it is too far ahead of the front.
+    #[inline(always)]
+    pub(crate) fn wake(&mut self, reader: u32) {
+        if self.is_reaching() && self.reach.is_ahead(self.log.operation(reader)) {
+            return;
+        }
+        self.agenda.add(reader);
+    }
+}
