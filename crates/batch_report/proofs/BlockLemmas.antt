@@ -4,14 +4,14 @@ use Rattle.std.specs.List.{AllZip, list_any}
 use Rattle.std.specs.Prelude.{Option, Some, None, Bool, true, false, ◌||◌}
 use Rattle.std.proofs.lemmas.List.{length-append, length-take-le, take_more}
 use Rattle.batch_report.specs.BatchLines.{batch_line, batch_lines}
-use Rattle.batch_report.specs.Blocks.{AreCutFrom, AreVerdictsOn, IsOnPlaced}
+use Rattle.batch_report.specs.Blocks.{AreCutFrom, AreCutOff, AreVerdictsOff, AreVerdictsOn, IsOnPlaced}
 use Rattle.batch_report.specs.declared.block.PlacedPiece.{PlacedPiece}
 use Rattle.batch_report.specs.declared.piece_verdict.PieceVerdict.{PieceVerdict}
 use Rattle.batch_report.specs.declared.tally.VerdictTally.{VerdictTally}
 use Rattle.batch_report.specs.Outcome.{first_refusal, is_no, is_unknown, or_refusal, outcome, outcome_of_tally, outcome_by, refusal_in, tally_with, tally_with_all}
 use Rattle.batch_report.specs.PieceVerdicts.{IsVerdictOn}
 use Rattle.text_lines.specs.Lines.{lines_of}
-use Rattle.trace_pieces.specs.Pieces.{IsCut}
+use Rattle.trace_pieces.specs.Pieces.{IsCut, IsCutOff}
 use Rattle.verdict_report.specs.declared.fault.Fault.{Fault}
 
 -- verdicts on the next pieces
@@ -53,6 +53,19 @@ on_cut before text (piece ∷ pieces) (v ∷ verdicts) b r h each =
       is_on = subst (λ (n : ℕ). IsVerdictOn n piece.text.now v) h.before_is each.0;
       others = on_cut (before + length (lines_of piece.text.now)) h.after pieces verdicts b r h.others each.1;
     }
+
+-- whatever follows
+pub on_cut_off : (is_last : Bool) (before : ℕ) (text : List ℕ) (pieces : List PlacedPiece) (verdicts : List PieceVerdict) (b : ℕ) (r : List ℕ) → AreCutOff is_last before text pieces b r → AllZip IsOnPlaced pieces verdicts → AreVerdictsOff is_last before text verdicts b r
+on_cut_off is_last before text pieces verdicts b r h each = λ more ok. on_cut before (text ++ more) pieces verdicts b (r ++ more) (h more ok) each
+
+-- one more piece is cut off, whatever follows
+pub cut_off_more : (is_last : Bool) (before : ℕ) (text : List ℕ) (pieces : List PlacedPiece) (b : ℕ) (r : List ℕ) (piece : PlacedPiece) (after : List ℕ) →
+    AreCutOff is_last before text pieces b r → IsCutOff is_last r piece.text.now after → piece.before ≡ b → (b_then : ℕ) → b_then ≡ b + length (lines_of piece.text.now) → AreCutOff is_last before text (pieces ++ piece ∷ []) b_then after
+cut_off_more is_last before text pieces b r piece after h cut is b_then b_is = λ more ok. cut_more before (text ++ more) pieces b (r ++ more) piece (after ++ more) (h more ok) (cut more ok) is b_then b_is
+
+-- nothing is cut off yet
+pub nothing_cut_off : (is_last : Bool) (before : ℕ) (text : List ℕ) → AreCutOff is_last before text [] before text
+nothing_cut_off is_last before text = λ more ok. (refl, refl)
 
 -- one more verdict
 zip_more : (pieces : List PlacedPiece) (verdicts : List PieceVerdict) (piece : PlacedPiece) (v : PieceVerdict) → AllZip IsOnPlaced pieces verdicts → IsOnPlaced piece v → AllZip IsOnPlaced (pieces ++ piece ∷ []) (verdicts ++ v ∷ [])

@@ -1,49 +1,149 @@
 -- How a batch goes on, block by block, and how it ends.
-use Rattle.std.proofs.Common.{◌≡◌, ℕ, ◌+◌, List, [], ◌∷◌, ◌++◌, length, refl, sym, ap, ◌∙◌, subst, inl, inr, arith, append-nil, append_assoc}
-use Rattle.std.specs.Prelude.{Result, Err}
+use Rattle.std.proofs.Common.{◌≡◌, ℕ, ◌+◌, Bool, true, false, true≢false, List, [], ◌++◌, length, refl, sym, ap, ◌∙◌, subst, inl, inr, arith, append-nil, append_assoc}
+use Rattle.std.specs.Prelude.{Result, Ok, Err, IfErr}
+use Rattle.std.specs.Result.{IsErrAnd}
 use Rattle.std.proofs.lemmas.List.{length-append}
-use Rattle.batch_report.specs.BatchEngine.{HasCome, IsRunOnText, StopsBlock, StopsOnText, WritesBlock, WritesText}
+use Rattle.batch_report.specs.BatchEngine.{HasCome, IsBatchStop, IsRunOfBatch, StopsBlock, WritesBlock}
 use Rattle.batch_report.specs.BatchLines.{batch_lines}
-use Rattle.batch_report.specs.Blocks.{AreVerdictsOn}
+use Rattle.batch_report.specs.Blocks.{AreVerdictsOff, AreVerdictsOn}
 use Rattle.batch_report.specs.declared.piece_verdict.PieceVerdict.{PieceVerdict}
 use Rattle.batch_report.specs.declared.progress.BatchProgress.{BatchProgress}
 use Rattle.batch_report.specs.declared.tally.VerdictTally.{VerdictTally}
 use Rattle.batch_report.specs.Outcome.{no_tally, outcome_of_tally, tally_with_all}
+use Rattle.batch_report.specs.Reading.{IsStopWith, ReadsOn, StopsReadingOn}
 use Rattle.batch_report.proofs.BlockLemmas.{lines_more, on_more, outcome_is, tally_more}
+use Rattle.batch_report.proofs.ReadingLemmas.{handed_of}
+use Rattle.dimacs.specs.Sink.{AppendsFront}
+use Rattle.dimacs.specs.SinkFault.{failures_told}
 use Rattle.dimacs.specs.declared.sink_fault.SinkFault.{SinkFault}
 use Rattle.dimacs.specs.declared.sink_fault.SinkFault.TheVariants.{OutOfMemory as NoRoom, Device as SinkFails}
 use Rattle.verdict_report.specs.declared.fault.Fault.{Fault}
-use Rattle.verdict_report.specs.declared.fault.Fault.TheVariants.{OutOfMemory, Device}
+use Rattle.verdict_report.specs.declared.fault.Fault.TheVariants.{OutOfMemory}
+use Rattle.verdict_report.specs.declared.reading.ReadFault.{ReadFault}
+use Rattle.verdict_report.specs.declared.reading.ReadFault.TheVariants.{OutOfMemory as NoReadMemory, Device as SourceFails, TooLong}
 use Rattle.verdict_report.specs.declared.status.Status.{Status}
-use Rattle.verdict_report.specs.Runs.{SinkRun}
+use Rattle.verdict_report.specs.Fault.{fault_of_reading, fault_of_sink}
+use Rattle.verdict_report.specs.Runs.{SinkRun, SourceRun}
 
 -- a run of a sink by what it took and how often it failed
-abbrev pub run_of : (before now : List ℕ) (failures_before failures_now : ℕ) → SinkRun
-run_of before now failures_before failures_now = record { before = before; now = now; failures_before = failures_before; failures_now = failures_now }
+abbrev pub taken_of : (before now : List ℕ) (failures_before failures_now : ℕ) → SinkRun
+taken_of before now failures_before failures_now = record { before = before; now = now; failures_before = failures_before; failures_now = failures_now }
+
+-- verdicts on a text that nothing follows
+on_text : (text : List ℕ) (verdicts : List PieceVerdict) (before : ℕ) (rest : List ℕ) → AreVerdictsOn 0 (text ++ []) verdicts before (rest ++ []) → AreVerdictsOn 0 text verdicts before rest
+on_text text verdicts before rest on =
+    subst (λ (t : List ℕ). AreVerdictsOn 0 t verdicts before rest) (append-nil text) (subst (λ (l : List ℕ). AreVerdictsOn 0 (text ++ []) verdicts before l) (append-nil rest) on)
 
 -- ---- a block
 
 -- nothing was decided
-pub nothing_decided : (file : List ℕ) (from : BatchProgress) (w : List ℕ) (f : ℕ) → StopsBlock file from (run_of w w f f) NoRoom
-nothing_decided file from w f = record {
+pub nothing_decided : (file : List ℕ) (is_last : Bool) (held : List ℕ) (from : BatchProgress) (w : List ℕ) (f : ℕ) → StopsBlock file is_last held from (taken_of w w f f) NoRoom
+nothing_decided file is_last held from w f = record {
   verdicts = [];
-  before_rest = from.before;
-  rest = from.rest.now;
-  each = (refl, refl);
+  before_left = from.before;
+  left = held;
+  each = λ more ok. (refl, refl);
   front = record { front = []; back = []; parts = refl; appended = sym (append-nil w) };
   failures = omega arith;
 }
 
+-- its lines were not written whole
+pub lines_stopped : (file : List ℕ) (is_last : Bool) (held : List ℕ) (from : BatchProgress) (verdicts : List PieceVerdict) (before_left : ℕ) (left : List ℕ) (w1 w2 : List ℕ) (f1 f2 : ℕ) (fault : SinkFault) →
+    AreVerdictsOff is_last from.before held verdicts before_left left → AppendsFront w1 w2 (batch_lines file from.number verdicts) → f2 ≡ f1 + failures_told fault → StopsBlock file is_last held from (taken_of w1 w2 f1 f2) fault
+lines_stopped file is_last held from verdicts before_left left w1 w2 f1 f2 fault each front failures = record {
+  verdicts = verdicts;
+  before_left = before_left;
+  left = left;
+  each = each;
+  front = front;
+  failures = failures;
+}
+
+-- the fault of a callee is handed on
+pub handed_on : {A : Type 0} (Q : SinkFault → Type 0) (r : Result A SinkFault) (fault : SinkFault) → IsErrAnd r (λ other. other ≡ fault) → Q fault → IfErr r Q
+handed_on Q (Ok x) fault e h = tt
+handed_on Q (Err other) fault e h = subst Q (sym e) h
+
+-- ---- reading on
+
+-- nothing has come yet
+pub not_yet : (file : List ℕ) (progress : BatchProgress) (held : List ℕ) (h : List ℕ) (e : Bool) (r : ℕ) (w : List ℕ) (f : ℕ) → held ≡ [] → progress.before ≡ 0 → progress.number ≡ 0 → progress.tally ≡ no_tally →
+    HasCome file (handed_of h h e e r r) held false progress (taken_of w w f f)
+not_yet file progress held h e r w f none before number tally = record {
+  text = [];
+  handed = sym (append-nil h);
+  ended = λ yes. absurd (true≢false (sym yes));
+  unfailing = refl;
+  verdicts = [];
+  each = λ more ok. (sym (ap (λ l. l ++ more) none), sym before);
+  whole = (sym (append-nil w), refl);
+  counted = number;
+  tallied = tally;
+}
+
+module _ (file : List ℕ) (held : List ℕ) (progress : BatchProgress) (out : SinkRun) (h0 h1 h2 : List ℕ) (e0 e1 e2 : Bool) (r0 r1 r2 : ℕ)
+    (come : HasCome file (handed_of h0 h1 e0 e1 r0 r1) held false progress out) where
+  handed_with : (bytes : List ℕ) → h2 ≡ h1 ++ bytes → h2 ≡ h0 ++ (come.text ++ bytes)
+  handed_with bytes is = is ∙ ap (λ l. l ++ bytes) come.handed ∙ append_assoc h0 come.text bytes
+
+  each_with : (bytes more : List ℕ) → AreVerdictsOn 0 ((come.text ++ bytes) ++ more) come.verdicts progress.before ((held ++ bytes) ++ more)
+  each_with bytes more =
+      subst (λ (t : List ℕ). AreVerdictsOn 0 t come.verdicts progress.before ((held ++ bytes) ++ more)) (sym (append_assoc come.text bytes more))
+      (subst (λ (l : List ℕ). AreVerdictsOn 0 (come.text ++ (bytes ++ more)) come.verdicts progress.before l) (sym (append_assoc held bytes more))
+      (come.each (bytes ++ more) (λ yes. absurd (true≢false (sym yes)))))
+
+  -- more is held
+  pub read_further : (held_then : List ℕ) (is_last : Bool) → ReadsOn (handed_of h1 h2 e1 e2 r1 r2) held held_then is_last → HasCome file (handed_of h0 h2 e0 e2 r0 r2) held_then is_last progress out
+  read_further held_then is_last read = record {
+    text = come.text ++ read.further.bytes;
+    handed = handed_with read.further.bytes read.further.handed;
+    ended = read.ended;
+    unfailing = read.unfailing ∙ come.unfailing;
+    verdicts = come.verdicts;
+    each = λ more ok. subst (λ (l : List ℕ). AreVerdictsOn 0 ((come.text ++ read.further.bytes) ++ more) come.verdicts progress.before (l ++ more)) (sym read.further.held_is) (each_with read.further.bytes more);
+    whole = come.whole;
+    counted = come.counted;
+    tallied = come.tallied;
+  }
+
+  -- more is held, as a slice
+  pub read_slice : (held_then slice : List ℕ) (is_last : Bool) → slice ≡ held_then → ReadsOn (handed_of h1 h2 e1 e2 r1 r2) held held_then is_last → HasCome file (handed_of h0 h2 e0 e2 r0 r2) slice is_last progress out
+  read_slice held_then slice is_last same read = subst (λ (l : List ℕ). HasCome file (handed_of h0 h2 e0 e2 r0 r2) l is_last progress out) (sym same) (read_further held_then is_last read)
+
+  why_stopped : (bytes : List ℕ) (fault : ReadFault) → IsStopWith (handed_of h1 h2 e1 e2 r1 r2) (held ++ bytes) fault → IsBatchStop (handed_of h0 h2 e0 e2 r0 r2) out (batch_lines file 0 come.verdicts) (held ++ bytes) (Err (fault_of_reading fault))
+  why_stopped bytes NoReadMemory why = (why ∙ come.unfailing, (record { front = batch_lines file 0 come.verdicts; back = []; parts = append-nil (batch_lines file 0 come.verdicts); appended = come.whole.0 }, come.whole.1))
+  why_stopped bytes SourceFails why = inr (why ∙ ap (λ n. n + 1) come.unfailing, come.whole)
+  why_stopped bytes TooLong why = (why.0 ∙ come.unfailing, come.whole, why.1)
+
+  -- no more is read
+  pub stop_reading : (fault : ReadFault) → StopsReadingOn (handed_of h1 h2 e1 e2 r1 r2) held fault → IsRunOfBatch file (handed_of h0 h2 e0 e2 r0 r2) out (Err (fault_of_reading fault))
+  stop_reading fault stop = inr (record {
+    text = come.text ++ stop.bytes;
+    handed = handed_with stop.bytes stop.handed;
+    verdicts = come.verdicts;
+    rest = held ++ stop.bytes;
+    some = record {
+      lines = progress.before;
+      are_on = on_text (come.text ++ stop.bytes) come.verdicts progress.before (held ++ stop.bytes) (each_with stop.bytes []);
+    };
+    stopped = why_stopped stop.bytes fault stop.stopped;
+  })
+
 -- ---- one block after others
 
-module _ (file text : List ℕ) (from : BatchProgress) (w0 w1 w2 : List ℕ) (f0 f1 f2 : ℕ) (come : HasCome file text from (run_of w0 w1 f0 f1)) where
+module _ (file : List ℕ) (traces : SourceRun) (held : List ℕ) (is_last : Bool) (from : BatchProgress) (w0 w1 w2 : List ℕ) (f0 f1 f2 : ℕ)
+    (come : HasCome file traces held is_last from (taken_of w0 w1 f0 f1)) where
   lines_with : (more : List PieceVerdict) → batch_lines file 0 (come.verdicts ++ more) ≡ batch_lines file 0 come.verdicts ++ batch_lines file from.number more
   lines_with more = lines_more file 0 come.verdicts more ∙ ap (λ (n : ℕ). batch_lines file 0 come.verdicts ++ batch_lines file n more) (let e : 0 + length come.verdicts ≡ from.number = omega (arith, come.counted) in e)
 
-  pub come_further : (to : BatchProgress) → WritesBlock file from to (run_of w1 w2 f1 f2) → HasCome file text to (run_of w0 w2 f0 f2)
-  come_further to block = record {
+  pub come_further : (to : BatchProgress) (left : List ℕ) → WritesBlock file is_last held from to left (taken_of w1 w2 f1 f2) → HasCome file traces left is_last to (taken_of w0 w2 f0 f2)
+  come_further to left block = record {
+    text = come.text;
+    handed = come.handed;
+    ended = come.ended;
+    unfailing = come.unfailing;
     verdicts = come.verdicts ++ block.verdicts;
-    each = on_more 0 text come.verdicts from.before from.rest.now block.verdicts to.before to.rest.now come.each block.each;
+    each = λ more ok. on_more 0 (come.text ++ more) come.verdicts from.before (held ++ more) block.verdicts to.before (left ++ more) (come.each more ok) (block.each more ok);
     whole = (
       block.whole.0 ∙ ap (λ (w : List ℕ). w ++ batch_lines file from.number block.verdicts) come.whole.0
           ∙ append_assoc w0 (batch_lines file 0 come.verdicts) (batch_lines file from.number block.verdicts) ∙ ap (λ (l : List ℕ). w0 ++ l) (sym (lines_with block.verdicts)),
@@ -53,50 +153,60 @@ module _ (file text : List ℕ) (from : BatchProgress) (w0 w1 w2 : List ℕ) (f0
     tallied = block.tallied ∙ ap (λ (t : VerdictTally). tally_with_all t block.verdicts) come.tallied ∙ sym (tally_more no_tally come.verdicts block.verdicts);
   }
 
-  pub stop_here : (fault : SinkFault) → StopsBlock file from (run_of w1 w2 f1 f2) fault → StopsOnText file text (run_of w0 w2 f0 f2) fault
-  stop_here fault block = record {
-    verdicts = come.verdicts ++ block.verdicts;
-    rest = block.rest;
-    some = record { lines = block.before_rest; are_on = on_more 0 text come.verdicts from.before from.rest.now block.verdicts block.before_rest block.rest come.each block.each };
-    front = record {
-      front = batch_lines file 0 come.verdicts ++ block.front.front;
-      back = block.front.back;
-      parts = append_assoc (batch_lines file 0 come.verdicts) block.front.front block.front.back ∙ ap (λ (l : List ℕ). batch_lines file 0 come.verdicts ++ l) block.front.parts ∙ sym (lines_with block.verdicts);
-      appended = block.front.appended ∙ ap (λ (w : List ℕ). w ++ block.front.front) come.whole.0 ∙ append_assoc w0 (batch_lines file 0 come.verdicts) block.front.front;
-    };
-    failures = (let l = block.failures in omega (arith, l, come.whole.1));
+  front_here : (fault : SinkFault) (block : StopsBlock file is_last held from (taken_of w1 w2 f1 f2) fault) → AppendsFront w0 w2 (batch_lines file 0 (come.verdicts ++ block.verdicts))
+  front_here fault block = record {
+    front = batch_lines file 0 come.verdicts ++ block.front.front;
+    back = block.front.back;
+    parts = append_assoc (batch_lines file 0 come.verdicts) block.front.front block.front.back ∙ ap (λ (l : List ℕ). batch_lines file 0 come.verdicts ++ l) block.front.parts ∙ sym (lines_with block.verdicts);
+    appended = block.front.appended ∙ ap (λ (w : List ℕ). w ++ block.front.front) come.whole.0 ∙ append_assoc w0 (batch_lines file 0 come.verdicts) block.front.front;
   }
 
--- nothing has come yet
-pub not_yet : (file text : List ℕ) (from : BatchProgress) (w : List ℕ) (f : ℕ) → from.rest.now ≡ text → from.before ≡ 0 → from.number ≡ 0 → from.tally ≡ no_tally → HasCome file text from (run_of w w f f)
-not_yet file text from w f rest before number tally = record {
-  verdicts = [];
-  each = (sym rest, sym before);
-  whole = (sym (append-nil w), refl);
-  counted = number;
-  tallied = tally;
-}
+  why_here : (fault : SinkFault) (block : StopsBlock file is_last held from (taken_of w1 w2 f1 f2) fault) →
+      IsBatchStop traces (taken_of w0 w2 f0 f2) (batch_lines file 0 (come.verdicts ++ block.verdicts)) block.left (Err (fault_of_sink fault))
+  why_here NoRoom block = (come.unfailing, (front_here NoRoom block, (let l = block.failures in omega (arith, l, come.whole.1))))
+  why_here SinkFails block = inl (come.unfailing, (front_here SinkFails block, (let l = block.failures in omega (arith, l, come.whole.1))))
 
--- all has come
-pub come_to_end : (file text : List ℕ) (from : BatchProgress) (out : SinkRun) → HasCome file text from out → from.rest.now ≡ [] → WritesText file text from.tally out
-come_to_end file text from out come none = record {
-  verdicts = come.verdicts;
-  each = record { lines = from.before; are_on = subst (λ (r : List ℕ). AreVerdictsOn 0 text come.verdicts from.before r) none come.each };
-  whole = come.whole;
-  tallied = ap outcome_of_tally come.tallied ∙ outcome_is no_tally come.verdicts refl refl refl;
-}
+  -- the block was not written whole
+  pub stop_writing : (fault : SinkFault) → StopsBlock file is_last held from (taken_of w1 w2 f1 f2) fault → IsRunOfBatch file traces (taken_of w0 w2 f0 f2) (Err (fault_of_sink fault))
+  stop_writing fault block = inr (record {
+    text = come.text;
+    handed = come.handed;
+    verdicts = come.verdicts ++ block.verdicts;
+    rest = block.left;
+    some = record {
+      lines = block.before_left;
+      are_on = on_text come.text (come.verdicts ++ block.verdicts) block.before_left block.left
+          (on_more 0 (come.text ++ []) come.verdicts from.before (held ++ []) block.verdicts block.before_left (block.left ++ []) (come.each [] (λ yes. refl)) (block.each [] (λ yes. refl)));
+    };
+    stopped = why_here fault block;
+  })
 
--- ---- the answer
+-- ---- the end
 
-pub finished : (file text : List ℕ) (tally : VerdictTally) (out : SinkRun) → WritesText file text tally out → (result : Result Status Fault) → result ≡ outcome_of_tally tally → IsRunOnText file text out result
-finished file text tally out w result is = inl (record { verdicts = w.verdicts; each = w.each; whole = w.whole; answer = is ∙ w.tallied })
+module _ (file : List ℕ) (traces : SourceRun) (held : List ℕ) (is_last : Bool) (progress : BatchProgress) (out : SinkRun) (come : HasCome file traces held is_last progress out) where
+  come_on : AreVerdictsOn 0 come.text come.verdicts progress.before held
+  come_on = on_text come.text come.verdicts progress.before held (come.each [] (λ yes. refl))
 
-pub no_memory : (file text : List ℕ) (out : SinkRun) → StopsOnText file text out NoRoom → IsRunOnText file text out (Err OutOfMemory)
-no_memory file text out s = inr (record { verdicts = s.verdicts; rest = s.rest; some = s.some; stopped = inl (refl, (s.front, omega (arith, s.failures))) })
+  -- all has come
+  pub come_to_end : is_last ≡ true → held ≡ [] → (result : Result Status Fault) → result ≡ outcome_of_tally progress.tally → IsRunOfBatch file traces out result
+  come_to_end last none result is = inl (record {
+    text = come.text;
+    handed = come.handed;
+    ended = come.ended last;
+    unfailing = come.unfailing;
+    verdicts = come.verdicts;
+    each = record { lines = progress.before; are_on = subst (λ (l : List ℕ). AreVerdictsOn 0 come.text come.verdicts progress.before l) none come_on };
+    whole = come.whole;
+    answer = is ∙ ap outcome_of_tally come.tallied ∙ outcome_is no_tally come.verdicts refl refl refl;
+  })
 
-pub device : (file text : List ℕ) (out : SinkRun) → StopsOnText file text out SinkFails → IsRunOnText file text out (Err Device)
-device file text out s = inr (record { verdicts = s.verdicts; rest = s.rest; some = s.some; stopped = inr (refl, (s.front, omega (arith, s.failures))) })
-
-pub nothing_left : (xs : List ℕ) → length xs ≡ 0 → xs ≡ []
-nothing_left [] h = refl
-nothing_left (x ∷ xs) h = absurd (omega (arith, h))
+  -- there is no memory to go on
+  pub no_memory : IsRunOfBatch file traces out (Err OutOfMemory)
+  no_memory = inr (record {
+    text = come.text;
+    handed = come.handed;
+    verdicts = come.verdicts;
+    rest = held;
+    some = record { lines = progress.before; are_on = come_on };
+    stopped = (come.unfailing, (record { front = batch_lines file 0 come.verdicts; back = []; parts = append-nil (batch_lines file 0 come.verdicts); appended = come.whole.0 }, come.whole.1));
+  })

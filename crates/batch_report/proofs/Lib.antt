@@ -1,3 +1,4 @@
 pub mod BlockLemmas
 pub mod EngineLemmas
+pub mod ReadingLemmas
 pub mod VerdictLemmas

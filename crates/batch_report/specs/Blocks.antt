@@ -1,5 +1,5 @@
 -- Verdicts on the pieces of a text, and how the pieces are cut off.
-use Rattle.std.specs.Prelude.{◌≡◌, ◌+◌, ℕ, List, [], ◌∷◌, length}
+use Rattle.std.specs.Prelude.{◌≡◌, ◌+◌, ℕ, Bool, true, List, [], ◌∷◌, ◌++◌, length}
 use Rattle.batch_report.specs.declared.block.PlacedPiece.{PlacedPiece}
 use Rattle.batch_report.specs.declared.piece_verdict.PieceVerdict.{PieceVerdict}
 use Rattle.batch_report.specs.PieceVerdicts.{IsVerdictOn}
@@ -34,6 +34,14 @@ pub record NextPiece (before : ℕ) (text : List ℕ) (piece : PlacedPiece) (Oth
 abbrev pub AreCutFrom : ℕ → List ℕ → List PlacedPiece → ℕ → List ℕ → Type 0
 AreCutFrom before text [] before_rest rest = (text ≡ rest) × (before ≡ before_rest)
 AreCutFrom before text (piece ∷ pieces) before_rest rest = NextPiece before text piece (λ lines after. AreCutFrom lines after pieces before_rest rest)
+
+-- whatever follows the text, unless it is the last one, these are its first pieces
+abbrev pub AreCutOff : Bool → ℕ → List ℕ → List PlacedPiece → ℕ → List ℕ → Type 0
+AreCutOff is_last before text pieces before_rest rest = (more : List ℕ) → (is_last ≡ true → more ≡ []) → AreCutFrom before (text ++ more) pieces before_rest (rest ++ more)
+
+-- whatever follows the text, unless it is the last one, the verdicts are on its first pieces
+abbrev pub AreVerdictsOff : Bool → ℕ → List ℕ → List PieceVerdict → ℕ → List ℕ → Type 0
+AreVerdictsOff is_last before text verdicts before_rest rest = (more : List ℕ) → (is_last ≡ true → more ≡ []) → AreVerdictsOn before (text ++ more) verdicts before_rest (rest ++ more)
 
 -- the verdict is on the piece
 abbrev pub IsOnPlaced : PlacedPiece → PieceVerdict → Type 0

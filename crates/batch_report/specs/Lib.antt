@@ -3,3 +3,4 @@ pub mod BatchLines
 pub mod Blocks
 pub mod Outcome
 pub mod PieceVerdicts
+pub mod Reading

@@ -1,7 +1,7 @@
 //! Blocks of pieces, which are decided side by side.
 
-ghost use Rattle.std.specs.Prelude.{◌≡◌, ◌+◌, ◌<◌, ◌≤◌, IfOk, length};
-ghost use Rattle.batch_report.specs.Blocks.{AreCutFrom};
+ghost use Rattle.std.specs.Prelude.{◌≡◌, ◌+◌, ◌≤◌, [], true, IfOk, length};
+ghost use Rattle.batch_report.specs.Blocks.{AreCutOff};
 
 use crate::piece_verdict::PieceVerdict;
 use std::alloc::{AllocError, Global};
@@ -38,25 +38,22 @@ pub struct DecidedBlock<'a> {
     pub before: usize,
 }
 
-/// The most pieces of a block. Their lines are written together.
-const MOST_PIECES: usize = 4096;
-
-/// Cuts off the first pieces of a text behind a number of lines.
-pub(crate) fn cut_block(alloc: Global, text: &[u8], before: usize) -> Result<Block<'_>, AllocError>
-    requires some { 0 < length text.now }
-    requires few { before + length text.now ≤ 268435456 }
-    ensures cut { IfOk result (λ block. AreCutFrom before text.now block.pieces.items block.before block.rest.now) }
-    ensures few { IfOk result (λ block. block.before + length block.rest.now ≤ before + length text.now) }
-    ensures count { IfOk result (λ block. length block.pieces.items + length block.rest.now ≤ length text.now) }
-    ensures shorter { IfOk result (λ block. length block.rest.now < length text.now) }
+/// Cuts off the first pieces of a text behind a number of lines: all that end in the text, which may go on unless it is the last one.
+pub(crate) fn cut_block(
+    alloc: Global,
+    text: &[u8],
+    is_last: bool,
+    before: usize,
+) -> Result<Block<'_>, AllocError>
+    requires few { before + length text.now ≤ 9000000000000000000 }
+    ensures cut { IfOk result (λ block. AreCutOff is_last before text.now block.pieces.items block.before block.rest.now) }
+    ensures few { IfOk result (λ block. length block.pieces.items + length block.rest.now ≤ length text.now) }
+    ensures all { is_last ≡ true → IfOk result (λ block. block.rest.now ≡ []) }
 {
-    let mut pieces = Vec::with_capacity(alloc, MOST_PIECES)?;
+    let mut pieces = Vec::new(alloc);
     let mut rest = text;
     let mut passed = before;
-    while pieces.len() < MOST_PIECES {
-        let Some(cut) = cut_piece(rest) else {
-            break;
-        };
+    while let Some(cut) = cut_piece(rest, is_last) {
         pieces.push(PlacedPiece {
             text: cut.piece,
             before: passed,

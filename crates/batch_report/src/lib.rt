@@ -7,7 +7,7 @@ mod deciding;
 mod lines;
 mod piece_verdict;
 mod progress;
-mod reading_text;
+mod reading_on;
 mod side_by_side;
 mod tally;
 

@@ -137,7 +137,7 @@ pub(crate) fn lines_of(
     before: usize,
     verdicts: &[PieceVerdict],
 ) -> Result<Vec<u8>, AllocError>
-    requires { before + length verdicts.now ≤ 268435456 }
+    requires { before + length verdicts.now ≤ 9000000000000000000 }
     ensures { IfOk result (λ text. text.items ≡ batch_lines file.now before verdicts.now) }
 {
     let mut text = Vec::new(alloc);

@@ -1,16 +1,44 @@
 //! How far a batch came.
 
+ghost use Rattle.std.specs.Prelude.{◌≡◌, ◌≤◌, true};
+ghost use Rattle.batch_report.specs.Outcome.{no_tally};
+
 use crate::tally::VerdictTally;
 
 /// How far a batch came.
 #[derive(Clone, Copy)]
-pub(crate) struct BatchProgress<'a> {
-    /// What is left of the text.
-    pub rest: &'a [u8],
-    /// The number of lines before it.
+pub(crate) struct BatchProgress {
+    /// The number of lines of the pieces that are decided.
     pub before: usize,
-    /// The number of pieces before it.
+    /// The number of these pieces.
     pub number: usize,
     /// What was counted.
     pub tally: VerdictTally,
+}
+
+impl BatchProgress {
+    /// Of no piece.
+    pub(crate) fn new() -> BatchProgress
+        ensures before { result.before ≡ 0 }
+        ensures number { result.number ≡ 0 }
+        ensures tally { result.tally ≡ no_tally }
+    {
+        BatchProgress {
+            before: 0,
+            number: 0,
+            tally: VerdictTally::new(),
+        }
+    }
+}
+
+/// The most lines and the most pieces of a batch.
+const MOST_COUNTED: usize = 4_000_000_000_000_000_000;
+
+impl BatchProgress {
+    /// Returns whether another block can be counted.
+    pub(crate) fn has_room(self) -> bool
+        ensures { result ≡ true → (self.before ≤ 4000000000000000000) × (self.number ≤ 4000000000000000000) }
+    {
+        self.before <= MOST_COUNTED && self.number <= MOST_COUNTED
+    }
 }

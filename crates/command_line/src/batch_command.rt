@@ -25,8 +25,10 @@ the file, a colon, the number of the trace in it, a blank, and one of
     INCONSISTENT cubes=N, or operations=N and more for a long trace
     UNKNOWN open=N, or placed=N undecided=N for a long trace
     refused: .., as other commands refuse a trace; lines are those of the file
-Traces of at most 160 operations are decided as by 'vsc verify', and longer ones
-as by 'vsc survey'. If FILE is '-', standard input is read.
+Traces of which at most 160 operations are left are decided as by 'vsc verify',
+and others as by 'vsc survey', which also explain an answer. If FILE is '-',
+standard input is read. A trace of more than 268,000,000 bytes is refused, and
+all after it.
 
 Example, which can be pasted:
     printf 'vsc 1\\nproc P\\nW x 1\\nvsc 1\\nproc P\\nR x 1\\n' | vsc batch -
@@ -37,7 +39,7 @@ Its lines are:
 Exit status:
     0  each answer is CONSISTENT
     1  an answer is INCONSISTENT
-    2  the command line is refused, or a trace is, and no answer is INCONSISTENT
+    2  the command line or FILE is refused; or a trace, and none is INCONSISTENT
     3  an answer is UNKNOWN, none is INCONSISTENT, and no trace is refused
     4  the file or a standard stream failed";
 
@@ -60,7 +62,7 @@ pub fn new_batch_command<'a>(alloc: Global) -> Result<Command<'a>, AllocError>
     ensures local { IfOk result (λ c. (out-Command c).has_globals ≡ false) }
 {
     let traces = file_argument(alloc);
-    let workers = workers_argument(alloc, "How many threads may decide traces, 1 to 8");
+    let workers = workers_argument(alloc, "1: one trace at a time; 2 to 8: side by side");
     let command = command_of_two(alloc, "batch", ABOUT, AFTER_HELP, traces, workers)?;
     let split = split_argument(alloc);
     let budget = budget_argument(alloc);

@@ -61,17 +61,16 @@ pub fn command_of_three<'a>(
     command.arg(third)
 }
 
-/// The command with `--explain` and `--no-explain`, which each command has.
-pub fn with_explanation<'a>(alloc: Global, command: Command<'a>) -> Result<Command<'a>, AllocError>
+/// The command with `--explain` and `--no-explain`, which each command has, and what its help says of the first.
+pub fn with_explanation<'a>(
+    alloc: Global,
+    command: Command<'a>,
+    help: &'a str,
+) -> Result<Command<'a>, AllocError>
     ensures app { IfOk result (λ c. app_of c ≡ explained (app_of command.entry)) }
     ensures globals { IfOk result (λ c. (out-Command c).has_globals ≡ (out-Command command.entry).has_globals) }
 {
-    let explain = flag_argument(
-        alloc,
-        "explain",
-        "explain",
-        "Explains the answer or the refusal, on standard error",
-    );
+    let explain = flag_argument(alloc, "explain", "explain", help);
     let no_explain = flag_argument(
         alloc,
         "no-explain",

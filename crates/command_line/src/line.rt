@@ -47,7 +47,7 @@ pub struct SurveyNumbers {
 /// How a batch goes about its work.
 #[derive(Clone, Copy)]
 pub struct BatchNumbers {
-    /// The number of threads that may decide traces, 1 to 8.
+    /// 1 to decide one trace at a time, or 2 to 8 to decide several side by side.
     pub workers: u32,
     /// On how many variables the search of a short trace is split at first, 0 to 10.
     pub split: u32,

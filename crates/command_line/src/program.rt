@@ -38,6 +38,12 @@ Exit status:
     3  UNKNOWN
     4  a file or a standard stream failed";
 
+/// What the help of a command says of `--explain`, if it writes notes.
+const EXPLAINS: &str = "Explains the answer or the refusal, on standard error";
+
+/// And if it writes none. It takes the option too, so that a script can give it to each command.
+const NO_NOTES: &str = "Changes nothing: this command writes no notes";
+
 // The program without its commands.
 fn bare_program<'a>(alloc: Global) -> Result<Command<'a>, AllocError>
     ensures { IfOk result (λ c. app_of c ≡ program_app) }
@@ -52,32 +58,38 @@ fn bare_program<'a>(alloc: Global) -> Result<Command<'a>, AllocError>
     )
 }
 
-// The program with one more command, to which `--explain` is added, if all could be made. It takes Results, so that `new_program` has no
-// exit of its own at which a program would be dropped.
+// The program with one more command, to which `--explain` is added with this help, if all could be made. It takes Results, so that
+// `new_program` has no exit of its own at which a program would be dropped.
 fn with_command<'a>(
     alloc: Global,
     program: Result<Command<'a>, AllocError>,
     command: Result<Command<'a>, AllocError>,
+    help: &'a str,
 ) -> Result<Command<'a>, AllocError>
     requires { IfOk command (λ c. (out-Command c).has_globals ≡ false) }
     ensures { (before added : App) → IfOk program.entry (λ c. app_of c ≡ before) → IfOk command.entry (λ c. app_of c ≡ added) →
         IfOk result (λ c. app_of c ≡ with_subcommand before (explained added).top) }
 {
-    program?.subcommand(with_explanation(alloc, command?)?)
+    program?.subcommand(with_explanation(alloc, command?, help)?)
 }
 
 /// The program with its commands.
 pub fn new_program<'a>(alloc: Global) -> Result<Command<'a>, AllocError>
     ensures { IfOk result (λ c. app_of c ≡ vsc_app) }
 {
-    let program = with_command(alloc, bare_program(alloc), new_verify_command(alloc));
-    let program = with_command(alloc, program, new_judge_command(alloc));
-    let program = with_command(alloc, program, new_cnf_command(alloc));
-    let program = with_command(alloc, program, new_decode_command(alloc));
-    let program = with_command(alloc, program, new_lrat_command(alloc));
-    let program = with_command(alloc, program, new_recheck_command(alloc));
-    let program = with_command(alloc, program, new_part_command(alloc));
-    let program = with_command(alloc, program, new_survey_command(alloc));
-    let program = with_command(alloc, program, new_refusals_command(alloc));
-    with_command(alloc, program, new_batch_command(alloc))
+    let program = with_command(
+        alloc,
+        bare_program(alloc),
+        new_verify_command(alloc),
+        EXPLAINS,
+    );
+    let program = with_command(alloc, program, new_judge_command(alloc), EXPLAINS);
+    let program = with_command(alloc, program, new_cnf_command(alloc), EXPLAINS);
+    let program = with_command(alloc, program, new_decode_command(alloc), EXPLAINS);
+    let program = with_command(alloc, program, new_lrat_command(alloc), EXPLAINS);
+    let program = with_command(alloc, program, new_recheck_command(alloc), EXPLAINS);
+    let program = with_command(alloc, program, new_part_command(alloc), EXPLAINS);
+    let program = with_command(alloc, program, new_survey_command(alloc), EXPLAINS);
+    let program = with_command(alloc, program, new_refusals_command(alloc), NO_NOTES);
+    with_command(alloc, program, new_batch_command(alloc), NO_NOTES)
 }

@@ -20,7 +20,7 @@ use std::alloc::{AllocError, Global};
 
 const ABOUT: &str = "Decides whether a long trace is sequentially consistent, by a survey";
 
-const AFTER_HELP: &str = "TRACE has up to 4096 operations; if it is '-', standard input is read.
+const AFTER_HELP: &str = "TRACE has up to 1048576 operations; if it is '-', standard input is read.
 The answer is one of
     CONSISTENT, and a legal schedule of all operations, one name a line;
     INCONSISTENT operations=N cubes=M, and the N names of a core: the part that

@@ -24,7 +24,7 @@ const SURVEY_STEPS: u64 = 1_000_000_000;
 /// How the traces of a batch are searched.
 #[derive(Clone, Copy)]
 pub(crate) struct BatchSearch {
-    /// The number of threads that decide traces.
+    /// One decides one trace at a time, and more decide several side by side.
     workers: u32,
     /// How a trace of at most 160 operations is searched.
     short: Options,

@@ -85,3 +85,32 @@ fn writes_nothing_if_the_source_fails(rt: HostRuntime) {
     expect(&rt, outcome == Err(Fault::Device), 1);
     expect(&rt, out.as_slice().is_empty(), 2);
 }
+
+#[test]
+fn writes_the_lines_of_earlier_blocks_if_the_source_fails(rt: HostRuntime) {
+    let alloc = rt.alloc();
+    // Sixteen calls make a block, of 80 bytes, in which the first trace ends.
+    let mut source = ShortSource::new(THREE, 5).failing_at(17);
+    let mut out = MemorySink::new(alloc);
+    let outcome = batch_of(alloc, &rt, &mut source, 1, &mut out);
+    expect(&rt, outcome == Err(Fault::Device), 1);
+    expect(&rt, out.as_slice() == b"t:1 CONSISTENT\n".as_slice(), 2);
+}
+
+#[test]
+fn cuts_no_piece_within_a_line(rt: HostRuntime) {
+    let alloc = rt.alloc();
+    // The first block ends within the second line `vsc 1`, or within a line `vscs` that begins no trace.
+    for size in 1..9usize {
+        let mut source = ShortSource::new(b"vsc 1\nproc P\nW x 1\nvsc 1\nproc P\nvscs 1\n", size);
+        let mut out = MemorySink::new(alloc);
+        let outcome = batch_of(alloc, &rt, &mut source, 1, &mut out);
+        expect(
+            &rt,
+            outcome == Err(Fault::Trace(TraceCause::UnknownLine, 6)),
+            size,
+        );
+        let lines = b"t:1 CONSISTENT\nt:2 refused: trace 4 UnknownLine at 6\n";
+        expect(&rt, out.as_slice() == lines.as_slice(), size);
+    }
+}

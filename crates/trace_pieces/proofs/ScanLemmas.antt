@@ -4,12 +4,13 @@ use Rattle.std.specs.Prelude.{Some, None}
 use Rattle.std.specs.List.{list_any}
 use Rattle.std.proofs.lemmas.Bool.{false_from_ne_true}
 use Rattle.std.proofs.lemmas.List.{take-append-drop, drop_more, length-append, take_all}
+use Rattle.std.proofs.Math.Seq.{take-append_seam}
 use Rattle.std.proofs.lemmas.List.Folds.{list_any_more, list_any-append}
 use Rattle.memchr.specs.Find.{IsFirstByte}
 use Rattle.text_lines.specs.Lines.{lines_of, is_line_feed, without_empty_end}
 use Rattle.text_lines.proofs.Cutting.LineLemmas.{line_ended, split_whole}
-use Rattle.trace_pieces.specs.Pieces.{IsCut, begins_trace, hold_one, says, start_trace}
-use Rattle.trace_pieces.specs.Scanning.{AreWhole, CutOff, IsFirstLine, IsPassed}
+use Rattle.trace_pieces.specs.Pieces.{IsCut, IsCutOff, begins_trace, hold_one, says, start_trace}
+use Rattle.trace_pieces.specs.Scanning.{AreWhole, CutOff, HasWholeLine, IsFirstLine, IsPassed}
 
 -- ---- the first line
 
@@ -190,13 +191,79 @@ cut_here text rest count said p line after some first begins few =
       piece = p.front;
       cut = cut_before text p.front rest count (subst (λ s. IsPassed text p.front rest count s) both.0 p.passed) line after some first both.1;
       counted = p.passed.counted;
+      whole = p.passed.whole;
       few = few;
     }
 
 -- the text ends
 pub cut_all : (text rest : List ℕ) (count : ℕ) (said : Bool) → PassedOn text rest count said → rest ≡ [] → 0 < length text → count + length rest ≤ length text → CutOff text rest count
-cut_all text rest count said p none some few = record { piece = p.front; cut = cut_at_end text p.front rest count said p.passed none some; counted = p.passed.counted; few = few }
+cut_all text rest count said p none some few = record { piece = p.front; cut = cut_at_end text p.front rest count said p.passed none some; counted = p.passed.counted; whole = p.passed.whole; few = few }
 
 -- the next line is passed
 pub pass_line : (text rest : List ℕ) (count : ℕ) (said : Bool) → PassedOn text rest count said → (line after : List ℕ) → 0 < length rest → IsFirstLine rest line after → (said && begins_trace line) ≡ false → PassedOn text after (count + 1) (said || says line)
 pass_line text rest count said p line after some first begins = line_passed text p.front rest count said p.passed line after some first (one_false said (begins_trace line) begins)
+
+-- ---- a text that may go on
+
+-- a text with a line feed has a whole line
+pub whole_line : (text : List ℕ) (k : ℕ) → IsFirstByte is_line_feed text (Some k) → HasWholeLine text
+whole_line text k h =
+    let within : k < length text = h.0.high in
+    record {
+      line = take k text;
+      after = drop (k + 1) text;
+      no_feed = none_pass is_line_feed text k (omega (arith, within)) (λ j l. false_from_ne_true _ (h.0.before j (omega arith) l));
+      parts = sym (take-append-drop k text) ∙ ap (λ l. take k text ++ l) (drop_more text k 0 within ∙ ap (λ b. b ∷ drop (k + 1) text) (feed_is _ h.1));
+    }
+
+module _ (text rest : List ℕ) (count : ℕ) (off : CutOff text rest count) (next : HasWholeLine rest) (more : List ℕ) where
+  parts_with : text ++ more ≡ off.piece ++ (rest ++ more)
+  parts_with = ap (λ t. t ++ more) off.cut.parts ∙ append_assoc off.piece rest more
+
+  rest_with : rest ++ more ≡ next.line ++ 10 ∷ (next.after ++ more)
+  rest_with = ap (λ t. t ++ more) next.parts ∙ append_assoc next.line (10 ∷ next.after) more
+
+  not_nothing : rest ≡ [] → ⊥
+  not_nothing e = (let l = ap length (sym e ∙ next.parts) ∙ length-append next.line (10 ∷ next.after) in omega (arith, l))
+
+  is_whole : (rest ≡ []) ⊎ AreWhole off.piece → AreWhole off.piece
+  is_whole (inl e) = absurd (not_nothing e)
+  is_whole (inr w) = w
+
+  starts_with : (rest ≡ []) ⊎ ((list_any says (lines_of off.piece) ≡ true) × (start_trace (lines_of rest) ≡ true)) → (list_any says (lines_of off.piece) ≡ true) × (start_trace (lines_of (rest ++ more)) ≡ true)
+  starts_with (inl e) = absurd (not_nothing e)
+  starts_with (inr s) = (
+    s.0,
+    ap (λ t. start_trace (lines_of t)) rest_with ∙ ap start_trace (line_ended next.line (next.after ++ more) next.no_feed)
+        ∙ sym (ap (λ t. start_trace (lines_of t)) next.parts ∙ ap start_trace (line_ended next.line next.after next.no_feed)) ∙ s.1,
+  )
+
+  -- the first piece is the same one, whatever follows the text
+  pub cut_with : IsCut (text ++ more) off.piece (rest ++ more)
+  cut_with = record {
+    parts = parts_with;
+    some = off.cut.some;
+    lines = ap lines_of parts_with ∙ is_whole off.whole (rest ++ more);
+    one = off.cut.one;
+    next = inr (starts_with off.cut.next);
+  }
+
+-- what stands before the rest
+front_of : (text front rest : List ℕ) (n : ℕ) → text ≡ front ++ rest → n + length rest ≡ length text → take n text ≡ front
+front_of text front rest n parts is =
+    let long = ap length parts ∙ length-append front rest in
+    let same : n ≡ length front = omega (arith, is, long) in
+    ap (λ t. take n t) parts ∙ ap (λ m. take m (front ++ rest)) same ∙ take-append_seam front rest
+
+-- the last text
+cut_last : (text piece rest more : List ℕ) → IsCut text piece rest → more ≡ [] → IsCut (text ++ more) piece (rest ++ more)
+cut_last text piece rest more cut none =
+    subst (λ (m : List ℕ). IsCut (text ++ m) piece (rest ++ m)) (sym none)
+    (subst (λ (t : List ℕ). IsCut t piece (rest ++ [])) (sym (append-nil text)) (subst (λ (r : List ℕ). IsCut text piece r) (sym (append-nil rest)) cut))
+
+-- the first piece that ends before this rest, whatever follows the text
+pub cut_off : (is_last : Bool) (text rest : List ℕ) (count n : ℕ) → CutOff text rest count → n + length rest ≡ length text → (shown : is_last ≡ false → HasWholeLine rest) → IsCutOff is_last text (take n text) rest
+cut_off true text rest count n off is shown = λ more ok.
+    subst (λ (p : List ℕ). IsCut (text ++ more) p (rest ++ more)) (sym (front_of text off.piece rest n off.cut.parts is)) (cut_last text off.piece rest more off.cut (ok refl))
+cut_off false text rest count n off is shown = λ more ok.
+    subst (λ (p : List ℕ). IsCut (text ++ more) p (rest ++ more)) (sym (front_of text off.piece rest n off.cut.parts is)) (cut_with text rest count off (shown refl) more)

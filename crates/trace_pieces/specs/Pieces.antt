@@ -43,3 +43,7 @@ pub record IsCut (text piece rest : List ℕ) : Type 0 where
 abbrev pub ArePieces : List ℕ → List (List ℕ) → Type 0
 ArePieces text [] = text ≡ []
 ArePieces text (piece ∷ pieces) = (rest : List ℕ) × IsCut text piece rest × ArePieces rest pieces
+
+-- whatever follows the text, unless it is the last one, this is its first piece, and then comes the rest
+abbrev pub IsCutOff : (is_last : Bool) (text piece rest : List ℕ) → Type 0
+IsCutOff is_last text piece rest = (more : List ℕ) → (is_last ≡ true → more ≡ []) → IsCut (text ++ more) piece (rest ++ more)

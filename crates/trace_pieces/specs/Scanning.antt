@@ -26,4 +26,12 @@ pub record CutOff (text rest : List ℕ) (count : ℕ) : Type 0 where
   pub piece : List ℕ
   pub cut : IsCut text piece rest
   pub counted : count ≡ length (lines_of piece)
+  pub whole : (rest ≡ []) ⊎ AreWhole piece
   pub few : count + length rest ≤ length text
+
+-- the first line of the text ends with a line feed
+pub record HasWholeLine (text : List ℕ) : Type 0 where
+  pub line : List ℕ
+  pub after : List ℕ
+  pub no_feed : list_any is_line_feed line ≡ false
+  pub parts : text ≡ line ++ 10 ∷ after

@@ -1,9 +1,9 @@
 //! Cuts off the first piece of a text.
 
-ghost use Rattle.std.specs.Prelude.{◌≡◌, ◌+◌, ◌<◌, ◌≤◌, [], true, length, MatchOption};
+ghost use Rattle.std.specs.Prelude.{◌≡◌, ◌+◌, ◌<◌, ◌≤◌, [], true, false, length, IfSome, MatchOption};
 ghost use Rattle.text_lines.specs.Lines.{lines_of};
-ghost use Rattle.trace_pieces.specs.Pieces.{IsCut};
-ghost use Rattle.trace_pieces.specs.Scanning.{CutOff, IsFirstLine};
+ghost use Rattle.trace_pieces.specs.Pieces.{IsCut, IsCutOff};
+ghost use Rattle.trace_pieces.specs.Scanning.{CutOff, HasWholeLine, IsFirstLine};
 
 use crate::header_line::{begins_next, has_said};
 use crate::piece_cut::PieceCut;
@@ -39,18 +39,42 @@ fn after_piece(text: &[u8]) -> (&[u8], usize)
     (rest, lines)
 }
 
-/// Cuts off the first piece of the text, or nothing if the text is empty. A piece begins at each line whose first word is `vsc`; what
-/// stands before the first of these lines is a piece of its own if it says something, and else belongs to the first piece.
-pub fn cut_piece(text: &[u8]) -> Option<PieceCut<'_>>
-    ensures cut { MatchOption result (text.now ≡ []) (λ cut. IsCut text.now cut.piece.now cut.rest.now) }
-    ensures lines { MatchOption result (text.now ≡ []) (λ cut. cut.lines ≡ length (lines_of cut.piece.now)) }
-    ensures few { MatchOption result (text.now ≡ []) (λ cut. cut.lines + length cut.rest.now ≤ length text.now) }
-    ensures shorter { MatchOption result (text.now ≡ []) (λ cut. length cut.rest.now < length text.now) }
+/// Returns whether the first line of the text ends with a line feed.
+fn has_whole_line(text: &[u8]) -> bool
+    ensures { result ≡ true → HasWholeLine text.now }
+{
+    match memchr(b'\n', text) {
+        Some(_end) => true,
+        None => false,
+    }
+}
+
+/// Returns whether the first piece ends before this rest of the text, whatever follows it.
+fn ends_before(rest: &[u8], is_last: bool) -> bool
+    ensures whole { result ≡ true → is_last ≡ false → HasWholeLine rest.now }
+    ensures last { is_last ≡ true → result ≡ true }
+{
+    is_last || has_whole_line(rest)
+}
+
+/// Cuts off the first piece of the text. A piece begins at each line whose first word is `vsc`; what stands before the first of these lines
+/// is a piece of its own if it says something, and else belongs to the first piece. The text may go on, unless it is the last one.
+///
+/// The answer is nothing if the text is empty, or if it may go on and does not show where its first piece ends: after it no whole line
+/// begins a trace.
+pub fn cut_piece(text: &[u8], is_last: bool) -> Option<PieceCut<'_>>
+    ensures cut { MatchOption result (is_last ≡ true → text.now ≡ []) (λ cut. IsCutOff is_last text.now cut.piece.now cut.rest.now) }
+    ensures lines { IfSome result (λ cut. cut.lines ≡ length (lines_of cut.piece.now)) }
+    ensures few { IfSome result (λ cut. cut.lines + length cut.rest.now ≤ length text.now) }
+    ensures shorter { IfSome result (λ cut. length cut.rest.now < length text.now) }
 {
     if text.is_empty() {
         return None;
     }
     let (rest, lines) = after_piece(text);
+    if !ends_before(rest, is_last) {
+        return None;
+    }
     let piece = &text[..text.len() - rest.len()];
     Some(PieceCut { piece, rest, lines })
 }

@@ -1,23 +1,23 @@
-use Rattle.std.proofs.Common.{◌+◌, ℕ, length, refl, ap, arith}
+use Rattle.std.proofs.Common.{◌+◌, ◌∷◌, [], ◌∙◌, ℕ, List, length, refl, sym, ap, subst, arith}
+use Rattle.std.proofs.lemmas.List.{length-append}
+use Rattle.batch_report.specs.Blocks.{AreCutOff}
 use Rattle.batch_report.specs.declared.block.PlacedPiece.{PlacedPiece}
-use Rattle.batch_report.proofs.BlockLemmas.{cut_more, cut_shorter}
-use Rattle.batch_report.proofs.block.cut_block.Goals.{else-loop-rest-test, then-loop-rest-test+in_default}
+use Rattle.batch_report.proofs.BlockLemmas.{cut_off_more, nothing_cut_off}
 use Rattle.batch_report.proofs.block.cut_block.Goals as goal
 
-pub loop-rest-preserved : goal.loop-rest-preserved
-loop-rest-preserved c =
-    let piece : PlacedPiece = record { text = c.in-Some.cut.piece; before = c.loop-rest.passed } in (
-      rw c.in_ok-push.ensures.items (cut_more c.args.before c.args.text.now c.loop-rest.pieces.items c.loop-rest.passed c.loop-rest.rest.now piece c.in-Some.cut.rest.now c.loop-rest.invariant.0 c.in-Some.ensures.cut refl (c.loop-rest.passed + c.in-Some.cut.lines) (ap (λ (n : ℕ). c.loop-rest.passed + n) c.in-Some.ensures.lines)),
-      omega (arith, c.in-Some.ensures.few, c.loop-rest.invariant.1),
+pub loop-cut-init : goal.loop-cut-init
+loop-cut-init c =
+    let none = ap length c.new-pieces.ensures.items in (
+      subst (λ (ps : List PlacedPiece). AreCutOff c.args.is_last c.args.before c.args.text.now ps c.args.before c.args.text.now) (sym c.new-pieces.ensures.items) (nothing_cut_off c.args.is_last c.args.before c.args.text.now),
+      omega arith,
+      omega (arith, none),
     )
 
-pub returns-clause-count : goal.returns-clause-count
-returns-clause-count c = cut_shorter c.args.before c.args.text.now c.loop-rest.pieces.items c.loop-rest.passed c.loop-rest.rest.now c.loop-rest.invariant.0
-
-pub returns-clause-shorter : goal.returns-clause-shorter
-returns-clause-shorter c =
-    let counted = cut_shorter c.args.before c.args.text.now c.loop-rest.pieces.items c.loop-rest.passed c.loop-rest.rest.now c.loop-rest.invariant.0 in
-    elim c.loop-rest-test.branch [
-      | else-loop-rest-test w ↦ omega (arith, counted, w.loop-rest-test.false, c.len.ensures, c.loop-rest.pieces.ok.0)
-      | then-loop-rest-test+in_default w ↦ (let none = ap length w.in_default.ensures.shorter in omega (arith, none, c.requires.some))
-    ]
+pub loop-cut-preserved : goal.loop-cut-preserved
+loop-cut-preserved c =
+    let piece : PlacedPiece = record { text = c.in-Some.cut.piece; before = c.loop-cut.passed } in
+    let count = ap length c.in_ok-push.ensures.items ∙ length-append c.loop-cut.pieces.items (piece ∷ []) in (
+      rw c.in_ok-push.ensures.items (cut_off_more c.args.is_last c.args.before c.args.text.now c.loop-cut.pieces.items c.loop-cut.passed c.loop-cut.rest.now piece c.in-Some.cut.rest.now c.loop-cut.invariant.0 c.in-Some.ensures.cut refl (c.loop-cut.passed + c.in-Some.cut.lines) (ap (λ (n : ℕ). c.loop-cut.passed + n) c.in-Some.ensures.lines)),
+      omega (arith, c.in-Some.ensures.few, c.loop-cut.invariant.1),
+      omega (arith, count, c.in-Some.ensures.shorter, c.loop-cut.invariant.2),
+    )
