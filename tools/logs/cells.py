@@ -38,6 +38,9 @@ def key_of(text):
 
 def value_key(cell):
     """What makes two cells the same value."""
+    # Most of the values of a large log are new, and digits alone.
+    if type(cell) is str and cell.isdecimal() and len(cell) <= 1000:
+        return int(cell)
     if cell is None or isinstance(cell, str) and cell.strip().lower() in NOTHING:
         return "null"
     if isinstance(cell, (bool, list, dict)):

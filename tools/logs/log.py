@@ -1,6 +1,7 @@
 """What a log holds: the operations of each process in order, and barriers as places between them."""
 
 import collections
+import itertools
 
 from logs import cells
 from logs.mistakes import Mistake, at_line, note
@@ -32,7 +33,9 @@ LEFT = {
     "and": lambda held, given: held & given,
     "xor": lambda held, given: held ^ given,
 }
-MOST_PROCESSES, MOST_OPERATIONS, MOST_LOCATIONS, MOST_BEFORE, MOST_KEPT = 64, 4096, 4096, 4096, 160
+# What a trace may have; how many operations, locations and orders each a text of versions 1 and 2 has room for; and what `vsc verify` takes.
+MOST_PROCESSES, MOST_OPERATIONS, MOST_LOCATIONS, MOST_BEFORE = 64, 1048576, 65536, 4194304
+MOST_SMALL, MOST_KEPT = 4096, 160
 ADVICE = "cut the log (tools/cut-log; docs/LOGS.md, How much)"
 
 # An operation of the trace, and the line of the log that has it: `read` and `written` are keys of values, or None. `source` is what a trace
@@ -68,7 +71,8 @@ class Log:
 
     def take_rows(self, rows):
         """Adds an operation for each row. Most of the time of a large log goes into this loop."""
-        kinds, processes, locations, names, value = self.kinds, self.processes, self.locations, self.names, self.value_of
+        kinds, processes, locations, names = self.kinds, self.processes, self.locations, self.names
+        values, value = self.values, self.value_of
         for line, process, word, location, read, written, ok, start, end in rows:
             kind = kinds.get(word) or self.kind_of(line, word)
             if kind == "skip":
@@ -83,11 +87,11 @@ class Log:
             if kind == "read":
                 if read is None:
                     raise at_line(line, "no read")
-                read, written = value(read), None
+                read, written = values[read] if type(read) is str else value(read), None
             elif kind == "write":
                 if written is None:
                     raise at_line(line, "no written")
-                read, written = None, value(written)
+                read, written = None, values[written] if type(written) is str else value(written)
             elif kind == "barrier":
                 self.take_barrier(name, place, len(operations))
                 continue
@@ -161,16 +165,17 @@ class Log:
 
     def look_at_what_is_kept(self, orders):
         """Says if `vsc verify` refuses the trace: it drops reads that repeat the operation before them, but none that an order names."""
-        named = {operation for order in orders for operation in order}
+        dropped = {(b.process, b.place) for ops in self.processes.values() for a, b in zip(ops, ops[1:]) if b.written is None and self.is_repeat(a, b)}
+        if dropped:
+            dropped.difference_update(itertools.chain.from_iterable(orders))
         count = self.count()
-        dropped = sum(self.is_repeat(a, b) and (b.process, b.place) not in named for ops in self.processes.values() for a, b in zip(ops, ops[1:]))
-        if count - dropped > MOST_KEPT:
-            note(f"{count} operations, {count - dropped} beside reads that are dropped; `vsc verify` takes {MOST_KEPT}, and `vsc survey` all")
+        if count - len(dropped) > MOST_KEPT:
+            note(f"{count} operations, {count - len(dropped)} beside reads that are dropped; `vsc verify` takes {MOST_KEPT}, and `vsc survey` all")
 
     @staticmethod
     def is_repeat(earlier, later):
-        left = earlier.read if earlier.written is None else earlier.written
-        return later.written is None and later.location == earlier.location and later.read == left
+        """Whether a read repeats the operation before it."""
+        return later.location == earlier.location and later.read == (earlier.read if earlier.written is None else earlier.written)
 
     def tell_spellings(self):
         for spellings in (self.names, self.locations, self.values):

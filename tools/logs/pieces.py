@@ -7,7 +7,6 @@ them are. docs/LOGS.md says why each of the pieces that are made here does which
 
 import bisect
 import collections
-import itertools
 
 from logs.log import MOST_BEFORE, Log
 from logs.orders import Orders
@@ -58,9 +57,8 @@ class Draft:
         places = {(op.process, op.place): (process, at) for process, operations in kept.items() for at, op in enumerate(operations, 1)}
         processes = {process: [self.renamed(op, at, places) for at, op in enumerate(operations, 1)] for process, operations in kept.items()}
         orders = self.orders(kept, processes)
-        needed = orders.needed()
-        confirms = self.confirms and len(needed) <= MOST_BEFORE
-        return Piece(self.what, kept, processes, orders.with_room(needed), self.initial, self.final, self.refutes, confirms)
+        confirms = self.confirms and orders.count() <= MOST_BEFORE
+        return Piece(self.what, kept, processes, orders.lines(), self.initial, self.final, self.refutes, confirms)
 
     def renamed(self, op, at, places):
         """The operation in the piece. If the piece cannot say from where it reads, it does not, and then says less than the whole."""
@@ -74,15 +72,18 @@ class Draft:
         """What stands before what, also where this follows from operations that the piece has not."""
         log, found = Log({}), []
         log.processes.update(processes)
-        if self.whole.rows:
-            places = {process: [op.place for op in operations] for process, operations in kept.items()}
+        if self.whole.orders:
+            places = {self.whole.orders.number[process]: [op.place for op in operations] for process, operations in kept.items()}
             for process, operations in kept.items():
-                known = collections.Counter()
-                for (at, op), other in itertools.product(enumerate(operations, 1), kept):
-                    last = bisect.bisect_right(places[other], self.whole.last_before((process, op.place), other))
-                    if other != process and last > known[other]:
-                        known[other] = last
-                        found.append(((other, last), (process, at)))
+                before, known = None, collections.Counter()
+                for at, op in enumerate(operations, 1):
+                    row = self.whole.orders.row((process, op.place))
+                    for other in [other for other in places if self.whole.processes[other] != process and (not before or row[other] != before[other])]:
+                        last = bisect.bisect_right(places[other], row[other])
+                        if last > known[other]:
+                            known[other] = last
+                            found.append(((self.whole.processes[other], last), (process, at)))
+                    before = row
         return Orders(log, False, found)
 
 
@@ -109,7 +110,7 @@ def by_locations(whole, groups):
             for draft in found:
                 draft.keep(op)
     pieces = [draft.made() for draft in drafts]
-    return Parts(pieces, covers and not whole.rows and is_forest(pieces))
+    return Parts(pieces, covers and not whole.orders and is_forest(pieces))
 
 
 def is_forest(pieces):
@@ -258,34 +259,19 @@ def is_closed(whole, cut):
     return all(whole.last_before((process, cut[process]), other) <= cut[other] for process in ended for other in whole.processes)
 
 
-def barriers(whole):
-    """All cuts at barriers but the start and the end."""
-    order = whole.orders.in_order() if whole.rows else [(op.process, op.place) for op in whole.log.operations()]
-    cut, found = dict.fromkeys(whole.processes, 0), []
-    if not whole.rows and len(whole.processes) > 1:
-        return []
-    for (process, place), following in zip(order, order[1:]):
-        cut[process] = place
-        # Most cuts fail at the operation that comes next.
-        if all(whole.last_before(following, other) >= cut[other] for other in whole.processes) and is_barrier(whole, cut):
-            found.append(dict(cut))
-    return found
-
-
-def size(cut):
-    return sum(cut.values())
-
-
-def far_apart(whole, cuts, most):
-    """As few of these cuts as leave no more than `most` operations between two, where that can be."""
-    chosen, last, near = [], 0, None
-    for cut in [*cuts, None]:
-        now = whole.log.count() if cut is None else size(cut)
-        if now - last > most and near is not None:
+def at_barriers(whole, most):
+    """As few cuts at barriers as leave no more than `most` operations between two, where that can be."""
+    chosen, near = [], None
+    for now in whole.orders.barriers():
+        if near and now - (chosen[-1] if chosen else 0) > most:
             chosen.append(near)
-            last, near = size(near), None
-        near = cut
-    return chosen
+        near = now
+    order = whole.orders.order or [0] * whole.log.count()
+    cut, cuts = collections.Counter(), []
+    for begin, end in zip([0, *chosen], chosen):
+        cut.update(whole.processes[number] for number in order[begin:end])
+        cuts.append(collections.Counter(cut))
+    return cuts
 
 
 def each(order, count):

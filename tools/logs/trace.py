@@ -1,9 +1,10 @@
 """The trace that a log becomes: its names, its numbers and its lines."""
 
 import collections
+import itertools
 import re
 
-from logs.log import ADVICE, MOST_LOCATIONS
+from logs.log import ADVICE, MOST_LOCATIONS, MOST_SMALL
 from logs.mistakes import Mistake, note
 
 LARGEST = 2**64 - 1
@@ -40,6 +41,10 @@ class Names:
         return [f"{self.what} {name} is {text}" for text, name in self.of.items() if whole or name != text]
 
 
+def is_plain(key):
+    return isinstance(key, int) and 0 <= key <= LARGEST
+
+
 class Values:
     """Numbers of the trace for the values of the log. Those from 0 to 2^64 - 1 stay, and each other value gets one that no row has."""
 
@@ -48,11 +53,9 @@ class Values:
         self.of = {}
 
     def fill(self, keys):
-        plain = {key for key in keys if isinstance(key, int) and 0 <= key <= LARGEST}
-        free = self.free(plain)
-        for key in keys:
-            if key not in plain and key not in self.of:
-                self.of[key] = next(free)
+        other = [key for key in keys if not is_plain(key)]
+        if other:
+            self.of = dict(zip(other, self.free({key for key in keys if is_plain(key)})))
 
     @staticmethod
     def free(plain):
@@ -72,13 +75,12 @@ class Naming:
     """What processes, locations and values are called in a trace of a log, and in traces of its pieces."""
 
     def __init__(self, log, initial, final):
-        operations = log.operations()
-        self.log = log
+        self.log, operations = log, log.operations()
         self.processes, self.locations, self.values = Names("process", "P"), Names("location", "L"), Values()
         self.processes.fill(list(log.processes))
-        self.locations.fill(list(collections.OrderedDict.fromkeys([*(op.location for op in operations), *initial, *final])))
+        self.locations.fill(dict.fromkeys(itertools.chain((op.location for op in operations), initial, final)))
         self.used = dict.fromkeys(key for op in operations for key in (op.read, op.written) if key is not None)
-        self.used.update(dict.fromkeys([*initial.values(), *final.values()]))
+        self.used.update(dict.fromkeys(itertools.chain(initial.values(), final.values())))
         self.values.fill(self.used)
 
     def look_at_limits(self):
@@ -104,19 +106,30 @@ class Trace:
         self.processes, self.orders, self.initial, self.final, self.naming = processes, orders, initial, final, naming
 
     def operation_line(self, op):
-        words = ["U" if None not in (op.read, op.written) else "W" if op.read is None else "R", self.naming.locations.of[op.location]]
-        words += [str(self.naming.values.number(key)) for key in (op.read, op.written) if key is not None]
-        if op.source:
-            words.append("from init" if op.source == "init" else f"from {self.naming.processes.of[op.source[0]]} {op.source[1]}")
-        return " ".join(words)
+        name, number = self.naming.locations.of[op.location], self.naming.values.number
+        if op.written is None:
+            line = f"R {name} {number(op.read)}"
+        else:
+            line = f"W {name} {number(op.written)}" if op.read is None else f"U {name} {number(op.read)} {number(op.written)}"
+        return line if op.source is None else f"{line} {self.source(op.source)}"
+
+    def source(self, source):
+        return "from init" if source == "init" else f"from {self.naming.processes.of[source[0]]} {source[1]}"
 
     def value_lines(self, key, values):
         named = sorted((self.naming.locations.of[text], self.naming.values.number(value)) for text, value in values.items())
         return [f"{key} {location} {value}" for location, value in named]
 
+    def version(self):
+        """The earliest version that has room for the trace, and lines for what it says."""
+        operations = [op for own in self.processes.values() for op in own]
+        locations = {op.location for op in operations}.union(self.initial, self.final)
+        if max(len(operations), len(locations), len(self.orders)) > MOST_SMALL:
+            return 3
+        return 2 if self.orders or any(op.source for op in operations) else 1
+
     def head(self):
-        has_sources = any(op.source for operations in self.processes.values() for op in operations)
-        return ["vsc 2" if self.orders or has_sources else "vsc 1", *self.value_lines("init", self.initial), *self.value_lines("final", self.final)]
+        return [f"vsc {self.version()}", *self.value_lines("init", self.initial), *self.value_lines("final", self.final)]
 
     def tail(self):
         name = self.naming.processes.of
@@ -132,9 +145,11 @@ class Trace:
 
 def note_reads_without_source(log, initial):
     """Says which reads nothing can explain, since such a trace has no legal schedule for that reason alone."""
-    written = {(op.location, op.written) for op in log.operations()}
-    for op in log.operations():
-        if op.read is None or (op.location, op.read) in written or initial.get(op.location) == op.read:
+    written, operations = collections.defaultdict(set), log.operations()
+    for op in operations:
+        written[op.location].add(op.written)
+    for op in operations:
+        if op.read is None or op.read in written[op.location] or initial.get(op.location) == op.read:
             continue
         has = f"holds {initial[op.location]} at the start" if op.location in initial else "has no initial value (--init)"
         note(f"line {op.line}: reads {op.read} at {op.location}, which nothing writes, and {op.location} {has}")

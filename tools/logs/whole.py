@@ -12,9 +12,7 @@ class Whole:
     def __init__(self, log, with_times, initial, final, known=()):
         self.log, self.initial, self.final = log, initial, final
         self.processes = list(log.processes)
-        self.number = {name: at for at, name in enumerate(self.processes)}
         self.orders = Orders(log, with_times, known)
-        self.rows = self.orders.rows()
         # By location: by process the places that write it; by location and value: the same of those that leave the value.
         self.writers = collections.defaultdict(lambda: collections.defaultdict(list))
         self.leaving = collections.defaultdict(lambda: collections.defaultdict(list))
@@ -31,7 +29,7 @@ class Whole:
         """The last place of a process that stands before an operation, or 0."""
         if process == name[0]:
             return name[1] - 1
-        return self.rows[name][self.number[process]] if self.rows else 0
+        return self.orders.last_before(name, process)
 
     def stands_before(self, one, other):
         return one[1] <= self.last_before(other, one[0])
