@@ -105,7 +105,8 @@ class Trace:
     def number(self, word):
         """The operation of a word as `P.3`."""
         process, _, place = word.partition(".")
-        if not re.fullmatch("[A-Za-z_][A-Za-z0-9_]{0,31}", process) or not re.fullmatch("[1-9][0-9]*", place) or int(place) > 65535:
+        most = 65535 if sum(map(len, self.processes)) <= 4096 else 4294967295
+        if not re.fullmatch("[A-Za-z_][A-Za-z0-9_]{0,31}", process) or not re.fullmatch("[1-9][0-9]*", place) or int(place) > most:
             raise Refused("BadLine")
         if process not in self.names:
             raise Refused("NoOperation")

@@ -20,6 +20,8 @@ SHAPES = ((2, 1), (4, 4), (8, 1), (8, 8), (16, 16), (64, 4), (64, 64), (4, 64))
 FAULTS = ("sc", "tso", "pso", "mut", "near")
 # A smaller log has too few operations for many processes and locations: it is made of shapes alone of which the product is no larger.
 SMALL = 200
+# The most operations, and the most pairs, that a text of version 1 or 2 may have.
+MOST_OF_VERSION_2 = 4096
 ROUND_SHAPES = ((2, 1), (4, 4), (8, 1), (8, 8), (16, 16))
 ROUND_FAULTS = ("sc", "tso", "mut")
 
@@ -49,7 +51,8 @@ class Rng:
 
 def text(initial, final, processes, pairs=()):
     """The text of a trace."""
-    lines = ["vsc 2" if pairs else "vsc 1"]
+    is_large = max(sum(map(len, processes)), len(pairs)) > MOST_OF_VERSION_2
+    lines = ["vsc 3" if is_large else "vsc 2" if pairs else "vsc 1"]
     lines += [f"init {name} {initial[name]}" for name in sorted(initial)]
     lines += [f"final {name} {final[name]}" for name in sorted(final)]
     for number, ops in enumerate(processes):

@@ -159,7 +159,7 @@ fn survey(log: &NumberedLog) -> (&'static str, u64) {
     let reduced = ReducedLog::of(Global, log).ok().unwrap();
     let mut order = Propagation::new(Global, &reduced.log, Budget::new(BUDGET)).ok().unwrap();
     let mut search = ScheduleSearch::new(Global);
-    let answer = match search.run(Global, &mut order).ok().unwrap() {
+    let answer = match search.run(Global, &mut order, &[]).ok().unwrap() {
         SearchEnding::Scheduled => {
             let schedule = reduced.expand(Global, log, search.schedule()).ok().unwrap();
             assert!(is_legal(log, schedule.as_slice()), "a schedule that is not legal");

@@ -6,6 +6,7 @@ use schedule_text::schedule_reader::read_schedule;
 use schedule_text::schedule_writer::write_schedule;
 use std::alloc::{AllocError, Global};
 use std::process::Abort;
+use trace_semantics::limits::Limits;
 use trace_semantics::name::Name;
 use trace_semantics::operation::{Op, OpName, Origin};
 use trace_semantics::trace::{Operations, Process, Trace};
@@ -45,10 +46,15 @@ before Z 9 Z 10\nbefore Z 9 A 1\nbefore Z 10 A 1\n\
 before A 1 Z 10\nbefore A 1 A 2\nbefore A 2 Z 9\nbefore A 2 Z 10\n";
 
 /// Texts, and what is written of their traces.
-const WRITTEN: [(&str, &str); 5] = [
+const WRITTEN: [(&str, &str); 7] = [
     (SCATTERED, IN_ORDER),
-    // Version 2 is written only where it is needed.
+    // A later version is written only where it is needed.
     ("vsc 2", "vsc 1\n"),
+    ("vsc 3", "vsc 1\n"),
+    (
+        "vsc 3\nproc P\nW x 1\nR x 1 from P 1",
+        "vsc 2\nproc P\nW x 1\nR x 1 from P 1\n",
+    ),
     (
         "vsc 2\ninit y 0\n# c\ninit  x 0\nproc P\nW x 1",
         "vsc 1\ninit x 0\ninit y 0\nproc P\nW x 1\n",
@@ -108,6 +114,26 @@ fn large_text(rt: &impl Abort, alloc: Global) -> String {
 fn writes_4096_operations_and_pairs(rt: HostRuntime) {
     let text = large_text(&rt, rt.alloc());
     assert_written(&rt, rt.alloc(), text.as_str(), text.as_str());
+}
+
+#[test]
+fn writes_version_3_of_4097_operations(rt: HostRuntime) {
+    let alloc = rt.alloc();
+    let mut text = ample(&rt, String::from_str(alloc, "vsc 3\nproc P\n"));
+    for number in 1..=4097u32 {
+        push_line(&rt, &mut text, format!(in alloc; "W x {number}\n"));
+    }
+    assert_written(&rt, alloc, text.as_str(), text.as_str());
+}
+
+#[test]
+fn writes_version_3_of_4097_locations(rt: HostRuntime) {
+    let alloc = rt.alloc();
+    let mut text = ample(&rt, String::from_str(alloc, "vsc 3\n"));
+    for number in 1000..=5096u32 {
+        push_line(&rt, &mut text, format!(in alloc; "init a{number} 0\n"));
+    }
+    assert_written(&rt, alloc, text.as_str(), text.as_str());
 }
 
 /// The name of these bytes.
@@ -171,7 +197,7 @@ fn writes_a_trace_that_was_built(rt: HostRuntime) {
 
 /// Asserts that this is the text of the schedule that it spells.
 fn assert_schedule(rt: &impl Abort, alloc: Global, text: &str) {
-    let schedule = ample(rt, read_schedule(alloc, text.as_bytes()));
+    let schedule = ample(rt, read_schedule(alloc, Limits::Small, text.as_bytes()));
     let written = ample(rt, write_schedule(alloc, &schedule));
     expect(rt, written.as_slice() == text.as_bytes(), text.len());
 }
@@ -181,7 +207,10 @@ fn writes_schedules_as_they_are(rt: HostRuntime) {
     for text in ["", "P.1\nQ.1\n", "Q.1\nP.1\nQ.1\n_.65535\ninit.10\n"] {
         assert_schedule(&rt, rt.alloc(), text);
     }
-    let schedule = ample(&rt, read_schedule(rt.alloc(), b"#\nQ_7.65535"));
+    let schedule = ample(
+        &rt,
+        read_schedule(rt.alloc(), Limits::Small, b"#\nQ_7.65535"),
+    );
     assert!(&rt; schedule.names().len() == 1);
     let names = schedule.into_names();
     assert!(&rt; names.len() == 1 && names[0].place == 65535);

@@ -11,6 +11,7 @@ use std::alloc::Global;
 use std::process::Abort;
 use trace_semantics::judgement::Judgement;
 use trace_semantics::laws::legal_exactly_where_faultless;
+use trace_semantics::limits::Limits;
 use trace_semantics::schedule::Schedule;
 use trace_semantics::trace::Trace;
 use trace_text::trace_reader::read_trace;
@@ -63,7 +64,7 @@ fn drops_repeated_reads_and_puts_them_back(rt: HostRuntime) {
     let trace = ample(&rt, read_trace(alloc, TIED.as_bytes()));
     let reduced = ample(&rt, reduce(alloc, &trace));
     assert_kept(&rt, alloc, &reduced, KEPT);
-    let schedule = ample(&rt, read_schedule(alloc, ORDER.as_bytes()));
+    let schedule = ample(&rt, read_schedule(alloc, Limits::Small, ORDER.as_bytes()));
     let whole = expanded(&rt, alloc, &reduced, &schedule);
     assert_text(&rt, alloc, &whole, WHOLE_ORDER);
     assert_legal(&rt, alloc, &trace, &whole);
