@@ -84,8 +84,8 @@ is_nearer ordered pair x = (bytes_eq x.process pair.0.process && (nat_lt pair.0.
 abbrev pub is_told : TraceValue → (OpName → OpName → Bool) → (OpName → Option Op) → OpName × OpName → Bool
 is_told t ordered left pair = ordered pair.0 pair.1 && (not (bytes_eq pair.0.process pair.1.process) && not (list_any (is_nearer ordered pair) (left_names t left)))
 
--- the part: what remains of each process, all initial values, the final values that stay, and the first 4,096 of its pairs, the largest
--- number that a trace may have, all under the new names
+-- the part: what remains of each process, all initial values, the final values that stay, and the first 4,096 of its pairs, as many as
+-- a text of version 2 may have, all under the new names
 abbrev pub part : TraceValue → (OpName → OpName → Bool) → (OpName → Bool) → TraceValue
 part t ordered chosen = record {
   processes = map (left_process (stays t ordered chosen)) t.processes;

@@ -19,7 +19,7 @@ use Rattle.trace_text.specs.Statement.{ReadsFrom, Unsaid, FromInit, FromOp, Stat
 use Rattle.trace_text.specs.TraceText.{header_line}
 use Rattle.trace_text.specs.declared.version.Version.{Version}
 use Rattle.trace_text.specs.declared.version.Version.TheVariants.{One, Two, Three}
-use Rattle.trace_text.specs.Version.{is_two, limits_of}
+use Rattle.trace_text.specs.Version.{has_version_2_lines, limits_of}
 
 -- kinds of statements
 abbrev pub is_proc : Statement → Bool
@@ -164,7 +164,7 @@ statements_of two body = filter_map (statement_of two) body
 -- what is wrong with the words of a line after those of the lines before it, of which the first is the header
 abbrev pub words_fault : List (List (List ℕ)) → List (List ℕ) → Option TraceCause
 words_fault [] words = if is_header words then None else Some Header
-words_fault (header ∷ earlier) words = said_fault (limits_of (version_of header)) (statements_of (is_two (version_of header)) earlier) (statement_of (is_two (version_of header)) words)
+words_fault (header ∷ earlier) words = said_fault (limits_of (version_of header)) (statements_of (has_version_2_lines (version_of header)) earlier) (statement_of (has_version_2_lines (version_of header)) words)
 
 -- a byte above 127
 abbrev pub is_high : ℕ → Bool
@@ -216,7 +216,7 @@ abbrev pub line_reference_fault : List (List (List ℕ)) → List ℕ → Option
 line_reference_fault [] line = None
 line_reference_fault (header ∷ body) line =
     if is_skipped (words_of line) then None
-    else reference_fault (statements_of (is_two (version_of header)) body) (statement_of (is_two (version_of header)) (words_of line))
+    else reference_fault (statements_of (has_version_2_lines (version_of header)) body) (statement_of (has_version_2_lines (version_of header)) (words_of line))
 
 -- no line by itself has a fault
 abbrev pub IsLineByLineFaultless : List ℕ → Type 0

@@ -18,7 +18,7 @@ use Rattle.trace_semantics.specs.Limits.{max_operations, max_locations, max_pair
 use Rattle.trace_semantics.specs.Trace.{TraceValue, operation_count, location_count}
 use Rattle.trace_text.specs.declared.version.Version.{Version}
 use Rattle.trace_text.specs.declared.version.Version.TheVariants.{One, Two, Three}
-use Rattle.trace_text.specs.Version.{is_two, limits_of}
+use Rattle.trace_text.specs.Version.{has_version_2_lines, limits_of}
 
 abbrev pub version_word : Version → List ℕ
 version_word One = codes "1"
@@ -102,5 +102,5 @@ pub record SpellsTrace (text : List ℕ) (t : TraceValue) : Type 0 where
   pub in_front : (front behind : List (List (List ℕ))) → body ≡ front ++ behind → list_any (begins (codes "proc")) front ≡ true → list_any (λ words. begins (codes "init") words || begins (codes "final") words) behind ≡ false
   pub before : (words : List (List ℕ)) → Contains (filter (begins (codes "before")) body) words ↔ Contains (map before_line t.before) words
   pub few_before : length (filter (begins (codes "before")) body) ≤ max_pairs (limits_of version)
-  pub lines_known : is_two version ≡ false → needs_version_2 t ≡ false
+  pub lines_known : has_version_2_lines version ≡ false → needs_version_2 t ≡ false
   pub fits : FitsIn (limits_of version) t

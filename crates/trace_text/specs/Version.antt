@@ -6,10 +6,10 @@ use Rattle.trace_text.specs.declared.version.Version.{Version}
 use Rattle.trace_text.specs.declared.version.Version.TheVariants.{One, Two, Three}
 
 -- a text of this version may have the lines of version 2
-abbrev pub is_two : Version → Bool
-is_two One = false
-is_two Two = true
-is_two Three = true
+abbrev pub has_version_2_lines : Version → Bool
+has_version_2_lines One = false
+has_version_2_lines Two = true
+has_version_2_lines Three = true
 
 -- the limits of a text of this version
 abbrev pub limits_of : Version → Limits

@@ -10,7 +10,7 @@ ghost use Rattle.trace_text.specs.References.{is_of, is_among, fault_of_referenc
 ghost use Rattle.trace_text.specs.Said.{said, said_source};
 ghost use Rattle.trace_semantics.specs.Place.{place_of};
 ghost use Rattle.trace_text.specs.TraceFault.{references_of, references_of_source, is_before_itself};
-ghost use Rattle.trace_text.specs.Version.{is_two};
+ghost use Rattle.trace_text.specs.Version.{has_version_2_lines};
 
 use crate::statement::{ReadsFrom, Statement, read_statement};
 use crate::trace_fault::{LineRefusal, TraceCause, TraceFault};
@@ -99,8 +99,8 @@ fn fault_of_names(processes: &[Process], statement: Statement<'_>) -> Result<(),
 
 /// Checks the operations that a line names.
 fn check_line(version: Version, processes: &[Process], line: &[u8]) -> Result<(), LineRefusal>
-    ensures refused { IfErr result (IsRefusedFor (fault_of_line (is_two version) processes.now line.now)) }
-    ensures fine { OnOk result (fault_of_line (is_two version) processes.now line.now ≡ None) }
+    ensures refused { IfErr result (IsRefusedFor (fault_of_line (has_version_2_lines version) processes.now line.now)) }
+    ensures fine { OnOk result (fault_of_line (has_version_2_lines version) processes.now line.now ≡ None) }
 {
     let words = first_words(line);
     if is_skipped_line(words.as_slice()) {
@@ -114,8 +114,8 @@ fn check_line(version: Version, processes: &[Process], line: &[u8]) -> Result<()
 
 /// Checks the operations that each line of a text names.
 fn check_lines(version: Version, processes: &[Process], text: &[u8]) -> Result<(), TraceFault>
-    ensures refused { IfErr result (IsRefusedByReferences (is_two version) processes.now text.now) }
-    ensures fine { OnOk result (IsFaultless (λ (before : List (List ℕ)) (here : List ℕ). fault_of_line (is_two version) processes.now here) (lines_of text.now)) }
+    ensures refused { IfErr result (IsRefusedByReferences (has_version_2_lines version) processes.now text.now) }
+    ensures fine { OnOk result (IsFaultless (λ (before : List (List ℕ)) (here : List ℕ). fault_of_line (has_version_2_lines version) processes.now here) (lines_of text.now)) }
 {
     let mut rest = text;
     let mut next = 1usize;
@@ -136,10 +136,10 @@ pub fn check_references(
     processes: &[Process],
     text: &[u8],
 ) -> Result<(), TraceFault>
-    ensures refused { IfErr result (IsRefusedByReferences (is_two version) processes.now text.now) }
-    ensures fine { OnOk result (IsFaultless (λ (before : List (List ℕ)) (here : List ℕ). fault_of_line (is_two version) processes.now here) (lines_of text.now)) }
+    ensures refused { IfErr result (IsRefusedByReferences (has_version_2_lines version) processes.now text.now) }
+    ensures fine { OnOk result (IsFaultless (λ (before : List (List ℕ)) (here : List ℕ). fault_of_line (has_version_2_lines version) processes.now here) (lines_of text.now)) }
 {
-    if !version.is_two() {
+    if !version.has_version_2_lines() {
         return Ok(());
     }
     check_lines(version, processes, text)

@@ -4,7 +4,7 @@ ghost use Rattle.std.specs.Prelude.{◌≡◌, ◌≤◌, ◌&&◌, codes, false
 ghost use Rattle.std.specs.Str.{bytes_eq};
 ghost use Rattle.trace_text.specs.Said.{said};
 ghost use Rattle.trace_text.specs.Statement.{statement_of};
-ghost use Rattle.trace_text.specs.Version.{is_two};
+ghost use Rattle.trace_text.specs.Version.{has_version_2_lines};
 
 use crate::version::Version;
 use text_lines::words::is_word;
@@ -137,9 +137,9 @@ fn read_plain_statement<'a>(words: &[&'a [u8]]) -> Option<Statement<'a>>
 
 /// Returns what the words of a line say, if they are of a form that the version has.
 pub fn read_statement<'a>(version: Version, words: &[&'a [u8]]) -> Option<Statement<'a>>
-    ensures { option_map said result ≡ statement_of (is_two version) (map (λ word. word.now) words.now) }
+    ensures { option_map said result ≡ statement_of (has_version_2_lines version) (map (λ word. word.now) words.now) }
 {
-    if version.is_two() && words.len() >= 5 {
+    if version.has_version_2_lines() && words.len() >= 5 {
         read_long_statement(words)
     } else {
         read_plain_statement(words)

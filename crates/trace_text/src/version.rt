@@ -1,7 +1,7 @@
 //! The versions of trace texts.
 
 ghost use Rattle.std.specs.Prelude.{◌≡◌};
-ghost use Rattle.trace_text.specs.Version.{is_two, limits_of};
+ghost use Rattle.trace_text.specs.Version.{has_version_2_lines, limits_of};
 
 use trace_semantics::limits::Limits;
 
@@ -18,8 +18,8 @@ pub enum Version {
 
 impl Version {
     /// Returns whether the lines of version 2 may stand in the text.
-    pub fn is_two(self) -> bool
-        ensures { result ≡ is_two self }
+    pub fn has_version_2_lines(self) -> bool
+        ensures { result ≡ has_version_2_lines self }
     {
         matches!(self, Version::Two | Version::Three)
     }

@@ -23,7 +23,7 @@ use Rattle.trace_text.proofs.LineWords.SpellLemmas.{filter_lines, any_line, of_p
 use Rattle.trace_text.proofs.NeverFaulty.ToldLemmas.{Has, are_told, line_tells, had_said, has_writable}
 use Rattle.trace_semantics.specs.Limits.{max_pairs}
 use Rattle.trace_text.specs.declared.version.Version.{Version}
-use Rattle.trace_text.specs.Version.{is_two, limits_of}
+use Rattle.trace_text.specs.Version.{has_version_2_lines, limits_of}
 
 -- the statement is of an entry of the trace
 abbrev pub IsHad : TraceValue → Statement → Type 0
@@ -33,7 +33,7 @@ IsHad t s = (e : Entry) × Has t e × (statement_for e ≡ s)
 pub record AreStated (t : TraceValue) (version : Version) (body : List (List (List ℕ))) : Type 0 where
   pub ss : List Statement
   pub words : body ≡ map words_for ss
-  pub said : map (saying (is_two version)) ss ≡ map Some ss
+  pub said : map (saying (has_version_2_lines version)) ss ≡ map Some ss
   pub each : (s : Statement) → Contains ss s → IsHad t s
   pub processes : filter is_of_process ss ≡ flat_map process_statements t.processes
   pub initial : List (List ℕ × ℕ)
@@ -142,11 +142,11 @@ stated text t ok h =
     record {
       ss = ss;
       words = told.words;
-      said = said_map (is_two h.version) ss (λ s c. had_says (is_two h.version) t h.lines_known s (each s c));
+      said = said_map (has_version_2_lines h.version) ss (λ s c. had_says (has_version_2_lines h.version) t h.lines_known s (each s c));
       each = each;
-      processes = same_statements (is_two h.version) (filter is_of_process ss) (flat_map process_statements t.processes)
-          (said_map (is_two h.version) (filter is_of_process ss) (λ s c. had_says (is_two h.version) t h.lines_known s (each s (from_filter is_of_process ss s c).0)))
-          (said_map (is_two h.version) (flat_map process_statements t.processes) (λ s c. had_says (is_two h.version) t h.lines_known s (process_had t s c)))
+      processes = same_statements (has_version_2_lines h.version) (filter is_of_process ss) (flat_map process_statements t.processes)
+          (said_map (has_version_2_lines h.version) (filter is_of_process ss) (λ s c. had_says (has_version_2_lines h.version) t h.lines_known s (each s (from_filter is_of_process ss s c).0)))
+          (said_map (has_version_2_lines h.version) (flat_map process_statements t.processes) (λ s c. had_says (has_version_2_lines h.version) t h.lines_known s (process_had t s c)))
           (sym (filter_lines is_process_line is_of_process of_process ss) ∙ ap (filter is_process_line) (sym told.words) ∙ h.processes ∙ sym (processes_words t.processes));
       initial = initial_of es;
       initial_are = initial_filtered es;

@@ -33,7 +33,7 @@ use Rattle.trace_semantics.specs.declared.limits.Limits.{Limits}
 use Rattle.trace_semantics.specs.Limits.{max_operations, max_locations, max_pairs}
 use Rattle.trace_semantics.proofs.LimitLemmas.{operations_in, pairs_in, locations_in}
 use Rattle.trace_text.specs.declared.version.Version.{Version}
-use Rattle.trace_text.specs.Version.{is_two, limits_of}
+use Rattle.trace_text.specs.Version.{has_version_2_lines, limits_of}
 
 -- what is gathered from statements in their order, where none has a fault
 pub record AreGathered (limits : Limits) (ss : List Statement) (u : TraceValue) : Type 0 where
@@ -54,12 +54,12 @@ all_moved : {A : Type 0} (p : A → Bool) (xs ys : List A) → IsPermutation xs 
 all_moved p xs ys m h = list_all-from_AllPass p ys (All-permutation (λ x. p x ≡ true) xs ys m (AllPass-from_list_all p xs h))
 
 -- the operations of the pairs are known
-pairs_of : (version : Version) (lines : List (List ℕ)) (ss : List Statement) (u t : TraceValue) → AreSaid version lines ss → AreGathered (limits_of version) ss u → IsArranged u t → IsFaultless (λ (before : List (List ℕ)) (here : List ℕ). fault_of_line (is_two version) t.processes here) lines →
+pairs_of : (version : Version) (lines : List (List ℕ)) (ss : List Statement) (u t : TraceValue) → AreSaid version lines ss → AreGathered (limits_of version) ss u → IsArranged u t → IsFaultless (λ (before : List (List ℕ)) (here : List ℕ). fault_of_line (has_version_2_lines version) t.processes here) lines →
     (pair : OpName × OpName) → Contains u.before pair → IsKnownPair t pair
 pairs_of version lines ss u t r g a f = pairs_known t u.before version lines ss (subst (λ (ps : List Process). AllPairs (λ (p q : Process). p.name ≢ q.name) ps) (sym a.processes) g.processes_apart) r g.before g.written.before f
 
 -- what is gathered, in order, is a trace
-pub trace_arranged : (version : Version) (lines : List (List ℕ)) (ss : List Statement) (u t : TraceValue) → AreSaid version lines ss → AreGathered (limits_of version) ss u → IsArranged u t → IsFaultless (λ (before : List (List ℕ)) (here : List ℕ). fault_of_line (is_two version) t.processes here) lines → IsTrace t
+pub trace_arranged : (version : Version) (lines : List (List ℕ)) (ss : List Statement) (u t : TraceValue) → AreSaid version lines ss → AreGathered (limits_of version) ss u → IsArranged u t → IsFaultless (λ (before : List (List ℕ)) (here : List ℕ). fault_of_line (has_version_2_lines version) t.processes here) lines → IsTrace t
 trace_arranged version lines ss u t r g a f =
     let distinct_ones = subst (λ (ps : List Process). AllPairs (λ (p q : Process). p.name ≢ q.name) ps) (sym a.processes) g.processes_apart in
     let processes : filter is_of_process ss ≡ flat_map process_statements t.processes = g.processes ∙ ap (flat_map process_statements) (sym a.processes) in
@@ -129,7 +129,7 @@ same_lines t old new lines e a known words = (
 )
 
 -- the text of these lines spells it
-pub spells_arranged : (version : Version) (text : List ℕ) (ss : List Statement) (u t : TraceValue) → AreSaid version (lines_of text) ss → AreGathered (limits_of version) ss u → IsArranged u t → IsFaultless (λ (before : List (List ℕ)) (here : List ℕ). fault_of_line (is_two version) t.processes here) (lines_of text) → SpellsTrace text t
+pub spells_arranged : (version : Version) (text : List ℕ) (ss : List Statement) (u t : TraceValue) → AreSaid version (lines_of text) ss → AreGathered (limits_of version) ss u → IsArranged u t → IsFaultless (λ (before : List (List ℕ)) (here : List ℕ). fault_of_line (has_version_2_lines version) t.processes here) (lines_of text) → SpellsTrace text t
 spells_arranged version text ss u t r g a f =
     let before = before_lines ss u.before g.before in
     let processes : filter is_of_process ss ≡ flat_map process_statements t.processes = g.processes ∙ ap (flat_map process_statements) (sym a.processes) in
@@ -143,7 +143,7 @@ spells_arranged version text ss u t r g a f =
       in_front = λ front behind e p. lines_in_front (limits_of version) ss front behind r.faultless e p;
       before = same_lines t u.before t.before (filter (begins (codes "before")) (map words_for ss)) before a.before (pairs_of version (lines_of text) ss u t r g a f);
       few_before = omega (arith, g.few_before, ap length before, length-map u.before before_line, ap length g.before, length-map u.before before_statement);
-      lines_known = plain_version (is_two version) ss t u.before r.said processes g.before a.before.few;
+      lines_known = plain_version (has_version_2_lines version) ss t u.before r.said processes g.before a.before.few;
       fits = record {
         few_operations = omega (arith, g.few_operations, count_operations ss t.processes processes);
         few_locations = omega (arith, g.few_locations, few_named (locations_of t) (filter_map location_named ss) (named_by_some ss t u.initial u.final_values a.initial a.final_values g.initial g.final_values processes));

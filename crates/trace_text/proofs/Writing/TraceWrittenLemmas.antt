@@ -25,7 +25,7 @@ use Rattle.trace_semantics.specs.declared.limits.Limits.TheVariants.{Small}
 use Rattle.trace_semantics.specs.Limits.{max_operations, max_locations, max_pairs}
 use Rattle.trace_text.specs.declared.version.Version.{Version}
 use Rattle.trace_text.specs.declared.version.Version.TheVariants.{One, Two, Three}
-use Rattle.trace_text.specs.Version.{is_two, limits_of}
+use Rattle.trace_text.specs.Version.{has_version_2_lines, limits_of}
 
 -- tests over lists that are made of others
 all_map : {A B : Type 0} (p : B → Bool) (q : A → Bool) (f : A → B) → ((x : A) → q x ≡ true → p (f x) ≡ true) → (xs : List A) → list_all q xs ≡ true → list_all p (map f xs) ≡ true
@@ -232,7 +232,7 @@ same_elements {A} xs ys e x = (subst (λ (l : List A). Contains l x) e, subst (�
 
 -- the version of the canonical text has lines and room
 record HasVersion (t : TraceValue) (version : Version) : Type 0 where
-  lines_known : is_two version ≡ false → needs_version_2 t ≡ false
+  lines_known : has_version_2_lines version ≡ false → needs_version_2 t ≡ false
   fits : FitsIn (limits_of version) t
   few_pairs : length t.before ≤ max_pairs (limits_of version)
 
