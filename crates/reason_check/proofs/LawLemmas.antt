@@ -28,7 +28,7 @@ use Rattle.reason_clauses.specs.Made.{IsCycleOf, IsLastOf}
 use Rattle.reason_counting.proofs.CountLemmas.{too_few}
 use Rattle.reason_text.specs.declared.reason_line.ReasonLine.{ReasonLine}
 use Rattle.reason_text.specs.declared.reason_line.ReasonLine.TheVariants.{Skipped, Cycle, Before, Variable, Source, Last, TooFew, Counting, Waiting, Derivation}
-use Rattle.reason_check.specs.Accepted.{IsAcceptedReasons, EndsEmpty, HasDerivation}
+use Rattle.reason_check.specs.Accepted.{IsAcceptedReasons, EndsEmpty, HasDerivation, NoneIsEmpty}
 use Rattle.reason_check.specs.LineClauses.{IsClauseOfLine}
 use Rattle.reason_check.proofs.LineLemmas.{Made, speaks}
 
@@ -89,11 +89,11 @@ module _ (t : TraceValue) (text : List ℕ) (count : ℕ) (ok : IsTrace t) (acce
   holds : (l : List ℤ) → Contains accepted.clauses l → HoldsOfSchedules t (orders_said (named_pairs t accepted.variables) l)
   holds = each_holds t ok accepted.variables (filter (speaks t) accepted.lines) accepted.clauses accepted.made
 
-  refuted : EndsEmpty accepted.clauses ⊎ HasDerivation accepted.clauses accepted.rest → HasNoSchedule t
-  refuted (inl (others, e)) = λ schedule legal. (
+  refuted : EndsEmpty accepted.clauses ⊎ (NoneIsEmpty accepted.clauses × HasDerivation accepted.clauses accepted.rest) → HasNoSchedule t
+  refuted (inl (others, e, _)) = λ schedule legal. (
       let at = holds [] (subst (λ (l : List (List ℤ)). Contains l []) (sym e) (in_middle others [] [])) schedule legal in
       none_in (at.0, at.1) at.2)
-  refuted (inr d) =
+  refuted (inr (_, d)) =
       let none : HasNoModelIn accepted.clauses [] = no_model accepted.clauses [] d.steps (formula_no_zero (length accepted.variables) accepted.clauses accepted.over) refl (steps_of_clauses d.steps d.derived.written) d.accepted in
       unsatisfiable t (named_pairs t accepted.variables) accepted.clauses (all_from (λ (l : List ℤ). HoldsOfSchedules t (orders_said (named_pairs t accepted.variables) l)) accepted.clauses holds) none
 

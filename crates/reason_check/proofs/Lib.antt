@@ -1,5 +1,6 @@
 pub mod AcceptedLemmas
 pub mod LawLemmas
 pub mod LineLemmas
+pub mod PlaceLemmas
 pub mod ReadSoFar
 pub mod RefusedLemmas

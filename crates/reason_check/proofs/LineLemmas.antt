@@ -1,6 +1,6 @@
 -- What comes of a line keeps what the clauses of a list are.
 use Rattle.std.proofs.Common.{◌≡◌, ℕ, ℤ, pos, negsuc, List, [], ◌∷◌, ◌++◌, Bool, true, false, refl, ap, sym, ◌∙◌, inl, inr, subst, length, append-nil}
-use Rattle.std.specs.Prelude.{◌≢◌, not, Result, Ok, Err, OnOk, IfOk}
+use Rattle.std.specs.Prelude.{◌≢◌, ◌↔◌, not, Result, Ok, Err, OnOk, IfOk}
 use Rattle.std.specs.List.{AllZip, Contains, filter, list_all}
 use Rattle.std.proofs.lemmas.Bool.{and_parts, and_from, cond-true, cond-false}
 use Rattle.std.proofs.lemmas.List.Elements.{filter-append}
@@ -73,38 +73,44 @@ module _ (t : TraceValue) where
       let literal = clause.says from.0 from.1 in
       subst (λ (q : OpName × OpName). Contains (orders_said (named_pairs t pairs) literals) q) (said_by_names pairs literal.0 ∙ ap (named_order t) literal.2 ∙ from.2) (to_map (order_said (named_pairs t pairs)) literals literal.0 literal.1)
 
-  -- a clause that says no orders is empty
+  -- a clause that says no orders is empty, and an empty one says none
   no_literals : (pairs orders : List OrderPair) (literals : List ℤ) → IsClauseOf pairs orders literals → orders ≡ [] → literals ≡ []
   no_literals pairs orders [] h e = refl
   no_literals pairs orders (z ∷ zs) h e = absurd (none_in (order_of pairs z) (subst (λ (l : List OrderPair). Contains l (order_of pairs z)) e (h.only z (head_in z zs))))
 
+  no_orders : (pairs orders : List OrderPair) (literals : List ℤ) → IsClauseOf pairs orders literals → literals ≡ [] → orders ≡ []
+  no_orders pairs [] literals h e = refl
+  no_orders pairs (order ∷ orders) literals h e =
+      let said = h.says order (head_in order orders) in
+      absurd (none_in said.0 (subst (λ (l : List ℤ). Contains l said.0) e said.1))
+
   -- what was made of the orders is appended
-  pub next_of : (Is : List (OpName × OpName) → Type 0) (old new : ReasonList) (orders : List OrderPair) (outcome : LineOutcome) → Makes t orders Is → IsAppended old new orders → (outcome ≡ Refuted → orders ≡ []) × (outcome ≡ Derivation → ⊥) → HasNext t Is old new outcome
+  pub next_of : (Is : List (OpName × OpName) → Type 0) (old new : ReasonList) (orders : List OrderPair) (outcome : LineOutcome) → Makes t orders Is → IsAppended old new orders → ((outcome ≡ Refuted) ↔ (orders ≡ [])) × (outcome ≡ Derivation → ⊥) → HasNext t Is old new outcome
   next_of Is old new orders outcome made h came = record {
     clause = h.clause;
     appended = h.appended;
     extended = h.extended;
     over = h.says.over;
     is = made (orders_said (named_pairs t new.variables) h.clause) (has_orders new.variables orders h.clause h.says);
-    ended = λ e. no_literals new.variables orders h.clause h.says (came.0 e);
+    ended = (λ e. no_literals new.variables orders h.clause h.says (came.0.0 e), λ e. came.0.1 (no_orders new.variables orders h.clause h.says e));
     goes_on = came.1;
   }
 
   -- a clause of no orders is appended
-  pub next_empty : (location : List ℕ) (value : ℕ) (old new : ReasonList) (orders : List OrderPair) (outcome : LineOutcome) → orders ≡ [] → AreTooFew t location value → IsAppended old new orders → (outcome ≡ Refuted → orders ≡ []) × (outcome ≡ Derivation → ⊥) → HasNext t (λ clause. (clause ≡ []) × AreTooFew t location value) old new outcome
+  pub next_empty : (location : List ℕ) (value : ℕ) (old new : ReasonList) (orders : List OrderPair) (outcome : LineOutcome) → orders ≡ [] → AreTooFew t location value → IsAppended old new orders → ((outcome ≡ Refuted) ↔ (orders ≡ [])) × (outcome ≡ Derivation → ⊥) → HasNext t (λ clause. (clause ≡ []) × AreTooFew t location value) old new outcome
   next_empty location value old new orders outcome none few h came = record {
     clause = h.clause;
     appended = h.appended;
     extended = h.extended;
     over = h.says.over;
     is = (ap (orders_said (named_pairs t new.variables)) (no_literals new.variables orders h.clause h.says none), few);
-    ended = λ e. no_literals new.variables orders h.clause h.says none;
+    ended = (λ e. no_literals new.variables orders h.clause h.says none, λ e. came.0.1 none);
     goes_on = came.1;
   }
 
   module _ (Is : List (OpName × OpName) → Type 0) (old new : ReasonList) where
     -- the same of what may be refused
-    pub next_if_made : (orders : List OrderPair) → Makes t orders Is → (result : Result LineOutcome ReasonRefusal) → OnOk result (IsAppended old new orders) → IfOk result (λ outcome. (outcome ≡ Refuted → orders ≡ []) × (outcome ≢ Derivation)) → IfOk result (HasNext t Is old new)
+    pub next_if_made : (orders : List OrderPair) → Makes t orders Is → (result : Result LineOutcome ReasonRefusal) → OnOk result (IsAppended old new orders) → IfOk result (λ outcome. ((outcome ≡ Refuted) ↔ (orders ≡ [])) × (outcome ≢ Derivation)) → IfOk result (HasNext t Is old new)
     next_if_made orders made (Ok outcome) appended came = next_of Is old new orders outcome made appended came
     next_if_made orders made (Err refusal) appended came = tt
 
@@ -113,7 +119,7 @@ module _ (t : TraceValue) where
     taken_if_next line kind (Ok outcome) next = inl (record { clause = next.clause; appended = next.appended; extended = next.extended; over = next.over; is = kind (orders_said (named_pairs t new.variables) next.clause) next.is; ended = next.ended; goes_on = next.goes_on })
     taken_if_next line kind (Err refusal) next = tt
 
-  pub next_if_empty : (location : List ℕ) (value : ℕ) (old new : ReasonList) (orders : List OrderPair) → orders ≡ [] → AreTooFew t location value → (result : Result LineOutcome ReasonRefusal) → OnOk result (IsAppended old new orders) → IfOk result (λ outcome. (outcome ≡ Refuted → orders ≡ []) × (outcome ≢ Derivation)) → IfOk result (HasNext t (λ clause. (clause ≡ []) × AreTooFew t location value) old new)
+  pub next_if_empty : (location : List ℕ) (value : ℕ) (old new : ReasonList) (orders : List OrderPair) → orders ≡ [] → AreTooFew t location value → (result : Result LineOutcome ReasonRefusal) → OnOk result (IsAppended old new orders) → IfOk result (λ outcome. ((outcome ≡ Refuted) ↔ (orders ≡ [])) × (outcome ≢ Derivation)) → IfOk result (HasNext t (λ clause. (clause ≡ []) × AreTooFew t location value) old new)
   next_if_empty location value old new orders none few (Ok outcome) appended came = next_empty location value old new orders outcome none few appended came
   next_if_empty location value old new orders none few (Err refusal) appended came = tt
 

@@ -1,6 +1,6 @@
 -- Certificates of reasons that are accepted.
 use Rattle.std.specs.Prelude.{◌≡◌, ◌⊎◌, true, ℕ, ℤ, List, [], ◌∷◌, ◌++◌, map, length, codes}
-use Rattle.std.specs.List.{list_all, AllZip}
+use Rattle.std.specs.List.{list_all, AllZip, Contains}
 use Rattle.dimacs.specs.Literal.{is_clause_up_to}
 use Rattle.lrat_check.specs.Checked.{IsAccepted}
 use Rattle.lrat_check.specs.LratText.{AreStepLines}
@@ -14,9 +14,13 @@ use Rattle.text_lines.specs.Lines.{lines_of}
 use Rattle.text_lines.specs.Words.{words_of}
 use Rattle.trace_semantics.specs.Trace.{TraceValue}
 
--- the last of the clauses is empty: no schedule can have one of its orders
+-- none of the clauses is empty
+abbrev pub NoneIsEmpty : List (List ℤ) → Type 0
+NoneIsEmpty clauses = Contains clauses [] → ⊥
+
+-- the last of the clauses is the first that is empty: no schedule can have one of its orders
 abbrev pub EndsEmpty : List (List ℤ) → Type 0
-EndsEmpty clauses = (others : List (List ℤ)) × (clauses ≡ others ++ [] ∷ [])
+EndsEmpty clauses = (others : List (List ℤ)) × (clauses ≡ others ++ [] ∷ []) × NoneIsEmpty others
 
 -- the first of the lines is `p`, and the others are a derivation that is accepted for these clauses
 pub record HasDerivation (clauses : List (List ℤ)) (rest : List (List ℕ)) : Type 0 where
@@ -29,8 +33,8 @@ pub record HasDerivation (clauses : List (List ℤ)) (rest : List (List ℕ)) : 
   pub accepted : IsAccepted clauses [] steps
 
 -- The text is a certificate of reasons of this many clauses that is accepted of the trace: its first line is the header, and of the lines
--- after it some at the front make clauses of the trace, over variables that stand for pairs of operations. The last of these clauses is
--- empty; or what is left of the lines is a derivation that is accepted for them, as `vsc lrat` accepts one.
+-- after it some at the front make clauses of the trace, over variables that stand for pairs of operations. The last of these clauses is the
+-- first that is empty; or none is empty, and what is left of the lines is a derivation that is accepted for them, as `vsc lrat` accepts one.
 pub record IsAcceptedReasons (t : TraceValue) (text : List ℕ) (count : ℕ) : Type 0 where
   pub header : List ℕ
   pub front : List (List ℕ)
@@ -44,4 +48,4 @@ pub record IsAcceptedReasons (t : TraceValue) (text : List ℕ) (count : ℕ) : 
   pub over : list_all (is_clause_up_to (length variables)) clauses ≡ true
   pub made : MakeClauses t variables lines clauses
   pub counted : count ≡ length clauses
-  pub refuted : EndsEmpty clauses ⊎ HasDerivation clauses rest
+  pub refuted : EndsEmpty clauses ⊎ (NoneIsEmpty clauses × HasDerivation clauses rest)

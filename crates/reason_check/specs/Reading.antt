@@ -5,7 +5,7 @@ use Rattle.lrat_check.specs.Checked.{IsAccepted}
 use Rattle.lrat_check.specs.LratText.{SpellsDerivation}
 use Rattle.lrat_check.specs.declared.derivation.Step.{Step}
 use Rattle.order_clauses.specs.declared.reason_list.ReasonList.{ReasonList}
-use Rattle.reason_check.specs.Accepted.{EndsEmpty}
+use Rattle.reason_check.specs.Accepted.{EndsEmpty, NoneIsEmpty}
 use Rattle.reason_check.specs.Taken.{AreMade, IsTaken}
 use Rattle.reason_check.specs.declared.clause_lines.DerivationText.{DerivationText}
 use Rattle.reason_check.specs.declared.line_clause.LineOutcome.{LineOutcome}
@@ -32,17 +32,25 @@ pub record IsReadTo (t : TraceValue) (text : List ℕ) (list : ReasonList) (rest
   pub read : AllZip (IsReasonLine t) (map words_of front) lines
   pub made : AreMade t lines list
 
--- this many lines are in front of these, the header among them
+-- and none of the clauses is empty, so that these lines are wanted too
+abbrev pub IsReadOn : TraceValue → List ℕ → ReasonList → List (List ℕ) → Type 0
+IsReadOn t text list rest = IsReadTo t text list rest × NoneIsEmpty list.clauses.items
+
+-- this many of the text's lines are in front of these, which are its last ones
+abbrev pub AreBefore : List ℕ → List (List ℕ) → ℕ → Type 0
+AreBefore text rest before = before + length rest ≡ length (lines_of text)
+
 abbrev pub IsReadBehind : TraceValue → List ℕ → ReasonList → ℕ → List (List ℕ) → Type 0
-IsReadBehind t text list before rest = (read : IsReadTo t text list rest) × (before ≡ length read.front + 1)
+IsReadBehind t text list before rest = IsReadOn t text list rest × AreBefore text rest before
 
 -- the text is what follows the line `p`, which is the first of these lines; or there are none
 abbrev pub IsBehindMark : List ℕ → List (List ℕ) → Type 0
 IsBehindMark text rest = ((mark : List ℕ) × (rest ≡ mark ∷ lines_of text) × (words_of mark ≡ codes "p" ∷ [])) ⊎ ((rest ≡ []) × (lines_of text ≡ []))
 
--- the lines were read up to the derivation, or up to one that makes an empty clause
+-- the lines were read up to the derivation, and no clause is empty; or up to the first that makes an empty clause
 abbrev pub IsReadUpTo : TraceValue → List ℕ → ReasonList → Option DerivationText → Type 0
-IsReadUpTo t text list (Some derivation) = (rest : List (List ℕ)) × IsReadTo t text list rest × IsBehindMark derivation.text.now rest
+IsReadUpTo t text list (Some derivation) =
+    (rest : List (List ℕ)) × IsReadOn t text list rest × IsBehindMark derivation.text.now rest × AreBefore text (lines_of derivation.text.now) derivation.before
 IsReadUpTo t text list None = (rest : List (List ℕ)) × IsReadTo t text list rest × EndsEmpty list.clauses.items
 
 -- the text spells a derivation that is accepted for these clauses

@@ -9,7 +9,7 @@ use Rattle.lrat_check.specs.declared.refusal.StepFault.{StepFault}
 use Rattle.order_clauses.specs.declared.reason_list.ReasonList.{ReasonList}
 use Rattle.reason_clauses.specs.declared.cause.ReasonCause.{ReasonCause}
 use Rattle.reason_clauses.specs.declared.cause.ReasonCause.TheVariants.{BadHeader}
-use Rattle.reason_check.specs.Reading.{IsReadBehind, IsReadTo, IsBehindMark}
+use Rattle.reason_check.specs.Reading.{AreBefore, IsReadBehind, IsReadOn, IsBehindMark}
 use Rattle.reason_check.specs.declared.reasons_fault.ReasonsFault.{ReasonsFault}
 use Rattle.reason_check.specs.declared.reasons_fault.ReasonsFault.TheVariants.{OutOfMemory as NoMemory, Line, Lrat, Step}
 use Rattle.reason_text.specs.Header.{begins_reasons}
@@ -17,6 +17,7 @@ use Rattle.reason_text.specs.LineFault.{HasLineFault}
 use Rattle.reason_text.specs.ReasonLine.{IsReasonLine}
 use Rattle.reason_text.specs.declared.reason_line.ReasonLine.{ReasonLine}
 use Rattle.reason_text.specs.declared.reason_line.ReasonLine.TheVariants.{Skipped, Derivation}
+use Rattle.text_lines.specs.Lines.{lines_of}
 use Rattle.text_lines.specs.Words.{words_of}
 use Rattle.text_lines.specs.declared.fault.PlacedFault.{PlacedFault}
 use Rattle.text_lines.specs.declared.fault.PlacedFault.TheVariants.{OutOfMemory as Exhausted, At}
@@ -35,12 +36,13 @@ asks_trace Skipped = false
 asks_trace Derivation = false
 asks_trace line = true
 
--- why the line with these words is refused: for a fault of the words; or they are those of a line, and the trace does not have what it says
+-- why the line with these words is refused: for a fault of the words; or, for any cause, they are those of a line that asks something of the trace
 pub data IsRefusedLine (t : TraceValue) (words : List (List ℕ)) (cause : ReasonCause) : Type 0 where
   ByWords : HasLineFault t words cause → IsRefusedLine t words cause
   ByTrace : (line : ReasonLine) → IsReasonLine t words line → asks_trace line ≡ true → IsRefusedLine t words cause
 
--- The first line is no header; or all lines in front of one were read and make clauses, and this one is refused. Its place is counted from 1.
+-- The first line is no header; or all lines in front of one were read and make clauses, of which none is empty, and this one is refused. Its
+-- place is counted from 1.
 pub data IsRefusedAt (t : TraceValue) (text : List ℕ) (cause : ReasonCause) (place : ℕ) : Type 0 where
   NoHeader : begins_reasons text ≡ false → cause ≡ BadHeader → place ≡ 1 → IsRefusedAt t text cause place
   AtLine : (list : ReasonList) (before : ℕ) (line : List ℕ) (rest : List (List ℕ)) → IsReadBehind t text list before (line ∷ rest) → place ≡ before + 1 → IsRefusedLine t (words_of line) cause → IsRefusedAt t text cause place
@@ -57,21 +59,23 @@ abbrev pub fault_of_step : PlacedFault StepFault → ReasonsFault
 fault_of_step Exhausted = NoMemory
 fault_of_step (At fault place) = Step fault place
 
--- the fault is that of the derivation's text
-abbrev pub IsOfLrat : PlacedFault LratCause → ReasonsFault → Type 0
-IsOfLrat Exhausted fault = fault ≡ NoMemory
-IsOfLrat (At cause line) fault = (place : ℕ) × (fault ≡ Lrat cause place)
+-- the fault of the text of a derivation in front of which this many lines stand
+abbrev pub fault_of_lrat : ℕ → PlacedFault LratCause → ReasonsFault
+fault_of_lrat before Exhausted = NoMemory
+fault_of_lrat before (At cause line) = Lrat cause (before + line)
 
--- the text of a derivation for these clauses is refused: it has its first fault of a line for this cause, or this step of it is refused
-abbrev pub IsRefusedDerivation : List (List ℤ) → List ℕ → ReasonsFault → Type 0
-IsRefusedDerivation clauses text NoMemory = ⊤
-IsRefusedDerivation clauses text (Line cause place) = ⊥
-IsRefusedDerivation clauses text (Lrat cause place) = (line : ℕ) × HasLratFault text cause line
-IsRefusedDerivation clauses text (Step fault place) = (steps : List DerivationStep) × SpellsDerivation text steps × IsRefused clauses [] steps fault place
+-- The text of a derivation for these clauses, behind this many lines, is refused: it has its first fault of a line for this cause, and the place is
+-- that of the line, counted from the certificate's first; or this step of it is refused.
+abbrev pub IsRefusedDerivation : List (List ℤ) → ℕ → List ℕ → ReasonsFault → Type 0
+IsRefusedDerivation clauses before text NoMemory = ⊤
+IsRefusedDerivation clauses before text (Line cause place) = ⊥
+IsRefusedDerivation clauses before text (Lrat cause place) = (line : ℕ) × HasLratFault text cause line × (place ≡ before + line)
+IsRefusedDerivation clauses before text (Step fault place) = (steps : List DerivationStep) × SpellsDerivation text steps × IsRefused clauses [] steps fault place
 
--- all lines in front of the derivation were read and make clauses, and it is refused for them
+-- all lines in front of the derivation were read and make clauses, of which none is empty, and it is refused for them
 abbrev pub IsRefusedBehind : TraceValue → List ℕ → ReasonsFault → Type 0
-IsRefusedBehind t text fault = (list : ReasonList) × (rest : List (List ℕ)) × (derivation : List ℕ) × IsReadTo t text list rest × IsBehindMark derivation rest × IsRefusedDerivation list.clauses.items derivation fault
+IsRefusedBehind t text fault =
+    (list : ReasonList) × (rest : List (List ℕ)) × (derivation : List ℕ) × (before : ℕ) × IsReadOn t text list rest × IsBehindMark derivation rest × AreBefore text (lines_of derivation) before × IsRefusedDerivation list.clauses.items before derivation fault
 
 -- the certificate is refused: a line in front of the derivation, or else the derivation
 abbrev pub IsRefusedReasons : TraceValue → List ℕ → ReasonsFault → Type 0

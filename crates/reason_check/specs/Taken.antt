@@ -1,5 +1,5 @@
 -- What comes of a line.
-use Rattle.std.specs.Prelude.{◌≡◌, ◌≢◌, ◌⊎◌, true, ℤ, List, [], ◌∷◌, ◌++◌, length}
+use Rattle.std.specs.Prelude.{◌≡◌, ◌≢◌, ◌⊎◌, ◌↔◌, true, ℤ, List, [], ◌∷◌, ◌++◌, length}
 use Rattle.std.specs.List.{list_all}
 use Rattle.dimacs.specs.Literal.{is_clause_up_to}
 use Rattle.order_clauses.specs.Appended.{HasSameClauses}
@@ -24,14 +24,14 @@ pub record AreMade (t : TraceValue) (lines : List ReasonLine) (list : ReasonList
   pub over : AreOver list
   pub made : MakeClauses t list.variables lines list.clauses.items
 
--- the list has one clause more, of this kind, and perhaps more variables; the clause is empty where it refutes the trace
+-- the list has one clause more, of this kind, and perhaps more variables; the clause refutes the trace exactly where it is empty
 pub record HasNext (t : TraceValue) (Is : List (OpName × OpName) → Type 0) (old new : ReasonList) (outcome : LineOutcome) : Type 0 where
   pub clause : List ℤ
   pub appended : new.clauses.items ≡ old.clauses.items ++ clause ∷ []
   pub extended : IsExtended old.variables new.variables
   pub over : is_clause_up_to (length new.variables) clause ≡ true
   pub is : Is (orders_said (named_pairs t new.variables) clause)
-  pub ended : outcome ≡ Refuted → clause ≡ []
+  pub ended : (outcome ≡ Refuted) ↔ (clause ≡ [])
   pub goes_on : outcome ≢ Derivation
 
 -- no clause comes of the line

@@ -1,6 +1,6 @@
 //! The lines of a certificate of reasons up to its derivation.
 
-ghost use Rattle.std.specs.Prelude.{◌≡◌, [], IfOk, IfErr};
+ghost use Rattle.std.specs.Prelude.{◌≡◌, ◌≤◌, ◌+◌, [], length, IfOk, IfErr, IfSome};
 ghost use Rattle.text_lines.specs.Words.{words_of};
 ghost use Rattle.reason_clauses.specs.Tables.{HoldTables};
 ghost use Rattle.reason_check.specs.Reading.{IsReadAndTaken, IsReadUpTo};
@@ -53,6 +53,7 @@ pub fn read_clauses<'a>(
 ) -> Result<Option<DerivationText<'a>>, ReasonsFault>
     requires { list.old.clauses.items ≡ [] }
     ensures read { IfOk result (IsReadUpTo trace.now text.now list.new) }
+    ensures shorter { IfOk result (λ end. IfSome end (λ derivation. derivation.before + length derivation.text.now ≤ length text.now)) }
     ensures refused { IfErr result (IsRefusedReading trace.now text.now) }
 {
     let mut rest = match cut_header(text) {

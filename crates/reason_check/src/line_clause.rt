@@ -1,6 +1,6 @@
 //! The clause of a line of a certificate of reasons.
 
-ghost use Rattle.std.specs.Prelude.{◌≡◌, ◌≢◌, [], true, map, OnErr, OnOk, IfOk};
+ghost use Rattle.std.specs.Prelude.{◌≡◌, ◌≢◌, ◌↔◌, [], true, map, OnErr, OnOk, IfOk};
 ghost use Rattle.order_clauses.specs.Appended.{HasSameClauses, IsAppended};
 ghost use Rattle.order_clauses.specs.Numbered.{named};
 ghost use Rattle.order_clauses.specs.declared.reason_list.ClauseOutcome.TheVariants.{Made};
@@ -66,7 +66,7 @@ fn add_orders(
     list: &mut ReasonList,
 ) -> Result<LineOutcome, ReasonRefusal>
     ensures appended { OnOk result (IsAppended list.old list.new orders.now) }
-    ensures outcome { IfOk result (λ outcome. (outcome ≡ Refuted → orders.now ≡ []) × (outcome ≢ Derivation)) }
+    ensures outcome { IfOk result (λ outcome. ((outcome ≡ Refuted) ↔ (orders.now ≡ [])) × (outcome ≢ Derivation)) }
 {
     let outcome = list.add(alloc, orders)?;
     refuse_outcome(outcome)?;

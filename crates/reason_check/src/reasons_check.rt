@@ -1,6 +1,6 @@
 //! The check of a certificate of reasons.
 
-ghost use Rattle.std.specs.Prelude.{IfErr, IfOk, OnOk};
+ghost use Rattle.std.specs.Prelude.{◌<◌, ◌+◌, ◌^◌, length, IfErr, IfOk, OnOk};
 ghost use Rattle.trace_semantics.specs.Legal.{HasNoSchedule};
 ghost use Rattle.reason_check.specs.Accepted.{IsAcceptedReasons};
 ghost use Rattle.reason_check.specs.Reading.{IsDerivationFor};
@@ -29,9 +29,10 @@ fn check_derivation(
     list: ReasonList,
     derivation: DerivationText<'_>,
 ) -> Result<(), ReasonsFault>
-    requires { AreOver list }
+    requires over { AreOver list }
+    requires fits { derivation.before + length derivation.text.now < 2 ^ 63 }
     ensures refutes { OnOk result (IsDerivationFor list.clauses.items derivation.entry.text.now) }
-    ensures refused { IfErr result (IsRefusedDerivation list.clauses.items derivation.entry.text.now) }
+    ensures refused { IfErr result (IsRefusedDerivation list.clauses.items derivation.entry.before derivation.entry.text.now) }
 {
     let steps = match read_lrat(alloc, derivation.text) {
         Ok(steps) => steps,

@@ -19,8 +19,10 @@ pub enum ReasonsFault {
 }
 
 impl ReasonsFault {
-    ghost use Rattle.std.specs.Prelude.{◌≡◌};
-    ghost use Rattle.reason_check.specs.Refused.{IsOfLrat, fault_of_line};
+    ghost use Rattle.std.specs.Prelude.{◌≡◌, ◌≤◌, ◌<◌, ◌+◌, ◌^◌, ℕ};
+    ghost use Rattle.lrat_check.specs.declared.lrat_fault.LratCause.{LratCause};
+    ghost use Rattle.reason_check.specs.Refused.{fault_of_line, fault_of_lrat};
+    ghost use Rattle.text_lines.specs.declared.fault.PlacedFault.TheVariants.{At};
 
     /// The refusal of the line of this number.
     pub fn of_line(refusal: ReasonRefusal, line: usize) -> ReasonsFault
@@ -33,12 +35,13 @@ impl ReasonsFault {
     }
 
     /// The fault of the text of a derivation that begins after this number of lines.
-    pub fn of_lrat(fault: LratFault, before: usize) -> ReasonsFault
-        ensures { IsOfLrat fault result }
+    pub(crate) fn of_lrat(fault: LratFault, before: usize) -> ReasonsFault
+        requires { (cause : LratCause) (line : ℕ) → fault ≡ At cause line → before + line < 2 ^ 64 }
+        ensures { result ≡ fault_of_lrat before fault }
     {
         match fault {
             LratFault::OutOfMemory => ReasonsFault::OutOfMemory,
-            LratFault::At(cause, line) => ReasonsFault::Lrat(cause, line.saturating_add(before)),
+            LratFault::At(cause, line) => ReasonsFault::Lrat(cause, before + line),
         }
     }
 }

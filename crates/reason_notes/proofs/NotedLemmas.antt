@@ -1,15 +1,16 @@
 -- What is so while lines are noted.
 use Rattle.std.proofs.Common.{◌≡◌, ◌≤◌, ◌<◌, ◌⊎◌, true, ℕ, List, [], ◌∷◌, ◌++◌, refl, ap, sym, ◌∙◌, inl, inr, subst, map, length, append_assoc, append-nil, arith}
 use Rattle.std.specs.Prelude.{◌≢◌, not}
-use Rattle.std.specs.List.{AllZip, filter}
+use Rattle.std.specs.List.{AllZip, Contains, filter}
 use Rattle.std.proofs.lemmas.Bool.{cond-true, cond-false}
 use Rattle.std.proofs.lemmas.List.{length-append, map_push}
-use Rattle.std.proofs.lemmas.List.Elements.{filter-append}
+use Rattle.std.proofs.lemmas.List.Elements.{Contains-append_cases, filter-append}
 use Rattle.text_lines.specs.Lines.{lines_of}
 use Rattle.text_lines.specs.Words.{words_of}
 use Rattle.trace_semantics.specs.Trace.{TraceValue}
+use Rattle.trace_semantics.proofs.ElementLemmas.{cases_in, none_in}
 use Rattle.reason_text.specs.Header.{is_header, HasHeader}
-use Rattle.reason_text.specs.ReasonLine.{IsReasonLine}
+use Rattle.reason_text.specs.ReasonLine.{AreLineWords, IsReasonLine}
 use Rattle.reason_text.specs.declared.reason_line.ReasonLine.{ReasonLine}
 use Rattle.reason_text.specs.declared.reason_line.ReasonLine.TheVariants.{Skipped, Cycle, Before, Variable, Source, Last, TooFew, Counting, Waiting, Derivation as DerivationLine}
 use Rattle.reason_check.specs.LineClauses.{is_silent}
@@ -19,7 +20,7 @@ use Rattle.reason_notes.specs.declared.first_lines.LinesWanted.TheVariants.{More
 use Rattle.reason_notes.specs.declared.noted_line.LineNote.{LineNote}
 use Rattle.reason_notes.specs.declared.noted_line.LineNote.TheVariants.{Passed, Noted, End}
 use Rattle.reason_notes.specs.declared.noted_line.NotedLine.{NotedLine}
-use Rattle.reason_notes.specs.Noted.{AreFirstLines, EndsLines, EndsRefuted, IsAdded, IsLineNote, IsNotedOf, speaks}
+use Rattle.reason_notes.specs.Noted.{AreFirstLines, EndsLines, EndsRefuted, IsAdded, IsLineNote, IsNotedOf, NoneRefutes, speaks}
 
 -- the lines up to these were noted so
 pub record AreNotedTo (t : TraceValue) (text : List ℕ) (most : ℕ) (noted : List NotedLine) (rest : List (List ℕ)) : Type 0 where
@@ -83,14 +84,14 @@ module _ (t : TraceValue) (text : List ℕ) (most : ℕ) where
     noted_next next k few = notes_it k.line next k.read k.noted few
 
     -- the derivation follows
-    marks : (said : ReasonLine) → IsReasonLine t (words_of line) said → said ≡ DerivationLine → IsReasonLine t (words_of line) DerivationLine
-    marks said is same = subst (λ (l : ReasonLine). IsReasonLine t (words_of line) l) same is
+    marks : (said : ReasonLine) → IsReasonLine t (words_of line) said → said ≡ DerivationLine → AreLineWords t (words_of line) DerivationLine
+    marks said is same = subst (λ (l : ReasonLine). AreLineWords t (words_of line) l) same is.0
 
     pub noted_end : IsLineNote t (words_of line) End → EndsLines (line ∷ others)
     noted_end k = inr (line, others, refl, marks k.line k.read k.noted)
 
   -- they are the first lines
-  pub first_of_noted : (noted : List NotedLine) (rest : List (List ℕ)) → AreNotedTo t text most noted rest → (length noted ≡ most) ⊎ (EndsRefuted noted ⊎ EndsLines rest) → AreFirstLines t text most noted
+  pub first_of_noted : (noted : List NotedLine) (rest : List (List ℕ)) → AreNotedTo t text most noted rest → EndsRefuted noted ⊎ (NoneRefutes noted × ((length noted ≡ most) ⊎ EndsLines rest)) → AreFirstLines t text most noted
   first_of_noted noted rest h ended = record {
     header = h.header;
     front = h.front;
@@ -107,17 +108,30 @@ module _ (t : TraceValue) (text : List ℕ) (most : ℕ) where
   one_more : (noted : List NotedLine) (next : NotedLine) → length noted < most → length (noted ++ next ∷ []) ≤ most
   one_more noted next fits = let long = length-append noted (next ∷ []) in omega (arith, long, fits)
 
-  module _ (noted new : List NotedLine) (line : List ℕ) (others : List (List ℕ)) (h : AreNotedTo t text most noted (line ∷ others)) (fits : length noted < most) where
+  module _ (noted new : List NotedLine) (line : List ℕ) (others : List (List ℕ)) (h : AreNotedTo t text most noted (line ∷ others)) (fits : length noted < most) (none : NoneRefutes noted) where
     -- what came of the line was added, and more are wanted
     pub more_noted : (outcome : LineNote) (reading : LinesWanted) → IsLineNote t (words_of line) outcome → IsAdded noted new outcome reading → reading ≢ Ended → AreNotedTo t text most new others
     more_noted Passed reading k added more = subst (λ (l : List NotedLine). AreNotedTo t text most l others) (sym added.0) (passed noted line others h k)
     more_noted (Noted next) reading k added more = subst (λ (l : List NotedLine). AreNotedTo t text most l others) (sym added.0) (noted_next noted line others h next k (one_more noted next fits))
     more_noted End reading k added more = absurd (more added.1)
 
+    -- so it leaves an order, if it is noted
+    pub none_refutes : (outcome : LineNote) (reading : LinesWanted) → IsAdded noted new outcome reading → reading ≢ Ended → NoneRefutes new
+    none_refutes Passed reading added more = subst (λ (l : List NotedLine). NoneRefutes l) (sym added.0) none
+    none_refutes (Noted next) reading added more = λ other c empty.
+        elim (Contains-append_cases noted (next ∷ []) other (subst (λ (l : List NotedLine). Contains l other) added.0 c)) [
+          | inl before ↦ none other before empty
+          | inr last ↦ elim (cases_in next [] other last) [
+            | inl same ↦ more (added.1.1 (subst (λ (n : NotedLine). n.orders.items ≡ []) (sym same) empty))
+            | inr behind ↦ none_in other behind
+          ]
+        ]
+    none_refutes End reading added more = absurd (more added.1)
+
     -- and no more are
     pub ended_noted : (outcome : LineNote) (reading : LinesWanted) → IsLineNote t (words_of line) outcome → IsAdded noted new outcome reading → reading ≡ Ended → AreFirstLines t text most new
     ended_noted Passed reading k added ended = absurd (let clash : More ≡ Ended = sym added.1 ∙ ended in cc)
     ended_noted (Noted next) reading k added ended = subst (λ (l : List NotedLine). AreFirstLines t text most l) (sym added.0)
-        (first_of_noted (noted ++ next ∷ []) others (noted_next noted line others h next k (one_more noted next fits)) (inr (inl (noted, next, refl, added.1 ended))))
+        (first_of_noted (noted ++ next ∷ []) others (noted_next noted line others h next k (one_more noted next fits)) (inl (noted, next, refl, added.1.0 ended, none)))
     ended_noted End reading k added ended = subst (λ (l : List NotedLine). AreFirstLines t text most l) (sym added.0)
-        (first_of_noted noted (line ∷ others) h (inr (inr (noted_end noted line others h k))))
+        (first_of_noted noted (line ∷ others) h (inr (none, inr (noted_end noted line others h k))))

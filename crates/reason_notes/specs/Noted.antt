@@ -1,6 +1,6 @@
 -- Which lines of a certificate of reasons are noted, and that they are so.
-use Rattle.std.specs.Prelude.{◌≡◌, ◌≤◌, ◌⊎◌, ◌-◌, Bool, true, not, ℕ, List, [], ◌∷◌, ◌++◌, map, length, codes}
-use Rattle.std.specs.List.{AllZip, filter, flat_map}
+use Rattle.std.specs.Prelude.{◌≡◌, ◌≢◌, ◌≤◌, ◌⊎◌, ◌↔◌, ◌-◌, Bool, true, not, ℕ, List, [], ◌∷◌, ◌++◌, map, length, codes}
+use Rattle.std.specs.List.{AllZip, Contains, filter, flat_map}
 use Rattle.text_lines.specs.Lines.{lines_of}
 use Rattle.text_lines.specs.Words.{words_of}
 use Rattle.trace_semantics.specs.declared.operation.OpName.{OpName}
@@ -28,16 +28,21 @@ IsNotedOf t line noted = (noted.line ≡ line) × IsClauseOfLine t line (named_o
 abbrev pub speaks : ReasonLine → Bool
 speaks line = not (is_silent line)
 
--- the last that is noted says that there is no legal schedule
+-- each that is noted leaves an order
+abbrev pub NoneRefutes : List NotedLine → Type 0
+NoneRefutes noted = (line : NotedLine) → Contains noted line → line.orders.items ≢ []
+
+-- the last that is noted is the first that leaves no order: it says that there is no legal schedule
 abbrev pub EndsRefuted : List NotedLine → Type 0
-EndsRefuted noted = (others : List NotedLine) × (last : NotedLine) × (noted ≡ others ++ last ∷ []) × (last.orders.items ≡ [])
+EndsRefuted noted = (others : List NotedLine) × (last : NotedLine) × (noted ≡ others ++ last ∷ []) × (last.orders.items ≡ []) × NoneRefutes others
 
 -- no line follows, or the first that does is `p`
 abbrev pub EndsLines : List (List ℕ) → Type 0
 EndsLines rest = (rest ≡ []) ⊎ ((mark : List ℕ) × (behind : List (List ℕ)) × (rest ≡ mark ∷ behind) × (words_of mark ≡ codes "p" ∷ []))
 
 -- Of a certificate's lines after its header some at the front are noted, in their order and none twice: of those that are no comments and only
--- number no pair each is noted with the clause that it makes. They are all lines up to the derivation, or up to an empty clause, or else the most that are noted.
+-- number no pair each is noted with the clause that it makes. They are all lines up to the first empty clause; or none leaves no order, and they are all
+-- lines up to the derivation, or else the most that are noted.
 pub record AreFirstLines (t : TraceValue) (text : List ℕ) (most : ℕ) (noted : List NotedLine) : Type 0 where
   pub header : List ℕ
   pub front : List (List ℕ)
@@ -48,7 +53,7 @@ pub record AreFirstLines (t : TraceValue) (text : List ℕ) (most : ℕ) (noted 
   pub read : AllZip (IsReasonLine t) (map words_of front) lines
   pub notes_are : AllZip (IsNotedOf t) (filter speaks lines) noted
   pub few : length noted ≤ most
-  pub ended : (length noted ≡ most) ⊎ (EndsRefuted noted ⊎ EndsLines rest)
+  pub ended : EndsRefuted noted ⊎ (NoneRefutes noted × ((length noted ≡ most) ⊎ EndsLines rest))
 
 -- The text is a certificate that is accepted of the trace, so that this has no legal schedule, and the words are the notes of its first lines, 40
 -- at most, and of how many others there are.
@@ -83,8 +88,8 @@ pub record IsLineNote (t : TraceValue) (words : List (List ℕ)) (outcome : Line
   pub read : IsReasonLine t words line
   pub noted : IsNotedAs t line outcome
 
--- What comes into the list of lines that are noted, and whether more are wanted: not if the derivation follows, and not if the line leaves no order.
+-- What comes into the list of lines that are noted, and whether more are wanted: not if the derivation follows, and behind a clause if it has an order.
 abbrev pub IsAdded : List NotedLine → List NotedLine → LineNote → LinesWanted → Type 0
 IsAdded old new Passed reading = (new ≡ old) × (reading ≡ More)
-IsAdded old new (Noted next) reading = (new ≡ old ++ next ∷ []) × (reading ≡ Ended → next.orders.items ≡ [])
+IsAdded old new (Noted next) reading = (new ≡ old ++ next ∷ []) × ((reading ≡ Ended) ↔ (next.orders.items ≡ []))
 IsAdded old new End reading = (new ≡ old) × (reading ≡ Ended)

@@ -1,6 +1,7 @@
 //! The words of a line of a certificate of reasons.
 
 ghost use Rattle.std.specs.Prelude.{◌≡◌, ◌≢◌, ◌<◌, ◌^◌, ◌∷◌, ℕ, [], true, false, decimal, length, OnOk, IfOk, IfErr, MatchOption};
+ghost use Rattle.std.specs.List.{All};
 ghost use Rattle.text_lines.specs.Words.{words_of};
 ghost use Rattle.reason_clauses.specs.declared.cause.ReasonCause.TheVariants.{BadLine};
 ghost use Rattle.order_clauses.specs.Numbered.{IsKnown};
@@ -50,6 +51,7 @@ pub fn read_operations<'a>(
     line: &'a [u8],
 ) -> Result<Vec<OperationPlace>, ReasonRefusal>
     ensures named { IfOk result (λ operations. words_of line.now ≡ operation_words table.now.trace.now operations.items) }
+    ensures known { IfOk result (λ operations. All (IsKnown table.now.trace.now) operations.items) }
     ensures faulty { IfErr result (IsTrueRefusal table.now (λ t. HasNamesFault t (words_of line.now))) }
 {
     let mut operations = Vec::new(alloc);
@@ -80,6 +82,7 @@ pub fn cut_operation<'a>(
 /// The two operations that the words of the line name.
 pub fn read_pair<'a>(table: &OperationTable<'a>, line: &'a [u8]) -> Result<OrderPair, ReasonRefusal>
     ensures named { IfOk result (λ pair. words_of line.now ≡ operation_words table.now.trace.now (pair.first ∷ pair.second ∷ [])) }
+    ensures known { IfOk result (λ pair. IsKnown table.now.trace.now pair.first × IsKnown table.now.trace.now pair.second) }
     ensures faulty { IfErr result (IsTrueRefusal table.now (λ t. HasPairFault t (words_of line.now))) }
 {
     let (first, rest) = cut_operation(table, line)?;

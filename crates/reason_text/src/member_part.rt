@@ -1,7 +1,7 @@
 //! Members of a line: operations that wait, updates, and ends of locations, each with its pieces behind it.
 
 ghost use Rattle.std.specs.Prelude.{◌≡◌, ◌<◌, ◌∷◌, ◌++◌, [], codes, length, IfOk, IfErr};
-ghost use Rattle.std.specs.List.{flat_map};
+ghost use Rattle.std.specs.List.{All, flat_map};
 ghost use Rattle.text_lines.specs.Words.{words_of};
 ghost use Rattle.trace_semantics.specs.Trace.{TraceValue};
 ghost use Rattle.reason_clauses.specs.declared.cause.ReasonCause.TheVariants.{BadLine};
@@ -105,6 +105,7 @@ pub fn read_parts<'a>(
     line: &'a [u8],
 ) -> Result<Vec<MemberPart<'a>>, ReasonRefusal>
     ensures words { IfOk result (λ parts. words_of line.now ≡ flat_map (part_words table.now.trace.now) parts.items) }
+    ensures known { IfOk result (λ parts. All (IsKnownPart table.now.trace.now) parts.items) }
     ensures faulty { IfErr result (IsTrueRefusal table.now (λ t. HasPartsFault t (words_of line.now))) }
 {
     let mut parts = Vec::new(alloc);

@@ -1,6 +1,6 @@
 //! The lines of a certificate of reasons.
 
-ghost use Rattle.std.specs.Prelude.{◌≡◌, ◌∷◌, codes, IfOk, IfErr};
+ghost use Rattle.std.specs.Prelude.{◌∷◌, codes, IfOk, IfErr};
 ghost use Rattle.text_lines.specs.Words.{words_of};
 ghost use Rattle.trace_semantics.specs.Trace.{TraceValue};
 ghost use Rattle.reason_text.specs.LineFault.{HasKindFault, HasLineFault, IsRefusedBy};

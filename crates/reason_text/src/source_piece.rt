@@ -1,7 +1,7 @@
 //! Pieces: what a line says of some of the sources of a reader.
 
 ghost use Rattle.std.specs.Prelude.{◌≡◌, ◌<◌, ◌∷◌, ◌++◌, [], false, codes, length, true, IfOk, IfErr, IfSome, MatchOption};
-ghost use Rattle.std.specs.List.{flat_map};
+ghost use Rattle.std.specs.List.{All, flat_map};
 ghost use Rattle.text_lines.specs.Words.{words_of};
 ghost use Rattle.trace_semantics.specs.Trace.{TraceValue};
 ghost use Rattle.order_clauses.specs.Numbered.{IsKnown};
@@ -121,6 +121,7 @@ pub fn read_pieces<'a>(
     line: &'a [u8],
 ) -> Result<Vec<SourcePiece>, ReasonRefusal>
     ensures words { IfOk result (λ pieces. words_of line.now ≡ flat_map (piece_words table.now.trace.now) pieces.items) }
+    ensures known { IfOk result (λ pieces. All (IsKnownPiece table.now.trace.now) pieces.items) }
     ensures faulty { IfErr result (IsTrueRefusal table.now (λ t. HasPiecesFault t (words_of line.now))) }
 {
     let mut pieces = Vec::new(alloc);

@@ -9,6 +9,9 @@ use Rattle.certificate.specs.declared.cert_fault.CertCause.{CertCause}
 use Rattle.certificate.specs.declared.certificate.Certificate.{Certificate}
 use Rattle.clause_blocks.specs.Clauses.{clauses_of}
 use Rattle.dimacs.specs.Models.{IsModel}
+use Rattle.reason_check.specs.Refused.{IsRefusedReasons}
+use Rattle.reason_check.specs.declared.reasons_fault.ReasonsFault.{ReasonsFault}
+use Rattle.reason_check.specs.declared.reasons_fault.ReasonsFault.TheVariants.{OutOfMemory as NoReasonMemory, Line, Lrat as BadStep, Step}
 use Rattle.reducer.specs.Reduced.{ReducedValue, IsReduced, HasReduceFault}
 use Rattle.reducer.specs.declared.reduce_fault.ReduceCause.{ReduceCause}
 use Rattle.reducer.specs.declared.reduce_fault.ReduceCause.TheVariants.{StillTooLarge}
@@ -21,7 +24,7 @@ use Rattle.trace_text.specs.TraceText.{SpellsTrace}
 use Rattle.verdict_report.specs.declared.fault.Fault.{Fault}
 use Rattle.verdict_report.specs.declared.fault.Fault.TheVariants.{OutOfMemory, Device, InputTooLong, Trace, Schedule, Part, Model, Cnf, Lrat, Reduce, Decode, Check, Cert, Reasons, Search}
 use Rattle.verdict_report.specs.Admitted.{Admits}
-use Rattle.verdict_report.specs.Fault.{fault_of_part}
+use Rattle.verdict_report.specs.Fault.{fault_of_part, fault_of_reasons}
 use Rattle.verdict_report.specs.Runs.{SourceRun, HandsOut}
 use Rattle.verdict_report.specs.declared.recheck_engine.CertificateSize.{CertificateSize}
 use Rattle.verdict_report.specs.declared.recheck_engine.CertificateSize.TheVariants.{Cubes, Clauses}
@@ -112,3 +115,10 @@ shown_either trace trace_text cert_text (Clauses count) handed said (Err fault) 
 pub none_of_both : (b : Bool) → MatchBool b ⊥ ⊥ → ⊥
 none_of_both true e = e
 none_of_both false e = e
+
+-- a certificate of reasons is refused
+pub said_refused : (t : TraceValue) → IsTrace t → (trace_text cert_text : List ℕ) → SpellsTrace trace_text t → (fault : ReasonsFault) → IsRefusedReasons t cert_text fault → IsSaidOfReasons trace_text cert_text (Err (fault_of_reasons fault))
+said_refused t ok trace_text cert_text spelled NoReasonMemory h = tt
+said_refused t ok trace_text cert_text spelled (Line cause line) h = record { value = t; is_trace = ok; spelled = spelled; refused = h }
+said_refused t ok trace_text cert_text spelled (BadStep cause line) h = record { value = t; is_trace = ok; spelled = spelled; refused = h }
+said_refused t ok trace_text cert_text spelled (Step fault step) h = record { value = t; is_trace = ok; spelled = spelled; refused = h }

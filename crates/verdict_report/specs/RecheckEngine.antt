@@ -8,6 +8,9 @@ use Rattle.certificate.specs.declared.cert_fault.CertCause.{CertCause}
 use Rattle.certificate.specs.declared.certificate.Certificate.{Certificate}
 use Rattle.clause_blocks.specs.Clauses.{clauses_of}
 use Rattle.reason_check.specs.Accepted.{IsAcceptedReasons}
+use Rattle.reason_check.specs.Refused.{IsRefusedReasons}
+use Rattle.reason_check.specs.declared.reasons_fault.ReasonsFault.{ReasonsFault}
+use Rattle.reason_check.specs.declared.reasons_fault.ReasonsFault.TheVariants.{Line, Lrat as BadStep, Step}
 use Rattle.reason_text.specs.Header.{begins_reasons}
 use Rattle.reducer.specs.Reduced.{ReducedValue}
 use Rattle.reducer.specs.Reduction.{kept_trace}
@@ -85,11 +88,12 @@ rechecked_line count = codes "ACCEPTED cubes=" ++ (decimal count ++ codes "\n")
 abbrev pub rechecked_status : ℕ → Status
 rechecked_status count = Yes
 
--- the text spells a trace
-pub record SpellsSomeTrace (text : List ℕ) : Type 0 where
+-- the first text spells a trace, for which the second, a certificate of reasons, is refused for this fault
+pub record AreRefusedReasons (trace_text cert_text : List ℕ) (fault : ReasonsFault) : Type 0 where
   pub value : TraceValue
   pub is_trace : IsTrace value
-  pub spelled : SpellsTrace text value
+  pub spelled : SpellsTrace trace_text value
+  pub refused : IsRefusedReasons value cert_text fault
 
 -- the first text spells a trace, of which the second, a certificate of reasons of this many clauses, is accepted; so the trace has no legal
 -- schedule
@@ -106,9 +110,9 @@ abbrev pub IsSaidOfReasons : List ℕ → List ℕ → Result ℕ Fault → Type
 IsSaidOfReasons trace_text cert_text (Ok count) = AreRefutedByReasons trace_text cert_text count
 IsSaidOfReasons trace_text cert_text (Err OutOfMemory) = ⊤
 IsSaidOfReasons trace_text cert_text (Err (Trace cause line)) = HasTraceFault trace_text cause line
-IsSaidOfReasons trace_text cert_text (Err (Reasons cause line)) = SpellsSomeTrace trace_text
-IsSaidOfReasons trace_text cert_text (Err (Lrat cause line)) = SpellsSomeTrace trace_text
-IsSaidOfReasons trace_text cert_text (Err (Check fault step)) = SpellsSomeTrace trace_text
+IsSaidOfReasons trace_text cert_text (Err (Reasons cause line)) = AreRefusedReasons trace_text cert_text (Line cause line)
+IsSaidOfReasons trace_text cert_text (Err (Lrat cause line)) = AreRefusedReasons trace_text cert_text (BadStep cause line)
+IsSaidOfReasons trace_text cert_text (Err (Check fault step)) = AreRefusedReasons trace_text cert_text (Step fault step)
 IsSaidOfReasons trace_text cert_text (Err fault) = ⊥
 
 -- what is said of a trace and a certificate, which has reasons if its first line is their header, and else a tree

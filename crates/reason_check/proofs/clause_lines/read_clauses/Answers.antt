@@ -1,10 +1,10 @@
-use Rattle.std.proofs.Common.{◌≡◌, ℕ, List, ◌∷◌, sym, ◌∙◌, subst, arith}
+use Rattle.std.proofs.Common.{◌≡◌, ℕ, List, ◌∷◌, sym, subst, arith}
 use Rattle.text_lines.specs.Lines.{lines_of}
 use Rattle.text_lines.specs.Words.{words_of}
 use Rattle.reason_check.specs.Reading.{IsReadAndTaken, IsReadBehind}
 use Rattle.reason_check.specs.declared.line_clause.LineOutcome.{LineOutcome}
 use Rattle.reason_check.specs.declared.line_clause.LineOutcome.TheVariants.{More, Refuted, Derivation}
-use Rattle.reason_check.proofs.ReadSoFar.{read_none, next_read, ends_empty, begins_behind}
+use Rattle.reason_check.proofs.ReadSoFar.{read_none, more_read, next_read, ends_empty, begins_behind}
 use Rattle.reason_check.proofs.RefusedLemmas.{refused_at_line}
 use Rattle.reason_check.specs.Refused.{IsRefusedReading}
 use Rattle.reason_check.specs.declared.reasons_fault.ReasonsFault.{ReasonsFault}
@@ -25,7 +25,7 @@ loop-line-preserved c =
     let taken : IsReadAndTaken t (words_of c.in-Some.line.now) c.loop-line.list new c.in-Ok-More.field-0 = rw c.in-Ok-More.is at c.read_and_take-taken.ensures.taken in
     let same : c.in-Ok-More.field-0 ≡ More = rw c.in-Ok-More.is at c.in-Ok-More.field-0-is in
     record {
-      read = next_read t text c.loop-line.list new c.loop-line.before c.in-Some.line.now (lines_of c.in-Some.after.now) c.in-Ok-More.field-0 (λ e. (let clash : More ≡ Derivation = sym same ∙ e in cc)) h taken;
+      read = more_read t text c.loop-line.list new c.loop-line.before c.in-Some.line.now (lines_of c.in-Some.after.now) c.in-Ok-More.field-0 same h taken;
       behind = let most = c.loop-line.invariant.behind in let less = c.in-Some.ensures.shorter in omega (arith, most, less);
     }
 
@@ -39,8 +39,8 @@ returns-in-Ok-Refuted-clause-read c =
     let same : c.in-Ok-Refuted.field-0 ≡ Refuted = rw c.in-Ok-Refuted.is at c.in-Ok-Refuted.field-0-is in
     let refuted : IsReadAndTaken t (words_of c.in-Some.line.now) c.loop-line.list new Refuted = subst (λ (o : LineOutcome). IsReadAndTaken t (words_of c.in-Some.line.now) c.loop-line.list new o) same taken in (
       lines_of c.in-Some.after.now,
-      (next_read t text c.loop-line.list new c.loop-line.before c.in-Some.line.now (lines_of c.in-Some.after.now) Refuted (λ e. (let clash : Refuted ≡ Derivation = e in cc)) h refuted).0,
-      ends_empty t text c.loop-line.list new (words_of c.in-Some.line.now) refuted,
+      next_read t text c.loop-line.list new c.in-Some.line.now (lines_of c.in-Some.after.now) Refuted (λ e. (let clash : Refuted ≡ Derivation = e in cc)) h.0.0 refuted,
+      ends_empty t text c.loop-line.list new (words_of c.in-Some.line.now) h.0.1 refuted,
     )
 
 pub returns-in-Ok-Derivation-clause-read : goal.returns-in-Ok-Derivation-clause-read
@@ -51,7 +51,7 @@ returns-in-Ok-Derivation-clause-read c =
     let h : IsReadBehind t text c.loop-line.list c.loop-line.before (c.in-Some.line.now ∷ lines_of c.in-Some.after.now) = subst (λ (l : List (List ℕ)). IsReadBehind t text c.loop-line.list c.loop-line.before l) c.in-Some.ensures.lines c.loop-line.invariant.read in
     let taken : IsReadAndTaken t (words_of c.in-Some.line.now) c.loop-line.list new c.in-Ok-Derivation.field-0 = rw c.in-Ok-Derivation.is at c.read_and_take-taken.ensures.taken in
     let same : c.in-Ok-Derivation.field-0 ≡ Derivation = rw c.in-Ok-Derivation.is at c.in-Ok-Derivation.field-0-is in
-    begins_behind t text c.loop-line.list new c.in-Some.line.now c.in-Some.after.now h.0 (subst (λ (o : LineOutcome). IsReadAndTaken t (words_of c.in-Some.line.now) c.loop-line.list new o) same taken)
+    begins_behind t text c.loop-line.list new c.loop-line.before c.in-Some.line.now c.in-Some.after.now h (subst (λ (o : LineOutcome). IsReadAndTaken t (words_of c.in-Some.line.now) c.loop-line.list new o) same taken)
 
 pub returns-in-Err-taken-clause-refused : goal.returns-in-Err-taken-clause-refused
 returns-in-Err-taken-clause-refused c =
