@@ -8,6 +8,7 @@ pub mod finals;
 pub mod laws;
 pub mod left;
 pub mod left_names;
+pub mod listing;
 pub mod pairs;
 pub mod part;
 pub mod part_fault;

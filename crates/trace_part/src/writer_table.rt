@@ -1,17 +1,12 @@
-//! The writers of each location.
+//! Writers by location.
 
-ghost use Rattle.std.specs.Prelude.{◌≡◌, ◌||◌, ℕ, List, IfOk, OnOk};
-ghost use Rattle.std.specs.List.{list_any};
-ghost use Rattle.trace_semantics.specs.OpSet.{has};
-ghost use Rattle.trace_part.specs.WriterTables.{IsSoundTable, IsTable, has_location, works_on};
+ghost use Rattle.std.specs.Prelude.{◌<◌, length, OnOk};
+ghost use Rattle.trace_part.specs.WriterTables.{HasOneMoreAt};
 
-use crate::writers::{ChosenWriter, writers_of};
+use crate::writers::ChosenWriter;
 use std::alloc::{AllocError, Global};
 use std::marker::Model;
 use trace_semantics::name_table::NameTable;
-use trace_semantics::op_set::OpSet;
-use trace_semantics::operation::Op;
-use trace_semantics::trace::{Process, Trace};
 
 /// The writers of one location.
 #[derive(Drop)]
@@ -29,7 +24,23 @@ impl Model for Writers {
 }
 
 impl Writers {
-    ghost use Rattle.std.specs.Prelude.{◌≡◌};
+    ghost use Rattle.std.specs.Prelude.{◌≡◌, [], ◌∷◌, ◌++◌, OnOk};
+
+    /// Returns the list of no writers.
+    fn new(alloc: Global) -> Writers
+        ensures { result ≡ [] }
+    {
+        Writers {
+            rows: Vec::new(alloc),
+        }
+    }
+
+    fn push(&mut self, row: ChosenWriter) -> Result<(), AllocError>
+        ensures { OnOk result (self.new ≡ self.old ++ row ∷ []) }
+    {
+        self.rows.push(row)?;
+        Ok(())
+    }
 
     fn as_slice(&self) -> &[ChosenWriter]
         ensures { result.now ≡ self.now }
@@ -38,7 +49,15 @@ impl Writers {
     }
 }
 
-/// The writers of each location on which operations work, under the number of the location.
+/// Appends a writer to the list under this number.
+fn push_at(lists: &mut Vec<Writers>, number: usize, row: ChosenWriter) -> Result<(), AllocError>
+    requires within { number < length lists.old.items }
+    ensures { OnOk result (HasOneMoreAt lists.old.items lists.new.items number row) }
+{
+    lists[number].push(row)
+}
+
+/// The writers of each location on which operations write, under the number of the location.
 #[derive(Drop)]
 pub struct WriterTable<'a> {
     numbers: NameTable<'a>,
@@ -46,20 +65,17 @@ pub struct WriterTable<'a> {
 }
 
 impl<'a> WriterTable<'a> {
-    ghost use Rattle.std.specs.Prelude.{◌≡◌, ◌||◌, false, ℕ, List, Bool, OnOk};
+    ghost use Rattle.std.specs.Prelude.{◌≡◌, ◌<◌, [], ◌∷◌, ◌++◌, length, ℕ, List, Some, None, IfOk, OnOk, if◌then◌else◌};
     ghost use Rattle.std.specs.Str.{bytes_eq};
-    ghost use Rattle.trace_semantics.specs.declared.operation.OpName.{OpName};
-    ghost use Rattle.trace_semantics.specs.Trace.{TraceValue};
-    ghost use Rattle.trace_semantics.specs.OpSet.{has};
     ghost use Rattle.std.specs.List.{slice_get};
     ghost use Rattle.std.specs.Option.{option_copied, option_and_then};
     ghost use Rattle.trace_semantics.specs.NameNumbers.{number_of};
-    ghost use Rattle.trace_part.specs.WriterTables.{IsSoundTable, has_location, writers_at};
+    ghost use Rattle.trace_part.specs.WriterTables.{AreNumbersOwn, writers_at};
 
-    /// Returns a table of no locations.
-    fn new(alloc: Global) -> WriterTable<'a>
-        ensures none { (location : List ℕ) → has_location result location ≡ false }
-        ensures sound { (t : TraceValue) (chosen : OpName → Bool) → IsSoundTable t chosen result }
+    /// Returns the table of no writers.
+    pub fn new(alloc: Global) -> WriterTable<'a>
+        ensures none { (q : List ℕ) → writers_at result q ≡ [] }
+        ensures own { AreNumbersOwn result }
     {
         WriterTable {
             numbers: NameTable::new(alloc),
@@ -67,42 +83,46 @@ impl<'a> WriterTable<'a> {
         }
     }
 
-    /// Lists the writers of the location under a new number.
-    fn add(
-        &mut self,
-        alloc: Global,
-        trace: &'a Trace,
-        set: &OpSet<'a>,
-        location: &'a [u8],
-    ) -> Result<(), AllocError>
-        requires sound { IsSoundTable trace.now (has set.now) self.old }
-        ensures sound { OnOk result (IsSoundTable trace.now (has set.now) self.new) }
-        ensures locations { OnOk result ((q : List ℕ) → has_location self.new q ≡ (bytes_eq location.now q || has_location self.old q)) }
+    /// Gives a location the next number, under which no writers are listed.
+    fn add(&mut self, alloc: Global, location: &'a [u8]) -> Result<u64, AllocError>
+        requires own { AreNumbersOwn self.old }
+        requires missing { number_of self.old.numbers location.now ≡ None }
+        ensures own { OnOk result (AreNumbersOwn self.new) }
+        ensures number { IfOk result (λ number. number_of self.new.numbers location.now ≡ Some number) }
+        ensures same { OnOk result ((q : List ℕ) → writers_at self.new q ≡ writers_at self.old q) }
     {
-        let rows = writers_of(alloc, trace, set, location)?;
         let number = self.lists.len() as u64;
-        self.lists.push(Writers { rows })?;
+        self.lists.push(Writers::new(alloc))?;
         self.numbers.insert(location, number)?;
-        Ok(())
+        Ok(number)
     }
 
-    /// Lists the writers of the location, unless they are listed.
-    fn note(
+    /// Returns the number of the location, which gets one if it has none.
+    fn number(&mut self, alloc: Global, location: &'a [u8]) -> Result<u64, AllocError>
+        requires own { AreNumbersOwn self.old }
+        ensures own { OnOk result (AreNumbersOwn self.new) }
+        ensures number { IfOk result (λ number. number_of self.new.numbers location.now ≡ Some number) }
+        ensures same { OnOk result ((q : List ℕ) → writers_at self.new q ≡ writers_at self.old q) }
+    {
+        match self.numbers.get(location) {
+            Some(number) => Ok(number),
+            None => self.add(alloc, location),
+        }
+    }
+
+    /// Appends a writer to those of the location.
+    pub fn push(
         &mut self,
         alloc: Global,
-        trace: &'a Trace,
-        set: &OpSet<'a>,
         location: &'a [u8],
+        row: ChosenWriter,
     ) -> Result<(), AllocError>
-        requires sound { IsSoundTable trace.now (has set.now) self.old }
-        ensures sound { OnOk result (IsSoundTable trace.now (has set.now) self.new) }
-        ensures locations { OnOk result ((q : List ℕ) → has_location self.new q ≡ (bytes_eq location.now q || has_location self.old q)) }
+        requires own { AreNumbersOwn self.old }
+        ensures own { OnOk result (AreNumbersOwn self.new) }
+        ensures rows { OnOk result ((q : List ℕ) → writers_at self.new q ≡ (if bytes_eq location.now q then writers_at self.old q ++ row ∷ [] else writers_at self.old q)) }
     {
-        if self.numbers.get(location).is_some() {
-            Ok(())
-        } else {
-            self.add(alloc, trace, set, location)
-        }
+        let number = self.number(alloc, location)?;
+        push_at(&mut self.lists, number as usize, row)
     }
 
     /// Returns the list under a number, if there is one.
@@ -131,45 +151,4 @@ impl<'a> WriterTable<'a> {
             None => &[],
         }
     }
-}
-
-/// Lists the writers of the locations on which these operations work.
-fn note_ops<'a>(
-    alloc: Global,
-    table: &mut WriterTable<'a>,
-    trace: &'a Trace,
-    set: &OpSet<'a>,
-    ops: &'a [Op],
-) -> Result<(), AllocError>
-    requires sound { IsSoundTable trace.now (has set.now) table.old }
-    ensures sound { OnOk result (IsSoundTable trace.now (has set.now) table.new) }
-    ensures locations { OnOk result ((q : List ℕ) → has_location table.new q ≡ (list_any (works_on q) ops.now || has_location table.old q)) }
-{
-    for k in 0..ops.len() {
-        table.note(alloc, trace, set, ops[k].location().as_bytes())?;
-    }
-    Ok(())
-}
-
-/// Returns the writers of each location on which the trace's operations work.
-pub fn writer_table<'a>(
-    alloc: Global,
-    trace: &'a Trace,
-    set: &OpSet<'a>,
-) -> Result<WriterTable<'a>, AllocError>
-    ensures { IfOk result (IsTable trace.now (has set.now)) }
-{
-    trace.recall_invariant();
-    let processes = trace.processes();
-    let mut table = WriterTable::new(alloc);
-    for k in 0..processes.len() {
-        note_ops(
-            alloc,
-            &mut table,
-            trace,
-            set,
-            processes[k].operations.as_slice(),
-        )?;
-    }
-    Ok(table)
 }

@@ -1,16 +1,15 @@
-//! The writers of a location by numbers.
+//! Writers of a location by numbers.
 
-ghost use Rattle.std.specs.Prelude.{◌≡◌, ◌<◌, ◌≤◌, ◌+◌, ◌++◌, length, IfOk, OnOk};
+ghost use Rattle.std.specs.Prelude.{◌≡◌, ◌<◌, ◌≤◌, ◌+◌, length};
 ghost use Rattle.trace_semantics.specs.OpSet.{has};
-ghost use Rattle.trace_part.specs.Rows.{row_in, rows_in, rows_of};
+ghost use Rattle.trace_part.specs.Rows.{row_in};
 ghost use Rattle.trace_semantics.specs.declared.limits.Limits.TheVariants.{Large};
 ghost use Rattle.trace_semantics.specs.Limits.{max_operations};
 
 use forced_order::numbered::OperationNumber;
 use restriction::left_value::left_at;
-use std::alloc::{AllocError, Global};
 use trace_semantics::op_set::OpSet;
-use trace_semantics::trace::{Process, Trace};
+use trace_semantics::trace::Process;
 
 /// A writer of some location: what it leaves there, and whether it is chosen.
 #[derive(Drop)]
@@ -21,7 +20,7 @@ pub struct ChosenWriter {
 }
 
 /// Returns the operation at a place as a row, if it writes the location.
-fn row_at<'a>(
+pub fn row_at<'a>(
     set: &OpSet<'a>,
     process: &'a Process,
     number: u16,
@@ -43,41 +42,4 @@ fn row_at<'a>(
         }),
         None => None,
     }
-}
-
-/// Appends the rows of a process.
-fn push_rows<'a>(
-    rows: &mut Vec<ChosenWriter>,
-    set: &OpSet<'a>,
-    process: &'a Process,
-    number: u16,
-    location: &[u8],
-) -> Result<(), AllocError>
-    requires few { length process.now.operations ≤ max_operations Large }
-    ensures { OnOk result (rows.new.items ≡ rows.old.items ++ rows_in process.now number (has set.now) location.now) }
-{
-    for k in 0..process.operations.as_slice().len() {
-        if let Some(row) = row_at(set, process, number, k, location) {
-            rows.push(row)?;
-        }
-    }
-    Ok(())
-}
-
-/// Returns the writers of the location.
-pub fn writers_of<'a>(
-    alloc: Global,
-    trace: &'a Trace,
-    set: &OpSet<'a>,
-    location: &[u8],
-) -> Result<Vec<ChosenWriter>, AllocError>
-    ensures { IfOk result (λ rows. rows.items ≡ rows_of trace.now (has set.now) location.now) }
-{
-    trace.recall_invariant();
-    let processes = trace.processes();
-    let mut rows = Vec::new(alloc);
-    for k in 0..processes.len() {
-        push_rows(&mut rows, set, &processes[k], k as u16, location)?;
-    }
-    Ok(rows)
 }

@@ -2,11 +2,12 @@
 
 use crate::read_slips::{note_final_slip, note_slip};
 use crate::shown_places::ShownPlaces;
-use crate::sourceless_finals::{explain_final_value, may_be_final, writers_of_location};
+use crate::sourceless_finals::{explain_final_value, may_be_final};
 use crate::sourceless_reads::{MissingSource, PlacedRead};
 use note_text::{Notes, decimal};
 use std::alloc::{AllocError, Global};
-use trace_part::writer_table::{WriterTable, writer_table};
+use trace_part::listing::writer_table;
+use trace_part::writer_table::WriterTable;
 use trace_semantics::op_set::OpSet;
 use trace_semantics::trace::{Process, Trace};
 
@@ -46,7 +47,7 @@ impl<'t> SourcelessReads<'t> {
     }
 }
 
-/// The tables by which reads without a source are found.
+/// The tables by which reads and final values without a source are found.
 #[derive(Clone, Copy)]
 struct ReadTables<'t, 'l> {
     trace: &'t Trace,
@@ -93,20 +94,8 @@ fn advise_initial(notes: &mut Notes, bare: Option<&[u8]>) {
 }
 
 /// Notes which reads have no source, and how many there are.
-fn explain_reads(
-    alloc: Global,
-    notes: &mut Notes,
-    trace: &Trace,
-    places: &ShownPlaces,
-) -> Result<u64, AllocError> {
-    let set = OpSet::new(alloc);
-    let writers = writer_table(alloc, trace, &set)?;
-    let tables = ReadTables {
-        trace,
-        writers: &writers,
-        places,
-    };
-    let processes = trace.processes();
+fn explain_reads<'t>(alloc: Global, notes: &mut Notes, tables: ReadTables<'t, '_>) -> u64 {
+    let processes = tables.trace.processes();
     let mut found = SourcelessReads {
         count: 0,
         bare: None,
@@ -116,29 +105,25 @@ fn explain_reads(
     }
     explain_rest(notes, b"reads without a source beside these: ", found.count);
     advise_initial(notes, found.bare);
-    Ok(found.count)
+    found.count
 }
 
 /// Notes which final values no order of the operations leaves, and how many there are.
-fn explain_finals(
-    alloc: Global,
-    notes: &mut Notes,
-    trace: &Trace,
-    places: &ShownPlaces,
-) -> Result<u64, AllocError> {
+fn explain_finals<'t>(alloc: Global, notes: &mut Notes, tables: ReadTables<'t, '_>) -> u64 {
+    let trace = tables.trace;
     let mut count: u64 = 0;
     for entry in trace.final_values() {
         let location = entry.0.as_bytes();
-        let writers = writers_of_location(alloc, trace, location)?;
-        if !may_be_final(trace, writers.as_slice(), location, entry.1) {
+        let writers = tables.writers.writers_at(location);
+        if !may_be_final(trace, writers, location, entry.1) {
             if count < MAX_NAMED {
-                explain_final_value(alloc, notes, trace, writers.as_slice(), location, entry.1);
-                note_final_slip(alloc, notes, trace, places, location, entry.1);
+                explain_final_value(alloc, notes, trace, writers, location, entry.1);
+                note_final_slip(alloc, notes, trace, tables.places, location, entry.1);
             }
             count = count.saturating_add(1);
         }
     }
-    Ok(count)
+    count
 }
 
 /// Notes how many more there are than were named.
@@ -158,8 +143,15 @@ pub fn explain_sourceless(
     trace: &Trace,
     places: &ShownPlaces,
 ) -> Result<bool, AllocError> {
-    let reads = explain_reads(alloc, notes, trace, places)?;
-    let finals = explain_finals(alloc, notes, trace, places)?;
+    let set = OpSet::new(alloc);
+    let writers = writer_table(alloc, trace, &set)?;
+    let tables = ReadTables {
+        trace,
+        writers: &writers,
+        places,
+    };
+    let reads = explain_reads(alloc, notes, tables);
+    let finals = explain_finals(alloc, notes, tables);
     explain_rest(notes, b"such final values beside these: ", finals);
     let all = reads.saturating_add(finals);
     if all == 0 {

@@ -3,10 +3,9 @@
 use crate::held_value::initial_value;
 use crate::sentence::Sentence;
 use note_text::Notes;
-use std::alloc::{AllocError, Global};
+use std::alloc::Global;
 use trace_part::sources::leaves;
-use trace_part::writers::{ChosenWriter, writers_of};
-use trace_semantics::op_set::OpSet;
+use trace_part::writers::ChosenWriter;
 use trace_semantics::trace::Trace;
 
 /// Returns whether one of these writers leaves the value.
@@ -45,14 +44,4 @@ pub fn explain_final_value(
         sentence.add(&[b", which none of its writes leaves"]);
     }
     sentence.note(notes);
-}
-
-/// The operations that write the location.
-pub fn writers_of_location<'t>(
-    alloc: Global,
-    trace: &'t Trace,
-    location: &[u8],
-) -> Result<Vec<ChosenWriter>, AllocError> {
-    let set = OpSet::new(alloc);
-    writers_of(alloc, trace, &set, location)
 }

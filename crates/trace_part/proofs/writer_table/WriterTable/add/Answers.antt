@@ -1,9 +1,10 @@
-use Rattle.std.proofs.Common.{◌≡◌, length, rules}
-use Rattle.trace_semantics.specs.OpSet.{has}
-use Rattle.trace_part.proofs.WriterTableLemmas.{added_sound}
+use Rattle.std.proofs.Common.{◌≡◌, ◌∙◌, List, [], ◌∷◌, ◌++◌, length, ap, rules}
+use Rattle.trace_part.specs.declared.writers.ChosenWriter.{ChosenWriter}
+use Rattle.trace_part.proofs.WriterTableLemmas.{added_same}
 use Rattle.trace_part.proofs.writer_table.WriterTable.add.Goals as goal
 
-pub returns-clause-sound : goal.returns-clause-sound
-returns-clause-sound c =
+pub returns-clause-same : goal.returns-clause-same
+returns-clause-same c =
     let count : c.len-number.result ≡ length c.args.self.now.lists.items = search rules in
-    added_sound c.args.trace.now (has c.args.set.now) c.args.location.now c.args.self.now (record { numbers = c.insert.new.self; lists = c.push.new.self }) c.in_ok-rows.rows.items c.in_ok-rows.ensures c.in_ok-push.ensures.items c.len-number.result count c.in_ok-insert.ensures c.requires.sound
+    added_same c.args.location.now c.args.self.now (record { numbers = c.insert.new.self; lists = c.push.new.self }) c.requires.own c.requires.missing c.len-number.result count
+    (c.in_ok-push.ensures.items ∙ ap (λ (rows : List ChosenWriter). c.args.self.now.lists.items ++ rows ∷ []) c.new.ensures) c.in_ok-insert.ensures
