@@ -207,11 +207,20 @@ class Many(Row):
     def words(self, program, folder):
         return [program, *self.command.split(), self.path]
 
+    def is_left_off(self, out):
+        """Whether these are the lines of the first traces, each whole, and then one that says that the rest could not be read."""
+        lines = out.splitlines(keepends=True)
+        first = self.printed.splitlines(keepends=True)[: len(lines) - 1]
+        return lines == [*first, f"{self.path}:{len(lines)} refused: device\n".encode()]
+
     def allows_refused(self, ended):
         """Whether each line is the one that is wanted, or says that memory was refused or that cubes are open, with the status of these lines."""
         lines, wanted = ended.out.splitlines(), self.printed.splitlines()
         said = [line.partition(b" ")[2] for line in lines]
-        are_places = [line.partition(b" ")[0] for line in lines] == [line.partition(b" ")[0] for line in wanted]
+        # Where memory was refused to the reading, the last line says so, and stands for the traces that were not read.
+        is_short = len(lines) < len(wanted) and said[-1:] == [REFUSED[1].strip()]
+        places = [line.partition(b" ")[0] for line in wanted]
+        are_places = [line.partition(b" ")[0] for line in lines] == (places[: len(lines)] if is_short else places)
         are_answers = are_places and all(
             line == right or answer == REFUSED[1].strip() or re.fullmatch(rb"UNKNOWN open=[1-9]\d*", answer)
             for line, right, answer in zip(lines, wanted, said)

@@ -92,7 +92,7 @@ def owner_of(head):
 
 def fill(call, text):
     """Reads the parameters, the result and the clauses from the text that begins with the call's signature."""
-    at = re.compile(rf"fn {call.name}(?:<[^(]*>)?\(").search(text).end() - 1
+    at = re.compile(rf"fn {call.name}(?:<(?:[^()]|\([^()]*\))*?>)?\(").search(text).end() - 1
     end = closing(text, at)
     for piece in filter(str.strip, split_outside(text[at + 1:end], ",")):
         name, _, kind = piece.strip().partition(": ")

@@ -8,7 +8,7 @@ use Rattle.batch_report.specs.Blocks.{AreCutFrom, AreCutOff, AreVerdictsOff, Are
 use Rattle.batch_report.specs.declared.block.PlacedPiece.{PlacedPiece}
 use Rattle.batch_report.specs.declared.piece_verdict.PieceVerdict.{PieceVerdict}
 use Rattle.batch_report.specs.declared.tally.VerdictTally.{VerdictTally}
-use Rattle.batch_report.specs.Outcome.{first_refusal, is_no, is_unknown, or_refusal, outcome, outcome_of_tally, outcome_by, refusal_in, tally_with, tally_with_all}
+use Rattle.batch_report.specs.Outcome.{first_refusal, is_failure, is_no, is_unknown, no_tally, or_refusal, outcome, outcome_of_tally, outcome_by, refusal_in, tally_with, tally_with_all}
 use Rattle.batch_report.specs.PieceVerdicts.{IsVerdictOn}
 use Rattle.text_lines.specs.Lines.{lines_of}
 use Rattle.trace_pieces.specs.Pieces.{IsCut, IsCutOff}
@@ -67,18 +67,7 @@ cut_off_more is_last before text pieces b r piece after h cut is b_then b_is = �
 pub nothing_cut_off : (is_last : Bool) (before : ℕ) (text : List ℕ) → AreCutOff is_last before text [] before text
 nothing_cut_off is_last before text = λ more ok. (refl, refl)
 
--- one more verdict
-zip_more : (pieces : List PlacedPiece) (verdicts : List PieceVerdict) (piece : PlacedPiece) (v : PieceVerdict) → AllZip IsOnPlaced pieces verdicts → IsOnPlaced piece v → AllZip IsOnPlaced (pieces ++ piece ∷ []) (verdicts ++ v ∷ [])
-zip_more [] [] piece v each on = (on, tt)
-zip_more [] (w ∷ verdicts) piece v each on = absurd each
-zip_more (p ∷ pieces) [] piece v each on = absurd each
-zip_more (p ∷ pieces) (w ∷ verdicts) piece v each on = (each.0, zip_more pieces verdicts piece v each.1 on)
-
-pub one_more_on : (pieces : List PlacedPiece) (at : ℕ) (verdicts : List PieceVerdict) (d : PlacedPiece) (v : PieceVerdict) → at < length pieces →
-    AllZip IsOnPlaced (take at pieces) verdicts → IsOnPlaced (get_or pieces at d) v → AllZip IsOnPlaced (take (at + 1) pieces) (verdicts ++ v ∷ [])
-one_more_on pieces at verdicts d v within each on =
-    subst (λ (l : List PlacedPiece). AllZip IsOnPlaced l (verdicts ++ v ∷ [])) (sym (take_more pieces at d within)) (zip_more (take at pieces) verdicts (get_or pieces at d) v each on)
-
+-- as many verdicts as pieces
 pub same_count : (pieces : List PlacedPiece) (verdicts : List PieceVerdict) → AllZip IsOnPlaced pieces verdicts → length verdicts ≡ length pieces
 same_count [] [] each = refl
 same_count [] (v ∷ verdicts) each = absurd each
@@ -137,6 +126,10 @@ refusal_none : (a : Option Fault) → or_refusal a None ≡ a
 refusal_none (Some f) = refl
 refusal_none None = refl
 
+has_failed_is : (tally : VerdictTally) (verdicts : List PieceVerdict) → (tally_with_all tally verdicts).has_failed ≡ (tally.has_failed || list_any is_failure verdicts)
+has_failed_is tally [] = sym (or_none tally.has_failed)
+has_failed_is tally (v ∷ verdicts) = has_failed_is (tally_with tally v) verdicts ∙ or_more tally.has_failed (is_failure v) (list_any is_failure verdicts)
+
 has_no_is : (tally : VerdictTally) (verdicts : List PieceVerdict) → (tally_with_all tally verdicts).has_no ≡ (tally.has_no || list_any is_no verdicts)
 has_no_is tally [] = sym (or_none tally.has_no)
 has_no_is tally (v ∷ verdicts) = has_no_is (tally_with tally v) verdicts ∙ or_more tally.has_no (is_no v) (list_any is_no verdicts)
@@ -150,8 +143,5 @@ refusal_is tally [] = sym (refusal_none tally.refusal)
 refusal_is tally (v ∷ verdicts) = refusal_is (tally_with tally v) verdicts ∙ refusal_more tally.refusal (refusal_in v) (first_refusal verdicts)
 
 -- the outcome is that of what was counted
-pub outcome_is : (tally : VerdictTally) (verdicts : List PieceVerdict) → tally.has_no ≡ false → tally.refusal ≡ None → tally.has_unknown ≡ false → outcome_of_tally (tally_with_all tally verdicts) ≡ outcome verdicts
-outcome_is tally verdicts none_no none_refused none_unknown = λ i.
-    outcome_by ((has_no_is tally verdicts ∙ ap (λ (b : Bool). b || list_any is_no verdicts) none_no) i)
-    ((refusal_is tally verdicts ∙ ap (λ (r : Option Fault). or_refusal r (first_refusal verdicts)) none_refused) i)
-    ((has_unknown_is tally verdicts ∙ ap (λ (b : Bool). b || list_any is_unknown verdicts) none_unknown) i)
+pub outcome_is : (verdicts : List PieceVerdict) → outcome_of_tally (tally_with_all no_tally verdicts) ≡ outcome verdicts
+outcome_is verdicts = λ i. outcome_by (has_failed_is no_tally verdicts i) (has_no_is no_tally verdicts i) (refusal_is no_tally verdicts i) (has_unknown_is no_tally verdicts i)

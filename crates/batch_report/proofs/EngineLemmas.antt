@@ -1,28 +1,28 @@
 -- How a batch goes on, block by block, and how it ends.
 use Rattle.std.proofs.Common.{◌≡◌, ℕ, ◌+◌, Bool, true, false, true≢false, List, [], ◌++◌, length, refl, sym, ap, ◌∙◌, subst, inl, inr, arith, append-nil, append_assoc}
-use Rattle.std.specs.Prelude.{Result, Ok, Err, IfErr}
+use Rattle.std.specs.Prelude.{◌∷◌, Result, Ok, Err, IfErr, IfOk}
 use Rattle.std.specs.Result.{IsErrAnd}
 use Rattle.std.proofs.lemmas.List.{length-append}
-use Rattle.batch_report.specs.BatchEngine.{HasCome, IsBatchStop, IsRunOfBatch, StopsBlock, WritesBlock}
+use Rattle.batch_report.specs.BatchEngine.{AreFindings, AreOnFirst, EndsWith, FinishesBatch, HasCome, IsRunOfBatch, StopsBatch, StopsBlock, StopsRefusal, WritesBlock, WritesRefusal}
 use Rattle.batch_report.specs.BatchLines.{batch_lines}
 use Rattle.batch_report.specs.Blocks.{AreVerdictsOff, AreVerdictsOn}
 use Rattle.batch_report.specs.declared.piece_verdict.PieceVerdict.{PieceVerdict}
+use Rattle.batch_report.specs.declared.piece_verdict.PieceVerdict.TheVariants.{Refused}
 use Rattle.batch_report.specs.declared.progress.BatchProgress.{BatchProgress}
 use Rattle.batch_report.specs.declared.tally.VerdictTally.{VerdictTally}
-use Rattle.batch_report.specs.Outcome.{no_tally, outcome_of_tally, tally_with_all}
+use Rattle.batch_report.specs.Outcome.{tally_with, tally_with_all}
 use Rattle.batch_report.specs.Reading.{IsStopWith, ReadsOn, StopsReadingOn}
-use Rattle.batch_report.proofs.BlockLemmas.{lines_more, on_more, outcome_is, tally_more}
+use Rattle.batch_report.proofs.BlockLemmas.{lines_more, on_more, tally_more}
 use Rattle.batch_report.proofs.ReadingLemmas.{handed_of}
 use Rattle.dimacs.specs.Sink.{AppendsFront}
 use Rattle.dimacs.specs.SinkFault.{failures_told}
 use Rattle.dimacs.specs.declared.sink_fault.SinkFault.{SinkFault}
-use Rattle.dimacs.specs.declared.sink_fault.SinkFault.TheVariants.{OutOfMemory as NoRoom, Device as SinkFails}
+use Rattle.dimacs.specs.declared.sink_fault.SinkFault.TheVariants.{OutOfMemory as NoRoom}
 use Rattle.verdict_report.specs.declared.fault.Fault.{Fault}
-use Rattle.verdict_report.specs.declared.fault.Fault.TheVariants.{OutOfMemory}
 use Rattle.verdict_report.specs.declared.reading.ReadFault.{ReadFault}
 use Rattle.verdict_report.specs.declared.reading.ReadFault.TheVariants.{OutOfMemory as NoReadMemory, Device as SourceFails, TooLong}
-use Rattle.verdict_report.specs.declared.status.Status.{Status}
-use Rattle.verdict_report.specs.Fault.{fault_of_reading, fault_of_sink}
+use Rattle.verdict_report.specs.Engine.{TakesWhole}
+use Rattle.verdict_report.specs.Fault.{fault_of_reading}
 use Rattle.verdict_report.specs.Runs.{SinkRun, SourceRun}
 
 -- a run of a sink by what it took and how often it failed
@@ -67,9 +67,9 @@ handed_on Q (Err other) fault e h = subst Q (sym e) h
 -- ---- reading on
 
 -- nothing has come yet
-pub not_yet : (file : List ℕ) (progress : BatchProgress) (held : List ℕ) (h : List ℕ) (e : Bool) (r : ℕ) (w : List ℕ) (f : ℕ) → held ≡ [] → progress.before ≡ 0 → progress.number ≡ 0 → progress.tally ≡ no_tally →
-    HasCome file (handed_of h h e e r r) held false progress (taken_of w w f f)
-not_yet file progress held h e r w f none before number tally = record {
+pub not_yet : (file : List ℕ) (counted : VerdictTally) (progress : BatchProgress) (held : List ℕ) (h : List ℕ) (e : Bool) (r : ℕ) (w : List ℕ) (f : ℕ) → held ≡ [] → progress.before ≡ 0 → progress.number ≡ 0 → progress.tally ≡ counted →
+    HasCome file counted (handed_of h h e e r r) held false progress (taken_of w w f f)
+not_yet file counted progress held h e r w f none before number tally = record {
   text = [];
   handed = sym (append-nil h);
   ended = λ yes. absurd (true≢false (sym yes));
@@ -81,8 +81,8 @@ not_yet file progress held h e r w f none before number tally = record {
   tallied = tally;
 }
 
-module _ (file : List ℕ) (held : List ℕ) (progress : BatchProgress) (out : SinkRun) (h0 h1 h2 : List ℕ) (e0 e1 e2 : Bool) (r0 r1 r2 : ℕ)
-    (come : HasCome file (handed_of h0 h1 e0 e1 r0 r1) held false progress out) where
+module _ (file : List ℕ) (counted : VerdictTally) (held : List ℕ) (progress : BatchProgress) (out : SinkRun) (h0 h1 h2 : List ℕ) (e0 e1 e2 : Bool) (r0 r1 r2 : ℕ)
+    (come : HasCome file counted (handed_of h0 h1 e0 e1 r0 r1) held false progress out) where
   handed_with : (bytes : List ℕ) → h2 ≡ h1 ++ bytes → h2 ≡ h0 ++ (come.text ++ bytes)
   handed_with bytes is = is ∙ ap (λ l. l ++ bytes) come.handed ∙ append_assoc h0 come.text bytes
 
@@ -93,7 +93,7 @@ module _ (file : List ℕ) (held : List ℕ) (progress : BatchProgress) (out : S
       (come.each (bytes ++ more) (λ yes. absurd (true≢false (sym yes)))))
 
   -- more is held
-  pub read_further : (held_then : List ℕ) (is_last : Bool) → ReadsOn (handed_of h1 h2 e1 e2 r1 r2) held held_then is_last → HasCome file (handed_of h0 h2 e0 e2 r0 r2) held_then is_last progress out
+  pub read_further : (held_then : List ℕ) (is_last : Bool) → ReadsOn (handed_of h1 h2 e1 e2 r1 r2) held held_then is_last → HasCome file counted (handed_of h0 h2 e0 e2 r0 r2) held_then is_last progress out
   read_further held_then is_last read = record {
     text = come.text ++ read.further.bytes;
     handed = handed_with read.further.bytes read.further.handed;
@@ -107,36 +107,32 @@ module _ (file : List ℕ) (held : List ℕ) (progress : BatchProgress) (out : S
   }
 
   -- more is held, as a slice
-  pub read_slice : (held_then slice : List ℕ) (is_last : Bool) → slice ≡ held_then → ReadsOn (handed_of h1 h2 e1 e2 r1 r2) held held_then is_last → HasCome file (handed_of h0 h2 e0 e2 r0 r2) slice is_last progress out
-  read_slice held_then slice is_last same read = subst (λ (l : List ℕ). HasCome file (handed_of h0 h2 e0 e2 r0 r2) l is_last progress out) (sym same) (read_further held_then is_last read)
-
-  why_stopped : (bytes : List ℕ) (fault : ReadFault) → IsStopWith (handed_of h1 h2 e1 e2 r1 r2) (held ++ bytes) fault → IsBatchStop (handed_of h0 h2 e0 e2 r0 r2) out (batch_lines file 0 come.verdicts) (held ++ bytes) (Err (fault_of_reading fault))
-  why_stopped bytes NoReadMemory why = (why ∙ come.unfailing, (record { front = batch_lines file 0 come.verdicts; back = []; parts = append-nil (batch_lines file 0 come.verdicts); appended = come.whole.0 }, come.whole.1))
-  why_stopped bytes SourceFails why = inr (why ∙ ap (λ n. n + 1) come.unfailing, come.whole)
-  why_stopped bytes TooLong why = (why.0 ∙ come.unfailing, come.whole, why.1)
-
-  -- no more is read
-  pub stop_reading : (fault : ReadFault) → StopsReadingOn (handed_of h1 h2 e1 e2 r1 r2) held fault → IsRunOfBatch file (handed_of h0 h2 e0 e2 r0 r2) out (Err (fault_of_reading fault))
-  stop_reading fault stop = inr (record {
-    text = come.text ++ stop.bytes;
-    handed = handed_with stop.bytes stop.handed;
-    verdicts = come.verdicts;
-    rest = held ++ stop.bytes;
-    some = record {
-      lines = progress.before;
-      are_on = on_text (come.text ++ stop.bytes) come.verdicts progress.before (held ++ stop.bytes) (each_with stop.bytes []);
-    };
-    stopped = why_stopped stop.bytes fault stop.stopped;
-  })
+  pub read_slice : (held_then slice : List ℕ) (is_last : Bool) → slice ≡ held_then → ReadsOn (handed_of h1 h2 e1 e2 r1 r2) held held_then is_last → HasCome file counted (handed_of h0 h2 e0 e2 r0 r2) slice is_last progress out
+  read_slice held_then slice is_last same read = subst (λ (l : List ℕ). HasCome file counted (handed_of h0 h2 e0 e2 r0 r2) l is_last progress out) (sym same) (read_further held_then is_last read)
 
 -- ---- one block after others
 
-module _ (file : List ℕ) (traces : SourceRun) (held : List ℕ) (is_last : Bool) (from : BatchProgress) (w0 w1 w2 : List ℕ) (f0 f1 f2 : ℕ)
-    (come : HasCome file traces held is_last from (taken_of w0 w1 f0 f1)) where
+module _ (file : List ℕ) (counted : VerdictTally) (traces : SourceRun) (held : List ℕ) (is_last : Bool) (from : BatchProgress) (w0 w1 w2 : List ℕ) (f0 f1 f2 : ℕ)
+    (come : HasCome file counted traces held is_last from (taken_of w0 w1 f0 f1)) where
   lines_with : (more : List PieceVerdict) → batch_lines file 0 (come.verdicts ++ more) ≡ batch_lines file 0 come.verdicts ++ batch_lines file from.number more
   lines_with more = lines_more file 0 come.verdicts more ∙ ap (λ (n : ℕ). batch_lines file 0 come.verdicts ++ batch_lines file n more) (let e : 0 + length come.verdicts ≡ from.number = omega (arith, come.counted) in e)
 
-  pub come_further : (to : BatchProgress) (left : List ℕ) → WritesBlock file is_last held from to left (taken_of w1 w2 f1 f2) → HasCome file traces left is_last to (taken_of w0 w2 f0 f2)
+  whole_with : (more : List PieceVerdict) → TakesWhole (taken_of w1 w2 f1 f2) (batch_lines file from.number more) → TakesWhole (taken_of w0 w2 f0 f2) (batch_lines file 0 (come.verdicts ++ more))
+  whole_with more whole = (
+    whole.0 ∙ ap (λ (w : List ℕ). w ++ batch_lines file from.number more) come.whole.0
+        ∙ append_assoc w0 (batch_lines file 0 come.verdicts) (batch_lines file from.number more) ∙ ap (λ (l : List ℕ). w0 ++ l) (sym (lines_with more)),
+    whole.1 ∙ come.whole.1,
+  )
+
+  front_with : (more : List PieceVerdict) → AppendsFront w1 w2 (batch_lines file from.number more) → AppendsFront w0 w2 (batch_lines file 0 (come.verdicts ++ more))
+  front_with more part = record {
+    front = batch_lines file 0 come.verdicts ++ part.front;
+    back = part.back;
+    parts = append_assoc (batch_lines file 0 come.verdicts) part.front part.back ∙ ap (λ (l : List ℕ). batch_lines file 0 come.verdicts ++ l) part.parts ∙ sym (lines_with more);
+    appended = part.appended ∙ ap (λ (w : List ℕ). w ++ part.front) come.whole.0 ∙ append_assoc w0 (batch_lines file 0 come.verdicts) part.front;
+  }
+
+  pub come_further : (to : BatchProgress) (left : List ℕ) → WritesBlock file is_last held from to left (taken_of w1 w2 f1 f2) → HasCome file counted traces left is_last to (taken_of w0 w2 f0 f2)
   come_further to left block = record {
     text = come.text;
     handed = come.handed;
@@ -144,69 +140,109 @@ module _ (file : List ℕ) (traces : SourceRun) (held : List ℕ) (is_last : Boo
     unfailing = come.unfailing;
     verdicts = come.verdicts ++ block.verdicts;
     each = λ more ok. on_more 0 (come.text ++ more) come.verdicts from.before (held ++ more) block.verdicts to.before (left ++ more) (come.each more ok) (block.each more ok);
-    whole = (
-      block.whole.0 ∙ ap (λ (w : List ℕ). w ++ batch_lines file from.number block.verdicts) come.whole.0
-          ∙ append_assoc w0 (batch_lines file 0 come.verdicts) (batch_lines file from.number block.verdicts) ∙ ap (λ (l : List ℕ). w0 ++ l) (sym (lines_with block.verdicts)),
-      block.whole.1 ∙ come.whole.1,
-    );
+    whole = whole_with block.verdicts block.whole;
     counted = (let l = length-append come.verdicts block.verdicts in omega (arith, block.counted, come.counted, l));
-    tallied = block.tallied ∙ ap (λ (t : VerdictTally). tally_with_all t block.verdicts) come.tallied ∙ sym (tally_more no_tally come.verdicts block.verdicts);
+    tallied = block.tallied ∙ ap (λ (t : VerdictTally). tally_with_all t block.verdicts) come.tallied ∙ sym (tally_more counted come.verdicts block.verdicts);
   }
-
-  front_here : (fault : SinkFault) (block : StopsBlock file is_last held from (taken_of w1 w2 f1 f2) fault) → AppendsFront w0 w2 (batch_lines file 0 (come.verdicts ++ block.verdicts))
-  front_here fault block = record {
-    front = batch_lines file 0 come.verdicts ++ block.front.front;
-    back = block.front.back;
-    parts = append_assoc (batch_lines file 0 come.verdicts) block.front.front block.front.back ∙ ap (λ (l : List ℕ). batch_lines file 0 come.verdicts ++ l) block.front.parts ∙ sym (lines_with block.verdicts);
-    appended = block.front.appended ∙ ap (λ (w : List ℕ). w ++ block.front.front) come.whole.0 ∙ append_assoc w0 (batch_lines file 0 come.verdicts) block.front.front;
-  }
-
-  why_here : (fault : SinkFault) (block : StopsBlock file is_last held from (taken_of w1 w2 f1 f2) fault) →
-      IsBatchStop traces (taken_of w0 w2 f0 f2) (batch_lines file 0 (come.verdicts ++ block.verdicts)) block.left (Err (fault_of_sink fault))
-  why_here NoRoom block = (come.unfailing, (front_here NoRoom block, (let l = block.failures in omega (arith, l, come.whole.1))))
-  why_here SinkFails block = inl (come.unfailing, (front_here SinkFails block, (let l = block.failures in omega (arith, l, come.whole.1))))
 
   -- the block was not written whole
-  pub stop_writing : (fault : SinkFault) → StopsBlock file is_last held from (taken_of w1 w2 f1 f2) fault → IsRunOfBatch file traces (taken_of w0 w2 f0 f2) (Err (fault_of_sink fault))
-  stop_writing fault block = inr (record {
-    text = come.text;
-    handed = come.handed;
-    verdicts = come.verdicts ++ block.verdicts;
-    rest = block.left;
-    some = record {
-      lines = block.before_left;
-      are_on = on_text come.text (come.verdicts ++ block.verdicts) block.before_left block.left
-          (on_more 0 (come.text ++ []) come.verdicts from.before (held ++ []) block.verdicts block.before_left (block.left ++ []) (come.each [] (λ yes. refl)) (block.each [] (λ yes. refl)));
+  pub stop_writing : (fault : SinkFault) → StopsBlock file is_last held from (taken_of w1 w2 f1 f2) fault → StopsBatch file traces (taken_of w0 w2 f0 f2) fault
+  stop_writing fault block = record {
+    findings = come.verdicts ++ block.verdicts;
+    some = inl (
+      come.unfailing,
+      (
+        block.left,
+        record {
+          text = come.text;
+          handed = come.handed;
+          lines = block.before_left;
+          are_on = on_text come.text (come.verdicts ++ block.verdicts) block.before_left block.left
+              (on_more 0 (come.text ++ []) come.verdicts from.before (held ++ []) block.verdicts block.before_left (block.left ++ []) (come.each [] (λ yes. refl)) (block.each [] (λ yes. refl)));
+        },
+      ),
+    );
+    front = front_with block.verdicts block.front;
+    failures = (let l = block.failures in omega (arith, l, come.whole.1));
+  }
+
+-- ---- no more is read
+
+module _ (file : List ℕ) (counted : VerdictTally) (held : List ℕ) (progress : BatchProgress) (h0 h1 h2 : List ℕ) (e0 e1 e2 : Bool) (r0 r1 r2 : ℕ) (w0 w1 w2 : List ℕ) (f0 f1 f2 : ℕ)
+    (come : HasCome file counted (handed_of h0 h1 e0 e1 r0 r1) held false progress (taken_of w0 w1 f0 f1)) (fault : ReadFault) (stop : StopsReadingOn (handed_of h1 h2 e1 e2 r1 r2) held fault) where
+  why_ended : (why : ReadFault) (bytes : List ℕ) → IsStopWith (handed_of h1 h2 e1 e2 r1 r2) (held ++ bytes) why → EndsWith (handed_of h0 h2 e0 e2 r0 r2) (held ++ bytes) (Refused (fault_of_reading why) ∷ [])
+  why_ended NoReadMemory bytes stopped = stopped ∙ come.unfailing
+  why_ended SourceFails bytes stopped = stopped ∙ ap (λ n. n + 1) come.unfailing
+  why_ended TooLong bytes stopped = (stopped.0 ∙ come.unfailing, stopped.1)
+
+  all_found : AreFindings (handed_of h0 h2 e0 e2 r0 r2) (come.verdicts ++ Refused (fault_of_reading fault) ∷ [])
+  all_found = record {
+    verdicts = come.verdicts;
+    rest = held ++ stop.bytes;
+    on_first = record {
+      text = come.text ++ stop.bytes;
+      handed = handed_with file counted held progress (taken_of w0 w1 f0 f1) h0 h1 h2 e0 e1 e2 r0 r1 r2 come stop.bytes stop.handed;
+      lines = progress.before;
+      are_on = on_text (come.text ++ stop.bytes) come.verdicts progress.before (held ++ stop.bytes)
+          (each_with file counted held progress (taken_of w0 w1 f0 f1) h0 h1 h2 e0 e1 e2 r0 r1 r2 come stop.bytes []);
     };
-    stopped = why_here fault block;
-  })
+    ending = Refused (fault_of_reading fault) ∷ [];
+    ends = why_ended fault stop.bytes stop.stopped;
+    are = refl;
+  }
+
+  finish_refused : (tally : VerdictTally) → WritesRefusal file progress (fault_of_reading fault) tally (taken_of w1 w2 f1 f2) → FinishesBatch file (handed_of h0 h2 e0 e2 r0 r2) counted (taken_of w0 w2 f0 f2) tally
+  finish_refused tally write = record {
+    findings = come.verdicts ++ Refused (fault_of_reading fault) ∷ [];
+    are = all_found;
+    whole = whole_with file counted (handed_of h0 h1 e0 e1 r0 r1) held false progress w0 w1 w2 f0 f1 f2 come (Refused (fault_of_reading fault) ∷ []) write.0;
+    tallied = write.1 ∙ ap (λ (t : VerdictTally). tally_with t (Refused (fault_of_reading fault))) come.tallied ∙ sym (tally_more counted come.verdicts (Refused (fault_of_reading fault) ∷ []));
+  }
+
+  stop_refused : (stopped : SinkFault) → StopsRefusal file progress (fault_of_reading fault) (taken_of w1 w2 f1 f2) stopped → StopsBatch file (handed_of h0 h2 e0 e2 r0 r2) (taken_of w0 w2 f0 f2) stopped
+  stop_refused stopped part = record {
+    findings = come.verdicts ++ Refused (fault_of_reading fault) ∷ [];
+    some = inr all_found;
+    front = front_with file counted (handed_of h0 h1 e0 e1 r0 r1) held false progress w0 w1 w2 f0 f1 f2 come (Refused (fault_of_reading fault) ∷ []) part.0;
+    failures = (let l = part.1 in omega (arith, l, come.whole.1));
+  }
+
+  -- what is left is refused
+  pub end_refused : (refusal : Fault) → refusal ≡ fault_of_reading fault → (result : Result VerdictTally SinkFault) →
+      IfOk result (λ tally. WritesRefusal file progress refusal tally (taken_of w1 w2 f1 f2)) → IfErr result (StopsRefusal file progress refusal (taken_of w1 w2 f1 f2)) →
+      IsRunOfBatch file (handed_of h0 h2 e0 e2 r0 r2) counted (taken_of w0 w2 f0 f2) result
+  end_refused refusal is (Ok tally) written stopped = finish_refused tally (subst (λ (f : Fault). WritesRefusal file progress f tally (taken_of w1 w2 f1 f2)) is written)
+  end_refused refusal is (Err fault) written stopped = stop_refused fault (subst (λ (f : Fault). StopsRefusal file progress f (taken_of w1 w2 f1 f2) fault) is stopped)
+
+-- nothing of the line of a refusal was written
+pub no_refusal : (file : List ℕ) (progress : BatchProgress) (fault : Fault) (w : List ℕ) (f : ℕ) → StopsRefusal file progress fault (taken_of w w f f) NoRoom
+no_refusal file progress fault w f = (record { front = []; back = batch_lines file progress.number (Refused fault ∷ []); parts = refl; appended = sym (append-nil w) }, omega arith)
 
 -- ---- the end
 
-module _ (file : List ℕ) (traces : SourceRun) (held : List ℕ) (is_last : Bool) (progress : BatchProgress) (out : SinkRun) (come : HasCome file traces held is_last progress out) where
-  come_on : AreVerdictsOn 0 come.text come.verdicts progress.before held
-  come_on = on_text come.text come.verdicts progress.before held (come.each [] (λ yes. refl))
+module _ (file : List ℕ) (counted : VerdictTally) (traces : SourceRun) (held : List ℕ) (is_last : Bool) (progress : BatchProgress) (out : SinkRun) (come : HasCome file counted traces held is_last progress out) where
+  come_on : AreOnFirst traces come.verdicts held
+  come_on = record {
+    text = come.text;
+    handed = come.handed;
+    lines = progress.before;
+    are_on = on_text come.text come.verdicts progress.before held (come.each [] (λ yes. refl));
+  }
 
   -- all has come
-  pub come_to_end : is_last ≡ true → held ≡ [] → (result : Result Status Fault) → result ≡ outcome_of_tally progress.tally → IsRunOfBatch file traces out result
-  come_to_end last none result is = inl (record {
-    text = come.text;
-    handed = come.handed;
-    ended = come.ended last;
-    unfailing = come.unfailing;
-    verdicts = come.verdicts;
-    each = record { lines = progress.before; are_on = subst (λ (l : List ℕ). AreVerdictsOn 0 come.text come.verdicts progress.before l) none come_on };
+  pub come_to_end : is_last ≡ true → held ≡ [] → FinishesBatch file traces counted out progress.tally
+  come_to_end last none = record {
+    findings = come.verdicts;
+    are = record { verdicts = come.verdicts; rest = held; on_first = come_on; ending = []; ends = (come.ended last, come.unfailing, none); are = sym (append-nil come.verdicts) };
     whole = come.whole;
-    answer = is ∙ ap outcome_of_tally come.tallied ∙ outcome_is no_tally come.verdicts refl refl refl;
-  })
+    tallied = come.tallied;
+  }
 
   -- there is no memory to go on
-  pub no_memory : IsRunOfBatch file traces out (Err OutOfMemory)
-  no_memory = inr (record {
-    text = come.text;
-    handed = come.handed;
-    verdicts = come.verdicts;
-    rest = held;
-    some = record { lines = progress.before; are_on = come_on };
-    stopped = (come.unfailing, (record { front = batch_lines file 0 come.verdicts; back = []; parts = append-nil (batch_lines file 0 come.verdicts); appended = come.whole.0 }, come.whole.1));
-  })
+  pub no_memory : StopsBatch file traces out NoRoom
+  no_memory = record {
+    findings = come.verdicts;
+    some = inl (come.unfailing, (held, come_on));
+    front = record { front = batch_lines file 0 come.verdicts; back = []; parts = append-nil (batch_lines file 0 come.verdicts); appended = come.whole.0 };
+    failures = (let l = come.whole.1 in omega (arith, l));
+  }

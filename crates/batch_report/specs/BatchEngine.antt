@@ -1,58 +1,68 @@
 -- What the engine that decides many traces answers and writes.
-use Rattle.std.specs.Prelude.{◌≡◌, ◌⊎◌, ◌+◌, ◌<◌, ℕ, Bool, true, List, [], ◌++◌, length, Result, Err}
+use Rattle.std.specs.Prelude.{◌≡◌, ◌⊎◌, ◌+◌, ◌<◌, ℕ, Bool, true, List, [], ◌∷◌, ◌++◌, length, Result, Ok, Err}
 use Rattle.batch_report.specs.BatchLines.{batch_lines}
 use Rattle.batch_report.specs.Blocks.{AreVerdictsOff, AreVerdictsOn}
 use Rattle.batch_report.specs.declared.piece_verdict.PieceVerdict.{PieceVerdict}
+use Rattle.batch_report.specs.declared.piece_verdict.PieceVerdict.TheVariants.{Refused}
 use Rattle.batch_report.specs.declared.progress.BatchProgress.{BatchProgress}
-use Rattle.batch_report.specs.Outcome.{no_tally, outcome, tally_with_all}
+use Rattle.batch_report.specs.declared.tally.VerdictTally.{VerdictTally}
+use Rattle.batch_report.specs.Outcome.{tally_with, tally_with_all}
 use Rattle.dimacs.specs.declared.sink_fault.SinkFault.{SinkFault}
 use Rattle.dimacs.specs.Sink.{AppendsFront}
 use Rattle.dimacs.specs.SinkFault.{failures_told}
 use Rattle.verdict_report.specs.declared.fault.Fault.{Fault}
 use Rattle.verdict_report.specs.declared.fault.Fault.TheVariants.{OutOfMemory, Device, InputTooLong}
 use Rattle.verdict_report.specs.declared.reading.TheConstants.{MAX_INPUT_BYTES}
-use Rattle.verdict_report.specs.declared.status.Status.{Status}
-use Rattle.verdict_report.specs.Engine.{FailsBehindFront, IsUnfailing, TakesFront, TakesWhole}
+use Rattle.verdict_report.specs.Engine.{IsUnfailing, TakesWhole}
 use Rattle.verdict_report.specs.Runs.{SinkRun, SourceRun}
 
--- the verdicts are on the first pieces of the text, after which this is left of it
-pub record AreOnFirst (text : List ℕ) (verdicts : List PieceVerdict) (rest : List ℕ) : Type 0 where
+-- the source handed out a text whose first pieces have these verdicts, in their order, and this is left of it
+pub record AreOnFirst (traces : SourceRun) (verdicts : List PieceVerdict) (rest : List ℕ) : Type 0 where
+  pub text : List ℕ
+  pub handed : traces.now ≡ traces.before ++ text
   pub lines : ℕ
   pub are_on : AreVerdictsOn 0 text verdicts lines rest
 
--- the source handed out a text up to its end, each piece of it has its verdict, and the sink took a line for each, in their order; the answer is
--- the outcome of the verdicts
-pub record FinishesBatch (file : List ℕ) (traces : SourceRun) (out : SinkRun) (result : Result Status Fault) : Type 0 where
-  pub text : List ℕ
-  pub handed : traces.now ≡ traces.before ++ text
-  pub ended : traces.is_at_end ≡ true
-  pub unfailing : IsUnfailing traces
-  pub verdicts : List PieceVerdict
-  pub each : AreOnFirst text verdicts []
-  pub whole : TakesWhole out (batch_lines file 0 verdicts)
-  pub answer : result ≡ outcome verdicts
+-- What is found at the end of a text of which this is left: nothing, if all of it was read; or else one more refusal. That says why no more was read:
+-- there was no memory; the source failed; or what is left is too long.
+abbrev pub EndsWith : SourceRun → (rest : List ℕ) → List PieceVerdict → Type 0
+EndsWith traces rest [] = (traces.is_at_end ≡ true) × IsUnfailing traces × (rest ≡ [])
+EndsWith traces rest (Refused OutOfMemory ∷ []) = IsUnfailing traces
+EndsWith traces rest (Refused Device ∷ []) = traces.failures_now ≡ traces.failures_before + 1
+EndsWith traces rest (Refused InputTooLong ∷ []) = IsUnfailing traces × (MAX_INPUT_BYTES < length rest)
+EndsWith traces rest findings = ⊥
 
--- Why a batch stopped, if these are the lines of the pieces that were decided and this is left of what was read: there was no memory; the sink
--- failed; the source did; or what is left is too long.
-abbrev pub IsBatchStop : SourceRun → SinkRun → (lines rest : List ℕ) → Result Status Fault → Type 0
-IsBatchStop traces out lines rest (Err OutOfMemory) = IsUnfailing traces × TakesFront out lines
-IsBatchStop traces out lines rest (Err Device) =
-    (IsUnfailing traces × FailsBehindFront out lines) ⊎ ((traces.failures_now ≡ traces.failures_before + 1) × TakesWhole out lines)
-IsBatchStop traces out lines rest (Err InputTooLong) = IsUnfailing traces × TakesWhole out lines × (MAX_INPUT_BYTES < length rest)
-IsBatchStop traces out lines rest result = ⊥
-
--- the source handed out a text whose first pieces have these verdicts, and then the batch stopped
-pub record StopsBatch (file : List ℕ) (traces : SourceRun) (out : SinkRun) (result : Result Status Fault) : Type 0 where
-  pub text : List ℕ
-  pub handed : traces.now ≡ traces.before ++ text
+-- what is found in a text: a verdict on each piece that was read, in their order, and what is found at its end
+pub record AreFindings (traces : SourceRun) (findings : List PieceVerdict) : Type 0 where
   pub verdicts : List PieceVerdict
   pub rest : List ℕ
-  pub some : AreOnFirst text verdicts rest
-  pub stopped : IsBatchStop traces out (batch_lines file 0 verdicts) rest result
+  pub on_first : AreOnFirst traces verdicts rest
+  pub ending : List PieceVerdict
+  pub ends : EndsWith traces rest ending
+  pub are : findings ≡ verdicts ++ ending
 
--- what the engine answers, by what its source hands out and its sink takes
-abbrev pub IsRunOfBatch : (file : List ℕ) → SourceRun → SinkRun → Result Status Fault → Type 0
-IsRunOfBatch file traces out result = FinishesBatch file traces out result ⊎ StopsBatch file traces out result
+-- some of what is found in a text: verdicts on first pieces of it, or all
+abbrev pub AreSomeFindings : SourceRun → List PieceVerdict → Type 0
+AreSomeFindings traces findings = (IsUnfailing traces × ((rest : List ℕ) × AreOnFirst traces findings rest)) ⊎ AreFindings traces findings
+
+-- the sink took a line for each finding, and they were counted
+pub record FinishesBatch (file : List ℕ) (traces : SourceRun) (counted : VerdictTally) (out : SinkRun) (tally : VerdictTally) : Type 0 where
+  pub findings : List PieceVerdict
+  pub are : AreFindings traces findings
+  pub whole : TakesWhole out (batch_lines file 0 findings)
+  pub tallied : tally ≡ tally_with_all counted findings
+
+-- the sink took a prefix of the lines of some findings, and then it failed, or there was no memory
+pub record StopsBatch (file : List ℕ) (traces : SourceRun) (out : SinkRun) (fault : SinkFault) : Type 0 where
+  pub findings : List PieceVerdict
+  pub some : AreSomeFindings traces findings
+  pub front : AppendsFront out.before out.now (batch_lines file 0 findings)
+  pub failures : out.failures_now ≡ out.failures_before + failures_told fault
+
+-- what the engine answers, by what its source hands out and its sink takes, if this was counted before
+abbrev pub IsRunOfBatch : (file : List ℕ) → SourceRun → VerdictTally → SinkRun → Result VerdictTally SinkFault → Type 0
+IsRunOfBatch file traces counted out (Ok tally) = FinishesBatch file traces counted out tally
+IsRunOfBatch file traces counted out (Err fault) = StopsBatch file traces out fault
 
 -- ---- as it goes on
 
@@ -73,8 +83,17 @@ pub record StopsBlock (file : List ℕ) (is_last : Bool) (held : List ℕ) (from
   pub front : AppendsFront out.before out.now (batch_lines file from.number verdicts)
   pub failures : out.failures_now ≡ out.failures_before + failures_told fault
 
+-- the sink took the line of a refusal at the end of the text, which was counted
+abbrev pub WritesRefusal : (file : List ℕ) → BatchProgress → Fault → VerdictTally → SinkRun → Type 0
+WritesRefusal file from fault tally out = TakesWhole out (batch_lines file from.number (Refused fault ∷ [])) × (tally ≡ tally_with from.tally (Refused fault))
+
+-- it took a prefix of it
+abbrev pub StopsRefusal : (file : List ℕ) → BatchProgress → Fault → SinkRun → SinkFault → Type 0
+StopsRefusal file from fault out stop =
+    AppendsFront out.before out.now (batch_lines file from.number (Refused fault ∷ [])) × (out.failures_now ≡ out.failures_before + failures_told stop)
+
 -- the source handed out a text whose first pieces have their verdicts, which were counted; this is held of it, and the sink took their lines
-pub record HasCome (file : List ℕ) (traces : SourceRun) (held : List ℕ) (is_last : Bool) (progress : BatchProgress) (out : SinkRun) : Type 0 where
+pub record HasCome (file : List ℕ) (counted_before : VerdictTally) (traces : SourceRun) (held : List ℕ) (is_last : Bool) (progress : BatchProgress) (out : SinkRun) : Type 0 where
   pub text : List ℕ
   pub handed : traces.now ≡ traces.before ++ text
   pub ended : is_last ≡ true → traces.is_at_end ≡ true
@@ -83,4 +102,4 @@ pub record HasCome (file : List ℕ) (traces : SourceRun) (held : List ℕ) (is_
   pub each : AreVerdictsOff is_last 0 text verdicts progress.before held
   pub whole : TakesWhole out (batch_lines file 0 verdicts)
   pub counted : progress.number ≡ length verdicts
-  pub tallied : progress.tally ≡ tally_with_all no_tally verdicts
+  pub tallied : progress.tally ≡ tally_with_all counted_before verdicts

@@ -1,12 +1,12 @@
 //! The engine that decides many traces, from bytes to bytes.
 
 ghost use Rattle.std.specs.Prelude.{◌≡◌, ◌+◌, ◌≤◌, ◌++◌, [], true, IfErr, IfOk, OnErr, OnOk, length, vec_len};
-ghost use Rattle.batch_report.specs.BatchEngine.{IsRunOfBatch, StopsBlock, WritesBlock};
+ghost use Rattle.batch_report.specs.BatchEngine.{IsRunOfBatch, StopsBlock, StopsRefusal, WritesBlock, WritesRefusal};
 ghost use Rattle.batch_report.specs.BatchLines.{batch_lines};
 ghost use Rattle.batch_report.specs.Blocks.{AreVerdictsOff};
 ghost use Rattle.dimacs.specs.Sink.{AppendsFront};
 ghost use Rattle.dimacs.specs.SinkFault.{failures_told};
-ghost use Rattle.verdict_report.specs.Fault.{fault_of_reading, fault_of_sink};
+ghost use Rattle.verdict_report.specs.Fault.{fault_of_reading};
 ghost use Rattle.verdict_report.specs.Runs.{sink_run, source_run};
 
 use crate::block::{DecidedBlock, cut_block};
@@ -15,13 +15,14 @@ use crate::piece_verdict::PieceVerdict;
 use crate::progress::BatchProgress;
 use crate::reading_on::read_on;
 use crate::side_by_side::verdicts_of;
+use crate::tally::VerdictTally;
 use cube_jobs::Options;
 use dimacs::{Sink, SinkFault, write_whole};
 use std::alloc::{AllocError, Global};
 use std::sync::Wait;
 use std::thread::Threads;
 use surveyor::Surveyor;
-use verdict_report::{Fault, ReadFault, Source, Status};
+use verdict_report::{Fault, ReadFault, Source};
 
 /// Decides the first pieces of the text behind a number of lines: all that end in it.
 fn decide_block<'a, R: Threads + Wait + Sync, S: Surveyor + Sync>(
@@ -150,14 +151,24 @@ fn refusal_of_reading(fault: ReadFault) -> Fault
     }
 }
 
-/// The refusal of a sink.
-fn refusal_of_sink(fault: SinkFault) -> Fault
-    ensures { result ≡ fault_of_sink fault }
+/// Writes the line of a refusal at the end of a text, of which no more could be read, and counts it.
+fn write_refusal<W: Sink>(
+    alloc: Global,
+    file: &[u8],
+    progress: BatchProgress,
+    fault: Fault,
+    out: &mut W,
+) -> Result<VerdictTally, SinkFault>
+    ensures written { IfOk result (λ tally. WritesRefusal file.now progress fault tally (sink_run W.written W.failures out.old out.new)) }
+    ensures stopped { IfErr result (StopsRefusal file.now progress fault (sink_run W.written W.failures out.old out.new)) }
+    ensures same { W.path out.new ≡ W.path out.old }
 {
-    match fault {
-        SinkFault::OutOfMemory => Fault::OutOfMemory,
-        SinkFault::Device => Fault::Device,
+    if !progress.has_room() {
+        return Err(SinkFault::OutOfMemory);
     }
+    let verdict = PieceVerdict::Refused(fault);
+    write_lines(alloc, file, progress.number, &[verdict], out)?;
+    Ok(progress.tally.with(&verdict))
 }
 
 /// Decides all traces of the text that the source hands out, each as `verify` does it, or as `survey` does if more than 160 of its
@@ -165,33 +176,38 @@ fn refusal_of_sink(fault: SinkFault) -> Fault
 /// it. The text is read and decided by blocks, of which no more is kept than a block, or a piece that is longer. The lines of a block are
 /// written together, and its traces are decided side by side, if there is more than one worker.
 ///
-/// The answer is `No` if some trace has no legal schedule, or else the first refusal of a piece, or else `Unknown` if some trace is not
-/// decided, or else `Yes`. If the source fails, or a piece is longer than the limit, the lines of the blocks before it were written. If memory
-/// runs out or the sink fails, a prefix of the lines may have been written.
+/// If memory runs out while the text is read, the source fails, or a piece is longer than the limit, the pieces of the blocks before it are
+/// decided, and one more line refuses what is left. The answer is the tally with all lines. If memory runs out or the sink fails, a prefix of
+/// the lines may have been written.
 pub fn run_batch<R: Threads + Wait + Sync, T: Source, S: Surveyor + Sync, W: Sink>(
     alloc: Global,
     rt: &R,
     file: &[u8],
     traces: &mut T,
+    tally: VerdictTally,
     workers: u32,
     short: &Options,
     long: &Options,
     surveyor: &S,
     out: &mut W,
-) -> Result<Status, Fault>
+) -> Result<VerdictTally, SinkFault>
     ensures run { IsRunOfBatch file.now
         (source_run T.handed_out T.is_at_end T.failures traces.old traces.new)
+        tally
         (sink_run W.written W.failures out.old out.new)
         result }
     ensures same_traces { T.path traces.new ≡ T.path traces.old }
     ensures same_out { W.path out.new ≡ W.path out.old }
 {
     let mut held = Vec::new(alloc);
-    let mut progress = BatchProgress::new();
+    let mut progress = BatchProgress::new(tally);
     for _block in 0..u64::MAX {
         let is_last = match read_on(alloc, traces, &mut held) {
             Ok(is_last) => is_last,
-            Err(fault) => return Err(refusal_of_reading(fault)),
+            Err(fault) => {
+                let refusal = refusal_of_reading(fault);
+                return write_refusal(alloc, file, progress, refusal, out);
+            }
         };
         let end = match write_block(
             alloc,
@@ -207,16 +223,16 @@ pub fn run_batch<R: Threads + Wait + Sync, T: Source, S: Surveyor + Sync, W: Sin
             out,
         ) {
             Ok(end) => end,
-            Err(fault) => return Err(refusal_of_sink(fault)),
+            Err(fault) => return Err(fault),
         };
         progress = end.progress;
         if is_last {
-            return progress.tally.outcome();
+            return Ok(progress.tally);
         }
         held = match held_of(alloc, end.left) {
             Ok(held) => held,
-            Err(_) => return Err(Fault::OutOfMemory),
+            Err(_) => return Err(SinkFault::OutOfMemory),
         };
     }
-    Err(Fault::OutOfMemory)
+    Err(SinkFault::OutOfMemory)
 }

@@ -1,4 +1,4 @@
-//! The engine that decides many traces of one text, a line for each.
+//! The engine that decides many traces, a line for each.
 #![tactic(auto)]
 
 mod batch_engine;
@@ -14,3 +14,4 @@ mod tally;
 pub use batch_engine::run_batch;
 pub use deciding::verdict_on;
 pub use piece_verdict::PieceVerdict;
+pub use tally::VerdictTally;

@@ -1,7 +1,6 @@
 //! How far a batch came.
 
 ghost use Rattle.std.specs.Prelude.{◌≡◌, ◌≤◌, true};
-ghost use Rattle.batch_report.specs.Outcome.{no_tally};
 
 use crate::tally::VerdictTally;
 
@@ -12,21 +11,21 @@ pub(crate) struct BatchProgress {
     pub before: usize,
     /// The number of these pieces.
     pub number: usize,
-    /// What was counted.
+    /// What was counted of them, and before them.
     pub tally: VerdictTally,
 }
 
 impl BatchProgress {
-    /// Of no piece.
-    pub(crate) fn new() -> BatchProgress
+    /// Of no piece, after this was counted.
+    pub(crate) fn new(tally: VerdictTally) -> BatchProgress
         ensures before { result.before ≡ 0 }
         ensures number { result.number ≡ 0 }
-        ensures tally { result.tally ≡ no_tally }
+        ensures tally { result.tally ≡ tally }
     {
         BatchProgress {
             before: 0,
             number: 0,
-            tally: VerdictTally::new(),
+            tally,
         }
     }
 }

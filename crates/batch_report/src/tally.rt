@@ -1,7 +1,7 @@
 //! The outcome of a batch.
 
 ghost use Rattle.std.specs.Prelude.{◌≡◌};
-ghost use Rattle.batch_report.specs.Outcome.{is_no, is_unknown, no_tally, outcome_of_tally, refusal_in, tally_with, tally_with_all};
+ghost use Rattle.batch_report.specs.Outcome.{is_device, is_failure, is_no, is_unknown, no_tally, outcome_of_tally, refusal_in, tally_with, tally_with_all};
 
 use crate::piece_verdict::PieceVerdict;
 use verdict_report::{Fault, Status};
@@ -9,12 +9,34 @@ use verdict_report::{Fault, Status};
 /// What of the verdicts so far counts for the outcome.
 #[derive(Clone, Copy)]
 pub struct VerdictTally {
+    /// Whether a device failed.
+    pub has_failed: bool,
     /// Whether some trace has no legal schedule.
     pub has_no: bool,
     /// The first refusal.
     pub refusal: Option<Fault>,
     /// Whether some trace is not decided.
     pub has_unknown: bool,
+}
+
+/// Returns whether the fault is that a device failed.
+fn is_device(fault: &Fault) -> bool
+    ensures { result ≡ is_device fault.now }
+{
+    match fault {
+        Fault::Device => true,
+        _ => false,
+    }
+}
+
+/// Returns whether a device failed.
+fn is_failure(verdict: &PieceVerdict) -> bool
+    ensures { result ≡ is_failure verdict.now }
+{
+    match verdict {
+        PieceVerdict::Refused(fault) => is_device(fault),
+        _ => false,
+    }
 }
 
 /// Returns whether the trace has no legal schedule.
@@ -52,10 +74,11 @@ fn refusal_in(verdict: &PieceVerdict) -> Option<Fault>
 
 impl VerdictTally {
     /// Of no verdict.
-    pub(crate) fn new() -> VerdictTally
+    pub fn new() -> VerdictTally
         ensures { result ≡ no_tally }
     {
         VerdictTally {
+            has_failed: false,
             has_no: false,
             refusal: None,
             has_unknown: false,
@@ -71,6 +94,7 @@ impl VerdictTally {
             None => refusal_in(verdict),
         };
         VerdictTally {
+            has_failed: self.has_failed || is_failure(verdict),
             has_no: self.has_no || is_no(verdict),
             refusal,
             has_unknown: self.has_unknown || is_unknown(verdict),
@@ -88,11 +112,14 @@ impl VerdictTally {
         tally
     }
 
-    /// The answer of the engine: that some trace has no legal schedule, or else the first refusal, or else that some trace is not decided,
-    /// or else that each has a legal schedule.
-    pub(crate) fn outcome(self) -> Result<Status, Fault>
+    /// The outcome: that a device failed, or else that some trace has no legal schedule, or else the first refusal, or else that some trace is
+    /// not decided, or else that each has a legal schedule.
+    pub fn outcome(self) -> Result<Status, Fault>
         ensures { result ≡ outcome_of_tally self }
     {
+        if self.has_failed {
+            return Err(Fault::Device);
+        }
         if self.has_no {
             return Ok(Status::No);
         }

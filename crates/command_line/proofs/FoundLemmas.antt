@@ -5,13 +5,14 @@ use Rattle.std.specs.Box.{box_value}
 use Rattle.clap.specs.Faults.{fault_of, level_fault}
 use Rattle.clap.specs.Matches.{first_value, subcommand_name_of}
 use Rattle.clap.specs.Simple.{Shape, subcommand_of, subcommand_rows, subcommand_rows_of}
-use Rattle.clap.specs.Walk.{Rule, Text, first_of, nothing_held, rows_after, rows_of}
-use Rattle.clap.proofs.WalkLemmas.{first_value-rows}
+use Rattle.clap.specs.Walk.{Rule, Text, all_of, first_of, nothing_held, rows_after, rows_of}
+use Rattle.clap.proofs.WalkLemmas.{first_value-rows, raw_values-rows}
 use Rattle.clap.specs.declared.parser.matches.ArgMatches.{ArgMatches}
 use Rattle.clap.specs.declared.parser.matches.ArgMatches.TheViews.{out-ArgMatches, out-SubCommand}
 use Rattle.clap.specs.declared.parser.matches.Found.{Found}
 use Rattle.clap.specs.declared.parser.matches.SubCommand.{SubCommand}
-use Rattle.command_line.specs.CommandLine.{Asks, AsksWith, command_in, given_in, vsc_app}
+use Rattle.command_line.specs.Arguments.{all_texts}
+use Rattle.command_line.specs.CommandLine.{Asks, AsksWith, all_given_in, command_in, given_in, vsc_app}
 use Rattle.command_line.specs.declared.line.CommandLine.{CommandLine}
 use Rattle.command_line.proofs.CommandLemmas.{Reads, command_reads, is_sure, passes}
 use Rattle.command_line.proofs.EnterLemmas.{Among, Enters, commands, enters_by_name, enters_command, has_name, the_one}
@@ -48,6 +49,9 @@ module _ (words : List Text) (name : Text) (found : Found) (entered : EntersAs w
   value_is : (id : Text) → first_value found id ≡ given_in words id
   value_is id = first_value-rows found id ∙ ap (first_of id) rows_are ∙ sym (ap (option_and_then (λ p. first_of id p.1)) entered.met.is)
 
+  all_are : (id : Text) → all_texts found id ≡ all_given_in words id
+  all_are id = ap (λ o. unwrap_or o []) (raw_values-rows found id ∙ ap (all_of id) rows_are ∙ sym (ap (option_and_then (λ p. all_of id p.1)) entered.met.is))
+
   -- where the command of this name is s, an argument that has to be given, or has a default, has a text that it accepts
   pub reads : (s : Shape) → filter (has_name name) commands ≡ s ∷ []
       → AllFit (passes s.rules) s.rules → (id : Text) → is_sure s.rules id ≡ true → Reads s.rules id (rows_of found)
@@ -58,10 +62,12 @@ module _ (words : List Text) (name : Text) (found : Found) (entered : EntersAs w
       subst (Reads s.rules id) (sym rows) (command_reads s entered.met.words all faultless id sure)
 
   -- what the matches say of the command, the words ask for
-  pub asks_as_read : (asked : CommandLine) → AsksWith (Some name) (first_value found) asked → Asks words asked
+  pub asks_as_read : (asked : CommandLine) → AsksWith (Some name) (first_value found) (all_texts found) asked → Asks words asked
   asks_as_read asked said =
       let values : first_value found ≡ given_in words = λ i id. value_is id i in
-      subst (λ f. AsksWith (command_in words) f asked) values (subst (λ (c : Option Text). AsksWith c (first_value found) asked) (sym entered.command) said)
+      let all : all_texts found ≡ all_given_in words = λ i id. all_are id i in
+      let named = subst (λ (c : Option Text). AsksWith c (first_value found) (all_texts found) asked) (sym entered.command) said in
+      subst (λ f. AsksWith (command_in words) f (all_given_in words) asked) values (subst (λ a. AsksWith (command_in words) (first_value found) a asked) all named)
 
 -- an argument that has a text
 pub has_text : (found : Found) (rules : List Rule) (id : Text) → Reads rules id (rows_of found) → is_some (first_value found id) ≡ true

@@ -52,6 +52,7 @@ keeps_text _ = false
 -- each use gives the argument a value: of its own, or for a flag the one that stands for it
 abbrev pub gives_value : ArgAction → Rule → Bool
 gives_value action.Set a = nat_lt 0 (unwrap_or_range a.range).start_inclusive
+gives_value action.Append a = nat_lt 0 (unwrap_or_range a.range).start_inclusive
 gives_value action.SetTrue a = is_given_text a.missing
 gives_value _ a = false
 
@@ -76,7 +77,7 @@ some_values x a most (v ∷ vs) gives none = refl
 some_values action.Set a most [] gives none = absurd (kind_comes _ _ (rw gives at none))
 some_values action.SetTrue a most [] gives none = gives
 some_values action.SetFalse a most [] gives none = absurd (true≢false (sym gives))
-some_values action.Append a most [] gives none = absurd (true≢false (sym gives))
+some_values action.Append a most [] gives none = absurd (kind_comes _ _ (rw gives at none))
 some_values action.Count a most [] gives none = absurd (true≢false (sym gives))
 some_values action.Help a most [] gives none = absurd (true≢false (sym gives))
 some_values action.HelpShort a most [] gives none = absurd (true≢false (sym gives))
@@ -146,7 +147,8 @@ module _ (ok : Text → Text → Bool) where
       given_values a.id (reading_by a) _ vs (without a.id rows) (some valued) fit.kept (fit.sound vs (no_kind_of_both _ _ none).1) (given_without a.id rows h)
   given_used_as action.SetTrue gives again a vs rows fit is valued some none h =
       given_values a.id (reading_by a) _ vs (without a.id rows) (some valued) fit.kept (fit.sound vs (no_kind_of_both _ _ none).1) (given_without a.id rows h)
-  given_used_as action.Append gives again a vs rows fit is valued some none h = absurd (true≢false (sym valued ∙ is))
+  given_used_as action.Append gives again a vs rows fit is valued some none h =
+      given_values a.id (reading_by a) _ vs rows (some valued) fit.kept (fit.sound vs none) h
   given_used_as action.SetFalse gives again a vs rows fit is valued some none h = absurd (true≢false (sym valued ∙ is))
   given_used_as action.Count gives again a vs rows fit is valued some none h = absurd (true≢false (sym valued ∙ is))
   given_used_as action.Help gives again a vs rows fit is valued some none h = absurd (kind_comes _ _ none)

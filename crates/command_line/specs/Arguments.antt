@@ -1,9 +1,13 @@
 -- What a parse has to give before a number or a flag is read.
-use Rattle.std.specs.Prelude.{◌≡◌, ◌||◌, ℕ, Some, codes, pos, true}
+use Rattle.std.specs.Prelude.{◌≡◌, ◌||◌, ℕ, List, [], Some, codes, option_map, pos, true, unwrap_or}
 use Rattle.std.specs.Str.{bytes_eq}
-use Rattle.clap.specs.Words.{Text, first_value, one_text}
+use Rattle.clap.specs.Words.{Text, first_value, matched_of, one_text, raw_values}
 use Rattle.clap.specs.Values.{IsSignedIn, IsUnsignedIn}
 use Rattle.clap.specs.declared.parser.matches.Found.{Found}
+
+-- all texts that an argument was given, in their order
+abbrev pub all_texts : Found → Text → List Text
+all_texts found id = unwrap_or (option_map raw_values (matched_of found id)) []
 
 -- the argument has a text of which this is so, and that is read as it was written
 pub record HasTextThat (Taken : Text → Type 0) (found : Found) (id : Text) : Type 0 where

@@ -1,7 +1,9 @@
 -- The command line of `vsc`, in the words of `clap`.
-use Rattle.std.specs.Prelude.{◌≡◌, ◌⊎◌, ◌≤◌, ⊤, IsSomeAnd, ℕ, Bool, List, [], ◌∷◌, Option, Some, codes, false, option_and_then, option_map, pos, true}
+use Rattle.std.specs.Prelude.{◌≡◌, ◌⊎◌, ◌≤◌, ⊤, IsSomeAnd, ℕ, Bool, List, [], ◌∷◌, Option, Some, codes, false, option_and_then, option_map, pos, true, unwrap_or}
 use Rattle.std.specs.Str.Parse.{IsNumeral, digits_value, without_leading_plus}
-use Rattle.clap.specs.Words.{App, IsAmong, Rule, Text, fault_of, first_of, new_app, new_rule, subcommand_of, with_rule, with_subcommand}
+use Rattle.clap.specs.Lexer.{usize_max}
+use Rattle.clap.specs.Walk.{texts}
+use Rattle.clap.specs.Words.{App, IsAmong, Rule, Text, all_of, fault_of, first_of, new_app, new_rule, subcommand_of, with_rule, with_subcommand}
 use Rattle.clap.specs.Simple.{on_top}
 use Rattle.clap.specs.Values.{bool_text}
 use Rattle.clap.specs.declared.builder.action.ArgAction.TheVariants.{SetTrue}
@@ -23,6 +25,10 @@ use Rattle.command_line.specs.declared.line.SurveyNumbers.{SurveyNumbers}
 -- an argument that stands at its place and has to be given
 abbrev pub required_path : Text → Rule
 required_path id = record (new_rule id) { value_names = 1; required = true }
+
+-- an argument that has any number of paths at its place, and at least one
+abbrev pub required_paths : Text → Rule
+required_paths id = record (required_path id) { range = Some (record { start_inclusive = 1; end_inclusive = usize_max }) }
 
 -- an option with a path, which may be left out
 abbrev pub optional_path : Text → Rule
@@ -146,9 +152,9 @@ survey_app =
 abbrev pub refusals_app : App
 refusals_app = new_app (codes "refusals")
 
--- batch FILE [--workers N] [--split N] [--budget N]
+-- batch FILE.. [--workers N] [--split N] [--budget N]
 abbrev pub batch_app : App
-batch_app = with_rule (with_rule (with_rule (with_rule (new_app (codes "batch")) (required_path (codes "traces"))) workers_rule) split_rule) budget_rule
+batch_app = with_rule (with_rule (with_rule (with_rule (new_app (codes "batch")) (required_paths (codes "traces"))) workers_rule) split_rule) budget_rule
 
 -- the program, which has a version and wants a command
 abbrev pub program_app : App
@@ -167,6 +173,10 @@ command_in words = option_map (λ p. p.0) (subcommand_of vsc_app words)
 -- what the words give an argument of the command that they name, or else what stands for it
 abbrev pub given_in : List Text → Text → Option Text
 given_in words id = option_and_then (λ p. first_of id p.1) (subcommand_of vsc_app words)
+
+-- all that they give it, in their order
+abbrev pub all_given_in : List Text → Text → List Text
+all_given_in words id = unwrap_or (option_and_then (λ p. all_of id p.1) (subcommand_of vsc_app words)) []
 
 -- the command is to judge the schedule in one file against the trace in another
 pub record AsksToJudge (command : Option Text) (given : Text → Option Text) (trace schedule : Text) : Type 0 where
@@ -240,26 +250,26 @@ pub record AsksToSurvey (command : Option Text) (given : Text → Option Text) (
   pub workers_text : IsSomeAnd (given (codes "workers")) (λ text. IsNumberWithin 1 8 text numbers.workers)
   pub progress_text : given (codes "progress") ≡ Some (bool_text progress)
 
--- the command is to decide the traces in a file, by these numbers
-pub record AsksForBatch (command : Option Text) (given : Text → Option Text) (traces : Text) (numbers : BatchNumbers) : Type 0 where
+-- the command is to decide the traces in these files, in this order, by these numbers
+pub record AsksForBatch (command : Option Text) (given : Text → Option Text) (all_given : Text → List Text) (traces : List Text) (numbers : BatchNumbers) : Type 0 where
   pub command_name : command ≡ Some (codes "batch")
-  pub traces_path : given (codes "traces") ≡ Some traces
+  pub traces_paths : traces ≡ all_given (codes "traces")
   pub workers_text : IsSomeAnd (given (codes "workers")) (λ text. IsNumberWithin 1 8 text numbers.workers)
   pub split_text : IsSomeAnd (given (codes "split")) (λ text. IsNumberWithin 0 10 text numbers.split)
   pub budget_text : IsSomeAnd (given (codes "budget")) (λ text. IsNumberWithin 0 1000000000 text numbers.budget)
 
 -- a command with what is given for its arguments asks for the line
-abbrev pub AsksFor : (command : Option Text) (given : Text → Option Text) → Line → Type 0
-AsksFor command given (Judge trace schedule) = AsksToJudge command given trace.now schedule.now
-AsksFor command given (Cnf trace workers) = AsksForCnf command given trace.now workers
-AsksFor command given (Decode trace model) = AsksToDecode command given trace.now model.now
-AsksFor command given (Lrat cnf proof) = AsksToCheckProof command given cnf.now proof.now
-AsksFor command given (Recheck trace cert part) = AsksToRecheck command given trace.now cert.now (option_map (λ path. path.now) part)
-AsksFor command given (Part trace names shows_names) = AsksForPart command given trace.now names.now shows_names
-AsksFor command given (Verify trace cert numbers progress) = AsksToVerify command given trace.now (option_map (λ path. path.now) cert) numbers progress
-AsksFor command given (Survey trace files numbers progress) = AsksToSurvey command given trace.now files numbers progress
-AsksFor command given Refusals = command ≡ Some (codes "refusals")
-AsksFor command given (Batch traces numbers) = AsksForBatch command given traces.now numbers
+abbrev pub AsksFor : (command : Option Text) (given : Text → Option Text) (all_given : Text → List Text) → Line → Type 0
+AsksFor command given all_given (Judge trace schedule) = AsksToJudge command given trace.now schedule.now
+AsksFor command given all_given (Cnf trace workers) = AsksForCnf command given trace.now workers
+AsksFor command given all_given (Decode trace model) = AsksToDecode command given trace.now model.now
+AsksFor command given all_given (Lrat cnf proof) = AsksToCheckProof command given cnf.now proof.now
+AsksFor command given all_given (Recheck trace cert part) = AsksToRecheck command given trace.now cert.now (option_map (λ path. path.now) part)
+AsksFor command given all_given (Part trace names shows_names) = AsksForPart command given trace.now names.now shows_names
+AsksFor command given all_given (Verify trace cert numbers progress) = AsksToVerify command given trace.now (option_map (λ path. path.now) cert) numbers progress
+AsksFor command given all_given (Survey trace files numbers progress) = AsksToSurvey command given trace.now files numbers progress
+AsksFor command given all_given Refusals = command ≡ Some (codes "refusals")
+AsksFor command given all_given (Batch traces numbers) = AsksForBatch command given all_given (texts traces.items) numbers
 
 -- it asks for an explanation by --explain, wherever standard error goes, for none by --no-explain alone, and by neither for one on a terminal
 abbrev pub AsksToExplain : (given : Text → Option Text) → Explains → Type 0
@@ -274,14 +284,14 @@ is_explained is_terminal Never = false
 is_explained is_terminal IfTerminal = is_terminal
 
 -- it asks for the line, for an explanation of the answer or for none, and for a picture in a file or for none
-pub record AsksWith (command : Option Text) (given : Text → Option Text) (asked : CommandLine) : Type 0 where
-  pub line : AsksFor command given asked.line
+pub record AsksWith (command : Option Text) (given : Text → Option Text) (all_given : Text → List Text) (asked : CommandLine) : Type 0 where
+  pub line : AsksFor command given all_given asked.line
   pub explanation : AsksToExplain given asked.explains
   pub picture_path : given (codes "picture") ≡ option_map (λ path. path.now) asked.picture
 
 -- the words ask for the line, with an explanation or without
 abbrev pub Asks : List Text → CommandLine → Type 0
-Asks words = AsksWith (command_in words) (given_in words)
+Asks words = AsksWith (command_in words) (given_in words) (all_given_in words)
 
 -- the numbers of a search are in their ranges
 pub record AreSearchNumbers (numbers : SearchNumbers) : Type 0 where

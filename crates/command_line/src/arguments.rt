@@ -1,13 +1,14 @@
 //! What the commands share: arguments that are paths of files, flags, and what was given for one.
 
-ghost use Rattle.std.specs.Prelude.{◌≡◌, IsSome, Some, codes, false, option_map};
+ghost use Rattle.std.specs.Prelude.{◌≡◌, IfOk, IsSome, Some, codes, false, option_map};
 ghost use Rattle.clap.specs.Values.{bool_text};
+ghost use Rattle.clap.specs.Walk.{texts};
 ghost use Rattle.clap.specs.Words.{first_value, found_of, rule_of};
-ghost use Rattle.command_line.specs.Arguments.{HasFlag};
-ghost use Rattle.command_line.specs.CommandLine.{flag_rule, optional_path, picture_rule, progress_rule, required_path};
+ghost use Rattle.command_line.specs.Arguments.{HasFlag, all_texts};
+ghost use Rattle.command_line.specs.CommandLine.{flag_rule, optional_path, picture_rule, progress_rule, required_path, required_paths};
 
 use clap::{Arg, ArgAction, ArgMatches};
-use std::alloc::Global;
+use std::alloc::{AllocError, Global};
 
 /// An argument that is the path of a file. It stands at its place and has to be given.
 pub fn path_argument<'a>(alloc: Global, id: &'a str, value_name: &'a str, help: &'a str) -> Arg<'a>
@@ -18,6 +19,14 @@ pub fn path_argument<'a>(alloc: Global, id: &'a str, value_name: &'a str, help: 
         .required(true)
         .value_name(value_name)
         .help(help)
+}
+
+/// An argument that is the paths of one file or more. They stand at its place, and one has to be given.
+pub fn paths_argument<'a>(alloc: Global, id: &'a str, value_name: &'a str, help: &'a str) -> Arg<'a>
+    ensures rule { rule_of result ≡ required_paths id.entry.now }
+    ensures local { result.global ≡ false }
+{
+    path_argument(alloc, id, value_name, help).num_args(1..)
 }
 
 /// An option that is the path of a file, and that may be left out.
@@ -107,4 +116,19 @@ pub fn flag_of(matches: &ArgMatches<'_>, id: &str) -> bool
     ensures { first_value (found_of matches.now) id.now ≡ Some (bool_text result) }
 {
     matches.get_flag(id)
+}
+
+/// The texts of an argument, in the order in which they were given.
+pub fn texts_of<'a>(
+    alloc: Global,
+    matches: &ArgMatches<'a>,
+    id: &str,
+) -> Result<Vec<&'a str>, AllocError>
+    ensures { IfOk result (λ given. texts given.items ≡ all_texts (found_of matches.now) id.now) }
+{
+    let mut given = Vec::new(alloc);
+    if let Some(texts) = matches.get_strs(id) {
+        given.extend_from_slice(texts)?;
+    }
+    Ok(given)
 }

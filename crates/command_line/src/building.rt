@@ -75,7 +75,7 @@ pub fn with_explanation<'a>(
         alloc,
         "no-explain",
         "no-explain",
-        "Does not, even if standard error is a terminal",
+        "Writes no notes, even if standard error is a terminal",
     );
     with_two(command, explain, no_explain)
 }

@@ -4,7 +4,7 @@ ghost use Rattle.std.specs.Prelude.{◌≡◌, IfOk, IsSome, Some, codes, false}
 ghost use Rattle.clap.specs.Words.{app_of, first_value, found_of};
 ghost use Rattle.clap.specs.declared.builder.command.Command.TheViews.{out-Command};
 ghost use Rattle.command_line.specs.CommandLine.{AsksWith, cnf_app};
-ghost use Rattle.command_line.specs.Arguments.{HasFlag, HasWorkers};
+ghost use Rattle.command_line.specs.Arguments.{HasFlag, HasWorkers, all_texts};
 
 use crate::arguments::{optional_text_of, text_of, trace_argument};
 use crate::building::command_of_two;
@@ -48,7 +48,7 @@ pub fn cnf_line<'a>(matches: &ArgMatches<'a>) -> CommandLine<'a>
     requires workers { HasWorkers (found_of matches.now) }
     requires explain { HasFlag (codes "explain") (found_of matches.now) }
     requires no_explain { HasFlag (codes "no-explain") (found_of matches.now) }
-    ensures { AsksWith (Some (codes "cnf")) (first_value (found_of matches.now)) result }
+    ensures { AsksWith (Some (codes "cnf")) (first_value (found_of matches.now)) (all_texts (found_of matches.now)) result }
 {
     let line = Line::Cnf {
         trace: text_of(matches, "trace"),

@@ -3,7 +3,7 @@
 ghost use Rattle.std.specs.Prelude.{◌≡◌, IfOk, IsSome, Some, codes, false};
 ghost use Rattle.clap.specs.Words.{app_of, first_value, found_of};
 ghost use Rattle.clap.specs.declared.builder.command.Command.TheViews.{out-Command};
-ghost use Rattle.command_line.specs.Arguments.{HasFlag};
+ghost use Rattle.command_line.specs.Arguments.{HasFlag, all_texts};
 ghost use Rattle.command_line.specs.CommandLine.{AsksWith, decode_app};
 
 use crate::arguments::{optional_text_of, path_argument, text_of, trace_argument};
@@ -50,7 +50,7 @@ pub fn decode_line<'a>(matches: &ArgMatches<'a>) -> CommandLine<'a>
     requires model { IsSome (first_value (found_of matches.now) (codes "model")) }
     requires explain { HasFlag (codes "explain") (found_of matches.now) }
     requires no_explain { HasFlag (codes "no-explain") (found_of matches.now) }
-    ensures { AsksWith (Some (codes "decode")) (first_value (found_of matches.now)) result }
+    ensures { AsksWith (Some (codes "decode")) (first_value (found_of matches.now)) (all_texts (found_of matches.now)) result }
 {
     let line = Line::Decode {
         trace: text_of(matches, "trace"),

@@ -47,7 +47,7 @@ pub struct SurveyNumbers {
 /// How a batch goes about its work.
 #[derive(Clone, Copy)]
 pub struct BatchNumbers {
-    /// 1 to decide one trace at a time, or 2 to 8 to decide several side by side.
+    /// How many threads decide traces, 1 to 8.
     pub workers: u32,
     /// On how many variables the search of a short trace is split at first, 0 to 10.
     pub split: u32,
@@ -69,7 +69,7 @@ pub struct SurveyFiles<'a> {
 }
 
 /// What a command is to do. A path is that of a file, as it was given.
-#[derive(Clone, Copy)]
+#[derive(Drop)]
 pub enum Line<'a> {
     /// To judge a schedule against a trace.
     Judge {
@@ -119,15 +119,15 @@ pub enum Line<'a> {
     },
     /// To list all refusals.
     Refusals,
-    /// To decide many traces of one file.
+    /// To decide many traces of one file or more.
     Batch {
-        traces: &'a str,
+        traces: Vec<&'a str>,
         numbers: BatchNumbers,
     },
 }
 
 /// What a command line asks for.
-#[derive(Clone, Copy)]
+#[derive(Drop)]
 pub struct CommandLine<'a> {
     /// What the command is to do.
     pub line: Line<'a>,
@@ -186,7 +186,7 @@ fn asked_line<'a>(alloc: Global, words: &'a [&'a str]) -> Result<CommandLine<'a>
         return Ok(refusals_line(refusals));
     }
     if let Some(batch) = matches.subcommand_matches("batch") {
-        return Ok(batch_line(batch));
+        return batch_line(alloc, batch);
     }
     unreachable!()
 }

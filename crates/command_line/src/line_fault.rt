@@ -3,11 +3,13 @@
 ghost use Rattle.std.specs.Prelude.{◌≡◌};
 ghost use Rattle.clap.specs.Words.{kind_of};
 ghost use Rattle.clap.specs.declared.error.kind.ErrorKind.{ErrorKind};
+ghost use Rattle.clap.specs.declared.error.kind.ErrorKind.TheVariants.{OutOfMemory};
 ghost use Rattle.command_line.specs.LineFault.{is_answer, status_of, text_on_memory};
 
 use crate::number_option::{NumberOption, missed_number};
 use clap::Error;
 use clap::error::ErrorKind;
+use std::alloc::AllocError;
 use std::fmt;
 use std::marker::Model;
 
@@ -74,6 +76,14 @@ impl From<Error> for LineFault {
             error,
             missed: None,
         }
+    }
+}
+
+impl From<AllocError> for LineFault {
+    ghost from_gives = { λ _ kind. kind ≡ OutOfMemory };
+
+    fn from(error: AllocError) -> LineFault {
+        LineFault::from(Error::from(error))
     }
 }
 

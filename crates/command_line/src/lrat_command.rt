@@ -3,7 +3,7 @@
 ghost use Rattle.std.specs.Prelude.{◌≡◌, IfOk, IsSome, Some, codes, false};
 ghost use Rattle.clap.specs.Words.{app_of, first_value, found_of};
 ghost use Rattle.clap.specs.declared.builder.command.Command.TheViews.{out-Command};
-ghost use Rattle.command_line.specs.Arguments.{HasFlag};
+ghost use Rattle.command_line.specs.Arguments.{HasFlag, all_texts};
 ghost use Rattle.command_line.specs.CommandLine.{AsksWith, lrat_app};
 
 use crate::arguments::{optional_text_of, path_argument, text_of};
@@ -43,7 +43,7 @@ pub fn lrat_line<'a>(matches: &ArgMatches<'a>) -> CommandLine<'a>
     requires proof { IsSome (first_value (found_of matches.now) (codes "proof")) }
     requires explain { HasFlag (codes "explain") (found_of matches.now) }
     requires no_explain { HasFlag (codes "no-explain") (found_of matches.now) }
-    ensures { AsksWith (Some (codes "lrat")) (first_value (found_of matches.now)) result }
+    ensures { AsksWith (Some (codes "lrat")) (first_value (found_of matches.now)) (all_texts (found_of matches.now)) result }
 {
     let line = Line::Lrat {
         cnf: text_of(matches, "cnf"),

@@ -3,7 +3,7 @@
 ghost use Rattle.std.specs.Prelude.{◌≡◌, IfOk, IsSome, Some, codes, false};
 ghost use Rattle.clap.specs.Words.{app_of, first_value, found_of, rule_of};
 ghost use Rattle.clap.specs.declared.builder.command.Command.TheViews.{out-Command};
-ghost use Rattle.command_line.specs.Arguments.{HasFlag};
+ghost use Rattle.command_line.specs.Arguments.{HasFlag, all_texts};
 ghost use Rattle.command_line.specs.CommandLine.{AsksWith, part_app, show_names_rule};
 
 use crate::arguments::{
@@ -69,7 +69,7 @@ pub fn part_line<'a>(matches: &ArgMatches<'a>) -> CommandLine<'a>
     requires names_flag { HasFlag (codes "show-names") (found_of matches.now) }
     requires explain { HasFlag (codes "explain") (found_of matches.now) }
     requires no_explain { HasFlag (codes "no-explain") (found_of matches.now) }
-    ensures { AsksWith (Some (codes "part")) (first_value (found_of matches.now)) result }
+    ensures { AsksWith (Some (codes "part")) (first_value (found_of matches.now)) (all_texts (found_of matches.now)) result }
 {
     let line = Line::Part {
         trace: text_of(matches, "trace"),

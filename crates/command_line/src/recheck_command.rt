@@ -3,7 +3,7 @@
 ghost use Rattle.std.specs.Prelude.{◌≡◌, IfOk, IsSome, Some, codes, false};
 ghost use Rattle.clap.specs.Words.{app_of, first_value, found_of, rule_of};
 ghost use Rattle.clap.specs.declared.builder.command.Command.TheViews.{out-Command};
-ghost use Rattle.command_line.specs.Arguments.{HasFlag};
+ghost use Rattle.command_line.specs.Arguments.{HasFlag, all_texts};
 ghost use Rattle.command_line.specs.CommandLine.{AsksWith, part_rule, recheck_app};
 
 use crate::arguments::{
@@ -68,7 +68,7 @@ pub fn recheck_line<'a>(matches: &ArgMatches<'a>) -> CommandLine<'a>
     requires cert { IsSome (first_value (found_of matches.now) (codes "cert")) }
     requires explain { HasFlag (codes "explain") (found_of matches.now) }
     requires no_explain { HasFlag (codes "no-explain") (found_of matches.now) }
-    ensures { AsksWith (Some (codes "recheck")) (first_value (found_of matches.now)) result }
+    ensures { AsksWith (Some (codes "recheck")) (first_value (found_of matches.now)) (all_texts (found_of matches.now)) result }
 {
     let line = Line::Recheck {
         trace: text_of(matches, "trace"),

@@ -3,7 +3,7 @@
 ghost use Rattle.std.specs.Prelude.{◌≡◌, IfOk, Some, codes, false};
 ghost use Rattle.clap.specs.Words.{app_of, first_value, found_of};
 ghost use Rattle.clap.specs.declared.builder.command.Command.TheViews.{out-Command};
-ghost use Rattle.command_line.specs.Arguments.{HasFlag};
+ghost use Rattle.command_line.specs.Arguments.{HasFlag, all_texts};
 ghost use Rattle.command_line.specs.CommandLine.{AsksWith, refusals_app};
 
 use crate::arguments::optional_text_of;
@@ -43,7 +43,7 @@ pub fn new_refusals_command<'a>(alloc: Global) -> Result<Command<'a>, AllocError
 pub fn refusals_line<'a>(matches: &ArgMatches<'a>) -> CommandLine<'a>
     requires explain { HasFlag (codes "explain") (found_of matches.now) }
     requires no_explain { HasFlag (codes "no-explain") (found_of matches.now) }
-    ensures { AsksWith (Some (codes "refusals")) (first_value (found_of matches.now)) result }
+    ensures { AsksWith (Some (codes "refusals")) (first_value (found_of matches.now)) (all_texts (found_of matches.now)) result }
 {
     CommandLine {
         line: Line::Refusals,

@@ -4,7 +4,7 @@
 ghost use Rattle.std.specs.Prelude.{◌≡◌, IfOk, IsSome, Some, codes, false, option_map};
 ghost use Rattle.clap.specs.Words.{app_of, first_value, found_of, rule_of};
 ghost use Rattle.clap.specs.declared.builder.command.Command.TheViews.{out-Command};
-ghost use Rattle.command_line.specs.Arguments.{HasFlag, HasNumber, HasWorkers};
+ghost use Rattle.command_line.specs.Arguments.{HasFlag, HasNumber, HasWorkers, all_texts};
 ghost use Rattle.command_line.specs.CommandLine.{AsksWith, cert_rule, hint_rule, names_rule, part_rule, survey_app};
 
 use crate::arguments::{
@@ -137,7 +137,7 @@ pub fn survey_line<'a>(matches: &ArgMatches<'a>) -> CommandLine<'a>
     requires progress { HasFlag (codes "progress") (found_of matches.now) }
     requires explain { HasFlag (codes "explain") (found_of matches.now) }
     requires no_explain { HasFlag (codes "no-explain") (found_of matches.now) }
-    ensures { AsksWith (Some (codes "survey")) (first_value (found_of matches.now)) result }
+    ensures { AsksWith (Some (codes "survey")) (first_value (found_of matches.now)) (all_texts (found_of matches.now)) result }
 {
     let numbers = SurveyNumbers {
         workers: workers_of(matches),

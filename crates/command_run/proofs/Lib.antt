@@ -1,1 +1,2 @@
+mod BatchLemmas
 mod RunLemmas

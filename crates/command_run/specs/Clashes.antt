@@ -8,7 +8,7 @@ use Rattle.command_line.specs.declared.line.SurveyFiles.{SurveyFiles}
 use Rattle.command_run.specs.declared.clash.Clash.{Clash}
 use Rattle.command_run.specs.declared.clash.Clash.TheVariants.{CertIsHint, CertIsNames, CertIsPart, CertIsTrace, InputTwice, NamesIsHint, NamesIsPart, NamesIsTrace, PartIsHint, PartIsTrace, PictureIsCert, PictureIsHint, PictureIsNames, PictureIsPart, PictureIsTrace}
 use Rattle.command_host.specs.HostCalls.{HostCalls}
-use Rattle.command_run.specs.Inputs.{inputs_of, repeats_input}
+use Rattle.command_run.specs.Inputs.{reads_input_twice}
 
 -- what is printed
 abbrev pub clash_line : Clash → List ℕ
@@ -117,4 +117,4 @@ ClashesIf true calls from asked found to = (found ≡ Some InputTwice) × (to �
 ClashesIf false calls from asked found to = ClashesOfWritten calls from asked found to
 
 abbrev pub ClashesBy : {H I O : Type 0} → HostCalls H I O → H → CommandLine → Option Clash → H → Type 0
-ClashesBy calls from asked found to = ClashesIf (repeats_input (inputs_of asked.line)) calls from asked found to
+ClashesBy calls from asked found to = ClashesIf (reads_input_twice asked.line) calls from asked found to

@@ -1,17 +1,19 @@
-//! The engine that decides many traces, on the file of a line.
-ghost use Rattle.batch_report.specs.BatchEngine.{IsRunOfBatch};
+//! The engine that decides many traces, on the files of a line.
+ghost use Rattle.std.specs.Prelude.{◌≡◌};
+ghost use Rattle.clap.specs.Walk.{texts};
 ghost use Rattle.command_host.specs.Streams.{source_view};
 ghost use Rattle.command_line.specs.CommandLine.{AreBatchNumbers};
-ghost use Rattle.command_run.specs.CommandRun.{RunsOnFile};
+ghost use Rattle.command_run.specs.CommandRun.{DecidesFile, RunsBatch};
+ghost use Rattle.verdict_report.specs.Fault.{fault_of_sink};
 ghost use Rattle.verdict_report.specs.Runs.{sink_run};
 
 use crate::opening::open;
 use crate::search_runs::{search_of, survey_of};
-use batch_report::run_batch;
+use batch_report::{VerdictTally, run_batch};
 use command_host::Host;
 use command_line::{BatchNumbers, SearchNumbers, SurveyNumbers};
 use cube_jobs::Options;
-use dimacs::Sink;
+use dimacs::{Sink, SinkFault};
 use std::alloc::Global;
 use std::sync::Wait;
 use std::thread::Threads;
@@ -24,7 +26,7 @@ const SURVEY_STEPS: u64 = 1_000_000_000;
 /// How the traces of a batch are searched.
 #[derive(Clone, Copy)]
 pub(crate) struct BatchSearch {
-    /// One decides one trace at a time, and more decide several side by side.
+    /// How many threads decide traces.
     workers: u32,
     /// How a trace of at most 160 operations is searched.
     short: Options,
@@ -53,17 +55,28 @@ pub(crate) fn batch_of(numbers: BatchNumbers) -> BatchSearch
     }
 }
 
-/// Decides the traces in the file at this path, and writes a line for each to the standard output.
-pub(crate) fn decide_traces<'p, R: Threads + Wait + Sync, H: Host<'p>, W: Sink>(
+/// The refusal of a sink.
+fn refusal_of_sink(fault: SinkFault) -> Fault
+    ensures { result ≡ fault_of_sink fault }
+{
+    match fault {
+        SinkFault::OutOfMemory => Fault::OutOfMemory,
+        SinkFault::Device => Fault::Device,
+    }
+}
+
+/// Decides the traces in the file at this path, writes a line for each to the standard output, and counts them.
+fn decide_file<'p, R: Threads + Wait + Sync, H: Host<'p>, W: Sink>(
     alloc: Global,
     rt: &R,
     host: &mut H,
     traces: &'p str,
+    tally: VerdictTally,
     search: &BatchSearch,
     out: &mut W,
-) -> Result<Status, Fault>
-    ensures { RunsOnFile H.calls (source_view H.Input.handed_out H.Input.is_at_end H.Input.failures H.Input.path) (IsRunOfBatch traces.now)
-        host.old traces.now (sink_run W.written W.failures out.old out.new) result host.new }
+) -> Result<VerdictTally, SinkFault>
+    ensures { DecidesFile H.calls (source_view H.Input.handed_out H.Input.is_at_end H.Input.failures H.Input.path)
+        host.old traces.now tally (sink_run W.written W.failures out.old out.new) result host.new }
 {
     let surveyor = BySaturation {
         budget: SURVEY_STEPS,
@@ -74,10 +87,35 @@ pub(crate) fn decide_traces<'p, R: Threads + Wait + Sync, H: Host<'p>, W: Sink>(
         rt,
         traces.as_bytes(),
         &mut file,
+        tally,
         search.workers,
         &search.short,
         &search.long,
         &surveyor,
         out,
     )
+}
+
+/// Decides the traces in the files at these paths, and writes a line for each to the standard output. A file that cannot be read to its end
+/// is refused in its last line, and then the next one is decided.
+pub(crate) fn decide_traces<'p, R: Threads + Wait + Sync, H: Host<'p>, W: Sink>(
+    alloc: Global,
+    rt: &R,
+    host: &mut H,
+    traces: &[&'p str],
+    search: &BatchSearch,
+    out: &mut W,
+) -> Result<Status, Fault>
+    ensures { RunsBatch H.calls (source_view H.Input.handed_out H.Input.is_at_end H.Input.failures H.Input.path)
+        host.old (texts traces.now) (sink_run W.written W.failures out.old out.new) result host.new }
+{
+    let mut tally = VerdictTally::new();
+    for at in 0..traces.len() {
+        let counted = match decide_file(alloc, rt, host, traces[at], tally, search, out) {
+            Ok(counted) => counted,
+            Err(fault) => return Err(refusal_of_sink(fault)),
+        };
+        tally = counted;
+    }
+    tally.outcome()
 }

@@ -2,10 +2,9 @@
 ghost use Rattle.std.specs.Prelude.{◌≡◌, None, Some, if◌then◌else◌};
 ghost use Rattle.command_run.specs.Clashes.{AreOneFile, ClashesBy, ClashesIfOne, ClashesOfWritten, Compares, FindsClash, IsOneFile, clash_line, pairings_of, pairings_of_picture, pairings_of_picture_and_survey, pairings_of_picture_and_verify, pairings_of_survey, pairings_of_verify};
 ghost use Rattle.command_run.specs.CommandRun.{Prints};
-ghost use Rattle.command_run.specs.Inputs.{inputs_of, repeats_input};
 ghost use Rattle.verdict_report.specs.Runs.{sink_run};
 
-use crate::inputs::{inputs_of, repeats_input};
+use crate::inputs::reads_input_twice;
 use crate::telling::{REFUSED, print_text};
 use command_host::Host;
 use command_line::{CommandLine, Line, SurveyFiles};
@@ -168,12 +167,12 @@ fn clash_of_survey<'p, H: Host<'p>>(
 }
 
 /// The first clash of a file that is written.
-fn clash_of_files<'p, H: Host<'p>>(host: &mut H, line: Line<'p>) -> Option<Clash>
-    ensures { FindsClash H.calls host.old None (pairings_of line.entry) result host.new }
+fn clash_of_files<'p, H: Host<'p>>(host: &mut H, line: &Line<'p>) -> Option<Clash>
+    ensures { FindsClash H.calls host.old None (pairings_of line.now) result host.new }
 {
     match line {
-        Line::Verify { trace, cert, .. } => clash_of_verify(host, trace, cert),
-        Line::Survey { trace, files, .. } => clash_of_survey(host, trace, files),
+        Line::Verify { trace, cert, .. } => clash_of_verify(host, *trace, *cert),
+        Line::Survey { trace, files, .. } => clash_of_survey(host, *trace, *files),
         Line::Judge { .. } => None,
         Line::Cnf { .. } => None,
         Line::Decode { .. } => None,
@@ -221,13 +220,15 @@ fn clash_of_picture<'p, H: Host<'p>>(
     host: &mut H,
     found: Option<Clash>,
     picture: Option<&'p str>,
-    line: Line<'p>,
+    line: &Line<'p>,
 ) -> Option<Clash>
-    ensures { FindsClash H.calls host.old found (pairings_of_picture picture.entry line.entry) result host.new }
+    ensures { FindsClash H.calls host.old found (pairings_of_picture picture.entry line.now) result host.new }
 {
     match line {
-        Line::Verify { trace, cert, .. } => clash_with_verify(host, found, picture, trace, cert),
-        Line::Survey { trace, files, .. } => clash_with_survey(host, found, picture, trace, files),
+        Line::Verify { trace, cert, .. } => clash_with_verify(host, found, picture, *trace, *cert),
+        Line::Survey { trace, files, .. } => clash_with_survey(
+            host, found, picture, *trace, *files,
+        ),
         Line::Judge { .. } => found,
         Line::Cnf { .. } => found,
         Line::Decode { .. } => found,
@@ -240,26 +241,18 @@ fn clash_of_picture<'p, H: Host<'p>>(
 }
 
 /// The first clash of a file that is written: of those of the line, and then of the picture.
-fn clash_of_written<'p, H: Host<'p>>(host: &mut H, asked: CommandLine<'p>) -> Option<Clash>
-    ensures { ClashesOfWritten H.calls host.old asked.entry result host.new }
+fn clash_of_written<'p, H: Host<'p>>(host: &mut H, asked: &CommandLine<'p>) -> Option<Clash>
+    ensures { ClashesOfWritten H.calls host.old asked.now result host.new }
 {
-    let found = clash_of_files(host, asked.line);
-    clash_of_picture(host, found, asked.picture, asked.line)
-}
-
-/// Returns whether the line would read standard input twice.
-fn reads_input_twice(line: Line<'_>) -> bool
-    ensures { result ≡ repeats_input (inputs_of line.entry) }
-{
-    let paths = inputs_of(line);
-    repeats_input(&paths)
+    let found = clash_of_files(host, &asked.line);
+    clash_of_picture(host, found, asked.picture, &asked.line)
 }
 
 /// Why the line is refused before anything is opened, or nothing.
-pub(crate) fn clash_of<'p, H: Host<'p>>(host: &mut H, asked: CommandLine<'p>) -> Option<Clash>
-    ensures { ClashesBy H.calls host.old asked.entry result host.new }
+pub(crate) fn clash_of<'p, H: Host<'p>>(host: &mut H, asked: &CommandLine<'p>) -> Option<Clash>
+    ensures { ClashesBy H.calls host.old asked.now result host.new }
 {
-    if reads_input_twice(asked.line) {
+    if reads_input_twice(&asked.line) {
         Some(Clash::InputTwice)
     } else {
         clash_of_written(host, asked)

@@ -29,15 +29,15 @@ fn run_told<'p, R: Threads + Wait + Sync, G: Gate + Sync, H: Host<'p>, O: Sink, 
     rt: &R,
     progress: &G,
     host: &mut H,
-    line: Line<'p>,
+    line: &Line<'p>,
     out: &mut O,
     err: &mut E,
     kept: &mut KeptRun,
 ) -> Result<Status, Fault>
-    requires { IsWithinRanges line }
+    requires { IsWithinRanges line.now }
     ensures runs { RunsLine H.calls (source_view H.Input.handed_out H.Input.is_at_end H.Input.failures H.Input.path)
         (sink_view H.Output.written H.Output.failures H.Output.path)
-        host.old line.entry (sink_run O.written O.failures out.old out.new) result host.new }
+        host.old line.now (sink_run O.written O.failures out.old out.new) result host.new }
     ensures tells { TellsOutcome (sink_run E.written E.failures err.old err.new) result }
 {
     let outcome = run_engine(alloc, rt, progress, host, line, out, kept);
@@ -51,15 +51,15 @@ fn run_plain<'p, R: Threads + Wait + Sync, G: Gate + Sync, H: Host<'p>, O: Sink,
     rt: &R,
     progress: &G,
     host: &mut H,
-    line: Line<'p>,
+    line: &Line<'p>,
     out: &mut O,
     err: &mut E,
     kept: &mut KeptRun,
 ) -> u8
-    requires { IsWithinRanges line }
+    requires { IsWithinRanges line.now }
     ensures ends { EndsRun H.calls (source_view H.Input.handed_out H.Input.is_at_end H.Input.failures H.Input.path)
         (sink_view H.Output.written H.Output.failures H.Output.path)
-        host.old line.entry
+        host.old line.now
         (sink_run O.written O.failures out.old out.new)
         (sink_run E.written E.failures err.old err.new)
         result host.new }
@@ -82,15 +82,15 @@ fn run_explained<
     rt: &R,
     progress: &G,
     host: &mut H,
-    line: Line<'p>,
+    line: &Line<'p>,
     out: &mut O,
     err: &mut E,
     kept: &mut KeptRun,
 ) -> u8
-    requires { IsWithinRanges line }
+    requires { IsWithinRanges line.now }
     ensures ends { EndsExplained H.calls (source_view H.Input.handed_out H.Input.is_at_end H.Input.failures H.Input.path)
         (sink_view H.Output.written H.Output.failures H.Output.path)
-        host.old line.entry
+        host.old line.now
         (sink_run O.written O.failures out.old out.new)
         (sink_run E.written E.failures err.old err.new)
         result host.new }
@@ -107,17 +107,17 @@ fn run_asked<'p, R: Threads + Wait + Sync, G: Gate + Sync, H: Host<'p>, O: Sink 
     rt: &R,
     progress: &G,
     host: &mut H,
-    line: Line<'p>,
+    line: &Line<'p>,
     explains: Explains,
     is_terminal: bool,
     out: &mut O,
     err: &mut E,
     kept: &mut KeptRun,
 ) -> u8
-    requires { IsWithinRanges line }
+    requires { IsWithinRanges line.now }
     ensures ends { EndsAsked (is_explained is_terminal explains) H.calls (source_view H.Input.handed_out H.Input.is_at_end H.Input.failures H.Input.path)
         (sink_view H.Output.written H.Output.failures H.Output.path)
-        host.old line.entry
+        host.old line.now
         (sink_run O.written O.failures out.old out.new)
         (sink_run E.written E.failures err.old err.new)
         result host.new }
@@ -169,15 +169,15 @@ fn run_with_picture<
     progress: &G,
     host: &mut H,
     path: &'p str,
-    asked: CommandLine<'p>,
+    asked: &CommandLine<'p>,
     is_terminal: bool,
     out: &mut O,
     err: &mut E,
 ) -> u8
-    requires { IsWithinRanges asked.line }
+    requires { IsWithinRanges asked.now.line }
     ensures ends { EndsDrawn (Some path.entry) H.calls (source_view H.Input.handed_out H.Input.is_at_end H.Input.failures H.Input.path)
         (sink_view H.Output.written H.Output.failures H.Output.path)
-        is_terminal host.old asked.entry
+        is_terminal host.old asked.now
         (sink_run O.written O.failures out.old out.new)
         (sink_run E.written E.failures err.old err.new)
         result host.new }
@@ -193,14 +193,14 @@ fn run_with_picture<
         rt,
         progress,
         host,
-        asked.line,
+        &asked.line,
         asked.explains,
         is_terminal,
         out,
         err,
         &mut kept,
     );
-    draw_outcome(alloc, asked.line, status, &kept, &mut file);
+    draw_outcome(alloc, &asked.line, status, &kept, &mut file);
     host.close(file);
     status
 }
@@ -218,15 +218,15 @@ fn run_without_picture<
     rt: &R,
     progress: &G,
     host: &mut H,
-    asked: CommandLine<'p>,
+    asked: &CommandLine<'p>,
     is_terminal: bool,
     out: &mut O,
     err: &mut E,
 ) -> u8
-    requires { IsWithinRanges asked.line }
+    requires { IsWithinRanges asked.now.line }
     ensures ends { EndsDrawn None H.calls (source_view H.Input.handed_out H.Input.is_at_end H.Input.failures H.Input.path)
         (sink_view H.Output.written H.Output.failures H.Output.path)
-        is_terminal host.old asked.entry
+        is_terminal host.old asked.now
         (sink_run O.written O.failures out.old out.new)
         (sink_run E.written E.failures err.old err.new)
         result host.new }
@@ -238,7 +238,7 @@ fn run_without_picture<
         rt,
         progress,
         host,
-        asked.line,
+        &asked.line,
         asked.explains,
         is_terminal,
         out,
@@ -253,15 +253,15 @@ fn run_drawn<'p, R: Threads + Wait + Sync, G: Gate + Sync, H: Host<'p>, O: Sink 
     rt: &R,
     progress: &G,
     host: &mut H,
-    asked: CommandLine<'p>,
+    asked: &CommandLine<'p>,
     is_terminal: bool,
     out: &mut O,
     err: &mut E,
 ) -> u8
-    requires { IsWithinRanges asked.line }
-    ensures ends { EndsDrawn asked.entry.picture H.calls (source_view H.Input.handed_out H.Input.is_at_end H.Input.failures H.Input.path)
+    requires { IsWithinRanges asked.now.line }
+    ensures ends { EndsDrawn asked.now.picture H.calls (source_view H.Input.handed_out H.Input.is_at_end H.Input.failures H.Input.path)
         (sink_view H.Output.written H.Output.failures H.Output.path)
-        is_terminal host.old asked.entry
+        is_terminal host.old asked.now
         (sink_run O.written O.failures out.old out.new)
         (sink_run E.written E.failures err.old err.new)
         result host.new }
@@ -289,15 +289,15 @@ fn run_line<'p, R: Threads + Wait + Sync, G: Gate + Sync, H: Host<'p>, O: Sink +
     rt: &R,
     progress: &G,
     host: &mut H,
-    asked: CommandLine<'p>,
+    asked: &CommandLine<'p>,
     is_terminal: bool,
     out: &mut O,
     err: &mut E,
 ) -> u8
-    requires { IsWithinRanges asked.line }
+    requires { IsWithinRanges asked.now.line }
     ensures ends { EndsLine H.calls (source_view H.Input.handed_out H.Input.is_at_end H.Input.failures H.Input.path)
         (sink_view H.Output.written H.Output.failures H.Output.path)
-        is_terminal host.old asked.entry
+        is_terminal host.old asked.now
         (sink_run O.written O.failures out.old out.new)
         (sink_run E.written E.failures err.old err.new)
         result host.new }
@@ -336,7 +336,7 @@ pub fn run<'p, R: Threads + Wait + Sync, G: Gate + Sync, H: Host<'p>, O: Sink + 
     ensures known { IsExitStatus result }
 {
     match read_line(alloc, words) {
-        Ok(asked) => run_line(alloc, rt, progress, host, asked, is_terminal, out, err),
+        Ok(asked) => run_line(alloc, rt, progress, host, &asked, is_terminal, out, err),
         Err(fault) => tell_line_fault(alloc, &fault, out, err),
     }
 }

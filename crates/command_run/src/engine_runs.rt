@@ -274,36 +274,38 @@ pub(crate) fn run_engine<'p, R: Threads + Wait + Sync, G: Gate + Sync, H: Host<'
     rt: &R,
     progress: &G,
     host: &mut H,
-    line: Line<'p>,
+    line: &Line<'p>,
     out: &mut W,
     kept: &mut KeptRun,
 ) -> Result<Status, Fault>
-    requires { IsWithinRanges line }
+    requires { IsWithinRanges line.now }
     ensures { RunsLine H.calls (source_view H.Input.handed_out H.Input.is_at_end H.Input.failures H.Input.path)
         (sink_view H.Output.written H.Output.failures H.Output.path)
-        host.old line.entry (sink_run W.written W.failures out.old out.new) result host.new }
+        host.old line.now (sink_run W.written W.failures out.old out.new) result host.new }
 {
     match line {
-        Line::Judge { trace, schedule } => judge_files(alloc, host, trace, schedule, out, kept),
-        Line::Cnf { trace, workers } => translate_file(alloc, rt, host, trace, workers, out, kept),
-        Line::Decode { trace, model } => decode_files(alloc, host, trace, model, out, kept),
-        Line::Lrat { cnf, proof } => check_files(alloc, host, cnf, proof, out, kept),
+        Line::Judge { trace, schedule } => judge_files(alloc, host, *trace, *schedule, out, kept),
+        Line::Cnf { trace, workers } => translate_file(
+            alloc, rt, host, *trace, *workers, out, kept,
+        ),
+        Line::Decode { trace, model } => decode_files(alloc, host, *trace, *model, out, kept),
+        Line::Lrat { cnf, proof } => check_files(alloc, host, *cnf, *proof, out, kept),
         Line::Recheck { trace, cert, part } => recheck_any(
-            alloc, host, trace, cert, part, out, kept,
+            alloc, host, *trace, *cert, *part, out, kept,
         ),
         Line::Part {
             trace,
             names,
             shows_names,
-        } => part_files(alloc, host, trace, names, shows_names, out, kept),
+        } => part_files(alloc, host, *trace, *names, *shows_names, out, kept),
         Line::Verify {
             trace,
             cert,
             numbers,
             progress: tells_progress,
         } => {
-            let search = search_of(numbers, tells_progress);
-            verify_file(alloc, rt, progress, host, trace, cert, &search, out, kept)
+            let search = search_of(*numbers, *tells_progress);
+            verify_file(alloc, rt, progress, host, *trace, *cert, &search, out, kept)
         }
         Line::Survey {
             trace,
@@ -311,13 +313,15 @@ pub(crate) fn run_engine<'p, R: Threads + Wait + Sync, G: Gate + Sync, H: Host<'
             numbers,
             progress: tells_progress,
         } => {
-            let search = survey_of(numbers, tells_progress);
-            survey_file(alloc, rt, progress, host, trace, files, &search, out, kept)
+            let search = survey_of(*numbers, *tells_progress);
+            survey_file(
+                alloc, rt, progress, host, *trace, *files, &search, out, kept,
+            )
         }
         Line::Refusals => write_refusals(alloc, out),
         Line::Batch { traces, numbers } => {
-            let search = batch_of(numbers);
-            decide_traces(alloc, rt, host, traces, &search, out)
+            let search = batch_of(*numbers);
+            decide_traces(alloc, rt, host, traces.as_slice(), &search, out)
         }
     }
 }

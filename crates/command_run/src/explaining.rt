@@ -99,7 +99,7 @@ fn asked_verify<'t>(
 
 /// Gives what was asked by `verify` or `survey`, or nothing if it was another command.
 fn asked_search<'t>(
-    line: Line<'t>,
+    line: &'t Line<'t>,
     texts: &'t InputTexts<'t>,
     report: Option<&'t [u8]>,
     length: Option<u64>,
@@ -107,7 +107,7 @@ fn asked_search<'t>(
     match line {
         Line::Verify { trace, numbers, .. } => {
             let trace = named(trace, &texts.first);
-            Some(asked_verify(trace, numbers, report, length))
+            Some(asked_verify(trace, *numbers, report, length))
         }
         Line::Survey { trace, files, .. } => Some(AskedCommand::Survey {
             trace: named(trace, &texts.first),
@@ -130,7 +130,7 @@ fn asked_search<'t>(
 
 /// Gives what was asked, with the files that were read for it, or nothing if none was.
 fn asked_command<'t>(
-    line: Line<'t>,
+    line: &'t Line<'t>,
     texts: &'t InputTexts<'t>,
     report: Option<&'t [u8]>,
     length: Option<u64>,
@@ -170,7 +170,7 @@ fn asked_command<'t>(
 /// The explanation of the outcome, as lines.
 fn notes_of<'t>(
     alloc: Global,
-    line: Line<'t>,
+    line: &'t Line<'t>,
     texts: &'t InputTexts<'t>,
     outcome: &Result<Status, Fault>,
     report: Option<&'t [u8]>,
@@ -213,7 +213,7 @@ fn notes_of_lost(alloc: Global) -> Vec<u8> {
 fn notes_of_run<O: Recalls>(
     alloc: Global,
     failed: Option<FailedFile<'_>>,
-    line: Line<'_>,
+    line: &Line<'_>,
     outcome: &Result<Status, Fault>,
     out: &O,
     kept: &KeptRun,
@@ -238,7 +238,7 @@ fn notes_of_run<O: Recalls>(
 pub(crate) fn explain_outcome<O: Recalls, E: Sink>(
     alloc: Global,
     failed: Option<FailedFile<'_>>,
-    line: Line<'_>,
+    line: &Line<'_>,
     outcome: &Result<Status, Fault>,
     out: &O,
     kept: &KeptRun,

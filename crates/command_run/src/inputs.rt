@@ -1,13 +1,14 @@
 //! The files that a line reads.
-ghost use Rattle.std.specs.Prelude.{◌≡◌};
-ghost use Rattle.command_run.specs.Inputs.{inputs_of, is_given_input, is_input, one_input, one_or_two_inputs, repeats_input, several_inputs};
+ghost use Rattle.std.specs.Prelude.{◌≡◌, false};
+ghost use Rattle.clap.specs.Walk.{texts};
+ghost use Rattle.command_run.specs.Inputs.{inputs_of, is_given_input, is_input, no_input, one_input, one_or_two_inputs, reads_input_twice, repeats_among, repeats_input, several_inputs};
 
 use command_line::Line;
 
 /// The path that stands for standard input where a file is read.
 const STANDARD_INPUT: &str = "-";
 
-/// The paths of the files that a line reads, in the order in which they are handed out.
+/// The paths of the files that a line reads, in the order in which they are handed out, but for those of a batch.
 #[derive(Clone, Copy)]
 pub struct InputPaths<'p> {
     /// The first one: the trace, or a formula.
@@ -28,6 +29,17 @@ pub struct SurveyInputs<'p> {
 }
 
 impl<'p> InputPaths<'p> {
+    // No path.
+    fn none() -> InputPaths<'p>
+        ensures { result ≡ no_input }
+    {
+        InputPaths {
+            first: None,
+            second: None,
+            third: None,
+        }
+    }
+
     // One path.
     fn one(first: &'p str) -> InputPaths<'p>
         ensures { result ≡ one_input first.entry }
@@ -62,30 +74,26 @@ impl<'p> InputPaths<'p> {
     }
 }
 
-/// The paths of the files that the line reads.
-pub(crate) fn inputs_of<'p>(line: Line<'p>) -> InputPaths<'p>
-    ensures { result ≡ inputs_of line.entry }
+/// The paths of the files that the line reads, but for those of a batch.
+fn inputs_of<'p>(line: &Line<'p>) -> InputPaths<'p>
+    ensures { result ≡ inputs_of line.now }
 {
     match line {
-        Line::Judge { trace, schedule } => InputPaths::several(trace, schedule, None),
-        Line::Cnf { trace, .. } => InputPaths::one(trace),
-        Line::Decode { trace, model } => InputPaths::several(trace, model, None),
-        Line::Lrat { cnf, proof } => InputPaths::several(cnf, proof, None),
-        Line::Recheck { trace, cert, part } => InputPaths::several(trace, cert, part),
-        Line::Part { trace, names, .. } => InputPaths::several(trace, names, None),
-        Line::Verify { trace, .. } => InputPaths::one(trace),
-        Line::Survey { trace, files, .. } => InputPaths::one_or_two(trace, files.hint),
-        Line::Batch { traces, .. } => InputPaths::one(traces),
-        Line::Refusals => InputPaths {
-            first: None,
-            second: None,
-            third: None,
-        },
+        Line::Judge { trace, schedule } => InputPaths::several(*trace, *schedule, None),
+        Line::Cnf { trace, .. } => InputPaths::one(*trace),
+        Line::Decode { trace, model } => InputPaths::several(*trace, *model, None),
+        Line::Lrat { cnf, proof } => InputPaths::several(*cnf, *proof, None),
+        Line::Recheck { trace, cert, part } => InputPaths::several(*trace, *cert, *part),
+        Line::Part { trace, names, .. } => InputPaths::several(*trace, *names, None),
+        Line::Verify { trace, .. } => InputPaths::one(*trace),
+        Line::Survey { trace, files, .. } => InputPaths::one_or_two(*trace, files.hint),
+        Line::Batch { .. } => InputPaths::none(),
+        Line::Refusals => InputPaths::none(),
     }
 }
 
 /// Returns whether the path is that of standard input.
-pub(crate) fn is_standard_input(path: &str) -> bool
+fn is_standard_input(path: &str) -> bool
     ensures { result ≡ is_input path.now }
 {
     path == STANDARD_INPUT
@@ -102,11 +110,36 @@ fn is_given_input(path: Option<&str>) -> bool
 }
 
 /// Returns whether more than one of the paths is that of standard input.
-pub(crate) fn repeats_input(paths: &InputPaths<'_>) -> bool
+fn repeats_input(paths: &InputPaths<'_>) -> bool
     ensures { result ≡ repeats_input paths.now }
 {
     let first = is_given_input(paths.first);
     let second = is_given_input(paths.second);
     let third = is_given_input(paths.third);
     (first && second) || ((first || second) && third)
+}
+
+/// Returns whether more than one of the paths is that of standard input.
+fn repeats_among(paths: &[&str]) -> bool
+    ensures { result ≡ repeats_among false (texts paths.now) }
+{
+    let mut was_met = false;
+    for path in paths {
+        let is_input = is_standard_input(path);
+        if was_met && is_input {
+            return true;
+        }
+        was_met = was_met || is_input;
+    }
+    false
+}
+
+/// Returns whether the line would read standard input twice.
+pub(crate) fn reads_input_twice(line: &Line<'_>) -> bool
+    ensures { result ≡ reads_input_twice line.now }
+{
+    match line {
+        Line::Batch { traces, .. } => repeats_among(traces.as_slice()),
+        _ => repeats_input(&inputs_of(line)),
+    }
 }

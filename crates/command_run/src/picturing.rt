@@ -15,7 +15,7 @@ use trace_text::trace_reader::read_trace;
 const PICTURE_STEPS: u64 = 20_000_000;
 
 /// The survey for the picture of the line, or none if it has no picture.
-fn surveyor_of(line: Line<'_>) -> Option<BySaturation> {
+fn surveyor_of(line: &Line<'_>) -> Option<BySaturation> {
     match line {
         Line::Verify { .. } => Some(BySaturation {
             budget: PICTURE_STEPS,
@@ -28,7 +28,7 @@ fn surveyor_of(line: Line<'_>) -> Option<BySaturation> {
 }
 
 /// The picture of the trace in these bytes, of which it was answered whether it is consistent, or no bytes.
-fn picture_of(alloc: Global, line: Line<'_>, is_consistent: bool, bytes: &[u8]) -> Vec<u8> {
+fn picture_of(alloc: Global, line: &Line<'_>, is_consistent: bool, bytes: &[u8]) -> Vec<u8> {
     let Some(surveyor) = surveyor_of(line) else {
         return Vec::new(alloc);
     };
@@ -61,7 +61,7 @@ fn write_picture<W: Sink>(picture: &[u8], file: &mut W)
 /// Draws the answer, which says whether the trace is consistent, by the trace that was kept.
 fn draw_answer<W: Sink>(
     alloc: Global,
-    line: Line<'_>,
+    line: &Line<'_>,
     is_consistent: bool,
     kept: &KeptRun,
     file: &mut W,
@@ -79,7 +79,7 @@ fn draw_answer<W: Sink>(
 /// Draws the outcome of this status into the file, if it says whether there is a legal schedule.
 pub(crate) fn draw_outcome<W: Sink>(
     alloc: Global,
-    line: Line<'_>,
+    line: &Line<'_>,
     status: u8,
     kept: &KeptRun,
     file: &mut W,

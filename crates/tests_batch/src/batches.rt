@@ -1,9 +1,9 @@
 //! What is written for each piece, and what is answered.
 
 use crate::expectations::{ample, expect};
-use batch_report::run_batch;
+use batch_report::{VerdictTally, run_batch};
 use cube_jobs::Options;
-use dimacs::{MemorySink, ShortSink, Sink};
+use dimacs::{MemorySink, ShortSink, Sink, SinkFault};
 use std::alloc::Global;
 use std::process::Abort;
 use std::sync::Wait;
@@ -12,20 +12,29 @@ use survey::BySaturation;
 use trace_text::trace_fault::TraceCause;
 use verdict_report::{Fault, ShortSource, Status};
 
-/// The outcome of a batch of what the source hands out.
+/// What was counted in a batch of what the source hands out.
 fn batch_of<R: Threads + Wait + Abort + Sync, W: Sink>(
     alloc: Global,
     rt: &R,
     source: &mut ShortSource<'_>,
+    tally: VerdictTally,
     workers: u32,
     out: &mut W,
-) -> Result<Status, Fault> {
+) -> Result<VerdictTally, SinkFault> {
     let short = ample(rt, Options::new(1, 3, 100_000, 1));
     let long = ample(rt, Options::new(1, 3, 100_000, 1));
     let surveyor = BySaturation { budget: 1_000_000 };
     run_batch(
-        alloc, rt, b"t", source, workers, &short, &long, &surveyor, out,
+        alloc, rt, b"t", source, tally, workers, &short, &long, &surveyor, out,
     )
+}
+
+/// The outcome of a batch that wrote all its lines.
+fn outcome_of(counted: Result<VerdictTally, SinkFault>) -> Option<Result<Status, Fault>> {
+    match counted {
+        Ok(tally) => Some(tally.outcome()),
+        Err(_) => None,
+    }
 }
 
 /// A consistent trace after a comment, an inconsistent one, and one with a fault in line 15.
@@ -42,8 +51,15 @@ fn writes_a_line_for_each_piece(rt: HostRuntime) {
     for workers in 1..3u32 {
         let mut source = ShortSource::new(THREE, 7);
         let mut out = MemorySink::new(alloc);
-        let outcome = batch_of(alloc, &rt, &mut source, workers, &mut out);
-        expect(&rt, outcome == Ok(Status::No), 1);
+        let outcome = batch_of(
+            alloc,
+            &rt,
+            &mut source,
+            VerdictTally::new(),
+            workers,
+            &mut out,
+        );
+        expect(&rt, outcome_of(outcome) == Some(Ok(Status::No)), 1);
         expect(&rt, out.as_slice() == LINES, 2);
     }
 }
@@ -53,10 +69,10 @@ fn refuses_with_the_first_refusal(rt: HostRuntime) {
     let alloc = rt.alloc();
     let mut source = ShortSource::new(b"vsc 1\nvsc 1\nproc\nvsc\n", 99);
     let mut out = MemorySink::new(alloc);
-    let outcome = batch_of(alloc, &rt, &mut source, 1, &mut out);
+    let outcome = batch_of(alloc, &rt, &mut source, VerdictTally::new(), 1, &mut out);
     expect(
         &rt,
-        outcome == Err(Fault::Trace(TraceCause::UnknownLine, 3)),
+        outcome_of(outcome) == Some(Err(Fault::Trace(TraceCause::UnknownLine, 3))),
         1,
     );
     let lines =
@@ -70,20 +86,28 @@ fn writes_a_prefix_if_the_sink_fails(rt: HostRuntime) {
     for call in 1..8u64 {
         let mut source = ShortSource::new(THREE, 99);
         let mut out = ShortSink::new(alloc, 10).failing_at(call);
-        let outcome = batch_of(alloc, &rt, &mut source, 1, &mut out);
-        expect(&rt, outcome == Err(Fault::Device), 1);
+        let outcome = batch_of(alloc, &rt, &mut source, VerdictTally::new(), 1, &mut out);
+        let is_failure = match outcome {
+            Err(SinkFault::Device) => true,
+            _ => false,
+        };
+        expect(&rt, is_failure, 1);
         expect(&rt, LINES.starts_with(out.as_slice()), 2);
     }
 }
 
 #[test]
-fn writes_nothing_if_the_source_fails(rt: HostRuntime) {
+fn refuses_what_cannot_be_read(rt: HostRuntime) {
     let alloc = rt.alloc();
     let mut source = ShortSource::new(THREE, 7).failing_at(3);
     let mut out = MemorySink::new(alloc);
-    let outcome = batch_of(alloc, &rt, &mut source, 1, &mut out);
-    expect(&rt, outcome == Err(Fault::Device), 1);
-    expect(&rt, out.as_slice().is_empty(), 2);
+    let outcome = batch_of(alloc, &rt, &mut source, VerdictTally::new(), 1, &mut out);
+    expect(&rt, outcome_of(outcome) == Some(Err(Fault::Device)), 1);
+    expect(
+        &rt,
+        out.as_slice() == b"t:1 refused: device\n".as_slice(),
+        2,
+    );
 }
 
 #[test]
@@ -92,9 +116,25 @@ fn writes_the_lines_of_earlier_blocks_if_the_source_fails(rt: HostRuntime) {
     // Sixteen calls make a block, of 80 bytes, in which the first trace ends.
     let mut source = ShortSource::new(THREE, 5).failing_at(17);
     let mut out = MemorySink::new(alloc);
-    let outcome = batch_of(alloc, &rt, &mut source, 1, &mut out);
-    expect(&rt, outcome == Err(Fault::Device), 1);
-    expect(&rt, out.as_slice() == b"t:1 CONSISTENT\n".as_slice(), 2);
+    let outcome = batch_of(alloc, &rt, &mut source, VerdictTally::new(), 1, &mut out);
+    expect(&rt, outcome_of(outcome) == Some(Err(Fault::Device)), 1);
+    let lines = b"t:1 CONSISTENT\nt:2 refused: device\n";
+    expect(&rt, out.as_slice() == lines.as_slice(), 2);
+}
+
+#[test]
+fn counts_on_behind_another_text(rt: HostRuntime) {
+    let alloc = rt.alloc();
+    let mut first = ShortSource::new(THREE, 99);
+    let mut out = MemorySink::new(alloc);
+    let Ok(tally) = batch_of(alloc, &rt, &mut first, VerdictTally::new(), 1, &mut out) else {
+        return expect(&rt, false, 1);
+    };
+    let mut second = ShortSource::new(b"vsc 1\n", 99);
+    let outcome = batch_of(alloc, &rt, &mut second, tally, 1, &mut out);
+    // The second text alone would be a yes, and it is numbered by itself.
+    expect(&rt, outcome_of(outcome) == Some(Ok(Status::No)), 2);
+    expect(&rt, out.as_slice().ends_with(b"at 15\nt:1 CONSISTENT\n"), 3);
 }
 
 #[test]
@@ -104,10 +144,10 @@ fn cuts_no_piece_within_a_line(rt: HostRuntime) {
     for size in 1..9usize {
         let mut source = ShortSource::new(b"vsc 1\nproc P\nW x 1\nvsc 1\nproc P\nvscs 1\n", size);
         let mut out = MemorySink::new(alloc);
-        let outcome = batch_of(alloc, &rt, &mut source, 1, &mut out);
+        let outcome = batch_of(alloc, &rt, &mut source, VerdictTally::new(), 1, &mut out);
         expect(
             &rt,
-            outcome == Err(Fault::Trace(TraceCause::UnknownLine, 6)),
+            outcome_of(outcome) == Some(Err(Fault::Trace(TraceCause::UnknownLine, 6))),
             size,
         );
         let lines = b"t:1 CONSISTENT\nt:2 refused: trace 4 UnknownLine at 6\n";

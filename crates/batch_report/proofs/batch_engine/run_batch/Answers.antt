@@ -1,8 +1,6 @@
 use Rattle.std.proofs.Common.{◌≤◌, ◌∙◌, List, ℕ, Bool, false, length, vec_len, sym, ap, subst, arith}
-use Rattle.std.specs.Prelude.{Err}
-use Rattle.batch_report.specs.BatchEngine.{HasCome, IsRunOfBatch}
-use Rattle.batch_report.proofs.EngineLemmas.{come_further, come_to_end, no_memory, read_slice, stop_reading, stop_writing}
-use Rattle.verdict_report.specs.declared.fault.Fault.{Fault}
+use Rattle.batch_report.specs.BatchEngine.{HasCome}
+use Rattle.batch_report.proofs.EngineLemmas.{come_further, come_to_end, end_refused, no_memory, read_slice, stop_writing}
 use Rattle.verdict_report.specs.Runs.{sink_run, source_run}
 use Rattle.batch_report.proofs.batch_engine.run_batch.Goals as goal
 
@@ -18,9 +16,14 @@ returns-in-Err-clause-run g c =
     let t0 = c.args.traces.now in
     let t1 = c.loop-block.traces in
     let t2 = c.read_on.new.source in
-    let out1 = sink_run written failures c.args.out.now at.out in
-    subst (λ (f : Fault). IsRunOfBatch file (source_run handed ends fails t0 t2) out1 (Err f)) (sym c.refusal_of_reading.ensures)
-    (stop_reading file at.held.items at.progress out1 (handed t0) (handed t1) (handed t2) (ends t0) (ends t1) (ends t2) (fails t0) (fails t1) (fails t2) at.invariant.come c.in-Err.fault c.in-Err.ensures.stopped)
+    let w0 = written c.args.out.now in
+    let w1 = written at.out in
+    let w2 = written c.write_refusal.new.out in
+    let f0 = failures c.args.out.now in
+    let f1 = failures at.out in
+    let f2 = failures c.write_refusal.new.out in
+    end_refused file c.args.tally at.held.items at.progress (handed t0) (handed t1) (handed t2) (ends t0) (ends t1) (ends t2) (fails t0) (fails t1) (fails t2) w0 w1 w2 f0 f1 f2 at.invariant.come c.in-Err.fault c.in-Err.ensures.stopped
+    c.refusal_of_reading-refusal.result c.refusal_of_reading-refusal.ensures c.write_refusal.result c.write_refusal.ensures.written c.write_refusal.ensures.stopped
 
 pub returns-in-Err-write_block-clause-run : goal.returns-in-Err-write_block-clause-run
 returns-in-Err-write_block-clause-run g c =
@@ -37,15 +40,14 @@ returns-in-Err-write_block-clause-run g c =
     let out1 = sink_run written failures c.args.out.now at.out in
     let traces = source_run handed ends fails t0 t2 in
     let held = c.as_slice.result.now in
-    let here = read_slice file at.held.items at.progress out1 (handed t0) (handed t1) (handed t2) (ends t0) (ends t1) (ends t2) (fails t0) (fails t1) (fails t2) at.invariant.come c.read_on.new.held.items held c.in-Ok.is_last c.as_slice.ensures.value c.in-Ok.ensures.read in
+    let here = read_slice file c.args.tally at.held.items at.progress out1 (handed t0) (handed t1) (handed t2) (ends t0) (ends t1) (ends t2) (fails t0) (fails t1) (fails t2) at.invariant.come c.read_on.new.held.items held c.in-Ok.is_last c.as_slice.ensures.value c.in-Ok.ensures.read in
     let w0 = written c.args.out.now in
     let w1 = written at.out in
     let w2 = written c.write_block.new.out in
     let f0 = failures c.args.out.now in
     let f1 = failures at.out in
     let f2 = failures c.write_block.new.out in
-    subst (λ (f : Fault). IsRunOfBatch file traces (sink_run written failures c.args.out.now c.write_block.new.out) (Err f)) (sym c.refusal_of_sink.ensures)
-    (stop_writing file traces held c.in-Ok.is_last at.progress w0 w1 w2 f0 f1 f2 here c.in-Err-write_block.fault c.in-Err-write_block.ensures.stopped)
+    stop_writing file c.args.tally traces held c.in-Ok.is_last at.progress w0 w1 w2 f0 f1 f2 here c.in-Err-write_block.fault c.in-Err-write_block.ensures.stopped
 
 pub returns-then-is_last-clause-run : goal.returns-then-is_last-clause-run
 returns-then-is_last-clause-run g c =
@@ -62,7 +64,7 @@ returns-then-is_last-clause-run g c =
     let out1 = sink_run written failures c.args.out.now at.out in
     let traces = source_run handed ends fails t0 t2 in
     let held = c.as_slice.result.now in
-    let here = read_slice file at.held.items at.progress out1 (handed t0) (handed t1) (handed t2) (ends t0) (ends t1) (ends t2) (fails t0) (fails t1) (fails t2) at.invariant.come c.read_on.new.held.items held c.in-Ok.is_last c.as_slice.ensures.value c.in-Ok.ensures.read in
+    let here = read_slice file c.args.tally at.held.items at.progress out1 (handed t0) (handed t1) (handed t2) (ends t0) (ends t1) (ends t2) (fails t0) (fails t1) (fails t2) at.invariant.come c.read_on.new.held.items held c.in-Ok.is_last c.as_slice.ensures.value c.in-Ok.ensures.read in
     let w0 = written c.args.out.now in
     let w1 = written at.out in
     let w2 = written c.write_block.new.out in
@@ -71,8 +73,8 @@ returns-then-is_last-clause-run g c =
     let f2 = failures c.write_block.new.out in
     let end = c.in-Ok-write_block.end in
     let out2 = sink_run written failures c.args.out.now c.write_block.new.out in
-    let further = come_further file traces held c.in-Ok.is_last at.progress w0 w1 w2 f0 f1 f2 here end.progress end.left.now c.in-Ok-write_block.ensures.written in
-    come_to_end file traces end.left.now c.in-Ok.is_last end.progress out2 further c.if-is_last.true (c.in-Ok-write_block.ensures.all c.if-is_last.true) c.outcome.result c.outcome.ensures
+    let further = come_further file c.args.tally traces held c.in-Ok.is_last at.progress w0 w1 w2 f0 f1 f2 here end.progress end.left.now c.in-Ok-write_block.ensures.written in
+    come_to_end file c.args.tally traces end.left.now c.in-Ok.is_last end.progress out2 further c.if-is_last.true (c.in-Ok-write_block.ensures.all c.if-is_last.true)
 
 pub returns-in-Err-held_of-clause-run : goal.returns-in-Err-held_of-clause-run
 returns-in-Err-held_of-clause-run g c =
@@ -89,7 +91,7 @@ returns-in-Err-held_of-clause-run g c =
     let out1 = sink_run written failures c.args.out.now at.out in
     let traces = source_run handed ends fails t0 t2 in
     let held = c.as_slice.result.now in
-    let here = read_slice file at.held.items at.progress out1 (handed t0) (handed t1) (handed t2) (ends t0) (ends t1) (ends t2) (fails t0) (fails t1) (fails t2) at.invariant.come c.read_on.new.held.items held c.in-Ok.is_last c.as_slice.ensures.value c.in-Ok.ensures.read in
+    let here = read_slice file c.args.tally at.held.items at.progress out1 (handed t0) (handed t1) (handed t2) (ends t0) (ends t1) (ends t2) (fails t0) (fails t1) (fails t2) at.invariant.come c.read_on.new.held.items held c.in-Ok.is_last c.as_slice.ensures.value c.in-Ok.ensures.read in
     let w0 = written c.args.out.now in
     let w1 = written at.out in
     let w2 = written c.write_block.new.out in
@@ -98,8 +100,8 @@ returns-in-Err-held_of-clause-run g c =
     let f2 = failures c.write_block.new.out in
     let end = c.in-Ok-write_block.end in
     let out2 = sink_run written failures c.args.out.now c.write_block.new.out in
-    let further = come_further file traces held c.in-Ok.is_last at.progress w0 w1 w2 f0 f1 f2 here end.progress end.left.now c.in-Ok-write_block.ensures.written in
-    no_memory file traces end.left.now c.in-Ok.is_last end.progress out2 further
+    let further = come_further file c.args.tally traces held c.in-Ok.is_last at.progress w0 w1 w2 f0 f1 f2 here end.progress end.left.now c.in-Ok-write_block.ensures.written in
+    no_memory file c.args.tally traces end.left.now c.in-Ok.is_last end.progress out2 further
 
 pub loop-block-preserved : goal.loop-block-preserved
 loop-block-preserved g c =
@@ -116,7 +118,7 @@ loop-block-preserved g c =
     let out1 = sink_run written failures c.args.out.now at.out in
     let traces = source_run handed ends fails t0 t2 in
     let held = c.as_slice.result.now in
-    let here = read_slice file at.held.items at.progress out1 (handed t0) (handed t1) (handed t2) (ends t0) (ends t1) (ends t2) (fails t0) (fails t1) (fails t2) at.invariant.come c.read_on.new.held.items held c.in-Ok.is_last c.as_slice.ensures.value c.in-Ok.ensures.read in
+    let here = read_slice file c.args.tally at.held.items at.progress out1 (handed t0) (handed t1) (handed t2) (ends t0) (ends t1) (ends t2) (fails t0) (fails t1) (fails t2) at.invariant.come c.read_on.new.held.items held c.in-Ok.is_last c.as_slice.ensures.value c.in-Ok.ensures.read in
     let w0 = written c.args.out.now in
     let w1 = written at.out in
     let w2 = written c.write_block.new.out in
@@ -125,12 +127,12 @@ loop-block-preserved g c =
     let f2 = failures c.write_block.new.out in
     let end = c.in-Ok-write_block.end in
     let out2 = sink_run written failures c.args.out.now c.write_block.new.out in
-    let further = come_further file traces held c.in-Ok.is_last at.progress w0 w1 w2 f0 f1 f2 here end.progress end.left.now c.in-Ok-write_block.ensures.written in
-    let left = subst (λ (b : Bool). HasCome file traces end.left.now b end.progress out2) c.if-is_last.false further in
+    let further = come_further file c.args.tally traces held c.in-Ok.is_last at.progress w0 w1 w2 f0 f1 f2 here end.progress end.left.now c.in-Ok-write_block.ensures.written in
+    let left = subst (λ (b : Bool). HasCome file c.args.tally traces end.left.now b end.progress out2) c.if-is_last.false further in
     let same = ap length c.in-Ok-held_of.ensures in
     let few : vec_len c.in-Ok-held_of.held ≤ 268435456 = omega (arith, same, c.in-Ok-held_of.held.ok.0, c.in-Ok-write_block.ensures.few) in
     record {
-      come = subst (λ (l : List ℕ). HasCome file traces l false end.progress out2) (sym c.in-Ok-held_of.ensures) left;
+      come = subst (λ (l : List ℕ). HasCome file c.args.tally traces l false end.progress out2) (sym c.in-Ok-held_of.ensures) left;
       few = few;
       same_traces = c.in-Ok.ensures.same ∙ at.invariant.same_traces;
       same_out = c.in-Ok-write_block.ensures.same ∙ at.invariant.same_out;
@@ -138,5 +140,5 @@ loop-block-preserved g c =
 
 pub returns-clause-run : goal.returns-clause-run
 returns-clause-run g c =
-    no_memory c.args.file.now (source_run g.T.Source.handed_out g.T.Source.is_at_end g.T.Source.failures c.args.traces.now c.loop-block.traces) c.loop-block.held.items false c.loop-block.progress
+    no_memory c.args.file.now c.args.tally (source_run g.T.Source.handed_out g.T.Source.is_at_end g.T.Source.failures c.args.traces.now c.loop-block.traces) c.loop-block.held.items false c.loop-block.progress
     (sink_run g.W.Sink.written g.W.Sink.failures c.args.out.now c.loop-block.out) c.loop-block.invariant.come

@@ -1,6 +1,7 @@
 -- If `clap` finds no fault, the words name a command and give it what it needs.
 use Rattle.std.proofs.Common.{ℕ, ◌==◌, ◌||◌, ◌∙◌, ◌∷◌, ◌≡◌, Bool, List, None, Some, [], ap, arith, codes, cond, eqb-true, false, inl, inr, option_map, refl, subst, sym, true, true≢false, unwrap_or}
 use Rattle.std.proofs.lemmas.Int.{ints}
+use Rattle.std.proofs.lemmas.Result.{IfOk-weaker}
 use Rattle.std.proofs.lemmas.Slice.Eq.{bytes_eq-Decides}
 use Rattle.std.specs.Prelude.{pos}
 use Rattle.std.specs.Str.Parse.{IsNumeral, starts_with_minus, without_leading_plus}
@@ -349,7 +350,6 @@ batch_line-requires c =
     let found = found_of c.in-Some-subcommand_matches-9.batch.now in
     let read = reads (texts c.args.words.now) (codes "batch") found (batch_met c) batch_built refl batch_fits in
     record {
-      traces = has_text found batch_built.rules (codes "traces") (read (codes "traces") refl);
       workers = has_workers batch_built.rules found refl (read (codes "workers") refl);
       split = has_number batch_built.rules found (codes "split") 0 10 refl (read (codes "split") refl);
       budget = has_number batch_built.rules found (codes "budget") 0 1000000000 refl (read (codes "budget") refl);
@@ -360,7 +360,7 @@ batch_line-requires c =
 pub returns-in-Some-subcommand_matches-9-clause-line : goal.returns-in-Some-subcommand_matches-9-clause-line
 returns-in-Some-subcommand_matches-9-clause-line c =
     let met = batch_met (goal.at.returns-in-Some-subcommand_matches-9-clause-line c).In-Some-subcommand_matches-9 in
-    asks_as_read (texts c.args.words.now) (codes "batch") (found_of c.in-Some-subcommand_matches-9.batch.now) met c.batch_line.result c.batch_line.ensures
+    IfOk-weaker c.batch_line.result _ _ (asks_as_read (texts c.args.words.now) (codes "batch") (found_of c.in-Some-subcommand_matches-9.batch.now) met) c.batch_line.ensures.asks
 
 -- ---- no other command
 

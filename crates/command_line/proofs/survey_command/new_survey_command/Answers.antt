@@ -2,7 +2,6 @@
 use Rattle.std.proofs.Common.{◌≡◌, ◌∙◌, ap, ap₂, codes}
 use Rattle.std.proofs.lemmas.Result.{IfOk-weaker}
 use Rattle.clap.specs.Words.{app_of, new_app, with_rule}
-use Rattle.clap.specs.declared.builder.command.Command.TheViews.{out-Command}
 use Rattle.command_line.specs.CommandLine.{cert_rule, names_rule, part_rule, progress_rule, required_path, steps_rule, workers_rule}
 use Rattle.command_line.proofs.survey_command.new_survey_command.Goals as goal
 
