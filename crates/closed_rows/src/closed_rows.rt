@@ -12,8 +12,10 @@ struct RowChange {
     is_after: bool,
 }
 
-/// The most changes that are kept, at 12 bytes each.
-const MAX_ROW_CHANGES: usize = 1 << 22;
+/// The number of changes, at 12 bytes each, that are kept of any log, and for each operation of a large one.
+const FEW_CHANGES: usize = 1 << 22;
+
+const CHANGES_OF_EACH: usize = 16;
 
 /// A place of a process.
 #[derive(Clone, Copy)]
@@ -37,6 +39,8 @@ pub struct ClosedRows {
     /// 0 where nothing stands before it.
     before: Vec<u32>,
     changes: Vec<RowChange>,
+    /// The most changes that are kept.
+    most_changes: usize,
     keeps_changes: bool,
     /// What a new pair says of what stands before its second operation, where that is news.
     floors: Vec<RowEntry>,
@@ -52,6 +56,7 @@ impl Drop for ClosedRows {
             after: _after,
             before: _before,
             changes: _changes,
+            most_changes: _,
             keeps_changes: _,
             floors: _floors,
             ceilings: _ceilings,
@@ -69,6 +74,9 @@ impl ClosedRows {
             after: vec![in alloc; 0; entries]?,
             before: vec![in alloc; 0; entries]?,
             changes: Vec::new(alloc),
+            most_changes: (log.count() as usize)
+                .saturating_mul(CHANGES_OF_EACH)
+                .max(FEW_CHANGES),
             keeps_changes: false,
             floors: Vec::with_capacity(alloc, width as usize)?,
             ceilings: Vec::with_capacity(alloc, width as usize)?,
@@ -279,7 +287,7 @@ impl ClosedRows {
     /// Returns whether there is no room for a further change.
     #[inline(always)]
     pub fn is_full(&self) -> bool {
-        self.changes.len() >= MAX_ROW_CHANGES
+        self.changes.len() >= self.most_changes
     }
 
     /// Keeps each change from now on, so that it can be undone. Returns how many are kept so far.

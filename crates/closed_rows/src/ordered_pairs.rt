@@ -55,11 +55,15 @@ pub struct OrderedPairs {
     pairs: Vec<OrderedPair>,
     /// For each operation its last pair as the first.
     heads: Vec<u32>,
+    /// The most pairs.
+    most: u32,
 }
 
-/// The most pairs, at 40 bytes each. Mostly there are fewer than twice as many as operations, and in a window one for each operation and
-/// process.
-const MAX_PAIRS: u32 = 1 << 21;
+/// The number of pairs, at 40 bytes each, that any log may have.
+const FEW_PAIRS: u32 = 1 << 21;
+
+/// The number of pairs for each operation that a large log may have. Mostly there are fewer than two, and in a window one for each process.
+const PAIRS_OF_EACH: u32 = 16;
 
 impl OrderedPairs {
     /// No pair, for a log of this number of operations.
@@ -67,6 +71,7 @@ impl OrderedPairs {
         Ok(OrderedPairs {
             pairs: Vec::new(alloc),
             heads: vec![in alloc; NOBODY; operations as usize]?,
+            most: operations.saturating_mul(PAIRS_OF_EACH).max(FEW_PAIRS),
         })
     }
 
@@ -100,7 +105,7 @@ impl OrderedPairs {
 
     /// Returns whether there is no room for more.
     pub fn is_full(&self) -> bool {
-        self.count() >= MAX_PAIRS
+        self.count() >= self.most
     }
 
     /// The pair of this number.

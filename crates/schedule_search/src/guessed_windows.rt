@@ -4,6 +4,9 @@ use crate::estimated_places::EstimatedPlaces;
 use order_propagation::{Propagated, Propagation};
 use std::alloc::AllocError;
 
+/// The most guesses of a window, about.
+const MOST_GUESSES: u64 = 8_000_000;
+
 /// Guesses that an operation stands before each other whose estimated place is more than the width behind its own, and propagates. The rows
 /// are made anew.
 pub(crate) fn guess_window(
@@ -13,7 +16,7 @@ pub(crate) fn guess_window(
 ) -> Result<Propagated, AllocError> {
     let processes = order.log().processes();
     let steps = processes.wrapping_mul(6).wrapping_add(1);
-    let stride = (width / steps).wrapping_add(1);
+    let stride = (width / steps).wrapping_add(least_stride(order));
     for first in 0..processes {
         for second in 0..processes {
             if first != second {
@@ -22,6 +25,12 @@ pub(crate) fn guess_window(
         }
     }
     order.propagate_in_rounds()
+}
+
+/// The least distance of guesses in a process: 1, or such that a large log of many processes has a few million of them.
+fn least_stride(order: &Propagation<'_>) -> u32 {
+    let entries = (order.log().count() as u64).wrapping_mul(order.log().processes() as u64);
+    (((entries / MOST_GUESSES) & 0xffff_ffff) as u32).wrapping_add(1)
 }
 
 /// Guesses the pairs from one process to another. Of operations in a row the pair of each few is enough, as the others follow within a small

@@ -4,8 +4,10 @@
 //! end, and a look past the end of a table reads a fixed value.
 #![tactic(auto)]
 
+mod beams;
 mod counted_cores;
 mod estimated_places;
+mod first_propagation;
 mod guessed_windows;
 mod searching;
 

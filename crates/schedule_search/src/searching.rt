@@ -1,7 +1,9 @@
-//! The search for a schedule: a walk, and then windows and walks.
+//! The search for a schedule: a walk, beams, and then windows and walks.
 
+use crate::beams::try_beams;
 use crate::counted_cores::{operations_of, takers_of_class};
 use crate::estimated_places::EstimatedPlaces;
+use crate::first_propagation::propagate_at_first;
 use crate::guessed_windows::guess_window;
 use conflict_analysis::{LearnedClauses, Learning, core_of_conflict};
 use numbered_log::{Budget, NumberedLog};
@@ -184,7 +186,7 @@ impl ScheduleSearch {
         self.most_placed
     }
 
-    /// Propagates, walks, then tries windows, and then walks again. If many readers have several sources and propagation takes long, it is
+    /// Propagates, walks, tries beams and then windows, and walks again. If many readers have several sources and propagation takes long, it is
     /// cut, and taken up again behind the windows: most schedules of such logs come of windows, in which it takes less. A hint, operations in an
     /// order in which a schedule may have them, has windows of its own, which come first.
     pub fn run(
@@ -198,13 +200,7 @@ impl ScheduleSearch {
             return Ok(SearchEnding::Refuted);
         }
         let places = EstimatedPlaces::of_equal_pace(alloc, order.log())?;
-        let mut part: u64 = 1;
-        if order.undecided() > order.log().count() / 8 {
-            part = 8;
-        }
-        let rest = keep_all_but(order, part);
-        let propagated = order.propagate_in_rounds()?;
-        give_back(order, rest);
+        let propagated = propagate_at_first(order)?;
         match propagated {
             Propagated::Conflict => {
                 self.core = core_of_conflict(alloc, order)?;
@@ -225,6 +221,10 @@ impl ScheduleSearch {
             if let Some(ending) = search_ending(found) {
                 return Ok(ending);
             }
+        }
+        if let Some(schedule) = try_beams(alloc, order)? {
+            self.schedule = schedule;
+            return Ok(SearchEnding::Scheduled);
         }
         let rest = keep_a_fourth(order);
         let narrow = order.log().processes().wrapping_mul(4);
@@ -566,7 +566,7 @@ fn search_ending(found: WalkEnding) -> Option<SearchEnding> {
 }
 
 /// Leaves to the order a share of its budget, as a part of one, and returns the rest.
-fn keep_all_but(order: &mut Propagation<'_>, part: u64) -> Budget {
+pub(crate) fn keep_all_but(order: &mut Propagation<'_>, part: u64) -> Budget {
     let mut rest = order.budget();
     let mut steps = rest.left();
     if part != 0 {
@@ -587,7 +587,7 @@ fn keep_a_fourth(order: &mut Propagation<'_>) -> Budget {
 }
 
 /// Gives the rest of the budget back to the order.
-fn give_back(order: &mut Propagation<'_>, rest: Budget) {
+pub(crate) fn give_back(order: &mut Propagation<'_>, rest: Budget) {
     let mut whole = rest;
     whole.give_back(order.budget());
     order.set_budget(whole);

@@ -63,6 +63,23 @@ struct Walked {
 /// The looks at entries of tables that are one step.
 const LOOKS: u64 = 4;
 
+/// The entries of the rows of a log for which a step has one look more.
+const ENTRIES_OF_LOOK: u64 = 1 << 22;
+
+/// The looks that are one step in this log. A large one takes more for the same work: each pass goes over all rows.
+fn looks_of_step(log: &NumberedLog) -> u64 {
+    let entries = (log.count() as u64).wrapping_mul(log.processes() as u64);
+    LOOKS.saturating_add(entries / ENTRIES_OF_LOOK)
+}
+
+/// The steps that these looks are, of which each step has this number.
+fn steps_of(looks: u64, of_each: u64) -> u64 {
+    if of_each == 0 {
+        return 0;
+    }
+    looks / of_each
+}
+
 /// The most operations of a part that is decided by its formula.
 const MAX_OF_FORMULA: u32 = 160;
 
@@ -117,11 +134,12 @@ impl BySaturation {
         let log = log_of(alloc, trace)?;
         let hint = numbers_of_names(alloc, trace, hint)?;
         let mut purse = Purse::new(self.budget);
-        let mut budget = Budget::new(purse.left().saturating_mul(LOOKS));
+        let looks = looks_of_step(&log);
+        let mut budget = Budget::new(purse.left().saturating_mul(looks));
         let walked = walk_over(alloc, &log, hint.as_slice(), &mut budget)?;
-        purse.settle(budget.left() / LOOKS);
-        let spent = purse.taken().saturating_mul(LOOKS);
-        let mut budget = Budget::new(purse.left().saturating_mul(LOOKS));
+        purse.settle(steps_of(budget.left(), looks));
+        let spent = purse.taken().saturating_mul(looks);
+        let mut budget = Budget::new(purse.left().saturating_mul(looks));
         let Walked {
             numbers,
             certificate,
@@ -129,7 +147,7 @@ impl BySaturation {
             undecided,
         } = walked;
         let found = finding_of(alloc, trace, &log, numbers, spent, &mut budget)?;
-        purse.settle(budget.left() / LOOKS);
+        purse.settle(steps_of(budget.left(), looks));
         let certificate = reasons_of(alloc, trace, &log, certificate)?;
         let OrderedFindings { finding, otherwise } = found.with_reasons(certificate);
         Ok(Overview {

@@ -2,6 +2,8 @@
 #![tactic(auto)]
 
 #[cfg(test)]
+mod beams;
+#[cfg(test)]
 mod certified_surveys;
 #[cfg(test)]
 mod expectations;

@@ -1,0 +1,381 @@
+//! The search, layer by layer.
+
+use crate::beam::Beam;
+use crate::best_successors::{NO_SUCCESSOR, Successor, best_of};
+use crate::classed_log::ClassedLog;
+use crate::dead_ends::{DeadEnds, SPACING, widest};
+use crate::layer::Layer;
+use crate::next_writers::NextWriters;
+use crate::seen_states::SeenStates;
+use crate::state::State;
+use closed_rows::ClosedRows;
+use numbered_log::{Budget, NOBODY, NumberedLog, NumberedOrigin};
+use order_sets::tables::{at, put, size};
+use possible_sources::ValueClasses;
+use std::alloc::{AllocError, Global};
+use std::mem;
+
+/// The most steps that are kept, one for each state of each layer.
+const MOST_STEPS: usize = 1 << 23;
+
+/// The most entries of the layers that are kept.
+const MOST_KEPT_ENTRIES: u64 = 1 << 23;
+
+/// The most layers that are made. One that is made again counts again.
+const MOST_LAYERS: u32 = 1 << 24;
+
+/// The looks of a state for each process and for each location.
+const LOOKS_OF_PROCESS: u64 = 24;
+
+const LOOKS_OF_LOCATION: u64 = 4;
+
+/// A layer and its number.
+#[derive(Drop)]
+struct KeptLayer {
+    depth: u32,
+    layer: Layer,
+}
+
+/// The cost of a plain write over a value of which this many can be spared.
+fn cost_of_loss(spare: u32, beam: Beam) -> i64 {
+    if spare == 0 {
+        return 0;
+    }
+    (beam.scarce / spare) as i64
+}
+
+/// The end of a search.
+#[derive(Clone, Copy, PartialEq, Eq)]
+pub enum BeamEnding {
+    /// All operations are placed, and the final values are as they have to be.
+    Scheduled,
+    /// No state has a next one, or the budget is spent.
+    GivenUp,
+}
+
+/// A search of layers, in each of whose states one writer more is placed than in those of the layer before.
+pub struct BeamSearch<'a> {
+    log: &'a NumberedLog,
+    rows: &'a ClosedRows,
+    classed: ClassedLog,
+    next_writers: NextWriters,
+    /// The state at hand, and how many plain writes can still come over each class in it.
+    state: State,
+    spare: Vec<u32>,
+    layer: Layer,
+    /// Layers before it, to which the search can go back.
+    kept: Vec<KeptLayer>,
+    kept_entries: u64,
+    /// The number of layers whose successors were looked for.
+    layers_made: u32,
+    seen: SeenStates,
+    successors: Vec<Successor>,
+    /// For each layer where its states begin among the steps.
+    begins: Vec<u32>,
+    /// For each state of each layer the number of its parent, times the number of processes, plus the process that went on.
+    steps: Vec<u32>,
+    schedule: Vec<u32>,
+    most_placed: u32,
+}
+
+/// Drops each table, in one call for each exit of a function that owns a search.
+impl Drop for BeamSearch<'_> {
+    fn drop(self) {
+        let BeamSearch {
+            log: _,
+            rows: _,
+            classed: _classed,
+            next_writers: _next_writers,
+            state: _state,
+            spare: _spare,
+            layer: _layer,
+            kept: _kept,
+            kept_entries: _,
+            layers_made: _,
+            seen: _seen,
+            successors: _successors,
+            begins: _begins,
+            steps: _steps,
+            schedule: _schedule,
+            most_placed: _,
+        } = self;
+    }
+}
+
+impl<'a> BeamSearch<'a> {
+    /// Returns whether the tables have room for the log. An origin is not heeded, so a log that has one is not searched.
+    pub fn can_search(log: &NumberedLog, classes: &ValueClasses) -> bool {
+        for number in 0..log.count() {
+            if !matches!(log.operation(number).origin, NumberedOrigin::Any) {
+                return false;
+            }
+        }
+        NextWriters::has_room(log, classes.count())
+    }
+
+    /// A search that has not begun, of a log of which this order is known.
+    pub fn new(
+        alloc: Global,
+        log: &'a NumberedLog,
+        classes: &ValueClasses,
+        rows: &'a ClosedRows,
+    ) -> Result<BeamSearch<'a>, AllocError> {
+        let classed = ClassedLog::new(alloc, log, classes, rows)?;
+        let state = State::new(alloc, &classed, log.processes())?;
+        let count = classes.count();
+        Ok(BeamSearch {
+            log,
+            rows,
+            next_writers: NextWriters::new(alloc, log, &classed, count)?,
+            spare: Vec::from_slice(alloc, classed.spare())?,
+            classed,
+            layer: Layer::new(alloc, &state, count),
+            kept: Vec::new(alloc),
+            kept_entries: 0,
+            layers_made: 0,
+            state,
+            seen: SeenStates::new(alloc, 0)?,
+            successors: Vec::new(alloc),
+            begins: Vec::new(alloc),
+            steps: Vec::new(alloc),
+            schedule: Vec::new(alloc),
+            most_placed: 0,
+        })
+    }
+
+    /// The schedule that was found.
+    pub fn schedule(&self) -> &[u32] {
+        self.schedule.as_slice()
+    }
+
+    /// The largest number of operations that were placed.
+    pub fn most_placed(&self) -> u32 {
+        self.most_placed
+    }
+
+    /// Searches with this beam from the front. What it takes is taken out of the budget.
+    pub fn run(
+        &mut self,
+        alloc: Global,
+        beam: Beam,
+        budget: &mut Budget,
+    ) -> Result<BeamEnding, AllocError> {
+        self.begin(alloc, beam)?;
+        let mut dead_ends = DeadEnds::new(beam);
+        for _ in 0..MOST_LAYERS {
+            if budget.is_spent() || self.steps.len() >= MOST_STEPS {
+                break;
+            }
+            if self.layer.count() == 0 {
+                if !self.go_back(&mut dead_ends) {
+                    break;
+                }
+            }
+            if let Some(number) = self.find_successors(beam, budget)? {
+                self.read_off(alloc, number)?;
+                return Ok(BeamEnding::Scheduled);
+            }
+            let width = dead_ends.width_at(self.depth());
+            let best = best_of(alloc, self.successors.as_slice(), width)?;
+            self.make_next_layer(alloc, best.as_slice(), beam, budget)?;
+        }
+        Ok(BeamEnding::GivenUp)
+    }
+
+    /// The number of layers before the last.
+    fn depth(&self) -> u32 {
+        size(self.begins.as_slice()).saturating_sub(1)
+    }
+
+    /// Goes back from a layer without states to one that was kept. Returns whether there is one.
+    fn go_back(&mut self, dead_ends: &mut DeadEnds) -> bool {
+        let Some(target) = dead_ends.note(self.depth()) else {
+            return false;
+        };
+        for _ in 0..self.kept.len() {
+            let Some(kept) = self.kept.pop() else {
+                break;
+            };
+            let KeptLayer { depth, layer } = kept;
+            self.kept_entries = self.kept_entries.saturating_sub(layer.entries());
+            if depth <= target || depth == 0 {
+                self.begins.truncate((depth as usize).saturating_add(1));
+                let begin = at(self.begins.as_slice(), depth, 0);
+                let end = (begin as usize).saturating_add(layer.count() as usize);
+                self.steps.truncate(end);
+                self.layer = layer;
+                return true;
+            }
+        }
+        false
+    }
+
+    /// Makes the first layer, whose only state has no writer placed.
+    fn begin(&mut self, alloc: Global, beam: Beam) -> Result<(), AllocError> {
+        let most = widest(beam).saturating_mul(self.log.processes());
+        self.seen = SeenStates::new(alloc, most)?;
+        self.kept.clear();
+        self.kept_entries = 0;
+        self.begins.clear();
+        self.steps.clear();
+        self.state = State::new(alloc, &self.classed, self.log.processes())?;
+        self.layer = Layer::new(alloc, &self.state, size(self.classed.spare()));
+        self.state.settle(&self.classed, self.rows)?;
+        self.layer.push(&self.state, self.classed.spare())?;
+        self.begins.push(0)?;
+        self.steps.push(0)?;
+        Ok(())
+    }
+
+    /// The looks that making a state takes.
+    fn looks(&self) -> u64 {
+        let of_processes = (self.log.processes() as u64).wrapping_mul(LOOKS_OF_PROCESS);
+        let of_locations = (self.log.locations() as u64).wrapping_mul(LOOKS_OF_LOCATION);
+        of_processes.wrapping_add(of_locations)
+    }
+
+    /// Finds all states that can follow those of the layer. Returns the number of a state in which all is placed, if there is one.
+    fn find_successors(
+        &mut self,
+        beam: Beam,
+        budget: &mut Budget,
+    ) -> Result<Option<u32>, AllocError> {
+        self.successors.clear();
+        self.layers_made = self.layers_made.wrapping_add(1);
+        for parent in 0..self.layer.count() {
+            if budget.is_spent() {
+                break;
+            }
+            self.layer.load(parent, &mut self.state);
+            if self.state.is_complete(&self.classed) {
+                return Ok(Some(parent));
+            }
+            self.most_placed = self.most_placed.max(self.state.placed_in_all());
+            budget.spend(self.looks());
+            for process in 0..self.log.processes() {
+                self.try_process(parent, process, beam, budget)?;
+            }
+        }
+        Ok(None)
+    }
+
+    /// Adds the state in which the process's next operation is placed in the parent, if that can come and the state is new.
+    fn try_process(
+        &mut self,
+        parent: u32,
+        process: u32,
+        beam: Beam,
+        budget: &mut Budget,
+    ) -> Result<(), AllocError> {
+        let number = self.state.next(&self.classed, process);
+        if !self
+            .state
+            .can_come(&self.classed, self.rows, process, number)
+        {
+            return Ok(());
+        }
+        let Some(cost) = self.cost_over_held(parent, number, beam) else {
+            return Ok(());
+        };
+        self.place(process, number, cost)?;
+        budget.spend(self.looks());
+        if self.seen.note(self.state.mixed(), self.layers_made) {
+            if let Some(worth) = self.state.worth(&self.classed, &self.next_writers, beam) {
+                self.successors.push(Successor {
+                    parent,
+                    process,
+                    worth,
+                })?;
+            }
+        }
+        self.layer.load(parent, &mut self.state);
+        Ok(())
+    }
+
+    /// The cost of what the operation writes over in the parent, or none if that cannot be spared.
+    fn cost_over_held(&self, parent: u32, number: u32, beam: Beam) -> Option<i64> {
+        if self.classed.needed(number) != NOBODY {
+            return Some(0);
+        }
+        let held = self.state.held(self.classed.location(number));
+        let spare = self.layer.spare(parent, held);
+        if spare == 0 {
+            return None;
+        }
+        Some(cost_of_loss(spare, beam))
+    }
+
+    /// Places the process's next operation in the state at hand, and what can come then and changes nothing.
+    fn place(&mut self, process: u32, number: u32, cost: i64) -> Result<(), AllocError> {
+        self.state.place(&self.classed, process, number)?;
+        self.state.gain = self.state.gain.wrapping_sub(cost);
+        self.state.settle(&self.classed, self.rows)
+    }
+
+    /// Makes the next layer of these successors, and puts it in place of the layer.
+    fn make_next_layer(
+        &mut self,
+        alloc: Global,
+        best: &[Successor],
+        beam: Beam,
+        budget: &mut Budget,
+    ) -> Result<(), AllocError> {
+        let depth = self.depth();
+        self.begins.push(size(self.steps.as_slice()))?;
+        let classes = size(self.classed.spare());
+        let mut next = Layer::new(alloc, &self.state, classes);
+        for entry in 0..size(best) {
+            let successor = at(best, entry, NO_SUCCESSOR);
+            self.follow(successor, beam)?;
+            next.push(&self.state, self.spare.as_slice())?;
+            budget.spend(self.looks().saturating_add(classes as u64));
+            let parent = successor.parent.wrapping_mul(self.log.processes());
+            self.steps.push(parent.wrapping_add(successor.process))?;
+        }
+        let layer = mem::replace(&mut self.layer, next);
+        let entries = self.kept_entries.saturating_add(layer.entries());
+        if depth % SPACING == 0 && entries <= MOST_KEPT_ENTRIES {
+            self.kept_entries = entries;
+            self.kept.push(KeptLayer { depth, layer })?;
+        }
+        Ok(())
+    }
+
+    /// Makes the state at hand that of the successor.
+    fn follow(&mut self, successor: Successor, beam: Beam) -> Result<(), AllocError> {
+        self.layer.load(successor.parent, &mut self.state);
+        self.layer.load_spare(successor.parent, &mut self.spare);
+        let number = self.state.next(&self.classed, successor.process);
+        let mut cost = 0;
+        if self.classed.needed(number) == NOBODY {
+            let held = self.state.held(self.classed.location(number));
+            let left = at(self.spare.as_slice(), held, u32::MAX);
+            put(self.spare.as_mut_slice(), held, left.wrapping_sub(1));
+            cost = cost_of_loss(left, beam);
+        }
+        self.place(successor.process, number, cost)
+    }
+
+    /// Reads the schedule off the steps to this state of the layer.
+    fn read_off(&mut self, alloc: Global, number: u32) -> Result<(), AllocError> {
+        let processes = self.log.processes().max(1);
+        let mut ways = Vec::new(alloc);
+        let mut state = number;
+        for layer in (1..size(self.begins.as_slice())).rev() {
+            let begin = at(self.begins.as_slice(), layer, 0);
+            let step = at(self.steps.as_slice(), begin.wrapping_add(state), 0);
+            ways.push(step % processes)?;
+            state = step / processes;
+        }
+        self.state = State::new(alloc, &self.classed, self.log.processes())?;
+        self.state.keeps_placed = true;
+        self.state.settle(&self.classed, self.rows)?;
+        for entry in (0..size(ways.as_slice())).rev() {
+            let process = at(ways.as_slice(), entry, 0);
+            let number = self.state.next(&self.classed, process);
+            self.place(process, number, 0)?;
+        }
+        self.schedule = Vec::from_slice(alloc, self.state.placed.as_slice())?;
+        Ok(())
+    }
+}

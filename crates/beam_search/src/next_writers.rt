@@ -1,0 +1,106 @@
+//! How far it is to a writer.
+
+use crate::classed_log::ClassedLog;
+use numbered_log::{NOBODY, NumberedLog};
+use order_sets::tables::{at, put};
+use std::alloc::{AllocError, Global};
+
+/// The most entries of the table.
+const MOST_NEXT_WRITERS: u64 = 1 << 22;
+
+/// For each process, place and class the place of the first writer of the class from there on in the process, or `NOBODY`.
+pub(crate) struct NextWriters {
+    classes: u32,
+    starts: Vec<u32>,
+    places: Vec<u32>,
+}
+
+/// Drops the tables, in one call for each exit of a function that owns them.
+impl Drop for NextWriters {
+    fn drop(self) {
+        let NextWriters {
+            classes: _,
+            starts: _starts,
+            places: _places,
+        } = self;
+    }
+}
+
+/// The number of entries of the table: each process has a place more than operations.
+fn entries(log: &NumberedLog, classes: u32) -> u64 {
+    let places = (log.count() as u64).wrapping_add(log.processes() as u64);
+    places.wrapping_mul(classes as u64)
+}
+
+impl NextWriters {
+    /// Returns whether the table is small enough for a log of this number of classes.
+    pub(crate) fn has_room(log: &NumberedLog, classes: u32) -> bool {
+        entries(log, classes) <= MOST_NEXT_WRITERS
+    }
+
+    /// The next writers of the log, if the table has room for them.
+    pub(crate) fn new(
+        alloc: Global,
+        log: &NumberedLog,
+        classed: &ClassedLog,
+        classes: u32,
+    ) -> Result<NextWriters, AllocError> {
+        let size = entries(log, classes).min(MOST_NEXT_WRITERS);
+        let mut next = NextWriters {
+            classes,
+            starts: vec![in alloc; 0; log.processes() as usize]?,
+            places: vec![in alloc; NOBODY; size as usize]?,
+        };
+        for process in 0..log.processes() {
+            let start = log.start(process).wrapping_add(process);
+            put(next.starts.as_mut_slice(), process, start);
+            for place in (1..log.length(process).wrapping_add(1)).rev() {
+                next.note_place(classed, process, place);
+            }
+        }
+        Ok(next)
+    }
+
+    /// The entry of the class at this place of the process, counted from 1.
+    #[inline(always)]
+    fn entry(&self, process: u32, place: u32, class: u32) -> u32 {
+        let start = at(self.starts.as_slice(), process, 0);
+        start
+            .wrapping_add(place)
+            .wrapping_sub(1)
+            .wrapping_mul(self.classes)
+            .wrapping_add(class)
+    }
+
+    /// Notes the next writers from this place on, given those from the next one on.
+    fn note_place(&mut self, classed: &ClassedLog, process: u32, place: u32) {
+        for class in 0..self.classes {
+            let behind = self.entry(process, place.wrapping_add(1), class);
+            let next = at(self.places.as_slice(), behind, NOBODY);
+            let entry = self.entry(process, place, class);
+            put(self.places.as_mut_slice(), entry, next);
+        }
+        let left = classed.left(classed.number(process, place));
+        if left < self.classes {
+            let entry = self.entry(process, place, left);
+            put(self.places.as_mut_slice(), entry, place);
+        }
+    }
+
+    /// The number of operations from this place of the process up to the first writer of the class, that one among them, or `NOBODY`.
+    #[inline(always)]
+    pub(crate) fn distance(&self, process: u32, place: u32, class: u32) -> u32 {
+        if class >= self.classes {
+            return NOBODY;
+        }
+        let next = at(
+            self.places.as_slice(),
+            self.entry(process, place, class),
+            NOBODY,
+        );
+        if next == NOBODY {
+            return NOBODY;
+        }
+        next.wrapping_sub(place).wrapping_add(1)
+    }
+}

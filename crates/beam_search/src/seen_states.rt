@@ -1,0 +1,67 @@
+//! The states that a layer has already.
+
+use order_sets::tables::{at, put};
+use std::alloc::{AllocError, Global};
+
+/// A hash table of the mixed numbers of states. Those of earlier layers count as free slots, so that it needs not be cleared.
+pub(crate) struct SeenStates {
+    /// The number of slots less one, which is a power of two less one.
+    mask: u32,
+    mixed: Vec<u64>,
+    /// For each slot the layer that has taken it.
+    layers: Vec<u32>,
+}
+
+/// Drops the tables, in one call for each exit of a function that owns them.
+impl Drop for SeenStates {
+    fn drop(self) {
+        let SeenStates {
+            mask: _,
+            mixed: _mixed,
+            layers: _layers,
+        } = self;
+    }
+}
+
+/// The most slots that are looked at.
+const MOST_PROBES: u32 = 32;
+
+/// The number of slots for this number of states: a power of two, and at least twice as many, up to a million.
+fn slots_for(states: u32) -> u32 {
+    let mut slots: u32 = 1024;
+    for _ in 0..10 {
+        if slots / 2 < states {
+            slots = slots.wrapping_mul(2);
+        }
+    }
+    slots
+}
+
+impl SeenStates {
+    /// A table for layers of at most this number of new states.
+    pub(crate) fn new(alloc: Global, states: u32) -> Result<SeenStates, AllocError> {
+        let slots = slots_for(states);
+        Ok(SeenStates {
+            mask: slots.wrapping_sub(1),
+            mixed: vec![in alloc; 0; slots as usize]?,
+            layers: vec![in alloc; 0; slots as usize]?,
+        })
+    }
+
+    /// Notes the state of this mixed number in the layer, counted from 1. Returns whether it is new.
+    pub(crate) fn note(&mut self, mixed: u64, layer: u32) -> bool {
+        let mut slot = ((mixed >> 32) as u32) & self.mask;
+        for _ in 0..MOST_PROBES {
+            if at(self.layers.as_slice(), slot, 0) != layer {
+                put(self.layers.as_mut_slice(), slot, layer);
+                put(self.mixed.as_mut_slice(), slot, mixed);
+                return true;
+            }
+            if at(self.mixed.as_slice(), slot, 0) == mixed {
+                return false;
+            }
+            slot = slot.wrapping_add(1) & self.mask;
+        }
+        true
+    }
+}

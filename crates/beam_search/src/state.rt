@@ -1,0 +1,216 @@
+//! A state, and what can come next in it.
+
+use crate::classed_log::ClassedLog;
+use closed_rows::ClosedRows;
+use numbered_log::NOBODY;
+use order_sets::tables::{at, put, size};
+use std::alloc::{AllocError, Global};
+
+/// The gain of each plain read, and of each update, that is placed.
+const READ: i64 = 20;
+
+const UPDATE: i64 = 10;
+
+/// What is placed of each process, and what each location holds.
+pub(crate) struct State {
+    /// For each process the place of its next operation.
+    pub(crate) fronts: Vec<u32>,
+    /// For each location the class of what it holds.
+    pub(crate) held: Vec<u32>,
+    /// What was gained by the operations that are placed.
+    pub(crate) gain: i64,
+    /// The operations that were placed, in their order, if they are kept.
+    pub(crate) placed: Vec<u32>,
+    pub(crate) keeps_placed: bool,
+}
+
+/// Drops each table, in one call for each exit of a function that owns a state.
+impl Drop for State {
+    fn drop(self) {
+        let State {
+            fronts: _fronts,
+            held: _held,
+            gain: _,
+            placed: _placed,
+            keeps_placed: _,
+        } = self;
+    }
+}
+
+impl State {
+    /// The state in which nothing is placed.
+    pub(crate) fn new(
+        alloc: Global,
+        log: &ClassedLog,
+        processes: u32,
+    ) -> Result<State, AllocError> {
+        Ok(State {
+            fronts: vec![in alloc; 1; processes as usize]?,
+            held: Vec::from_slice(alloc, log.initial())?,
+            gain: 0,
+            placed: Vec::new(alloc),
+            keeps_placed: false,
+        })
+    }
+
+    /// The number of processes.
+    #[inline(always)]
+    pub(crate) fn processes(&self) -> u32 {
+        size(self.fronts.as_slice())
+    }
+
+    /// The place of the process's next operation.
+    #[inline(always)]
+    pub(crate) fn front(&self, process: u32) -> u32 {
+        at(self.fronts.as_slice(), process, NOBODY)
+    }
+
+    /// The class of what the location holds.
+    #[inline(always)]
+    pub(crate) fn held(&self, location: u32) -> u32 {
+        at(self.held.as_slice(), location, NOBODY)
+    }
+
+    /// The process's next operation, or `NOBODY` if all are placed.
+    #[inline(always)]
+    pub(crate) fn next(&self, log: &ClassedLog, process: u32) -> u32 {
+        log.number(process, self.front(process))
+    }
+
+    /// Returns whether the process's next operation can come: it reads what its location holds, and what is known to stand before it is placed.
+    #[inline(always)]
+    pub(crate) fn can_come(
+        &self,
+        log: &ClassedLog,
+        rows: &ClosedRows,
+        process: u32,
+        number: u32,
+    ) -> bool {
+        if number == NOBODY {
+            return false;
+        }
+        let needed = log.needed(number);
+        if needed != NOBODY && needed != self.held(log.location(number)) {
+            return false;
+        }
+        !log.is_bound(number) || self.has_all_before(rows, process, number)
+    }
+
+    /// Returns whether what is known to stand before the process's operation is placed.
+    fn has_all_before(&self, rows: &ClosedRows, process: u32, number: u32) -> bool {
+        for other in 0..self.processes() {
+            if other != process && rows.before(number, other) >= self.front(other) {
+                return false;
+            }
+        }
+        true
+    }
+
+    /// Places the process's next operation.
+    pub(crate) fn place(
+        &mut self,
+        log: &ClassedLog,
+        process: u32,
+        number: u32,
+    ) -> Result<(), AllocError> {
+        let front = self.front(process).wrapping_add(1);
+        put(self.fronts.as_mut_slice(), process, front);
+        let left = log.left(number);
+        if left == NOBODY {
+            self.gain = self.gain.wrapping_add(READ);
+        } else {
+            put(self.held.as_mut_slice(), log.location(number), left);
+            if log.needed(number) != NOBODY {
+                self.gain = self.gain.wrapping_add(UPDATE);
+            }
+        }
+        if self.keeps_placed {
+            self.placed.push(number)?;
+        }
+        Ok(())
+    }
+
+    /// Places what can come and changes nothing: plain reads, and updates that leave what they read. To place these at once is right in any
+    /// case: to other operations they only matter if they are known to stand before them. It ends after some rounds, so one that waits for many
+    /// others in turn may be left; it is placed as a writer is then.
+    pub(crate) fn settle(&mut self, log: &ClassedLog, rows: &ClosedRows) -> Result<(), AllocError> {
+        for _ in 0..self.processes().wrapping_add(1) {
+            let mut is_news = false;
+            for process in 0..self.processes() {
+                if self.settle_process(log, rows, process)? {
+                    is_news = true;
+                }
+            }
+            if !is_news {
+                break;
+            }
+        }
+        Ok(())
+    }
+
+    /// Does this for one process. Returns whether an operation was placed.
+    fn settle_process(
+        &mut self,
+        log: &ClassedLog,
+        rows: &ClosedRows,
+        process: u32,
+    ) -> Result<bool, AllocError> {
+        let mut is_news = false;
+        for _ in 0..log.length(process) {
+            let number = self.next(log, process);
+            let needed = log.needed(number);
+            let left = log.left(number);
+            let is_idle = needed != NOBODY && (left == NOBODY || left == needed);
+            if !is_idle || !self.can_come(log, rows, process, number) {
+                break;
+            }
+            self.place(log, process, number)?;
+            is_news = true;
+        }
+        Ok(is_news)
+    }
+
+    /// Returns whether all operations are placed, and the final values are as they have to be.
+    pub(crate) fn is_complete(&self, log: &ClassedLog) -> bool {
+        for process in 0..self.processes() {
+            if self.front(process) <= log.length(process) {
+                return false;
+            }
+        }
+        for location in 0..size(self.held.as_slice()) {
+            let last = log.last(location);
+            if last != NOBODY && last != self.held(location) {
+                return false;
+            }
+        }
+        true
+    }
+
+    /// The number of operations that are placed.
+    pub(crate) fn placed_in_all(&self) -> u32 {
+        let mut placed: u32 = 0;
+        for process in 0..self.processes() {
+            placed = placed.wrapping_add(self.front(process)).wrapping_sub(1);
+        }
+        placed
+    }
+
+    /// A number that is the same of the same fronts and classes held, and mostly differs otherwise.
+    pub(crate) fn mixed(&self) -> u64 {
+        let mut mixed: u64 = 0x9e37_79b9_7f4a_7c15;
+        for process in 0..self.processes() {
+            mixed = mix(mixed, self.front(process));
+        }
+        for location in 0..size(self.held.as_slice()) {
+            mixed = mix(mixed, self.held(location));
+        }
+        mixed
+    }
+}
+
+/// Mixes a further entry into the number.
+#[inline(always)]
+fn mix(mixed: u64, entry: u32) -> u64 {
+    let sum = (mixed ^ (mixed >> 29)).wrapping_add(entry as u64);
+    sum.wrapping_mul(0xbf58_476d_1ce4_e5b9)
+}

@@ -1,0 +1,114 @@
+//! How good a state is.
+
+use crate::beam::Beam;
+use crate::classed_log::ClassedLog;
+use crate::next_writers::NextWriters;
+use crate::state::State;
+use numbered_log::NOBODY;
+
+/// The gain of each operation that a process can do next by itself, and the most of each process that are looked at.
+const FREE: i64 = 10;
+
+const MOST_FREE: u32 = 3;
+
+/// The low 32 bits of the number, as a signed one.
+#[inline(always)]
+fn signed(number: u64) -> i64 {
+    ((number & 0xffff_ffff) as u32) as i64
+}
+
+impl State {
+    /// The worth of the state, or none if no schedule comes of it. A higher one is better.
+    pub(crate) fn worth(&self, log: &ClassedLog, next: &NextWriters, beam: Beam) -> Option<i64> {
+        let mut worth = self.gain.wrapping_sub(self.imbalance(log, beam));
+        for process in 0..self.processes() {
+            let number = self.next(log, process);
+            if number == NOBODY {
+                continue;
+            }
+            let free = self.free_operations(log, process);
+            if free != 0 {
+                worth = worth.wrapping_add(signed(free as u64).wrapping_mul(FREE));
+                continue;
+            }
+            let distance = self.nearest_writer(log, next, process, number);
+            if distance == NOBODY {
+                return None;
+            }
+            let cost = (distance as u64).wrapping_mul(beam.distance as u64);
+            worth = worth.wrapping_sub(signed(cost));
+        }
+        Some(worth)
+    }
+
+    /// The number of operations, up to a few, that the process can do next by itself from what memory holds. The known order is not heeded.
+    fn free_operations(&self, log: &ClassedLog, process: u32) -> u32 {
+        let front = self.front(process);
+        for ahead in 0..MOST_FREE {
+            let number = log.number(process, front.wrapping_add(ahead));
+            if number == NOBODY || !self.finds_its_value(log, number, ahead) {
+                return ahead;
+            }
+        }
+        MOST_FREE
+    }
+
+    /// Returns whether the operation finds the value that it reads once the operations of its process before it, of which this many are not
+    /// placed, are placed.
+    fn finds_its_value(&self, log: &ClassedLog, number: u32, ahead: u32) -> bool {
+        let needed = log.needed(number);
+        if needed == NOBODY {
+            return true;
+        }
+        let location = log.location(number);
+        for back in 1..ahead.wrapping_add(1) {
+            let earlier = number.wrapping_sub(back);
+            let left = log.left(earlier);
+            if left != NOBODY && log.location(earlier) == location {
+                return left == needed;
+            }
+        }
+        self.held(location) == needed
+    }
+
+    /// The number of operations of another process up to the nearest writer of what this one's next operation reads, or `NOBODY`.
+    fn nearest_writer(
+        &self,
+        log: &ClassedLog,
+        next: &NextWriters,
+        process: u32,
+        number: u32,
+    ) -> u32 {
+        let needed = log.needed(number);
+        let mut nearest = NOBODY;
+        for other in 0..self.processes() {
+            if other != process {
+                nearest = nearest.min(next.distance(other, self.front(other), needed));
+            }
+        }
+        nearest
+    }
+
+    /// The cost of what is left of each process: the sum of the squared differences from the mean, times the beam's cost, divided by the mean plus 4.
+    fn imbalance(&self, log: &ClassedLog, beam: Beam) -> i64 {
+        let mut sum: u64 = 0;
+        for process in 0..self.processes() {
+            sum = sum.wrapping_add(self.left_of(log, process));
+        }
+        let mean = sum / (self.processes().max(1) as u64);
+        let mut squares: u64 = 0;
+        for process in 0..self.processes() {
+            let left = self.left_of(log, process);
+            let difference = left.max(mean).wrapping_sub(left.min(mean));
+            squares = squares.wrapping_add(difference.wrapping_mul(difference));
+        }
+        let cost = squares.wrapping_mul(beam.imbalance as u64);
+        signed(cost / mean.saturating_add(4))
+    }
+
+    /// The number of the process's operations that are not placed.
+    fn left_of(&self, log: &ClassedLog, process: u32) -> u64 {
+        let end = log.length(process).wrapping_add(1);
+        end.saturating_sub(self.front(process)) as u64
+    }
+}
