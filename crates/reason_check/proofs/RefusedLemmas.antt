@@ -1,17 +1,18 @@
 -- Why lines of a certificate are refused.
 use Rattle.std.proofs.Common.{◌≡◌, ◌+◌, true, ℕ, ℤ, List, ◌∷◌, refl, sym, subst}
-use Rattle.std.specs.Prelude.{Some, Result, Ok, Err, OnErr, IfErr, IsErrAnd}
+use Rattle.std.specs.Prelude.{Some, Result, Ok, Err, IfErr, IsErrAnd}
 use Rattle.lrat_check.specs.LratFaults.{HasLratFault}
 use Rattle.lrat_check.specs.declared.lrat_fault.LratCause.{LratCause}
 use Rattle.order_clauses.specs.declared.reason_list.ReasonList.{ReasonList}
+use Rattle.reason_clauses.specs.RefusedBy.{IsRefusedBy}
 use Rattle.reason_clauses.specs.declared.cause.ReasonCause.{ReasonCause}
 use Rattle.reason_check.specs.Reading.{IsReadBehind, IsReadUpTo}
-use Rattle.reason_check.specs.Refused.{IsRefusedDerivation, IsRefusedLine, IsRefusedReading, IsRefusedReasons, ByTrace, AtLine, asks_trace, fault_of_line, fault_of_lrat}
+use Rattle.reason_check.specs.Refused.{IsRefusedDerivation, IsRefusedLine, IsRefusedReading, IsRefusedReasons, ByTrace, AtLine, fault_of_line, fault_of_lrat}
+use Rattle.reason_check.specs.RefusedByTrace.{IsRefusedByTrace}
 use Rattle.reason_check.specs.declared.clause_lines.DerivationText.{DerivationText}
 use Rattle.reason_check.specs.declared.line_clause.LineOutcome.{LineOutcome}
 use Rattle.reason_check.specs.declared.reasons_fault.ReasonsFault.{ReasonsFault}
 use Rattle.reason_check.specs.declared.reasons_fault.ReasonsFault.TheVariants.{OutOfMemory as NoMemory, Line, Lrat, Step}
-use Rattle.reason_text.specs.LineFault.{IsRefusedBy}
 use Rattle.reason_text.specs.OperationNumbers.{HoldsTrace}
 use Rattle.reason_text.specs.ReasonLine.{IsReasonLine}
 use Rattle.reason_text.specs.declared.operation_table.OperationTable.{OperationTable}
@@ -26,7 +27,7 @@ use Rattle.trace_semantics.specs.Trace.{TraceValue}
 
 module _ (t : TraceValue) where
   -- a line that was read is refused by the trace
-  pub refused_by_trace : (words : List (List ℕ)) (line : ReasonLine) (table : OperationTable) → IsReasonLine t words line → (r : Result LineOutcome (PlainFault ReasonCause)) → OnErr r (asks_trace line ≡ true) →
+  pub refused_by_trace : (words : List (List ℕ)) (line : ReasonLine) (table : OperationTable) → IsReasonLine t words line → (r : Result LineOutcome (PlainFault ReasonCause)) → IfErr r (IsRefusedBy (IsRefusedByTrace t line)) →
       IfErr r (λ refusal. HoldsTrace table → IsRefusedBy (IsRefusedLine t words) refusal)
   refused_by_trace words line table is (Ok outcome) h = tt
   refused_by_trace words line table is (Err OutOfMemory) h = λ holds. tt

@@ -1,5 +1,5 @@
 -- Certificates of reasons that are refused.
-use Rattle.std.specs.Prelude.{◌≡◌, ◌+◌, ⊤, ℕ, ℤ, Bool, true, false, List, [], ◌∷◌}
+use Rattle.std.specs.Prelude.{◌≡◌, ◌+◌, ⊤, ℕ, ℤ, false, List, [], ◌∷◌}
 use Rattle.lrat_check.specs.Checked.{IsRefused}
 use Rattle.lrat_check.specs.LratFaults.{HasLratFault}
 use Rattle.lrat_check.specs.LratText.{SpellsDerivation}
@@ -9,6 +9,7 @@ use Rattle.lrat_check.specs.declared.refusal.StepFault.{StepFault}
 use Rattle.order_clauses.specs.declared.reason_list.ReasonList.{ReasonList}
 use Rattle.reason_clauses.specs.declared.cause.ReasonCause.{ReasonCause}
 use Rattle.reason_clauses.specs.declared.cause.ReasonCause.TheVariants.{BadHeader}
+use Rattle.reason_check.specs.RefusedByTrace.{IsRefusedByTrace}
 use Rattle.reason_check.specs.Reading.{AreBefore, IsReadBehind, IsReadOn, IsBehindMark}
 use Rattle.reason_check.specs.declared.reasons_fault.ReasonsFault.{ReasonsFault}
 use Rattle.reason_check.specs.declared.reasons_fault.ReasonsFault.TheVariants.{OutOfMemory as NoMemory, Line, Lrat, Step}
@@ -16,7 +17,6 @@ use Rattle.reason_text.specs.Header.{begins_reasons}
 use Rattle.reason_text.specs.LineFault.{HasLineFault}
 use Rattle.reason_text.specs.ReasonLine.{IsReasonLine}
 use Rattle.reason_text.specs.declared.reason_line.ReasonLine.{ReasonLine}
-use Rattle.reason_text.specs.declared.reason_line.ReasonLine.TheVariants.{Skipped, Derivation}
 use Rattle.text_lines.specs.Lines.{lines_of}
 use Rattle.text_lines.specs.Words.{words_of}
 use Rattle.text_lines.specs.declared.fault.PlacedFault.{PlacedFault}
@@ -30,16 +30,10 @@ abbrev pub fault_of_line : PlainFault ReasonCause → ℕ → ReasonsFault
 fault_of_line OutOfMemory place = NoMemory
 fault_of_line (For cause) place = Line cause place
 
--- whether the line asks something of the trace, so that it may be refused though it was read: comments and `p` do not
-abbrev pub asks_trace : ReasonLine → Bool
-asks_trace Skipped = false
-asks_trace Derivation = false
-asks_trace line = true
-
--- why the line with these words is refused: for a fault of the words; or, for any cause, they are those of a line that asks something of the trace
+-- why the line with these words is refused: for a fault of the words, or for what the line says of the trace
 pub data IsRefusedLine (t : TraceValue) (words : List (List ℕ)) (cause : ReasonCause) : Type 0 where
   ByWords : HasLineFault t words cause → IsRefusedLine t words cause
-  ByTrace : (line : ReasonLine) → IsReasonLine t words line → asks_trace line ≡ true → IsRefusedLine t words cause
+  ByTrace : (line : ReasonLine) → IsReasonLine t words line → IsRefusedByTrace t line cause → IsRefusedLine t words cause
 
 -- The first line is no header; or all lines in front of one were read and make clauses, of which none is empty, and this one is refused. Its
 -- place is counted from 1.

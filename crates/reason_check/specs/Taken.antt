@@ -24,7 +24,7 @@ pub record AreMade (t : TraceValue) (lines : List ReasonLine) (list : ReasonList
   pub over : AreOver list
   pub made : MakeClauses t list.variables lines list.clauses.items
 
--- the list has one clause more, of this kind, and perhaps more variables; the clause refutes the trace exactly where it is empty
+-- the list has one clause more, of this kind, and perhaps more variables; what came of the line is `Refuted` exactly where the clause is empty, and never `Derivation`
 pub record HasNext (t : TraceValue) (Is : List (OpName × OpName) → Type 0) (old new : ReasonList) (outcome : LineOutcome) : Type 0 where
   pub clause : List ℤ
   pub appended : new.clauses.items ≡ old.clauses.items ++ clause ∷ []

@@ -2,10 +2,10 @@
 
 ghost use Rattle.std.specs.Prelude.{◌≡◌, ◌≤◌, ◌+◌, [], length, IfOk, IfErr, IfSome};
 ghost use Rattle.text_lines.specs.Words.{words_of};
+ghost use Rattle.reason_clauses.specs.RefusedBy.{IsRefusedBy};
 ghost use Rattle.reason_clauses.specs.Tables.{HoldTables};
 ghost use Rattle.reason_check.specs.Reading.{IsReadAndTaken, IsReadUpTo};
 ghost use Rattle.reason_check.specs.Refused.{IsRefusedLine, IsRefusedReading};
-ghost use Rattle.reason_text.specs.LineFault.{IsRefusedBy};
 ghost use Rattle.reason_text.specs.OperationNumbers.{HoldsTrace};
 
 use crate::line_clause::{LineOutcome, take_line};

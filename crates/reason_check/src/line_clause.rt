@@ -1,16 +1,19 @@
 //! The clause of a line of a certificate of reasons.
 
-ghost use Rattle.std.specs.Prelude.{◌≡◌, ◌≢◌, ◌↔◌, [], true, map, OnErr, OnOk, IfOk};
-ghost use Rattle.order_clauses.specs.Appended.{HasSameClauses, IsAppended};
+ghost use Rattle.std.specs.Prelude.{◌≡◌, ◌≢◌, ◌↔◌, ◌⊎◌, [], map, OnOk, IfOk, IfErr};
+ghost use Rattle.order_clauses.specs.Appended.{IsAppended};
 ghost use Rattle.order_clauses.specs.Numbered.{named};
 ghost use Rattle.order_clauses.specs.declared.reason_list.ClauseOutcome.TheVariants.{Made};
 ghost use Rattle.order_reasons.specs.Reasons.{IsPairClause};
 ghost use Rattle.order_reasons.specs.Sources.{IsSourceClause};
+ghost use Rattle.reason_clauses.specs.CycleRefused.{IsCycleRefused};
 ghost use Rattle.reason_clauses.specs.Made.{IsCycleOf, IsLastOf};
+ghost use Rattle.reason_clauses.specs.PairRefused.{IsPairRefused};
+ghost use Rattle.reason_clauses.specs.RefusedBy.{IsRefusedBy};
 ghost use Rattle.reason_clauses.specs.Tables.{HoldTables};
 ghost use Rattle.reason_counting.specs.Counts.{AreTooFew};
 ghost use Rattle.reason_check.specs.LineClauses.{IsCountingOf, IsWaitingOf};
-ghost use Rattle.reason_check.specs.Refused.{asks_trace};
+ghost use Rattle.reason_check.specs.RefusedByTrace.{IsEnough, IsNoClause, IsNumberingRefused, IsRefusedByTrace};
 ghost use Rattle.reason_check.specs.Taken.{HasNext, IsPassed, IsTaken};
 ghost use Rattle.reason_check.specs.declared.line_clause.LineOutcome.TheVariants.{Derivation, Refuted};
 
@@ -48,7 +51,8 @@ pub enum LineOutcome {
 
 /// The refusal of what was to be made a clause, unless it was made.
 fn refuse_outcome(outcome: ClauseOutcome) -> Result<(), ReasonRefusal>
-    ensures { OnOk result (outcome ≡ Made) }
+    ensures made { OnOk result (outcome ≡ Made) }
+    ensures refused { IfErr result (IsRefusedBy IsNoClause) }
 {
     match outcome {
         ClauseOutcome::Made => Ok(()),
@@ -67,6 +71,7 @@ fn add_orders(
 ) -> Result<LineOutcome, ReasonRefusal>
     ensures appended { OnOk result (IsAppended list.old list.new orders.now) }
     ensures outcome { IfOk result (λ outcome. ((outcome ≡ Refuted) ↔ (orders.now ≡ [])) × (outcome ≢ Derivation)) }
+    ensures refused { IfErr result (IsRefusedBy IsNoClause) }
 {
     let outcome = list.add(alloc, orders)?;
     refuse_outcome(outcome)?;
@@ -84,7 +89,8 @@ fn add_cycle(
     operations: &[OperationPlace],
     list: &mut ReasonList,
 ) -> Result<LineOutcome, ReasonRefusal>
-    ensures { IfOk result (HasNext trace.now (IsCycleOf trace.now (map (named trace.now) operations.now)) list.old list.new) }
+    ensures made { IfOk result (HasNext trace.now (IsCycleOf trace.now (map (named trace.now) operations.now)) list.old list.new) }
+    ensures refused { IfErr result (IsRefusedBy (λ cause. IsCycleRefused trace.now operations.now cause ⊎ IsNoClause cause)) }
 {
     let mut orders = Vec::new(alloc);
     cycle_clause(trace, operations, &mut orders)?;
@@ -99,7 +105,8 @@ fn add_before(
     pair: OrderPair,
     list: &mut ReasonList,
 ) -> Result<LineOutcome, ReasonRefusal>
-    ensures { IfOk result (HasNext trace.now (λ clause. IsPairClause trace.now clause (named trace.now pair.first) (named trace.now pair.second)) list.old list.new) }
+    ensures made { IfOk result (HasNext trace.now (λ clause. IsPairClause trace.now clause (named trace.now pair.first) (named trace.now pair.second)) list.old list.new) }
+    ensures refused { IfErr result (IsRefusedBy (λ cause. IsPairRefused trace.now pair cause ⊎ IsNoClause cause)) }
 {
     let mut orders = Vec::new(alloc);
     pair_clause(trace, before.place(pair), pair, &mut orders)?;
@@ -184,7 +191,8 @@ fn add_too_few(
     value: u64,
     list: &mut ReasonList,
 ) -> Result<LineOutcome, ReasonRefusal>
-    ensures { IfOk result (HasNext trace.now (λ clause. (clause ≡ []) × AreTooFew trace.now location.now value) list.old list.new) }
+    ensures made { IfOk result (HasNext trace.now (λ clause. (clause ≡ []) × AreTooFew trace.now location.now value) list.old list.new) }
+    ensures refused { IfErr result (IsRefusedBy (λ cause. IsEnough trace.now location.now value cause ⊎ IsNoClause cause)) }
 {
     too_few_sources(trace, location, value)?;
     add_orders(alloc, &[], list)
@@ -192,9 +200,10 @@ fn add_too_few(
 
 /// Numbers a pair beforehand.
 fn number_pair(pair: OrderPair, list: &mut ReasonList) -> Result<LineOutcome, ReasonRefusal>
-    ensures { IfOk result (IsPassed list.old list.new) }
+    ensures passed { IfOk result (IsPassed list.old list.new) }
+    ensures refused { IfErr result (IsRefusedBy (IsNumberingRefused pair)) }
 {
-    if pair.is_of_one_process() {
+    if pair.first.process == pair.second.process {
         return Err(ReasonRefusal::For(ReasonCause::OneProcess));
     }
     let outcome = list.number(pair)?;
@@ -212,7 +221,7 @@ pub fn take_line<'a>(
 ) -> Result<LineOutcome, ReasonRefusal>
     requires tables { HoldTables trace.now tables.now.writers }
     ensures taken { IfOk result (IsTaken trace.now line.entry list.old list.new) }
-    ensures refused { OnErr result (asks_trace line.entry ≡ true) }
+    ensures refused { IfErr result (IsRefusedBy (IsRefusedByTrace trace.now line.entry)) }
 {
     match line {
         ReasonLine::Skipped => Ok(LineOutcome::More),

@@ -19,7 +19,7 @@ pub enum ReasonsFault {
 }
 
 impl ReasonsFault {
-    ghost use Rattle.std.specs.Prelude.{◌≡◌, ◌≤◌, ◌<◌, ◌+◌, ◌^◌, ℕ};
+    ghost use Rattle.std.specs.Prelude.{◌≡◌, ◌<◌, ◌+◌, ◌^◌, ℕ};
     ghost use Rattle.lrat_check.specs.declared.lrat_fault.LratCause.{LratCause};
     ghost use Rattle.reason_check.specs.Refused.{fault_of_line, fault_of_lrat};
     ghost use Rattle.text_lines.specs.declared.fault.PlacedFault.TheVariants.{At};

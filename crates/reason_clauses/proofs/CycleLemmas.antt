@@ -54,3 +54,7 @@ pub turned_holds : (t : TraceValue) (new : List OrderPair) (ops : List Operation
 turned_holds t new [] some so names legal = absurd (some refl)
 turned_holds t new (u ∷ rest) some so names legal =
     cycle_holds t names legal.interleaving (named_orders t new) (named t u) (map (named t) rest) (turned_cycle t new (u ∷ rest) some so (named_orders t new) (λ p c. c))
+
+pub no_operations : (ops : List OperationPlace) → length ops ≡ 0 → ops ≡ []
+no_operations [] e = refl
+no_operations (u ∷ rest) e = absurd (omega (arith, e))

@@ -1,8 +1,11 @@
+pub mod AddedLemmas
 pub mod CycleLemmas
 pub mod LastLemmas
 pub mod MakerLemmas
+pub mod MissingLemmas
 pub mod NumberLemmas
 pub mod NumberedLemmas
 pub mod OwnLemmas
 pub mod PairLemmas
+pub mod RefusedLemmas
 pub mod SourceLemmas

@@ -58,9 +58,9 @@ writes_by_number t location w d e =
       named_so = λ i. record { process = (name_at t.processes index.0 p index.1 index.2 ∙ called) i; place = sym place.1 i };
     }))
 
--- the operation at a place of a process, by its numbers
-pub numbered_operation : (t : TraceValue) → IsTrace t → (q k : ℕ) (p : Process) (op : Op) → q < length t.processes → get_or t.processes q p ≡ p → slice_get p.operations k ≡ Some op → operation_at t (named t (at_number q (k + 1))) ≡ Some op
-numbered_operation t ok q k p op low at here =
+-- what stands at a place of a process, by its numbers
+pub numbered_place : (t : TraceValue) → IsTrace t → (q k : ℕ) (p : Process) → q < length t.processes → get_or t.processes q p ≡ p → operation_at t (named t (at_number q (k + 1))) ≡ slice_get p.operations k
+numbered_place t ok q k p low at =
     let name = name_at t.processes q p low at in
     let wanted = slice_index_or (map (λ (x : Process). x.name) t.processes) q [] in
     let listed : Contains t.processes p = (q, low, at) in
@@ -68,7 +68,11 @@ numbered_operation t ok q k p op low at here =
     same_from_key (λ (y : Process). y.name) t.processes ok.distinct x p c listed (same_bytes x.name wanted same ∙ name) in
     let finds_it : process_named t wanted ≡ Some p = finds (λ (x : Process). bytes_eq x.name wanted) t.processes p (bytes_same p.name wanted (sym name)) only listed in
     let next : k + 1 ≡ suc k = omega arith in
-    ap (option_and_then (λ (x : Process). at_place x.operations (k + 1))) finds_it ∙ ap (at_place p.operations) next ∙ here
+    ap (option_and_then (λ (x : Process). at_place x.operations (k + 1))) finds_it ∙ ap (at_place p.operations) next
+
+-- the operation at a place of a process, by its numbers
+pub numbered_operation : (t : TraceValue) → IsTrace t → (q k : ℕ) (p : Process) (op : Op) → q < length t.processes → get_or t.processes q p ≡ p → slice_get p.operations k ≡ Some op → operation_at t (named t (at_number q (k + 1))) ≡ Some op
+numbered_operation t ok q k p op low at here = numbered_place t ok q k p low at ∙ here
 
 pub nobody : Process
 nobody = record { name = []; operations = [] }

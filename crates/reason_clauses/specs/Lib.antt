@@ -1,11 +1,15 @@
+pub mod AddedOrders
 pub mod Barred
 pub mod Cause
 pub mod Cycle
+pub mod CycleRefused
 pub mod LastBarred
 pub mod Made
 pub mod Mains
 pub mod Makers
 pub mod Numbered
 pub mod OwnLast
+pub mod PairRefused
 pub mod Pieces
+pub mod RefusedBy
 pub mod Tables

@@ -1,10 +1,13 @@
 //! The clause that operations do not stand in a cycle.
 
-ghost use Rattle.std.specs.Prelude.{◌≡◌, ◌<◌, ◌+◌, OnOk, length, map, slice_index_or};
+ghost use Rattle.std.specs.Prelude.{◌≡◌, ◌<◌, ◌+◌, OnOk, IfErr, length, map, slice_index_or};
 ghost use Rattle.order_reasons.specs.Orders.{HoldsOfSchedules};
 ghost use Rattle.order_clauses.specs.Numbered.{named, named_orders};
 ghost use Rattle.order_clauses.specs.OrderVariables.{nowhere};
+ghost use Rattle.reason_clauses.specs.AddedOrders.{AddsOnly, IsOrder};
+ghost use Rattle.reason_clauses.specs.CycleRefused.{IsCycleRefused, IsStepRefused, IsTurnedStep};
 ghost use Rattle.reason_clauses.specs.Numbered.{Grows};
+ghost use Rattle.reason_clauses.specs.RefusedBy.{IsRefusedBy};
 ghost use Rattle.reason_clauses.specs.Cycle.{IsTurned};
 ghost use Rattle.reason_clauses.specs.Made.{Makes, IsCycleOf};
 
@@ -24,6 +27,8 @@ fn push_turned(
 ) -> Result<(), ReasonRefusal>
     ensures grows { OnOk result (Grows orders.old.items orders.new.items) }
     ensures turned { OnOk result (IsTurned trace.now orders.new.items from to) }
+    ensures only { OnOk result (AddsOnly orders.old.items orders.new.items (IsOrder to from)) }
+    ensures refused { IfErr result (IsRefusedBy (IsStepRefused trace.now from to)) }
 {
     trace.recall_invariant();
     if are_same(from, to) {
@@ -63,6 +68,8 @@ pub fn cycle_clause(
 ) -> Result<(), ReasonRefusal>
     ensures made { OnOk result (Makes trace.now orders.new.items (IsCycleOf trace.now (map (named trace.now) operations.now))) }
     ensures holds { OnOk result (HoldsOfSchedules trace.now (named_orders trace.now orders.new.items)) }
+    ensures only { OnOk result (AddsOnly orders.old.items orders.new.items (IsTurnedStep operations.now)) }
+    ensures refused { IfErr result (IsRefusedBy (IsCycleRefused trace.now operations.now)) }
 {
     let count = operations.len();
     if count == 0 {

@@ -1,11 +1,12 @@
 //! Operations of a trace by their numbers, and what they say of a value.
 
-ghost use Rattle.std.specs.Prelude.{◌≡◌, ◌<◌, true, length, IfSome, OnOk, IfOk};
+ghost use Rattle.std.specs.Prelude.{◌≡◌, ◌<◌, true, length, None, IfSome, OnOk, IfOk, IfErr};
 ghost use Rattle.std.specs.Str.{bytes_eq};
 ghost use Rattle.order_clauses.specs.Numbered.{named, IsKnown};
 ghost use Rattle.order_reasons.specs.Sources.{AllowsWriter};
 ghost use Rattle.reason_clauses.specs.Numbered.{IsGivenWitness, IsGivenFront};
 ghost use Rattle.reason_clauses.specs.Makers.{IsNumberOf, DoesHide};
+ghost use Rattle.reason_clauses.specs.RefusedBy.{IsMissingNumber, IsRefusedBy};
 
 use crate::cause::{ReasonCause, ReasonRefusal};
 use trace_semantics::name::Name;
@@ -15,7 +16,8 @@ use writer_table::operation_place::OperationPlace;
 
 /// Returns the operation of these numbers.
 pub fn find_operation(trace: &Trace, n: OperationPlace) -> Option<&Op>
-    ensures { IfSome result (λ op. IsNumberOf trace.now n op.now) }
+    ensures there { IfSome result (λ op. IsNumberOf trace.now n op.now) }
+    ensures missing { result ≡ None → IsKnown trace.now n → ⊥ }
 {
     trace.recall_invariant();
     let processes = trace.processes();
@@ -33,7 +35,8 @@ pub fn find_operation(trace: &Trace, n: OperationPlace) -> Option<&Op>
 
 /// Returns the operation of these numbers, which has to be one.
 pub fn operation_of(trace: &Trace, n: OperationPlace) -> Result<&Op, ReasonRefusal>
-    ensures { IfOk result (λ op. IsNumberOf trace.now n op.now) }
+    ensures there { IfOk result (λ op. IsNumberOf trace.now n op.now) }
+    ensures refused { IfErr result (IsRefusedBy (IsMissingNumber trace.now n)) }
 {
     match find_operation(trace, n) {
         Some(op) => Ok(op),
@@ -43,7 +46,8 @@ pub fn operation_of(trace: &Trace, n: OperationPlace) -> Result<&Op, ReasonRefus
 
 /// Returns whether both are one operation.
 pub fn are_same(first: OperationPlace, second: OperationPlace) -> bool
-    ensures { first ≡ second → result ≡ true }
+    ensures found { first ≡ second → result ≡ true }
+    ensures only { result ≡ true → first ≡ second }
 {
     first.process == second.process && first.place == second.place
 }

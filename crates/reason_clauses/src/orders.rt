@@ -1,6 +1,7 @@
 //! Orders that a clause says.
 
-ghost use Rattle.std.specs.Prelude.{OnOk};
+ghost use Rattle.std.specs.Prelude.{◌≡◌, OnOk};
+ghost use Rattle.reason_clauses.specs.AddedOrders.{AddsOnly, IsOrder};
 ghost use Rattle.reason_clauses.specs.Numbered.{Grows, MakesSay};
 
 use order_clauses::order_pair::OrderPair;
@@ -15,6 +16,7 @@ pub fn push_order(
 ) -> Result<(), AllocError>
     ensures grows { OnOk result (Grows orders.old.items orders.new.items) }
     ensures says { OnOk result (MakesSay orders.new.items first second) }
+    ensures only { OnOk result (AddsOnly orders.old.items orders.new.items (IsOrder first second)) }
 {
     if first.process == second.process && second.place <= first.place {
         return Ok(());

@@ -21,7 +21,8 @@ use Rattle.trace_semantics.proofs.WrittenLemmas.{value_written}
 use Rattle.order_clauses.specs.Numbered.{IsKnown}
 use Rattle.reason_clauses.specs.declared.cause.ReasonCause.{ReasonCause}
 use Rattle.writer_table.specs.declared.operation_place.OperationPlace.{OperationPlace}
-use Rattle.reason_text.specs.LineFault.{IsRefusedBy, HasOperandFault, HasOperandsFault}
+use Rattle.reason_clauses.specs.RefusedBy.{IsRefusedBy}
+use Rattle.reason_text.specs.LineFault.{HasOperandFault, HasOperandsFault}
 use Rattle.reason_text.specs.OperationNumbers.{AreNumbered, HoldsTrace}
 use Rattle.reason_text.specs.OperationWord.{operation_word}
 use Rattle.reason_text.specs.declared.operation_table.OperationTable.{OperationTable}

@@ -1,10 +1,8 @@
 -- What is wrong with a line of a certificate of reasons: the first word that may not stand where it does, or that a word is missing.
-use Rattle.std.specs.Prelude.{◌≡◌, ◌≢◌, ◌⊎◌, ◌<◌, ◌^◌, ⊤, ℕ, Bool, true, false, ◌||◌, List, [], ◌∷◌, ◌++◌, None, codes, decimal, length}
+use Rattle.std.specs.Prelude.{◌≡◌, ◌≢◌, ◌⊎◌, ◌<◌, ◌^◌, ℕ, Bool, true, false, ◌||◌, List, [], ◌∷◌, ◌++◌, None, codes, decimal, length}
 use Rattle.std.specs.List.{All, flat_map}
 use Rattle.std.specs.Str.{bytes_eq}
 use Rattle.text_lines.specs.Kept.{is_skipped}
-use Rattle.text_lines.specs.declared.plain_fault.PlainFault.{PlainFault}
-use Rattle.text_lines.specs.declared.plain_fault.PlainFault.TheVariants.{OutOfMemory, For}
 use Rattle.trace_semantics.specs.declared.operation.OpName.{OpName}
 use Rattle.trace_semantics.specs.ScheduleLimits.{limits_for}
 use Rattle.trace_semantics.specs.Trace.{TraceValue, operation_at}
@@ -18,11 +16,6 @@ use Rattle.reason_text.specs.OperationWord.{operation_word, operation_words}
 use Rattle.reason_text.specs.SourcePiece.{piece_words, IsKnownPiece}
 use Rattle.reason_text.specs.declared.member_part.MemberPart.{MemberPart}
 use Rattle.reason_text.specs.declared.source_piece.SourcePiece.{SourcePiece}
-
--- the refusal is for one of these causes, or memory ran out
-abbrev pub IsRefusedBy : (ReasonCause → Type 0) → PlainFault ReasonCause → Type 0
-IsRefusedBy Is OutOfMemory = ⊤
-IsRefusedBy Is (For cause) = Is cause
 
 -- the trace has no operation of this name
 abbrev pub IsMissing : TraceValue → OpName → Type 0

@@ -8,7 +8,7 @@ use Rattle.trace_semantics.specs.ScheduleLimits.{limits_for}
 use Rattle.trace_semantics.specs.Trace.{TraceValue}
 use Rattle.reason_clauses.specs.declared.cause.ReasonCause.{ReasonCause}
 use Rattle.reason_text.specs.declared.operation_table.OperationTable.{OperationTable}
-use Rattle.reason_text.specs.LineFault.{IsRefusedBy}
+use Rattle.reason_clauses.specs.RefusedBy.{IsRefusedBy}
 
 -- of the first n processes each has its number under its name
 abbrev pub AreNumbered : TraceValue → NameTable → ℕ → Type 0

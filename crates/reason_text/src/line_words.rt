@@ -5,7 +5,8 @@ ghost use Rattle.std.specs.List.{All};
 ghost use Rattle.text_lines.specs.Words.{words_of};
 ghost use Rattle.reason_clauses.specs.declared.cause.ReasonCause.TheVariants.{BadLine};
 ghost use Rattle.order_clauses.specs.Numbered.{IsKnown};
-ghost use Rattle.reason_text.specs.LineFault.{HasOperandFault, HasNamesFault, HasPairFault, IsRefusedBy};
+ghost use Rattle.reason_clauses.specs.RefusedBy.{IsRefusedBy};
+ghost use Rattle.reason_text.specs.LineFault.{HasOperandFault, HasNamesFault, HasPairFault};
 ghost use Rattle.reason_text.specs.OperationNumbers.{IsTrueRefusal};
 ghost use Rattle.reason_text.specs.OperationWord.{operation_word, operation_words};
 

@@ -5,7 +5,8 @@ ghost use Rattle.std.specs.List.{All, flat_map};
 ghost use Rattle.text_lines.specs.Words.{words_of};
 ghost use Rattle.trace_semantics.specs.Trace.{TraceValue};
 ghost use Rattle.reason_clauses.specs.declared.cause.ReasonCause.TheVariants.{BadLine};
-ghost use Rattle.reason_text.specs.LineFault.{HasOperandsFault, HasPartFault, HasPartsFault, IsRefusedBy};
+ghost use Rattle.reason_clauses.specs.RefusedBy.{IsRefusedBy};
+ghost use Rattle.reason_text.specs.LineFault.{HasOperandsFault, HasPartFault, HasPartsFault};
 ghost use Rattle.reason_text.specs.MemberPart.{part_words, IsKnownPart};
 ghost use Rattle.reason_text.specs.OperationNumbers.{IsTrueRefusal};
 

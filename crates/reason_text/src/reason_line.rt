@@ -3,7 +3,8 @@
 ghost use Rattle.std.specs.Prelude.{◌∷◌, codes, IfOk, IfErr};
 ghost use Rattle.text_lines.specs.Words.{words_of};
 ghost use Rattle.trace_semantics.specs.Trace.{TraceValue};
-ghost use Rattle.reason_text.specs.LineFault.{HasKindFault, HasLineFault, IsRefusedBy};
+ghost use Rattle.reason_clauses.specs.RefusedBy.{IsRefusedBy};
+ghost use Rattle.reason_text.specs.LineFault.{HasKindFault, HasLineFault};
 ghost use Rattle.reason_text.specs.OperationNumbers.{IsTrueRefusal};
 ghost use Rattle.reason_text.specs.ReasonLine.{IsReasonLine};
 

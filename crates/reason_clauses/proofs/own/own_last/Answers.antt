@@ -24,4 +24,4 @@ returns c =
     let some = c.if-last-eq0.false in
     is_own_last t c.recall_invariant.ensures c.args.locations.now c.requires.holds c.requires.kind c.args.reader location last
     (λ k there low. c.last_in-last.ensures.above k (subst (λ l. IsIn l c.args.reader.process k) (sym c.runs.ensures) there) (omega (arith, bound, low)))
-    (inr (omega (arith, bound, within, some), number_known t (at_number c.args.reader.process last) c.in_ok-op.op.now c.in_ok-op.ensures, ap (λ o. is_some (option_and_then (left_by location) o)) c.in_ok-op.ensures.1 ∙ (ap is_some (sym c.left_at.ensures) ∙ c.if-is_none.ensures)))
+    (inr (omega (arith, bound, within, some), number_known t (at_number c.args.reader.process last) c.in_ok-op.op.now c.in_ok-op.ensures.there, ap (λ o. is_some (option_and_then (left_by location) o)) c.in_ok-op.ensures.there.1 ∙ (ap is_some (sym c.left_at.ensures) ∙ c.if-is_none.ensures)))
