@@ -18,7 +18,7 @@ pushed_name process copied same k old items new so_far e =
     pushed ∙ ap (λ l. l ++ last) so_far ∙ append_assoc old (first_names process k) last ∙ ap (λ l. old ++ l) (sym more)
 
 -- two tests that agree on a list keep the same of it
-kept_alike : (p q : OpName → Bool) (xs : List OpName) → ((x : OpName) → Contains xs x → p x ≡ q x) → filter p xs ≡ filter q xs
+pub kept_alike : (p q : OpName → Bool) (xs : List OpName) → ((x : OpName) → Contains xs x → p x ≡ q x) → filter p xs ≡ filter q xs
 kept_alike p q [] same = refl
 kept_alike p q (x ∷ xs) same =
     let rest : filter p xs ≡ filter q xs = kept_alike p q xs (λ y c. same y (tail_in x xs y c)) in

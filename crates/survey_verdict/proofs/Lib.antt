@@ -1,3 +1,4 @@
 mod CoreNameLemmas
 mod FindingLemmas
+mod NamedLemmas
 mod SurveyedLemmas

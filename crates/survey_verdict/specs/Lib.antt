@@ -1,3 +1,5 @@
 pub mod Findings
 pub mod Hinted
+pub mod Named
 pub mod Surveyed
+pub mod WordSet

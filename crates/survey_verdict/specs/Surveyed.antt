@@ -1,5 +1,5 @@
 -- What is decided of a trace with the help of a survey.
-use Rattle.std.specs.Prelude.{◌≡◌, ◌⊎◌, ◌≤◌, ℕ, ℤ, true, List, [], ◌++◌, Option, Some, None, length, codes, decimal}
+use Rattle.std.specs.Prelude.{◌≡◌, ◌⊎◌, ◌≤◌, ℕ, ℤ, true, List, [], ◌++◌, Option, Some, None, length, codes, decimal, nat_le, if◌then◌else◌}
 use Rattle.std.specs.List.{filter}
 use Rattle.certificate.specs.CertText.{SpellsCertificate}
 use Rattle.certificate.specs.CertWritten.{canonical_certificate}
@@ -24,6 +24,7 @@ use Rattle.trace_decision.specs.declared.decision.Decision.{Decision}
 use Rattle.trace_decision.specs.declared.decision.Decision.TheVariants.{Consistent, Inconsistent, Unknown}
 use Rattle.trace_decision.specs.declared.refutation.Refutation.{Refutation}
 use Rattle.trace_decision.specs.Decision.{IsDecided, certificate_in, certificate_text, report}
+use Rattle.survey_verdict.specs.Named.{named_in}
 use Rattle.survey_verdict.specs.declared.surveyed.ReasonCertificate.{ReasonCertificate}
 use Rattle.survey_verdict.specs.declared.surveyed.RefutedCore.{RefutedCore}
 use Rattle.survey_verdict.specs.declared.surveyed.Surveyed.{Surveyed}
@@ -82,11 +83,16 @@ abbrev pub IsRefutedChoice : OptionsValue → TraceValue → List OpName → Opt
 IsRefutedChoice options t names (Some core) = (core.names ≡ names) × IsRefutedCore options t core
 IsRefutedChoice options t names None = IsUnrefutedChoice options t names
 
+-- these names, or none if they are more than 64
+abbrev pub if_few : List OpName → List OpName
+if_few names = if nat_le (length names) 64 then names else []
+
 -- The text is a certificate of reasons that is accepted of the trace, of this number of clauses, so that the trace has no legal schedule.
--- The names are those of operations of the trace, in the trace's order, as many as are said to be named, or none.
+-- The number of operations is that of those which its lines name, and the names are theirs, in the trace's order, or none if they are more
+-- than 64.
 pub record IsReasoned (t : TraceValue) (reasons : ReasonCertificate) : Type 0 where
-  pub in_order : reasons.names ≡ core_of t reasons.names
-  pub counted : (reasons.names ≡ []) ⊎ (reasons.operations ≡ length reasons.names)
+  pub counted : reasons.operations ≡ length (named_in t reasons.text.items)
+  pub named : reasons.names ≡ if_few (named_in t reasons.text.items)
   pub accepted : IsAcceptedReasons t reasons.text.items reasons.clauses
   pub none_legal : HasNoSchedule t
 

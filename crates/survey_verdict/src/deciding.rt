@@ -1,10 +1,10 @@
 //! From what a survey finds to what is decided.
-ghost use Rattle.std.specs.Prelude.{◌≡◌, ◌⊎◌, ◌≤◌, [], IfOk, length};
+ghost use Rattle.std.specs.Prelude.{◌≡◌, ◌≤◌, IfOk};
 ghost use Rattle.cube_jobs.specs.Options.{OptionsValue};
 ghost use Rattle.reason_check.specs.Accepted.{IsAcceptedReasons};
 ghost use Rattle.reducer.specs.Reduction.{kept_trace};
 ghost use Rattle.survey_verdict.specs.Findings.{FollowsFrom, FollowsFromSome, IsAcceptedSome, IsDecidedWhole, IsFoundOr, IsJudged, IsOfWhole, IsShownBy, extent_within};
-ghost use Rattle.survey_verdict.specs.Surveyed.{IsDecidedIfShort, IsReducedIfSmall, IsRefutedChoice, IsReasoned, IsRefutedIfShort, IsSurveyed, core_of, refutation_in};
+ghost use Rattle.survey_verdict.specs.Surveyed.{IsDecidedIfShort, IsReducedIfSmall, IsRefutedChoice, IsReasoned, IsRefutedIfShort, IsSurveyed, core_of, if_few, refutation_in};
 ghost use Rattle.surveyor.specs.declared.Extent.{Extent as Reached};
 ghost use Rattle.surveyor.specs.declared.Finding.TheVariants.{Core as CoreFound, Reasons as ReasonsFound, Schedule as ScheduleFound};
 ghost use Rattle.trace_decision.specs.Decision.{IsDecided};
@@ -35,6 +35,9 @@ use trace_semantics::laws::{legal_exactly_where_faultless, one_judgement};
 use trace_semantics::operation::OpName;
 use trace_semantics::schedule::Schedule;
 use trace_semantics::trace::Trace;
+
+/// The most operations of a certificate of reasons whose names are shown.
+const MAX_NAMED: usize = 64;
 
 /// The schedule of these names, if it is a legal one of the trace.
 fn judged(alloc: Global, trace: &Trace, names: Vec<OpName>) -> Result<Option<Schedule>, AllocError>
@@ -277,11 +280,15 @@ fn accepted_clauses(alloc: Global, trace: &Trace, text: &[u8]) -> Result<Option<
     }
 }
 
-/// The number of operations that are named: as many as there are names, or this many if there are none.
-fn count_named(names: &[OpName], many: usize) -> usize
-    ensures { (names.now ≡ []) ⊎ (result ≡ length names.now) }
+/// The names, or none if they are many.
+fn few_names(alloc: Global, names: Vec<OpName>) -> Vec<OpName>
+    ensures { result.items ≡ if_few names.items }
 {
-    if names.is_empty() { many } else { names.len() }
+    if names.len() <= MAX_NAMED {
+        names
+    } else {
+        Vec::new(alloc)
+    }
 }
 
 /// The certificate of reasons, which was accepted for the trace, with the operations that its lines name.
@@ -297,8 +304,8 @@ fn with_names(
     ensures same { IfOk result (λ reasons. reasons.text ≡ text) }
 {
     let named = named_operations(alloc, trace, text.as_slice())?;
-    let names = names_among(alloc, trace, named.few.as_slice())?;
-    let operations = count_named(names.as_slice(), named.count);
+    let operations = named.len();
+    let names = few_names(alloc, named);
     Ok(ReasonCertificate {
         text,
         clauses,

@@ -11,6 +11,7 @@ pub mod laws;
 mod named_operations;
 mod reporting;
 mod surveyed;
+mod word_set;
 
 pub use certifying::write_survey_certificate;
 pub use deciding::decide_by_survey;

@@ -35,7 +35,7 @@ pub struct ReasonCertificate {
     pub clauses: usize,
     /// The number of operations that its lines name.
     pub operations: usize,
-    /// The names of these operations, by process and place, or none if they are many.
+    /// The names of these operations, by process and place, or none if they are more than 64.
     pub names: Schedule,
 }
 

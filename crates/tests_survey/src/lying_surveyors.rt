@@ -15,6 +15,8 @@ pub enum Lie {
     Core(u32, u32),
     /// A certificate that counts a value at this location.
     Reasons(u8),
+    /// This text as a certificate of reasons.
+    Certificate(&'static [u8]),
     /// Nothing.
     Nothing,
 }
@@ -51,12 +53,20 @@ fn counting_text(alloc: Global, location: u8) -> Result<Vec<u8>, AllocError> {
     Ok(text)
 }
 
+/// A copy of the text.
+fn copy_of(alloc: Global, text: &[u8]) -> Result<Vec<u8>, AllocError> {
+    let mut copy = Vec::new(alloc);
+    copy.extend_from_slice(text)?;
+    Ok(copy)
+}
+
 /// What the lie says.
 fn finding_of(alloc: Global, lie: Lie) -> Result<Finding, AllocError> {
     match lie {
         Lie::Schedule(first, second) => Ok(Finding::Schedule(names_at(alloc, first, second)?)),
         Lie::Core(first, second) => Ok(Finding::Core(names_at(alloc, first, second)?)),
         Lie::Reasons(location) => Ok(Finding::Reasons(counting_text(alloc, location)?)),
+        Lie::Certificate(text) => Ok(Finding::Reasons(copy_of(alloc, text)?)),
         Lie::Nothing => Ok(Finding::Nothing),
     }
 }

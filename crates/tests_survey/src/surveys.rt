@@ -3,7 +3,8 @@
 use crate::expectations::{ample, expect};
 use crate::lying_surveyors::{Liar, Lie};
 use crate::traces::{
-    HAND_OFF, LEARNED_BEFORE, STORE_BUFFERING, counted_lock, no_hint, with_many_writes,
+    HAND_OFF, LEARNED_BEFORE, STALE_MESSAGE, STALE_REASONS, STORE_BUFFERING, counted_lock, no_hint,
+    with_many_writes,
 };
 use cube_jobs::{OpenGate, Options};
 use dimacs::MemorySink;
@@ -220,5 +221,24 @@ fn knows_why_an_earlier_walk_has_learned_a_pair(rt: HostRuntime) {
         &rt,
         finds_core(rt.alloc(), &rt, LEARNED_BEFORE, 500_000),
         25,
+    );
+}
+
+// By hand: Q.1 reads what P.2 leaves, Q.2 the initial value that P.1 writes over, and no cycle is of these four. P.3 stands in a comment alone.
+#[test]
+fn names_the_operations_that_the_lines_name(rt: HostRuntime) {
+    let liar = Liar {
+        lie: Lie::Certificate(STALE_REASONS),
+        otherwise: Lie::Nothing,
+    };
+    let report = b"INCONSISTENT operations=4 reasons=3\nP.1\nP.2\nQ.1\nQ.2\n";
+    assert_reports(
+        rt.alloc(),
+        &rt,
+        STALE_MESSAGE,
+        &liar,
+        Status::No,
+        report,
+        26,
     );
 }

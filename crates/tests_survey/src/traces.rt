@@ -13,6 +13,14 @@ pub const HAND_OFF: &str = "vsc 1\ninit x 0\nproc P\nW x 1\nproc Q\nR x 1\n";
 /// Two updates read the initial value, of which there is one.
 pub const LOST_UPDATE: &str = "vsc 1\ninit l 0\nproc P\nU l 0 1\nU l 0 1\n";
 
+/// A message is read as new, and what was written before it as old. P writes once more.
+pub const STALE_MESSAGE: &str =
+    "vsc 1\ninit data 0\ninit flag 0\nproc P\nW data 1\nW flag 1\nW z 1\nproc Q\nR flag 1\nR data 0\n";
+
+/// A certificate of that. Its comment has the word of an operation that no line names.
+pub const STALE_REASONS: &[u8] =
+    b"vsc-reasons 1\n# P.3 is of no help\ns Q.1\ns Q.2 i P.1\nc P.1 P.2 Q.1 Q.2\np\n4 0 1 2 3 0\n";
+
 /// A source of no hint.
 pub fn no_hint() -> ShortSource<'static> {
     ShortSource::new(b"", 99)
