@@ -52,7 +52,7 @@ pub record FinishesBatch (file : List ℕ) (traces : SourceRun) (counted : Verdi
   pub whole : TakesWhole out (batch_lines file 0 findings)
   pub tallied : tally ≡ tally_with_all counted findings
 
--- the sink took a prefix of the lines of some findings, and then it failed, or there was no memory
+-- the sink took a front of the lines of some findings, and then it failed, or there was no memory
 pub record StopsBatch (file : List ℕ) (traces : SourceRun) (out : SinkRun) (fault : SinkFault) : Type 0 where
   pub findings : List PieceVerdict
   pub some : AreSomeFindings traces findings
@@ -74,7 +74,7 @@ pub record WritesBlock (file : List ℕ) (is_last : Bool) (held : List ℕ) (fro
   pub counted : to.number ≡ from.number + length verdicts
   pub tallied : to.tally ≡ tally_with_all from.tally verdicts
 
--- the sink took a prefix of the lines of the next pieces, and then it failed, or there was no memory
+-- the sink took a front of the lines of the next pieces, and then it failed, or there was no memory
 pub record StopsBlock (file : List ℕ) (is_last : Bool) (held : List ℕ) (from : BatchProgress) (out : SinkRun) (fault : SinkFault) : Type 0 where
   pub verdicts : List PieceVerdict
   pub before_left : ℕ
@@ -87,7 +87,7 @@ pub record StopsBlock (file : List ℕ) (is_last : Bool) (held : List ℕ) (from
 abbrev pub WritesRefusal : (file : List ℕ) → BatchProgress → Fault → VerdictTally → SinkRun → Type 0
 WritesRefusal file from fault tally out = TakesWhole out (batch_lines file from.number (Refused fault ∷ [])) × (tally ≡ tally_with from.tally (Refused fault))
 
--- it took a prefix of it
+-- it took a front of it
 abbrev pub StopsRefusal : (file : List ℕ) → BatchProgress → Fault → SinkRun → SinkFault → Type 0
 StopsRefusal file from fault out stop =
     AppendsFront out.before out.now (batch_lines file from.number (Refused fault ∷ [])) × (out.failures_now ≡ out.failures_before + failures_told stop)

@@ -177,7 +177,7 @@ fn write_refusal<W: Sink>(
 /// written together, and its traces are decided side by side, if there is more than one worker.
 ///
 /// If memory runs out while the text is read, the source fails, or a piece is longer than the limit, the pieces of the blocks before it are
-/// decided, and one more line refuses what is left. The answer is the tally with all lines. If memory runs out or the sink fails, a prefix of
+/// decided, and one more line refuses what is left. The answer is the tally with all lines. If memory runs out or the sink fails, a front of
 /// the lines may have been written.
 pub fn run_batch<R: Threads + Wait + Sync, T: Source, S: Surveyor + Sync, W: Sink>(
     alloc: Global,

@@ -12,9 +12,10 @@ struct RowChange {
     is_after: bool,
 }
 
-/// The number of changes, at 12 bytes each, that are kept of any log, and for each operation of a large one.
+/// The number of changes, at 12 bytes each, that are kept of any log.
 const FEW_CHANGES: usize = 1 << 22;
 
+/// The number of changes that are kept for each operation of a large log.
 const CHANGES_OF_EACH: usize = 16;
 
 /// A place of a process.

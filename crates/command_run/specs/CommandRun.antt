@@ -248,7 +248,7 @@ pub record FinishesFiles {H I O : Type 0} (calls : HostCalls H I O) (read : Sour
   pub whole : TakesWhole out (lines_of_files paths found)
   pub result_is : result ≡ outcome_of (all_findings found)
 
--- Some files were read, and in the next one standard output failed, or there was no memory. It took a prefix of the lines of those files and of some
+-- Some files were read, and in the next one standard output failed, or there was no memory. It took a front of the lines of those files and of some
 -- findings in this one, and no other file was handed out.
 pub record StopsInFile {H I O : Type 0} (calls : HostCalls H I O) (read : SourceView I) (from : H) (paths : List (List ℕ)) (out : SinkRun) (result : Result Status Fault) (to : H) : Type 0 where
   pub first : List (List ℕ)

@@ -48,7 +48,7 @@ repeats_input paths =
     (is_given_input paths.first && is_given_input paths.second)
     || ((is_given_input paths.first || is_given_input paths.second) && is_given_input paths.third)
 
--- one of the paths is that of standard input, and it was met before, or was met at an earlier path
+-- one of the paths is that of standard input, and so was a path before them all, or an earlier one of them is
 abbrev pub repeats_among : (was_met : Bool) → List (List ℕ) → Bool
 repeats_among was_met [] = false
 repeats_among was_met (path ∷ paths) = (was_met && is_input path) || repeats_among (was_met || is_input path) paths

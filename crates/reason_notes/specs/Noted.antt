@@ -40,9 +40,9 @@ EndsRefuted noted = (others : List NotedLine) × (last : NotedLine) × (noted �
 abbrev pub EndsLines : List (List ℕ) → Type 0
 EndsLines rest = (rest ≡ []) ⊎ ((mark : List ℕ) × (behind : List (List ℕ)) × (rest ≡ mark ∷ behind) × (words_of mark ≡ codes "p" ∷ []))
 
--- Of a certificate's lines after its header some at the front are noted, in their order and none twice: of those that are no comments and only
--- number no pair each is noted with the clause that it makes. They are all lines up to the first empty clause; or none leaves no order, and they are all
--- lines up to the derivation, or else the most that are noted.
+-- Of the lines after the header of a text some at the front are read. Those of them that are neither comments nor number a pair are noted, each
+-- with the orders of a clause that follows by it, in their order, and no more than the most. The last one that is noted is the first without an
+-- order; or none is without one, and as many are noted as may be, or behind the lines that are read the text ends or `p` stands.
 pub record AreFirstLines (t : TraceValue) (text : List ℕ) (most : ℕ) (noted : List NotedLine) : Type 0 where
   pub header : List ℕ
   pub front : List (List ℕ)
@@ -88,7 +88,8 @@ pub record IsLineNote (t : TraceValue) (words : List (List ℕ)) (outcome : Line
   pub read : IsReasonLine t words line
   pub noted : IsNotedAs t line outcome
 
--- What comes into the list of lines that are noted, and whether more are wanted: not if the derivation follows, and behind a clause if it has an order.
+-- What comes into the list of lines that are noted, and whether more are wanted: always behind a line that makes no clause; behind one that is
+-- noted exactly if it leaves an order; and never behind `p`.
 abbrev pub IsAdded : List NotedLine → List NotedLine → LineNote → LinesWanted → Type 0
 IsAdded old new Passed reading = (new ≡ old) × (reading ≡ More)
 IsAdded old new (Noted next) reading = (new ≡ old ++ next ∷ []) × ((reading ≡ Ended) ↔ (next.orders.items ≡ []))

@@ -1,4 +1,4 @@
-//! Writers of a location by numbers.
+//! An operation as a row of the table of writers.
 
 ghost use Rattle.std.specs.Prelude.{◌≡◌, ◌<◌, ◌≤◌, ◌+◌, length};
 ghost use Rattle.trace_semantics.specs.OpSet.{has};

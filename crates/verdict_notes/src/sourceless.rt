@@ -49,7 +49,7 @@ impl<'t> SourcelessReads<'t> {
 
 /// The tables by which reads and final values without a source are found.
 #[derive(Clone, Copy)]
-struct ReadTables<'t, 'l> {
+struct SourceTables<'t, 'l> {
     trace: &'t Trace,
     writers: &'l WriterTable<'t>,
     places: &'l ShownPlaces,
@@ -59,7 +59,7 @@ struct ReadTables<'t, 'l> {
 fn explain_process<'t>(
     alloc: Global,
     notes: &mut Notes,
-    tables: ReadTables<'t, '_>,
+    tables: SourceTables<'t, '_>,
     process: &'t Process,
     number: usize,
     before: SourcelessReads<'t>,
@@ -94,7 +94,7 @@ fn advise_initial(notes: &mut Notes, bare: Option<&[u8]>) {
 }
 
 /// Notes which reads have no source, and how many there are.
-fn explain_reads<'t>(alloc: Global, notes: &mut Notes, tables: ReadTables<'t, '_>) -> u64 {
+fn explain_reads<'t>(alloc: Global, notes: &mut Notes, tables: SourceTables<'t, '_>) -> u64 {
     let processes = tables.trace.processes();
     let mut found = SourcelessReads {
         count: 0,
@@ -109,7 +109,7 @@ fn explain_reads<'t>(alloc: Global, notes: &mut Notes, tables: ReadTables<'t, '_
 }
 
 /// Notes which final values no order of the operations leaves, and how many there are.
-fn explain_finals<'t>(alloc: Global, notes: &mut Notes, tables: ReadTables<'t, '_>) -> u64 {
+fn explain_finals<'t>(alloc: Global, notes: &mut Notes, tables: SourceTables<'t, '_>) -> u64 {
     let trace = tables.trace;
     let mut count: u64 = 0;
     for entry in trace.final_values() {
@@ -145,7 +145,7 @@ pub fn explain_sourceless(
 ) -> Result<bool, AllocError> {
     let set = OpSet::new(alloc);
     let writers = writer_table(alloc, trace, &set)?;
-    let tables = ReadTables {
+    let tables = SourceTables {
         trace,
         writers: &writers,
         places,

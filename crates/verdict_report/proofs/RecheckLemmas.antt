@@ -11,7 +11,7 @@ use Rattle.clause_blocks.specs.Clauses.{clauses_of}
 use Rattle.dimacs.specs.Models.{IsModel}
 use Rattle.reason_check.specs.Refused.{IsRefusedReasons}
 use Rattle.reason_check.specs.declared.reasons_fault.ReasonsFault.{ReasonsFault}
-use Rattle.reason_check.specs.declared.reasons_fault.ReasonsFault.TheVariants.{OutOfMemory as NoReasonMemory, Line, Lrat as BadStep, Step}
+use Rattle.reason_check.specs.declared.reasons_fault.ReasonsFault.TheVariants.{OutOfMemory as NoReasonMemory, Line, Lrat as BadText, Step}
 use Rattle.reducer.specs.Reduced.{ReducedValue, IsReduced, HasReduceFault}
 use Rattle.reducer.specs.declared.reduce_fault.ReduceCause.{ReduceCause}
 use Rattle.reducer.specs.declared.reduce_fault.ReduceCause.TheVariants.{StillTooLarge}
@@ -120,5 +120,5 @@ none_of_both false e = e
 pub said_refused : (t : TraceValue) → IsTrace t → (trace_text cert_text : List ℕ) → SpellsTrace trace_text t → (fault : ReasonsFault) → IsRefusedReasons t cert_text fault → IsSaidOfReasons trace_text cert_text (Err (fault_of_reasons fault))
 said_refused t ok trace_text cert_text spelled NoReasonMemory h = tt
 said_refused t ok trace_text cert_text spelled (Line cause line) h = record { value = t; is_trace = ok; spelled = spelled; refused = h }
-said_refused t ok trace_text cert_text spelled (BadStep cause line) h = record { value = t; is_trace = ok; spelled = spelled; refused = h }
+said_refused t ok trace_text cert_text spelled (BadText cause line) h = record { value = t; is_trace = ok; spelled = spelled; refused = h }
 said_refused t ok trace_text cert_text spelled (Step fault step) h = record { value = t; is_trace = ok; spelled = spelled; refused = h }

@@ -25,7 +25,7 @@ use Rattle.cube_jobs.specs.declared.search_fault.SearchCause.{SearchCause}
 use Rattle.verdict_report.specs.declared.fault.Fault.{Fault}
 use Rattle.verdict_report.specs.declared.fault.Fault.TheVariants.{OutOfMemory, Device, InputTooLong, Trace, Schedule, Part, Model, Cnf, Lrat, Reduce, Decode, Check, Cert, Reasons, Search}
 use Rattle.reason_check.specs.declared.reasons_fault.ReasonsFault.{ReasonsFault}
-use Rattle.reason_check.specs.declared.reasons_fault.ReasonsFault.TheVariants.{OutOfMemory as NoReasonMemory, Line, Lrat as BadStep, Step}
+use Rattle.reason_check.specs.declared.reasons_fault.ReasonsFault.TheVariants.{OutOfMemory as NoReasonMemory, Line, Lrat as BadText, Step}
 use Rattle.verdict_report.specs.declared.reading.ReadFault.{ReadFault}
 use Rattle.verdict_report.specs.declared.reading.ReadFault.TheVariants.{OutOfMemory as NoReadMemory, Device as SourceFailed, TooLong}
 use Rattle.verdict_report.specs.declared.status.Status.{Status}
@@ -103,7 +103,7 @@ fault_of_reading TooLong = InputTooLong
 abbrev pub fault_of_reasons : ReasonsFault → Fault
 fault_of_reasons NoReasonMemory = OutOfMemory
 fault_of_reasons (Line cause line) = Reasons cause line
-fault_of_reasons (BadStep cause line) = Lrat cause line
+fault_of_reasons (BadText cause line) = Lrat cause line
 fault_of_reasons (Step fault step) = Check fault step
 
 -- lack of memory is the engine's own

@@ -10,7 +10,7 @@ use Rattle.clause_blocks.specs.Clauses.{clauses_of}
 use Rattle.reason_check.specs.Accepted.{IsAcceptedReasons}
 use Rattle.reason_check.specs.Refused.{IsRefusedReasons}
 use Rattle.reason_check.specs.declared.reasons_fault.ReasonsFault.{ReasonsFault}
-use Rattle.reason_check.specs.declared.reasons_fault.ReasonsFault.TheVariants.{Line, Lrat as BadStep, Step}
+use Rattle.reason_check.specs.declared.reasons_fault.ReasonsFault.TheVariants.{Line, Lrat as BadText, Step}
 use Rattle.reason_text.specs.Header.{begins_reasons}
 use Rattle.reducer.specs.Reduced.{ReducedValue}
 use Rattle.reducer.specs.Reduction.{kept_trace}
@@ -111,7 +111,7 @@ IsSaidOfReasons trace_text cert_text (Ok count) = AreRefutedByReasons trace_text
 IsSaidOfReasons trace_text cert_text (Err OutOfMemory) = ⊤
 IsSaidOfReasons trace_text cert_text (Err (Trace cause line)) = HasTraceFault trace_text cause line
 IsSaidOfReasons trace_text cert_text (Err (Reasons cause line)) = AreRefusedReasons trace_text cert_text (Line cause line)
-IsSaidOfReasons trace_text cert_text (Err (Lrat cause line)) = AreRefusedReasons trace_text cert_text (BadStep cause line)
+IsSaidOfReasons trace_text cert_text (Err (Lrat cause line)) = AreRefusedReasons trace_text cert_text (BadText cause line)
 IsSaidOfReasons trace_text cert_text (Err (Check fault step)) = AreRefusedReasons trace_text cert_text (Step fault step)
 IsSaidOfReasons trace_text cert_text (Err fault) = ⊥
 
