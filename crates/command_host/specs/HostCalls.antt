@@ -17,3 +17,13 @@ pub record HostCalls (H Input Output : Type 0) : Type 1 where
   pub searches : H → SearchRequest → H → Type 0
   -- the host was asked whether the files at these paths are the same one, and this is what it said
   pub compares : H → List ℕ → List ℕ → Bool → H → Type 0
+  -- the host was asked whether nothing is at this path, or a folder that has nothing, and this is what it said
+  pub looks : H → List ℕ → Bool → H → Type 0
+  -- the folder at this path was made, unless it was there
+  pub makes_folder : H → List ℕ → H → Type 0
+  -- in the folder at this path a file of this name was made, and got these bytes
+  pub keeps : H → List ℕ → List ℕ → List ℕ → H → Type 0
+  -- that was tried, and there was a file of this name, which was left as it was
+  pub leaves : H → List ℕ → List ℕ → H → Type 0
+  -- that was tried, and failed
+  pub fails_to_keep : H → List ℕ → List ℕ → H → Type 0

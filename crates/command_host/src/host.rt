@@ -1,5 +1,5 @@
 //! The host of a command: what is outside of the program.
-ghost use Rattle.std.specs.Prelude.{◌≡◌, [], false, IfOk, OnErr};
+ghost use Rattle.std.specs.Prelude.{◌≡◌, [], false, true, IfOk, OnErr, OnOk};
 ghost use Rattle.command_host.specs.HostCalls.{HostCalls};
 
 use crate::device_failure::{FailedFile, TellsFailure};
@@ -45,6 +45,22 @@ pub trait Host<'p> {
     /// Returns whether what is written at the first path would be the file that the second one names, also if it is still to be made.
     fn is_same_file(&mut self, first: &str, second: &str) -> bool
         ensures { calls.compares self.old first.now second.now result self.new };
+
+    /// Returns whether nothing is at this path, or a folder that has nothing.
+    fn is_free(&mut self, folder: &str) -> bool
+        ensures { calls.looks self.old folder.now result self.new };
+
+    /// Makes the folder at this path, and those above it, unless it is there.
+    fn make_folder(&mut self, folder: &'p str) -> Result<(), Failed>
+        ensures makes { OnOk result (calls.makes_folder self.old folder.now self.new) }
+        ensures failed { OnErr result (calls.fails_to_make self.old folder.now self.new) };
+
+    /// Makes a file of this name in the folder at this path, with these bytes. The answer is whether it is new: one that is there already is
+    /// left as it is. After an error a file of this name may have a prefix of the bytes.
+    fn keep(&mut self, folder: &'p str, name: &str, bytes: &[u8]) -> Result<bool, Failed>
+        ensures keeps { IfOk result (λ is_new. is_new ≡ true → calls.keeps self.old folder.now name.now bytes.now self.new) }
+        ensures leaves { IfOk result (λ is_new. is_new ≡ false → calls.leaves self.old folder.now name.now self.new) }
+        ensures failed { OnErr result (calls.fails_to_keep self.old folder.now name.now self.new) };
 
     /// Takes the report of a search before it is run.
     fn begin_search(&mut self, search: &SearchRequest)

@@ -3,6 +3,7 @@
 
 mod file_sink;
 mod file_source;
+mod folder;
 mod held_numbers;
 mod progress;
 mod stream_sink;

@@ -1,7 +1,10 @@
 //! The system as the host of a command.
+ghost use Rattle.std.specs.Prelude.{◌≡◌, ◌+◌, IsErr};
+
 use crate::file_sink::FileSink;
 use crate::file_source::{FileSource, STANDARD_INPUT};
-use command_host::{FailedFile, Host, SearchRequest};
+use crate::folder::{is_free, keep, make_folder};
+use command_host::{DeviceFailure, FailedFile, Host, SearchRequest};
 use dimacs::{Failed, FailureCount};
 use std::fs::metadata;
 use std::os::unix::fs::MetadataExt;
@@ -53,6 +56,16 @@ impl<'a> SystemHost<'a> {
             failed: None,
         }
     }
+
+    /// Counts that something failed of what is at this path.
+    fn note<T>(&mut self, path: &'a str, failure: DeviceFailure) -> Result<T, Failed>
+        ensures answer { IsErr result }
+        ensures failed { self.new.failures.count ≡ self.old.failures.count + 1 }
+    {
+        self.failures.rise();
+        self.failed = Some(FailedFile { path, failure });
+        Err(Failed)
+    }
 }
 
 impl<'a> Host<'a> for SystemHost<'a> {
@@ -89,6 +102,24 @@ impl<'a> Host<'a> for SystemHost<'a> {
         is_same(self.rt, first, second)
             || is_same_place(self.rt, first, second)
             || (second == STANDARD_INPUT && is_same(self.rt, first, INPUT_DEVICE))
+    }
+
+    fn is_free(&mut self, folder: &str) -> bool {
+        is_free(self.rt, folder)
+    }
+
+    fn make_folder(&mut self, folder: &'a str) -> Result<(), Failed> {
+        match make_folder(self.rt, folder) {
+            Ok(()) => Ok(()),
+            Err(failure) => self.note(folder, failure),
+        }
+    }
+
+    fn keep(&mut self, folder: &'a str, name: &str, bytes: &[u8]) -> Result<bool, Failed> {
+        match keep(self.rt, folder, name, bytes) {
+            Ok(is_new) => Ok(is_new),
+            Err(failure) => self.note(folder, failure),
+        }
     }
 
     fn begin_search(&mut self, _search: &SearchRequest) {}

@@ -1,5 +1,5 @@
 -- What the calls of a host in memory say of it.
-use Rattle.std.specs.Prelude.{◌≡◌, Some, false}
+use Rattle.std.specs.Prelude.{◌≡◌, ◌++◌, ⊤, Some, codes, false}
 use Rattle.dimacs.specs.declared.memory_sink.MemorySink.{MemorySink}
 use Rattle.verdict_report.specs.declared.short_source.ShortSource.{ShortSource}
 use Rattle.tests_commands.specs.declared.at_path.AtPath.{AtPath}
@@ -15,4 +15,9 @@ memory_calls = record {
   closes = λ from file to. to.made ≡ Some file.stream;
   compares = λ from first second same to. (same ≡ false) × (to ≡ from);
   searches = λ from search to. to.searched ≡ Some search;
+  looks = λ from folder free to. to ≡ from;
+  makes_folder = λ from folder to. to ≡ from;
+  keeps = λ from folder name bytes to. to.kept.items ≡ from.kept.items ++ (name ++ (codes "\n" ++ bytes));
+  leaves = λ from folder name to. to ≡ from;
+  fails_to_keep = λ from folder name to. ⊤;
 }

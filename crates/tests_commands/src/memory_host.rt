@@ -1,14 +1,15 @@
 //! A host in memory, for tests.
+ghost use Rattle.std.specs.Prelude.{◌≡◌, ◌++◌, OnOk, codes};
 ghost use Rattle.tests_commands.specs.MemoryHost.{memory_calls};
 
 use crate::at_path::AtPath;
 use command_host::{FailedFile, Host, SearchRequest};
 use dimacs::{Failed, MemorySink};
-use std::alloc::Global;
+use std::alloc::{AllocError, Global};
 use verdict_report::ShortSource;
 
-/// A host whose input files are slices in memory. It keeps the last output file that was closed, and the last search that was reported to
-/// it.
+/// A host whose input files are slices in memory. It keeps the last output file that was closed, the last search that was reported to
+/// it, and the files of its folder.
 #[derive(Drop)]
 pub struct MemoryHost<'p> {
     alloc: Global,
@@ -18,6 +19,10 @@ pub struct MemoryHost<'p> {
     /// The last output file that was closed.
     made: Option<MemorySink>,
     searched: Option<SearchRequest>,
+    /// The files that were made in a folder, one after the other: the name, a line feed, and the bytes.
+    kept: Vec<u8>,
+    /// The name of a file that is in the folder already, or no byte.
+    taken: &'p str,
 }
 
 impl<'p> MemoryHost<'p> {
@@ -30,6 +35,8 @@ impl<'p> MemoryHost<'p> {
             can_create: true,
             made: None,
             searched: None,
+            kept: Vec::new(alloc),
+            taken: "",
         }
     }
 
@@ -37,6 +44,26 @@ impl<'p> MemoryHost<'p> {
     pub fn read_only(mut self) -> MemoryHost<'p> {
         self.can_create = false;
         self
+    }
+
+    /// The same host, whose folder has a file of this name.
+    pub fn with_taken(mut self, name: &'p str) -> MemoryHost<'p> {
+        self.taken = name;
+        self
+    }
+
+    /// The files that were made in a folder.
+    pub fn kept(&self) -> &[u8] {
+        self.kept.as_slice()
+    }
+
+    /// Keeps a file of this name with these bytes.
+    fn keep_file(&mut self, name: &str, bytes: &[u8]) -> Result<(), AllocError>
+        ensures { OnOk result (self.new.kept.items ≡ self.old.kept.items ++ (name.now ++ (codes "\n" ++ bytes.now))) }
+    {
+        self.kept.extend_from_slice(name.as_bytes())?;
+        self.kept.extend_from_slice(b"\n")?;
+        self.kept.extend_from_slice(bytes)
     }
 
     /// Gives the bytes of the last output file that was closed.
@@ -96,6 +123,27 @@ impl<'p> Host<'p> for MemoryHost<'p> {
 
     fn is_same_file(&mut self, _first: &str, _second: &str) -> bool {
         false
+    }
+
+    fn is_free(&mut self, _folder: &str) -> bool {
+        self.taken.is_empty()
+    }
+
+    fn make_folder(&mut self, _folder: &'p str) -> Result<(), Failed> {
+        if !self.can_create {
+            return Err(Failed);
+        }
+        Ok(())
+    }
+
+    fn keep(&mut self, _folder: &'p str, name: &str, bytes: &[u8]) -> Result<bool, Failed> {
+        if name == self.taken {
+            return Ok(false);
+        }
+        match self.keep_file(name, bytes) {
+            Ok(()) => Ok(true),
+            Err(_) => Err(Failed),
+        }
     }
 
     fn begin_search(&mut self, search: &SearchRequest) {

@@ -1,0 +1,67 @@
+//! A trace is decided once more, for what is said beside its verdict.
+ghost use Rattle.std.specs.Prelude.{IfOk, IfSome};
+ghost use Rattle.piece_details.specs.Details.{IsShown};
+
+use cube_jobs::{OpenGate, Options};
+use reducer::reduced::{Reduced, reduce};
+use std::alloc::{AllocError, Global};
+use std::sync::Wait;
+use std::thread::Threads;
+use survey_verdict::{Surveyed, decide_by_survey};
+use surveyor::Surveyor;
+use text_lines::fault::PlacedFault;
+use text_lines::plain_fault::PlainFault;
+use trace_decision::decide;
+use trace_semantics::trace::Trace;
+
+/// Gives what a search decides of a trace, or nothing if it has no results.
+fn decide_by_search<R: Threads + Wait + Sync>(
+    alloc: Global,
+    rt: &R,
+    reduced: &Reduced,
+    options: &Options,
+) -> Result<Option<Surveyed>, AllocError>
+    ensures { IfOk result (λ found. IfSome found (IsShown reduced.now.whole)) }
+{
+    match decide(alloc, rt, reduced, options, &OpenGate) {
+        Ok(decision) => Ok(Some(Surveyed::Decided(decision))),
+        Err(PlainFault::OutOfMemory) => Err(AllocError),
+        Err(PlainFault::For(_)) => Ok(None),
+    }
+}
+
+/// Gives what is decided of a trace with the help of a survey, or nothing if a search has no results.
+fn decide_long<R: Threads + Wait + Sync, S: Surveyor>(
+    alloc: Global,
+    rt: &R,
+    trace: &Trace,
+    options: &Options,
+    surveyor: &S,
+) -> Result<Option<Surveyed>, AllocError>
+    ensures { IfOk result (λ found. IfSome found (IsShown trace.now)) }
+{
+    match decide_by_survey(alloc, rt, trace, &[], surveyor, options, &OpenGate) {
+        Ok(surveyed) => Ok(Some(surveyed)),
+        Err(PlainFault::OutOfMemory) => Err(AllocError),
+        Err(PlainFault::For(_)) => Ok(None),
+    }
+}
+
+/// Gives what is decided of a trace, or nothing if a search has no results: by a search, or by a survey if more than 160 of its operations
+/// are kept.
+pub(crate) fn decide_trace<R: Threads + Wait + Sync, S: Surveyor>(
+    alloc: Global,
+    rt: &R,
+    trace: &Trace,
+    short: &Options,
+    long: &Options,
+    surveyor: &S,
+) -> Result<Option<Surveyed>, AllocError>
+    ensures { IfOk result (λ found. IfSome found (IsShown trace.now)) }
+{
+    match reduce(alloc, trace) {
+        Ok(reduced) => decide_by_search(alloc, rt, &reduced, short),
+        Err(PlacedFault::OutOfMemory) => Err(AllocError),
+        Err(PlacedFault::At(_, _)) => decide_long(alloc, rt, trace, long, surveyor),
+    }
+}
