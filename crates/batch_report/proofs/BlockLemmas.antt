@@ -3,24 +3,24 @@ use Rattle.std.proofs.Common.{◌≡◌, ℕ, ◌+◌, ◌<◌, ◌≤◌, List,
 use Rattle.std.specs.List.{AllZip, list_any}
 use Rattle.std.specs.Prelude.{Option, Some, None, Bool, true, false, ◌||◌}
 use Rattle.std.proofs.lemmas.List.{length-append, length-take-le, take_more}
-use Rattle.batch_report.specs.BatchLines.{batch_line, batch_lines}
-use Rattle.batch_report.specs.Blocks.{AreCutFrom, AreCutOff, AreVerdictsOff, AreVerdictsOn, IsOnPlaced}
+use Rattle.batch_report.specs.Blocks.{AreCutFrom, AreCutOff, IsOnPlaced}
 use Rattle.batch_report.specs.declared.block.PlacedPiece.{PlacedPiece}
 use Rattle.batch_report.specs.declared.piece_verdict.PieceVerdict.{PieceVerdict}
 use Rattle.batch_report.specs.declared.tally.VerdictTally.{VerdictTally}
+use Rattle.batch_report.specs.Findings.{AreFoundOff, AreFoundOn, Finding, findings_of}
 use Rattle.batch_report.specs.Outcome.{first_refusal, is_failure, is_no, is_unknown, no_tally, or_refusal, outcome, outcome_of_tally, outcome_by, refusal_in, tally_with, tally_with_all}
 use Rattle.batch_report.specs.PieceVerdicts.{IsVerdictOn}
 use Rattle.text_lines.specs.Lines.{lines_of}
 use Rattle.trace_pieces.specs.Pieces.{IsCut, IsCutOff}
 use Rattle.verdict_report.specs.declared.fault.Fault.{Fault}
 
--- verdicts on the next pieces
-pub on_more : (before : ℕ) (text : List ℕ) (verdicts : List PieceVerdict) (b : ℕ) (r : List ℕ) (more : List PieceVerdict) (b_then : ℕ) (r_then : List ℕ) →
-    AreVerdictsOn before text verdicts b r → AreVerdictsOn b r more b_then r_then → AreVerdictsOn before text (verdicts ++ more) b_then r_then
-on_more before text [] b r more b_then r_then h next =
-    subst (λ (t : List ℕ). AreVerdictsOn before t more b_then r_then) (sym h.0) (subst (λ (n : ℕ). AreVerdictsOn n r more b_then r_then) (sym h.1) next)
-on_more before text (v ∷ verdicts) b r more b_then r_then h next =
-    record { piece = h.piece; after = h.after; cut = h.cut; is_on = h.is_on; others = on_more (before + length (lines_of h.piece)) h.after verdicts b r more b_then r_then h.others next }
+-- findings of the next pieces
+pub found_more : (before : ℕ) (text : List ℕ) (findings : List Finding) (b : ℕ) (r : List ℕ) (more : List Finding) (b_then : ℕ) (r_then : List ℕ) →
+    AreFoundOn before text findings b r → AreFoundOn b r more b_then r_then → AreFoundOn before text (findings ++ more) b_then r_then
+found_more before text [] b r more b_then r_then h next =
+    subst (λ (t : List ℕ). AreFoundOn before t more b_then r_then) (sym h.0) (subst (λ (n : ℕ). AreFoundOn n r more b_then r_then) (sym h.1) next)
+found_more before text (f ∷ findings) b r more b_then r_then h next =
+    record { after = h.after; cut = h.cut; before_is = h.before_is; is_on = h.is_on; others = found_more (before + length (lines_of f.piece)) h.after findings b r more b_then r_then h.others next }
 
 -- one more piece is cut off
 pub cut_more : (before : ℕ) (text : List ℕ) (pieces : List PlacedPiece) (b : ℕ) (r : List ℕ) (piece : PlacedPiece) (after : List ℕ) →
@@ -41,21 +41,23 @@ cut_more before text (first ∷ pieces) b r piece after h cut is b_then b_is =
     }
 
 -- pieces that are cut off have their verdicts
-pub on_cut : (before : ℕ) (text : List ℕ) (pieces : List PlacedPiece) (verdicts : List PieceVerdict) (b : ℕ) (r : List ℕ) → AreCutFrom before text pieces b r → AllZip IsOnPlaced pieces verdicts → AreVerdictsOn before text verdicts b r
+pub on_cut : (before : ℕ) (text : List ℕ) (pieces : List PlacedPiece) (verdicts : List PieceVerdict) (b : ℕ) (r : List ℕ) → AreCutFrom before text pieces b r → AllZip IsOnPlaced pieces verdicts →
+    AreFoundOn before text (findings_of pieces verdicts) b r
 on_cut before text [] [] b r h each = h
 on_cut before text [] (v ∷ verdicts) b r h each = absurd each
 on_cut before text (piece ∷ pieces) [] b r h each = absurd each
 on_cut before text (piece ∷ pieces) (v ∷ verdicts) b r h each =
     record {
-      piece = piece.text.now;
       after = h.after;
       cut = h.cut;
+      before_is = h.before_is;
       is_on = subst (λ (n : ℕ). IsVerdictOn n piece.text.now v) h.before_is each.0;
       others = on_cut (before + length (lines_of piece.text.now)) h.after pieces verdicts b r h.others each.1;
     }
 
 -- whatever follows
-pub on_cut_off : (is_last : Bool) (before : ℕ) (text : List ℕ) (pieces : List PlacedPiece) (verdicts : List PieceVerdict) (b : ℕ) (r : List ℕ) → AreCutOff is_last before text pieces b r → AllZip IsOnPlaced pieces verdicts → AreVerdictsOff is_last before text verdicts b r
+pub on_cut_off : (is_last : Bool) (before : ℕ) (text : List ℕ) (pieces : List PlacedPiece) (verdicts : List PieceVerdict) (b : ℕ) (r : List ℕ) → AreCutOff is_last before text pieces b r → AllZip IsOnPlaced pieces verdicts →
+    AreFoundOff is_last before text (findings_of pieces verdicts) b r
 on_cut_off is_last before text pieces verdicts b r h each = λ more ok. on_cut before (text ++ more) pieces verdicts b (r ++ more) (h more ok) each
 
 -- one more piece is cut off, whatever follows
@@ -81,28 +83,6 @@ cut_shorter before text (piece ∷ pieces) b r h =
     let l = ap length h.cut.parts ∙ length-append piece.text.now h.after in
     let more = cut_shorter (before + length (lines_of piece.text.now)) h.after pieces b r h.others in
     omega (arith, l, more, h.cut.some)
-
--- ---- lines
-
-pub lines_more : (file : List ℕ) (before : ℕ) (verdicts more : List PieceVerdict) → batch_lines file before (verdicts ++ more) ≡ batch_lines file before verdicts ++ batch_lines file (before + length verdicts) more
-lines_more file before [] more = (let e : before ≡ before + 0 = omega arith in ap (λ (n : ℕ). batch_lines file n more) e)
-lines_more file before (v ∷ verdicts) more =
-    let e : before + 1 + length verdicts ≡ before + length (v ∷ verdicts) = omega arith in
-    ap (λ (l : List ℕ). batch_line file (before + 1) v ++ l) (lines_more file (before + 1) verdicts more ∙ ap (λ (n : ℕ). batch_lines file (before + 1) verdicts ++ batch_lines file n more) e)
-    ∙ sym (append_assoc (batch_line file (before + 1) v) (batch_lines file (before + 1) verdicts) (batch_lines file (before + length (v ∷ verdicts)) more))
-
-pub line_more : (file : List ℕ) (before : ℕ) (verdicts : List PieceVerdict) (v : PieceVerdict) (number : ℕ) → number ≡ before + length verdicts + 1 → batch_lines file before (verdicts ++ v ∷ []) ≡ batch_lines file before verdicts ++ batch_line file number v
-line_more file before verdicts v number is =
-    lines_more file before verdicts (v ∷ [])
-    ∙ ap (λ (l : List ℕ). batch_lines file before verdicts ++ l) (append-nil (batch_line file (before + length verdicts + 1) v) ∙ ap (λ (n : ℕ). batch_line file n v) (sym is))
-
--- the line of the verdict at a place
-pub line_at : (file : List ℕ) (before : ℕ) (verdicts : List PieceVerdict) (at : ℕ) (d : PieceVerdict) → at < length verdicts →
-    batch_lines file before (take at verdicts) ++ batch_line file (before + at + 1) (get_or verdicts at d) ≡ batch_lines file before (take (at + 1) verdicts)
-line_at file before verdicts at d within =
-    let l : length (take at verdicts) ≡ at = length-take-le at verdicts (omega (arith, within)) in
-    sym (line_more file before (take at verdicts) (get_or verdicts at d) (before + at + 1) (omega (arith, l)))
-    ∙ ap (batch_lines file before) (sym (take_more verdicts at d within))
 
 -- ---- the outcome
 

@@ -1,4 +1,6 @@
 pub mod BlockLemmas
 pub mod EngineLemmas
+pub mod FormLemmas
+pub mod PlainLemmas
 pub mod ReadingLemmas
 pub mod VerdictLemmas

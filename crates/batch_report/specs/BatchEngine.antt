@@ -1,16 +1,14 @@
 -- What the engine that decides many traces answers and writes.
-use Rattle.std.specs.Prelude.{◌≡◌, ◌⊎◌, ◌+◌, ◌<◌, ℕ, Bool, true, List, [], ◌∷◌, ◌++◌, length, Result, Ok, Err}
+use Rattle.std.specs.Prelude.{◌≡◌, ◌⊎◌, ◌+◌, ◌<◌, ℕ, true, List, [], ◌∷◌, ◌++◌, length, Result, Ok, Err}
 use Rattle.batch_report.specs.BatchLines.{batch_lines}
-use Rattle.batch_report.specs.Blocks.{AreVerdictsOff, AreVerdictsOn}
+use Rattle.batch_report.specs.Blocks.{AreVerdictsOn}
 use Rattle.batch_report.specs.declared.piece_verdict.PieceVerdict.{PieceVerdict}
 use Rattle.batch_report.specs.declared.piece_verdict.PieceVerdict.TheVariants.{Refused}
-use Rattle.batch_report.specs.declared.progress.BatchProgress.{BatchProgress}
 use Rattle.batch_report.specs.declared.tally.VerdictTally.{VerdictTally}
-use Rattle.batch_report.specs.Outcome.{tally_with, tally_with_all}
+use Rattle.batch_report.specs.Outcome.{tally_with_all}
 use Rattle.dimacs.specs.declared.sink_fault.SinkFault.{SinkFault}
 use Rattle.dimacs.specs.Sink.{AppendsFront}
 use Rattle.dimacs.specs.SinkFault.{failures_told}
-use Rattle.verdict_report.specs.declared.fault.Fault.{Fault}
 use Rattle.verdict_report.specs.declared.fault.Fault.TheVariants.{OutOfMemory, Device, InputTooLong}
 use Rattle.verdict_report.specs.declared.reading.TheConstants.{MAX_INPUT_BYTES}
 use Rattle.verdict_report.specs.Engine.{IsUnfailing, TakesWhole}
@@ -63,43 +61,3 @@ pub record StopsBatch (file : List ℕ) (traces : SourceRun) (out : SinkRun) (fa
 abbrev pub IsRunOfBatch : (file : List ℕ) → SourceRun → VerdictTally → SinkRun → Result VerdictTally SinkFault → Type 0
 IsRunOfBatch file traces counted out (Ok tally) = FinishesBatch file traces counted out tally
 IsRunOfBatch file traces counted out (Err fault) = StopsBatch file traces out fault
-
--- ---- as it goes on
-
--- the next pieces of what is held have these verdicts, and the sink took their lines
-pub record WritesBlock (file : List ℕ) (is_last : Bool) (held : List ℕ) (from to : BatchProgress) (left : List ℕ) (out : SinkRun) : Type 0 where
-  pub verdicts : List PieceVerdict
-  pub each : AreVerdictsOff is_last from.before held verdicts to.before left
-  pub whole : TakesWhole out (batch_lines file from.number verdicts)
-  pub counted : to.number ≡ from.number + length verdicts
-  pub tallied : to.tally ≡ tally_with_all from.tally verdicts
-
--- the sink took a front of the lines of the next pieces, and then it failed, or there was no memory
-pub record StopsBlock (file : List ℕ) (is_last : Bool) (held : List ℕ) (from : BatchProgress) (out : SinkRun) (fault : SinkFault) : Type 0 where
-  pub verdicts : List PieceVerdict
-  pub before_left : ℕ
-  pub left : List ℕ
-  pub each : AreVerdictsOff is_last from.before held verdicts before_left left
-  pub front : AppendsFront out.before out.now (batch_lines file from.number verdicts)
-  pub failures : out.failures_now ≡ out.failures_before + failures_told fault
-
--- the sink took the line of a refusal at the end of the text, which was counted
-abbrev pub WritesRefusal : (file : List ℕ) → BatchProgress → Fault → VerdictTally → SinkRun → Type 0
-WritesRefusal file from fault tally out = TakesWhole out (batch_lines file from.number (Refused fault ∷ [])) × (tally ≡ tally_with from.tally (Refused fault))
-
--- it took a front of it
-abbrev pub StopsRefusal : (file : List ℕ) → BatchProgress → Fault → SinkRun → SinkFault → Type 0
-StopsRefusal file from fault out stop =
-    AppendsFront out.before out.now (batch_lines file from.number (Refused fault ∷ [])) × (out.failures_now ≡ out.failures_before + failures_told stop)
-
--- the source handed out a text whose first pieces have their verdicts, which were counted; this is held of it, and the sink took their lines
-pub record HasCome (file : List ℕ) (counted_before : VerdictTally) (traces : SourceRun) (held : List ℕ) (is_last : Bool) (progress : BatchProgress) (out : SinkRun) : Type 0 where
-  pub text : List ℕ
-  pub handed : traces.now ≡ traces.before ++ text
-  pub ended : is_last ≡ true → traces.is_at_end ≡ true
-  pub unfailing : IsUnfailing traces
-  pub verdicts : List PieceVerdict
-  pub each : AreVerdictsOff is_last 0 text verdicts progress.before held
-  pub whole : TakesWhole out (batch_lines file 0 verdicts)
-  pub counted : progress.number ≡ length verdicts
-  pub tallied : progress.tally ≡ tally_with_all counted_before verdicts

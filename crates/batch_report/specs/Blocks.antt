@@ -39,10 +39,6 @@ AreCutFrom before text (piece ∷ pieces) before_rest rest = NextPiece before te
 abbrev pub AreCutOff : Bool → ℕ → List ℕ → List PlacedPiece → ℕ → List ℕ → Type 0
 AreCutOff is_last before text pieces before_rest rest = (more : List ℕ) → (is_last ≡ true → more ≡ []) → AreCutFrom before (text ++ more) pieces before_rest (rest ++ more)
 
--- whatever follows the text, unless it is the last one, the verdicts are on its first pieces
-abbrev pub AreVerdictsOff : Bool → ℕ → List ℕ → List PieceVerdict → ℕ → List ℕ → Type 0
-AreVerdictsOff is_last before text verdicts before_rest rest = (more : List ℕ) → (is_last ≡ true → more ≡ []) → AreVerdictsOn before (text ++ more) verdicts before_rest (rest ++ more)
-
 -- the verdict is on the piece
 abbrev pub IsOnPlaced : PlacedPiece → PieceVerdict → Type 0
 IsOnPlaced piece verdict = IsVerdictOn piece.before piece.text.now verdict

@@ -1,6 +1,10 @@
 pub mod BatchEngine
 pub mod BatchLines
 pub mod Blocks
+pub mod Findings
+pub mod FormedBatch
+pub mod JsonLines
 pub mod Outcome
 pub mod PieceVerdicts
+pub mod PlainLines
 pub mod Reading

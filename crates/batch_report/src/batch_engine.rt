@@ -1,15 +1,14 @@
 //! The engine that decides many traces, from bytes to bytes.
 
-ghost use Rattle.std.specs.Prelude.{◌≡◌, ◌+◌, ◌≤◌, ◌++◌, [], true, IfErr, IfOk, OnErr, OnOk, length, vec_len};
-ghost use Rattle.batch_report.specs.BatchEngine.{IsRunOfBatch, StopsBlock, StopsRefusal, WritesBlock, WritesRefusal};
-ghost use Rattle.batch_report.specs.BatchLines.{batch_lines};
-ghost use Rattle.batch_report.specs.Blocks.{AreVerdictsOff};
-ghost use Rattle.dimacs.specs.Sink.{AppendsFront};
-ghost use Rattle.dimacs.specs.SinkFault.{failures_told};
+ghost use Rattle.std.specs.Prelude.{◌≡◌, ◌+◌, ◌≤◌, [], true, IfErr, IfOk, OnErr, OnOk, length};
+ghost use Rattle.batch_report.specs.BatchEngine.{IsRunOfBatch};
+ghost use Rattle.batch_report.specs.Findings.{AreFoundOff, findings_of};
+ghost use Rattle.batch_report.specs.FormedBatch.{IsRunOfFormed, StopsBlock, StopsLines, StopsRefusal, WritesBlock, WritesLines, WritesRefusal, device_run};
 ghost use Rattle.verdict_report.specs.Fault.{fault_of_reading};
 ghost use Rattle.verdict_report.specs.Runs.{sink_run, source_run};
 
-use crate::block::{DecidedBlock, cut_block};
+use crate::block::{DecidedBlock, PlacedPiece, cut_block};
+use crate::line_form::{LineForm, PlainForm};
 use crate::lines::lines_of;
 use crate::piece_verdict::PieceVerdict;
 use crate::progress::BatchProgress;
@@ -37,7 +36,8 @@ fn decide_block<'a, R: Threads + Wait + Sync, S: Surveyor + Sync>(
     surveyor: &S,
 ) -> Result<DecidedBlock<'a>, AllocError>
     requires few { before + length text.now ≤ 9000000000000000000 }
-    ensures each { IfOk result (λ block. AreVerdictsOff is_last before text.now block.verdicts.items block.before block.rest.now) }
+    ensures each { IfOk result (λ block. AreFoundOff is_last before text.now (findings_of block.pieces.items block.verdicts.items) block.before block.rest.now) }
+    ensures same { IfOk result (λ block. length block.verdicts.items ≡ length block.pieces.items) }
     ensures few { IfOk result (λ block. length block.verdicts.items + length block.rest.now ≤ length text.now) }
     ensures all { is_last ≡ true → IfOk result (λ block. block.rest.now ≡ []) }
 {
@@ -52,6 +52,7 @@ fn decide_block<'a, R: Threads + Wait + Sync, S: Surveyor + Sync>(
         surveyor,
     )?;
     Ok(DecidedBlock {
+        pieces: block.pieces,
         verdicts,
         rest: block.rest,
         before: block.before,
@@ -59,23 +60,31 @@ fn decide_block<'a, R: Threads + Wait + Sync, S: Surveyor + Sync>(
 }
 
 /// Writes the lines of pieces behind others of the file.
-fn write_lines<W: Sink>(
+fn write_lines<R: Threads + Wait + Sync, D, F: LineForm<D>, W: Sink>(
     alloc: Global,
-    file: &[u8],
+    rt: &R,
+    form: &F,
+    devices: &mut D,
+    file: &str,
     before: usize,
+    pieces: &[PlacedPiece<'_>],
     verdicts: &[PieceVerdict],
     out: &mut W,
 ) -> Result<(), SinkFault>
-    requires { before + length verdicts.now ≤ 9000000000000000000 }
-    ensures whole { OnOk result (W.written out.new ≡ W.written out.old ++ batch_lines file.now before verdicts.now) }
-    ensures well { OnOk result (W.failures out.new ≡ W.failures out.old) }
-    ensures front { OnErr result (AppendsFront (W.written out.old) (W.written out.new) (batch_lines file.now before verdicts.now)) }
-    ensures failed { IfErr result (λ fault. W.failures out.new ≡ W.failures out.old + failures_told fault) }
+    requires few { before + length verdicts.now ≤ 9000000000000000000 }
+    requires same { length verdicts.now ≡ length pieces.now }
+    ensures written { OnOk result (WritesLines F.means file.now before (findings_of pieces.now verdicts.now) (device_run devices.old devices.new) (sink_run W.written W.failures out.old out.new)) }
+    ensures stopped { IfErr result (StopsLines F.means file.now before (findings_of pieces.now verdicts.now) (device_run devices.old devices.new) (sink_run W.written W.failures out.old out.new)) }
     ensures same { W.path out.new ≡ W.path out.old }
 {
-    let lines = lines_of(alloc, file, before, verdicts)?;
-    write_whole(out, lines.as_slice())?;
-    Ok(())
+    let lines = match lines_of(alloc, rt, form, devices, file, before, pieces, verdicts) {
+        Ok(lines) => lines,
+        Err(fault) => return Err(fault),
+    };
+    match write_whole(out, lines.as_slice()) {
+        Ok(()) => Ok(()),
+        Err(_) => Err(SinkFault::Device),
+    }
 }
 
 /// What is left after a block, and how far the batch is then.
@@ -86,10 +95,12 @@ struct BlockEnd<'a> {
 }
 
 /// Decides the next pieces of what is held, and writes their lines together.
-fn write_block<'a, R: Threads + Wait + Sync, S: Surveyor + Sync, W: Sink>(
+fn write_block<'a, R: Threads + Wait + Sync, S: Surveyor + Sync, D, F: LineForm<D>, W: Sink>(
     alloc: Global,
     rt: &R,
-    file: &[u8],
+    form: &F,
+    devices: &mut D,
+    file: &str,
     held: &'a [u8],
     is_last: bool,
     progress: BatchProgress,
@@ -100,8 +111,12 @@ fn write_block<'a, R: Threads + Wait + Sync, S: Surveyor + Sync, W: Sink>(
     out: &mut W,
 ) -> Result<BlockEnd<'a>, SinkFault>
     requires few { length held.now ≤ 268435456 }
-    ensures written { IfOk result (λ end. WritesBlock file.now is_last held.now progress end.progress end.left.now (sink_run W.written W.failures out.old out.new)) }
-    ensures stopped { IfErr result (StopsBlock file.now is_last held.now progress (sink_run W.written W.failures out.old out.new)) }
+    ensures written { IfOk result (λ end. WritesBlock F.means file.now is_last held.now progress end.progress end.left.now
+        (device_run devices.old devices.new)
+        (sink_run W.written W.failures out.old out.new)) }
+    ensures stopped { IfErr result (StopsBlock F.means file.now is_last held.now progress
+        (device_run devices.old devices.new)
+        (sink_run W.written W.failures out.old out.new)) }
     ensures all { is_last ≡ true → IfOk result (λ end. end.left.now ≡ []) }
     ensures few { IfOk result (λ end. length end.left.now ≤ 268435456) }
     ensures same { W.path out.new ≡ W.path out.old }
@@ -109,7 +124,7 @@ fn write_block<'a, R: Threads + Wait + Sync, S: Surveyor + Sync, W: Sink>(
     if !progress.has_room() {
         return Err(SinkFault::OutOfMemory);
     }
-    let block = decide_block(
+    let block = match decide_block(
         alloc,
         rt,
         held,
@@ -119,14 +134,32 @@ fn write_block<'a, R: Threads + Wait + Sync, S: Surveyor + Sync, W: Sink>(
         short,
         long,
         surveyor,
-    )?;
-    write_lines(alloc, file, progress.number, block.verdicts.as_slice(), out)?;
+    ) {
+        Ok(block) => block,
+        Err(_) => return Err(SinkFault::OutOfMemory),
+    };
+    let pieces = block.pieces.as_slice();
+    let verdicts = block.verdicts.as_slice();
+    match write_lines(
+        alloc,
+        rt,
+        form,
+        devices,
+        file,
+        progress.number,
+        pieces,
+        verdicts,
+        out,
+    ) {
+        Ok(()) => {}
+        Err(fault) => return Err(fault),
+    }
     Ok(BlockEnd {
         left: block.rest,
         progress: BatchProgress {
             before: block.before,
-            number: progress.number + block.verdicts.len(),
-            tally: progress.tally.with_all(block.verdicts.as_slice()),
+            number: progress.number + verdicts.len(),
+            tally: progress.tally.with_all(verdicts),
         },
     })
 }
@@ -152,37 +185,69 @@ fn refusal_of_reading(fault: ReadFault) -> Fault
 }
 
 /// Writes the line of a refusal at the end of a text, of which no more could be read, and counts it.
-fn write_refusal<W: Sink>(
+fn write_refusal<R: Threads + Wait + Sync, D, F: LineForm<D>, W: Sink>(
     alloc: Global,
-    file: &[u8],
+    rt: &R,
+    form: &F,
+    devices: &mut D,
+    file: &str,
     progress: BatchProgress,
     fault: Fault,
     out: &mut W,
 ) -> Result<VerdictTally, SinkFault>
-    ensures written { IfOk result (λ tally. WritesRefusal file.now progress fault tally (sink_run W.written W.failures out.old out.new)) }
-    ensures stopped { IfErr result (StopsRefusal file.now progress fault (sink_run W.written W.failures out.old out.new)) }
+    ensures written { IfOk result (λ tally. WritesRefusal F.means file.now progress fault tally
+        (device_run devices.old devices.new)
+        (sink_run W.written W.failures out.old out.new)) }
+    ensures stopped { IfErr result (StopsRefusal F.means file.now progress fault
+        (device_run devices.old devices.new)
+        (sink_run W.written W.failures out.old out.new)) }
     ensures same { W.path out.new ≡ W.path out.old }
 {
     if !progress.has_room() {
         return Err(SinkFault::OutOfMemory);
     }
+    let piece = PlacedPiece {
+        text: &[],
+        before: progress.before,
+    };
     let verdict = PieceVerdict::Refused(fault);
-    write_lines(alloc, file, progress.number, &[verdict], out)?;
-    Ok(progress.tally.with(&verdict))
+    match write_lines(
+        alloc,
+        rt,
+        form,
+        devices,
+        file,
+        progress.number,
+        &[piece],
+        &[verdict],
+        out,
+    ) {
+        Ok(()) => Ok(progress.tally.with(&verdict)),
+        Err(fault) => Err(fault),
+    }
 }
 
 /// Decides all traces of the text that the source hands out, each as `verify` does it, or as `survey` does if more than 160 of its
-/// operations are kept. It writes a line for each piece of the text, in their order: the file, the number of the piece, and what is said of
-/// it. The text is read and decided by blocks, of which no more is kept than a block, or a piece that is longer. The lines of a block are
-/// written together, and its traces are decided side by side, if there is more than one worker.
+/// operations are kept. It writes a line for each piece of the text, in their order, in the form that is given. The text is read and decided
+/// by blocks, of which no more is kept than a block, or a piece that is longer. The lines of a block are written together, and its traces
+/// are decided side by side, if there is more than one worker; lines are made one by one, in their order.
 ///
 /// If memory runs out while the text is read, the source fails, or a piece is longer than the limit, the pieces of the blocks before it are
-/// decided, and one more line refuses what is left. The answer is the tally with all lines. If memory runs out or the sink fails, a front of
-/// the lines may have been written.
-pub fn run_batch<R: Threads + Wait + Sync, T: Source, S: Surveyor + Sync, W: Sink>(
+/// decided, and one more line refuses what is left. The answer is the tally with all lines. If memory runs out, the sink fails, or a device
+/// of the form does, a front of the lines may have been written.
+pub fn run_batch_in<
+    R: Threads + Wait + Sync,
+    T: Source,
+    S: Surveyor + Sync,
+    D,
+    F: LineForm<D>,
+    W: Sink,
+>(
     alloc: Global,
     rt: &R,
-    file: &[u8],
+    form: &F,
+    devices: &mut D,
+    file: &str,
     traces: &mut T,
     tally: VerdictTally,
     workers: u32,
@@ -191,9 +256,10 @@ pub fn run_batch<R: Threads + Wait + Sync, T: Source, S: Surveyor + Sync, W: Sin
     surveyor: &S,
     out: &mut W,
 ) -> Result<VerdictTally, SinkFault>
-    ensures run { IsRunOfBatch file.now
+    ensures run { IsRunOfFormed F.means file.now
         (source_run T.handed_out T.is_at_end T.failures traces.old traces.new)
         tally
+        (device_run devices.old devices.new)
         (sink_run W.written W.failures out.old out.new)
         result }
     ensures same_traces { T.path traces.new ≡ T.path traces.old }
@@ -206,12 +272,14 @@ pub fn run_batch<R: Threads + Wait + Sync, T: Source, S: Surveyor + Sync, W: Sin
             Ok(is_last) => is_last,
             Err(fault) => {
                 let refusal = refusal_of_reading(fault);
-                return write_refusal(alloc, file, progress, refusal, out);
+                return write_refusal(alloc, rt, form, devices, file, progress, refusal, out);
             }
         };
         let end = match write_block(
             alloc,
             rt,
+            form,
+            devices,
             file,
             held.as_slice(),
             is_last,
@@ -235,4 +303,41 @@ pub fn run_batch<R: Threads + Wait + Sync, T: Source, S: Surveyor + Sync, W: Sin
         };
     }
     Err(SinkFault::OutOfMemory)
+}
+
+/// Decides all traces as [`run_batch_in`] does, with plain lines: the file, the number of the piece, and what is said of it.
+pub fn run_batch<R: Threads + Wait + Sync, T: Source, S: Surveyor + Sync, W: Sink>(
+    alloc: Global,
+    rt: &R,
+    file: &str,
+    traces: &mut T,
+    tally: VerdictTally,
+    workers: u32,
+    short: &Options,
+    long: &Options,
+    surveyor: &S,
+    out: &mut W,
+) -> Result<VerdictTally, SinkFault>
+    ensures run { IsRunOfBatch file.now
+        (source_run T.handed_out T.is_at_end T.failures traces.old traces.new)
+        tally
+        (sink_run W.written W.failures out.old out.new)
+        result }
+    ensures same_traces { T.path traces.new ≡ T.path traces.old }
+    ensures same_out { W.path out.new ≡ W.path out.old }
+{
+    run_batch_in(
+        alloc,
+        rt,
+        &PlainForm,
+        &mut (),
+        file,
+        traces,
+        tally,
+        workers,
+        short,
+        long,
+        surveyor,
+        out,
+    )
 }

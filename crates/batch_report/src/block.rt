@@ -27,9 +27,20 @@ pub struct Block<'a> {
     pub before: usize,
 }
 
+/// A piece that is decided.
+#[derive(Clone, Copy)]
+pub struct DecidedPiece<'a> {
+    /// The piece.
+    pub piece: PlacedPiece<'a>,
+    /// The verdict on it.
+    pub verdict: PieceVerdict,
+}
+
 /// The verdicts on the first pieces of a text, and what follows them.
 #[derive(Drop)]
 pub struct DecidedBlock<'a> {
+    /// The pieces, in their order.
+    pub pieces: Vec<PlacedPiece<'a>>,
     /// The verdicts, in the order of the pieces.
     pub verdicts: Vec<PieceVerdict>,
     /// What follows the pieces.

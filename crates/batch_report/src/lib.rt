@@ -4,14 +4,21 @@
 mod batch_engine;
 mod block;
 mod deciding;
+mod json_form;
+mod json_lines;
+mod line_form;
 mod lines;
 mod piece_verdict;
+mod plain_lines;
 mod progress;
 mod reading_on;
 mod side_by_side;
 mod tally;
 
-pub use batch_engine::run_batch;
+pub use batch_engine::{run_batch, run_batch_in};
+pub use block::{DecidedPiece, PlacedPiece};
 pub use deciding::verdict_on;
+pub use json_form::{JsonForm, NoMembers, PieceMembers};
+pub use line_form::{LineForm, PlainForm};
 pub use piece_verdict::PieceVerdict;
 pub use tally::VerdictTally;

@@ -25,7 +25,7 @@ fn batch_of<R: Threads + Wait + Abort + Sync, W: Sink>(
     let long = ample(rt, Options::new(1, 3, 100_000, 1));
     let surveyor = BySaturation { budget: 1_000_000 };
     run_batch(
-        alloc, rt, b"t", source, tally, workers, &short, &long, &surveyor, out,
+        alloc, rt, "t", source, tally, workers, &short, &long, &surveyor, out,
     )
 }
 

@@ -5,3 +5,5 @@
 mod batches;
 #[cfg(test)]
 mod expectations;
+#[cfg(test)]
+mod objects;

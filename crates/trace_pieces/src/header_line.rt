@@ -17,7 +17,7 @@ fn is_header_line(line: &[u8]) -> bool
 }
 
 /// Returns whether the line says something: it has words, and is no comment.
-fn is_saying_line(line: &[u8]) -> bool
+pub fn says_something(line: &[u8]) -> bool
     ensures { result ≡ says line.now }
 {
     match cut_word(line) {
@@ -37,5 +37,5 @@ pub(crate) fn begins_next(said: bool, line: &[u8]) -> bool
 pub(crate) fn has_said(said: bool, line: &[u8]) -> bool
     ensures { result ≡ (said || says line.now) }
 {
-    said || is_saying_line(line)
+    said || says_something(line)
 }

@@ -6,4 +6,5 @@ mod header_line;
 mod piece_cut;
 
 pub use cutting::cut_piece;
+pub use header_line::says_something;
 pub use piece_cut::PieceCut;

@@ -12,6 +12,12 @@ returns-clause-each g c =
     let each = subst (λ (ps : List PlacedPiece). AllZip IsOnPlaced ps verdicts) c.as_slice.ensures.value c.in_ok-verdicts.ensures in
     on_cut_off c.args.is_last c.args.before c.args.text.now block.pieces.items verdicts block.before block.rest.now c.in_ok-block.ensures.cut each
 
+pub returns-clause-same : goal.returns-clause-same
+returns-clause-same g c =
+    let verdicts = c.in_ok-verdicts.verdicts.items in
+    let each = subst (λ (ps : List PlacedPiece). AllZip IsOnPlaced ps verdicts) c.as_slice.ensures.value c.in_ok-verdicts.ensures in
+    same_count c.in_ok-block.block.pieces.items verdicts each
+
 pub returns-clause-few : goal.returns-clause-few
 returns-clause-few g c =
     let verdicts = c.in_ok-verdicts.verdicts.items in
