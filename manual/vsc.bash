@@ -10,7 +10,7 @@ _vsc() {
         return
     fi
     case $command:$before in
-        -:-) COMPREPLY=($(compgen -d -- "$current")); return ;;
+        batch:--keep) COMPREPLY=($(compgen -d -- "$current")); return ;;
         verify:--workers|verify:--split|verify:--budget|verify:--rounds|cnf:--workers|survey:--budget|survey:--workers|batch:--workers|batch:--split|batch:--budget) return ;;
         verify:--cert|verify:--picture|recheck:--part|survey:--cert|survey:--names|survey:--part|survey:--picture|survey:--hint) compopt -o filenames 2> /dev/null; COMPREPLY=($(compgen -f -- "$current")); return ;;
     esac
@@ -24,7 +24,7 @@ _vsc() {
         part) options='--names --explain --no-explain --help' ;;
         survey) options='--cert --names --part --budget --workers --progress --picture --hint --explain --no-explain --help' ;;
         refusals) options='--explain --no-explain --help' ;;
-        batch) options='--workers --split --budget --explain --no-explain --help' ;;
+        batch) options='--workers --split --budget --json --schedules --keep --explain --no-explain --help' ;;
         help) COMPREPLY=($(compgen -W 'verify judge cnf decode lrat recheck part survey refusals batch' -- "$current")) ;;
     esac
     if [[ $current == -* ]]; then

@@ -14,6 +14,7 @@ use Rattle.command_line.specs.declared.explains.Explains.{Explains}
 use Rattle.command_line.specs.declared.explains.Explains.TheVariants.{Always, IfTerminal, Never}
 use Rattle.command_line.specs.declared.line.Line.{Line}
 use Rattle.command_line.specs.declared.line.BatchNumbers.{BatchNumbers}
+use Rattle.command_line.specs.declared.line.BatchOutput.{BatchOutput}
 use Rattle.command_line.specs.declared.line.CommandLine.{CommandLine}
 use Rattle.command_line.specs.declared.line.Line.TheVariants.{Batch, Cnf, Decode, Judge, Lrat, Part, Recheck, Refusals, Survey, Verify}
 use Rattle.command_line.specs.declared.line.SearchNumbers.{SearchNumbers}
@@ -152,9 +153,22 @@ survey_app =
 abbrev pub refusals_app : App
 refusals_app = new_app (codes "refusals")
 
--- batch FILE.. [--workers N] [--split N] [--budget N]
+-- --json, a flag
+abbrev pub json_rule : Rule
+json_rule = flag_rule (codes "json") (codes "json")
+
+-- --schedules, a flag
+abbrev pub schedules_rule : Rule
+schedules_rule = flag_rule (codes "schedules") (codes "schedules")
+
+-- --keep FOLDER
+abbrev pub keep_rule : Rule
+keep_rule = optional_path (codes "keep")
+
+-- batch FILE.. [--workers N] [--split N] [--budget N] [--json] [--schedules] [--keep FOLDER]
 abbrev pub batch_app : App
-batch_app = with_rule (with_rule (with_rule (with_rule (new_app (codes "batch")) (required_paths (codes "traces"))) workers_rule) split_rule) budget_rule
+batch_app =
+    with_rule (with_rule (with_rule (with_rule (with_rule (with_rule (with_rule (new_app (codes "batch")) (required_paths (codes "traces"))) workers_rule) split_rule) budget_rule) json_rule) schedules_rule) keep_rule
 
 -- the program, which has a version and wants a command
 abbrev pub program_app : App
@@ -250,13 +264,17 @@ pub record AsksToSurvey (command : Option Text) (given : Text → Option Text) (
   pub workers_text : IsSomeAnd (given (codes "workers")) (λ text. IsNumberWithin 1 8 text numbers.workers)
   pub progress_text : given (codes "progress") ≡ Some (bool_text progress)
 
--- the command is to decide the traces in these files, in this order, by these numbers
-pub record AsksForBatch (command : Option Text) (given : Text → Option Text) (all_given : Text → List Text) (traces : List Text) (numbers : BatchNumbers) : Type 0 where
+-- The command is to decide the traces in these files, in this order, by these numbers, with lines as objects of JSON or not, with schedules in them
+-- or not, and with a folder for what shows each INCONSISTENT or with none.
+pub record AsksForBatch (command : Option Text) (given : Text → Option Text) (all_given : Text → List Text) (traces : List Text) (numbers : BatchNumbers) (output : BatchOutput) : Type 0 where
   pub command_name : command ≡ Some (codes "batch")
   pub traces_paths : traces ≡ all_given (codes "traces")
   pub workers_text : IsSomeAnd (given (codes "workers")) (λ text. IsNumberWithin 1 8 text numbers.workers)
   pub split_text : IsSomeAnd (given (codes "split")) (λ text. IsNumberWithin 0 10 text numbers.split)
   pub budget_text : IsSomeAnd (given (codes "budget")) (λ text. IsNumberWithin 0 1000000000 text numbers.budget)
+  pub json_text : given (codes "json") ≡ Some (bool_text output.json)
+  pub schedules_text : given (codes "schedules") ≡ Some (bool_text output.schedules)
+  pub keep_path : given (codes "keep") ≡ option_map (λ path. path.now) output.keep
 
 -- a command with what is given for its arguments asks for the line
 abbrev pub AsksFor : (command : Option Text) (given : Text → Option Text) (all_given : Text → List Text) → Line → Type 0
@@ -269,7 +287,7 @@ AsksFor command given all_given (Part trace names shows_names) = AsksForPart com
 AsksFor command given all_given (Verify trace cert numbers progress) = AsksToVerify command given trace.now (option_map (λ path. path.now) cert) numbers progress
 AsksFor command given all_given (Survey trace files numbers progress) = AsksToSurvey command given trace.now files numbers progress
 AsksFor command given all_given Refusals = command ≡ Some (codes "refusals")
-AsksFor command given all_given (Batch traces numbers) = AsksForBatch command given all_given (texts traces.items) numbers
+AsksFor command given all_given (Batch traces numbers output) = AsksForBatch command given all_given (texts traces.items) numbers output
 
 -- it asks for an explanation by --explain, wherever standard error goes, for none by --no-explain alone, and by neither for one on a terminal
 abbrev pub AsksToExplain : (given : Text → Option Text) → Explains → Type 0
@@ -326,7 +344,7 @@ IsWithinRanges (Part trace names shows_names) = ⊤
 IsWithinRanges (Verify trace cert numbers progress) = AreSearchNumbers numbers
 IsWithinRanges (Survey trace files numbers progress) = AreSurveyNumbers numbers
 IsWithinRanges Refusals = ⊤
-IsWithinRanges (Batch traces numbers) = AreBatchNumbers numbers
+IsWithinRanges (Batch traces numbers output) = AreBatchNumbers numbers
 
 -- ---- what is wrong with the words
 

@@ -1,16 +1,19 @@
-//! The command `batch FILE.. [--workers N] [--split N] [--budget N]`.
+//! The command `batch FILE.. [--workers N] [--split N] [--budget N] [--json] [--schedules] [--keep FOLDER]`.
 
-ghost use Rattle.std.specs.Prelude.{◌≡◌, IfErr, IfOk, Some, codes, false};
+ghost use Rattle.std.specs.Prelude.{◌≡◌, IfErr, IfOk, Some, codes, false, option_map};
+ghost use Rattle.clap.specs.Values.{bool_text};
 ghost use Rattle.clap.specs.Words.{app_of, first_value, found_of, rule_of};
 ghost use Rattle.clap.specs.declared.builder.command.Command.TheViews.{out-Command};
 ghost use Rattle.clap.specs.declared.error.kind.ErrorKind.TheVariants.{OutOfMemory};
 ghost use Rattle.command_line.specs.Arguments.{HasFlag, HasNumber, HasWorkers, all_texts};
-ghost use Rattle.command_line.specs.CommandLine.{AsksWith, batch_app, required_paths};
+ghost use Rattle.command_line.specs.CommandLine.{AsksWith, batch_app, json_rule, keep_rule, required_paths, schedules_rule};
 
-use crate::arguments::{optional_text_of, paths_argument, texts_of};
+use crate::arguments::{
+    flag_argument, flag_of, optional_path_argument, optional_text_of, paths_argument, texts_of,
+};
 use crate::building::{command_of_two, with_two};
 use crate::explains::explains_of;
-use crate::line::{BatchNumbers, CommandLine, Line};
+use crate::line::{BatchNumbers, BatchOutput, CommandLine, Line};
 use crate::line_fault::LineFault;
 use crate::numbers::{
     budget_argument, budget_of, split_argument, split_of, workers_argument, workers_of,
@@ -31,6 +34,10 @@ Traces of which at most 160 operations are left are decided as by 'vsc verify',
 and others as by 'vsc survey', which also explain an answer. '-' is standard
 input. Of a file that cannot be read to its end, or with a trace of more than
 268,000,000 bytes, a last line says so; files after it are decided as well.
+With --json each line is an object: file, number, line, verdict, the numbers of
+the verdict, and what else is known, as the core and the sentences of --explain.
+With --keep each INCONSISTENT leaves files in FOLDER, named after its file and
+number: its trace, its certificate, a picture, and the names of its part.
 
 Example, which can be pasted:
     printf 'vsc 1\\nproc P\\nW x 1\\nvsc 1\\nproc P\\nR x 1\\n' | vsc batch -
@@ -58,6 +65,45 @@ fn files_argument<'a>(alloc: Global) -> Arg<'a>
     )
 }
 
+// `--json`.
+fn json_argument<'a>(alloc: Global) -> Arg<'a>
+    ensures rule { rule_of result ≡ json_rule }
+    ensures local { result.global ≡ false }
+{
+    flag_argument(
+        alloc,
+        "json",
+        "json",
+        "Writes each line as an object of JSON",
+    )
+}
+
+// `--schedules`.
+fn schedules_argument<'a>(alloc: Global) -> Arg<'a>
+    ensures rule { rule_of result ≡ schedules_rule }
+    ensures local { result.global ≡ false }
+{
+    flag_argument(
+        alloc,
+        "schedules",
+        "schedules",
+        "Puts the schedule of each CONSISTENT into its object",
+    )
+}
+
+// `--keep FOLDER`.
+fn keep_argument<'a>(alloc: Global) -> Arg<'a>
+    ensures rule { rule_of result ≡ keep_rule }
+    ensures local { result.global ≡ false }
+{
+    optional_path_argument(
+        alloc,
+        "keep",
+        "FOLDER",
+        "Keeps what shows each INCONSISTENT in FOLDER, new or empty",
+    )
+}
+
 /// The command, as `clap` takes it.
 pub fn new_batch_command<'a>(alloc: Global) -> Result<Command<'a>, AllocError>
     ensures app { IfOk result (λ c. app_of c ≡ batch_app) }
@@ -68,7 +114,27 @@ pub fn new_batch_command<'a>(alloc: Global) -> Result<Command<'a>, AllocError>
     let command = command_of_two(alloc, "batch", ABOUT, AFTER_HELP, traces, workers)?;
     let split = split_argument(alloc);
     let budget = budget_argument(alloc);
-    with_two(command, split, budget)
+    let command = with_two(command, split, budget)?;
+    let json = json_argument(alloc);
+    let schedules = schedules_argument(alloc);
+    let command = with_two(command, json, schedules)?;
+    let keep = keep_argument(alloc);
+    command.arg(keep)
+}
+
+// What is written beside the verdicts.
+fn output_of<'a>(matches: &ArgMatches<'a>) -> BatchOutput<'a>
+    requires json { HasFlag (codes "json") (found_of matches.now) }
+    requires schedules { HasFlag (codes "schedules") (found_of matches.now) }
+    ensures json { first_value (found_of matches.now) (codes "json") ≡ Some (bool_text result.json) }
+    ensures schedules { first_value (found_of matches.now) (codes "schedules") ≡ Some (bool_text result.schedules) }
+    ensures keep { first_value (found_of matches.now) (codes "keep") ≡ option_map (λ path. path.now) result.keep }
+{
+    BatchOutput {
+        json: flag_of(matches, "json"),
+        schedules: flag_of(matches, "schedules"),
+        keep: optional_text_of(matches, "keep"),
+    }
 }
 
 /// Gives what the matches of the command ask for.
@@ -76,6 +142,8 @@ pub fn batch_line<'a>(alloc: Global, matches: &ArgMatches<'a>) -> Result<Command
     requires workers { HasWorkers (found_of matches.now) }
     requires split { HasNumber (codes "split") 0 10 (found_of matches.now) }
     requires budget { HasNumber (codes "budget") 0 1000000000 (found_of matches.now) }
+    requires json { HasFlag (codes "json") (found_of matches.now) }
+    requires schedules { HasFlag (codes "schedules") (found_of matches.now) }
     requires explain { HasFlag (codes "explain") (found_of matches.now) }
     requires no_explain { HasFlag (codes "no-explain") (found_of matches.now) }
     ensures asks { IfOk result (AsksWith (Some (codes "batch")) (first_value (found_of matches.now)) (all_texts (found_of matches.now))) }
@@ -89,6 +157,7 @@ pub fn batch_line<'a>(alloc: Global, matches: &ArgMatches<'a>) -> Result<Command
     let line = Line::Batch {
         traces: texts_of(alloc, matches, "traces")?,
         numbers,
+        output: output_of(matches),
     };
     Ok(CommandLine {
         line,

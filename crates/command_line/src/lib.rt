@@ -22,6 +22,7 @@ mod verify_command;
 
 pub use explains::Explains;
 pub use line::{
-    BatchNumbers, CommandLine, Line, SearchNumbers, SurveyFiles, SurveyNumbers, read_line,
+    BatchNumbers, BatchOutput, CommandLine, Line, SearchNumbers, SurveyFiles, SurveyNumbers,
+    read_line,
 };
 pub use line_fault::LineFault;

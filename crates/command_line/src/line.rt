@@ -55,6 +55,17 @@ pub struct BatchNumbers {
     pub budget: u64,
 }
 
+/// What a batch writes beside its verdicts.
+#[derive(Clone, Copy)]
+pub struct BatchOutput<'a> {
+    /// Whether each line is an object of JSON.
+    pub json: bool,
+    /// Whether the object of a CONSISTENT has its schedule.
+    pub schedules: bool,
+    /// The folder for what shows each INCONSISTENT.
+    pub keep: Option<&'a str>,
+}
+
 /// The paths that were given for files beside the trace: three that take what shows an INCONSISTENT, and one that is read.
 #[derive(Clone, Copy)]
 pub struct SurveyFiles<'a> {
@@ -123,6 +134,7 @@ pub enum Line<'a> {
     Batch {
         traces: Vec<&'a str>,
         numbers: BatchNumbers,
+        output: BatchOutput<'a>,
     },
 }
 

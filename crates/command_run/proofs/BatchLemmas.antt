@@ -13,7 +13,8 @@ use Rattle.batch_report.specs.declared.tally.VerdictTally.{VerdictTally}
 use Rattle.clap.specs.Walk.{texts}
 use Rattle.command_host.specs.HostCalls.{HostCalls}
 use Rattle.command_host.specs.Streams.{SourceView}
-use Rattle.command_run.specs.CommandRun.{DecidesFile, FindsInFiles, FinishesFiles, HasDecided, ReadsFile, RunsBatch, StopsInFile, all_findings, lines_of_files}
+use Rattle.command_run.specs.BatchRuns.{DecidesFile, FindsInFiles, FinishesFiles, HasDecided, RunsBatch, StopsInFile, all_findings, lines_of_files}
+use Rattle.command_run.specs.ReadFiles.{ReadsFile}
 use Rattle.dimacs.specs.declared.sink_fault.SinkFault.{SinkFault}
 use Rattle.verdict_report.specs.declared.fault.Fault.{Fault}
 use Rattle.verdict_report.specs.declared.status.Status.{Status}

@@ -1,2 +1,4 @@
 mod BatchLemmas
+mod FormedLemmas
+mod KeptLemmas
 mod RunLemmas

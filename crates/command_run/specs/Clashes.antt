@@ -1,12 +1,13 @@
 -- Why a line is refused before anything is opened.
 use Rattle.std.specs.Borrow.{Bor}
-use Rattle.std.specs.Prelude.{◌≡◌, ◌≢◌, ◌⊎◌, ℕ, Bool, false, true, List, [], ◌∷◌, Option, None, Some, codes, if◌then◌else◌}
+use Rattle.std.specs.Prelude.{◌≡◌, ◌≢◌, ◌⊎◌, ℕ, Bool, false, true, not, ◌&&◌, List, [], ◌∷◌, Option, None, Some, codes, if◌then◌else◌}
+use Rattle.command_line.specs.declared.line.BatchOutput.{BatchOutput}
 use Rattle.command_line.specs.declared.line.CommandLine.{CommandLine}
 use Rattle.command_line.specs.declared.line.Line.{Line}
-use Rattle.command_line.specs.declared.line.Line.TheVariants.{Survey, Verify}
+use Rattle.command_line.specs.declared.line.Line.TheVariants.{Batch, Survey, Verify}
 use Rattle.command_line.specs.declared.line.SurveyFiles.{SurveyFiles}
 use Rattle.command_run.specs.declared.clash.Clash.{Clash}
-use Rattle.command_run.specs.declared.clash.Clash.TheVariants.{CertIsHint, CertIsNames, CertIsPart, CertIsTrace, InputTwice, NamesIsHint, NamesIsPart, NamesIsTrace, PartIsHint, PartIsTrace, PictureIsCert, PictureIsHint, PictureIsNames, PictureIsPart, PictureIsTrace}
+use Rattle.command_run.specs.declared.clash.Clash.TheVariants.{CertIsHint, CertIsNames, CertIsPart, CertIsTrace, FolderIsUsed, InputTwice, NamesIsHint, NamesIsPart, NamesIsTrace, PartIsHint, PartIsTrace, PictureIsCert, PictureIsHint, PictureIsNames, PictureIsPart, PictureIsTrace, SchedulesWithoutJson}
 use Rattle.command_host.specs.HostCalls.{HostCalls}
 use Rattle.command_run.specs.Inputs.{reads_input_twice}
 
@@ -27,6 +28,8 @@ clash_line CertIsHint = codes "error: --cert and --hint name one file\n"
 clash_line NamesIsHint = codes "error: --names and --hint name one file\n"
 clash_line PartIsHint = codes "error: --part and --hint name one file\n"
 clash_line PictureIsHint = codes "error: --picture and --hint name one file\n"
+clash_line FolderIsUsed = codes "error: --keep names no folder that is new or empty\n"
+clash_line SchedulesWithoutJson = codes "error: --schedules wants --json\n"
 
 -- whether the files at two paths are one: the paths are the same, or else the host says that the files are
 abbrev pub IsOneFile : {H I O : Type 0} → HostCalls H I O → H → List ℕ → List ℕ → Bool → H → Type 0
@@ -111,10 +114,29 @@ ClashesOfWritten {H} calls from asked found to =
     (own : Option Clash) × (between : H) × FindsClash calls from None (pairings_of asked.line) own between
     × FindsClash calls between own (pairings_of_picture asked.picture asked.line) found to
 
--- why the line is refused, or nothing: first whether standard input would be read twice, and then the files that are written
+-- the folder of a batch, if there is one, has to be new or empty, as the host says
+abbrev pub ClashesOfFolder : {H I O : Type 0} → HostCalls H I O → H → Option (Bor (List ℕ)) → Option Clash → H → Type 0
+ClashesOfFolder calls from (Some folder) found to = (free : Bool) × calls.looks from folder.now free to × (found ≡ (if free then None else Some FolderIsUsed))
+ClashesOfFolder calls from None found to = (found ≡ None) × (to ≡ from)
+
+abbrev pub ClashesOfOutputIf : {H I O : Type 0} → (lacks_json : Bool) → HostCalls H I O → H → BatchOutput → Option Clash → H → Type 0
+ClashesOfOutputIf true calls from output found to = (found ≡ Some SchedulesWithoutJson) × (to ≡ from)
+ClashesOfOutputIf false calls from output found to = ClashesOfFolder calls from output.keep found to
+
+-- what is found of what a batch writes beside its verdicts, if nothing was found before: schedules stand in objects of JSON alone, and then its folder
+abbrev pub ClashesOfOutput : {H I O : Type 0} → HostCalls H I O → H → Option Clash → BatchOutput → Option Clash → H → Type 0
+ClashesOfOutput calls from (Some before) output found to = (found ≡ Some before) × (to ≡ from)
+ClashesOfOutput calls from None output found to = ClashesOfOutputIf (output.schedules && not output.json) calls from output found to
+
+abbrev pub ClashesOfBatch : {H I O : Type 0} → HostCalls H I O → H → Option Clash → Line → Option Clash → H → Type 0
+ClashesOfBatch calls from before (Batch traces numbers output) found to = ClashesOfOutput calls from before output found to
+ClashesOfBatch calls from before line found to = (found ≡ before) × (to ≡ from)
+
+-- why the line is refused, or nothing: first whether standard input would be read twice, then the files that are written, and then the folder of a batch
 abbrev pub ClashesIf : {H I O : Type 0} → Bool → HostCalls H I O → H → CommandLine → Option Clash → H → Type 0
 ClashesIf true calls from asked found to = (found ≡ Some InputTwice) × (to ≡ from)
-ClashesIf false calls from asked found to = ClashesOfWritten calls from asked found to
+ClashesIf {H} false calls from asked found to =
+    (written : Option Clash) × (between : H) × ClashesOfWritten calls from asked written between × ClashesOfBatch calls between written asked.line found to
 
 abbrev pub ClashesBy : {H I O : Type 0} → HostCalls H I O → H → CommandLine → Option Clash → H → Type 0
 ClashesBy calls from asked found to = ClashesIf (reads_input_twice asked.line) calls from asked found to

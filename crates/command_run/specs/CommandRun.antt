@@ -1,12 +1,7 @@
 -- What a command does: the engine that it runs, on which files and with which options, what its standard streams take, and its exit
 -- status.
 use Rattle.std.specs.Borrow.{Bor}
-use Rattle.std.specs.Prelude.{◌≡◌, ◌||◌, ◌⊎◌, ◌≤◌, ℕ, ◌+◌, Bool, false, true, not, List, [], ◌∷◌, ◌++◌, Option, None, Some, Result, Ok, Err, IfSome, is_some}
-use Rattle.batch_report.specs.BatchEngine.{AreFindings, AreSomeFindings, IsRunOfBatch}
-use Rattle.batch_report.specs.BatchLines.{batch_lines}
-use Rattle.batch_report.specs.Outcome.{no_tally, outcome as outcome_of, tally_with_all}
-use Rattle.batch_report.specs.declared.piece_verdict.PieceVerdict.{PieceVerdict}
-use Rattle.batch_report.specs.declared.tally.VerdictTally.{VerdictTally}
+use Rattle.std.specs.Prelude.{◌≡◌, ◌||◌, ◌⊎◌, ◌≤◌, ℕ, Bool, false, true, not, List, [], ◌∷◌, Option, None, Some, Result, Ok, Err, IfSome, is_some}
 use Rattle.clap.specs.Walk.{texts}
 use Rattle.clap.specs.Words.{takes}
 use Rattle.clap.specs.declared.error.kind.ErrorKind.{ErrorKind}
@@ -19,9 +14,6 @@ use Rattle.command_line.specs.declared.line.Line.TheVariants.{Batch, Cnf, Decode
 use Rattle.command_line.specs.declared.line.SearchNumbers.{SearchNumbers}
 use Rattle.command_line.specs.declared.line.SurveyFiles.{SurveyFiles}
 use Rattle.command_line.specs.declared.line.SurveyNumbers.{SurveyNumbers}
-use Rattle.dimacs.specs.Sink.{AppendsFront}
-use Rattle.dimacs.specs.SinkFault.{failures_told}
-use Rattle.dimacs.specs.declared.sink_fault.SinkFault.{SinkFault}
 use Rattle.verdict_report.specs.declared.fault.Fault.{Fault}
 use Rattle.verdict_report.specs.declared.fault.Fault.TheVariants.{Device, OutOfMemory}
 use Rattle.verdict_report.specs.declared.status.Status.{Status}
@@ -29,7 +21,7 @@ use Rattle.verdict_report.specs.declared.status.Status.TheVariants.{Unknown, Yes
 use Rattle.verdict_report.specs.CnfEngine.{IsRunOfCnf}
 use Rattle.verdict_report.specs.DecodeEngine.{IsRunOfDecode}
 use Rattle.verdict_report.specs.Engine.{FailsBehindFront, IsRunOfWriting, TakeNothing, TakesNothing, TakesWhole}
-use Rattle.verdict_report.specs.Fault.{exit_status_of, fault_of_sink, line_of}
+use Rattle.verdict_report.specs.Fault.{exit_status_of, line_of}
 use Rattle.verdict_report.specs.JudgeEngine.{IsRunOfJudge}
 use Rattle.verdict_report.specs.LratEngine.{IsRunOfLrat}
 use Rattle.part_report.specs.PartEngine.{IsRunOfPart}
@@ -42,21 +34,12 @@ use Rattle.command_run.specs.declared.clash.Clash.{Clash}
 use Rattle.command_run.specs.declared.inputs.SurveyInputs.{SurveyInputs}
 use Rattle.command_host.specs.declared.search_request.SearchRequest.{SearchRequest}
 use Rattle.command_run.specs.Clashes.{ClashesBy, clash_line}
+use Rattle.command_run.specs.FormedRuns.{RunsBatchWith}
+use Rattle.command_run.specs.ReadFiles.{ReadsFile}
 use Rattle.command_host.specs.HostCalls.{HostCalls}
 use Rattle.command_host.specs.Streams.{SinkView, SourceView}
 
 -- ---- engines on files
-
--- the file at this path was handed out to be read between the two hosts, and this is what it then did as a source, and no other file
-pub record ReadsFile {H I O : Type 0} (calls : HostCalls H I O) (read : SourceView I) (from : H) (path : List ℕ) (run : SourceRun) (to : H) : Type 0 where
-  pub before : I
-  pub after : I
-  pub opened : calls.opens from path before to
-  pub run_is : run ≡ read.run before after
-  pub path_is : read.path after ≡ path
-  pub no_byte_before : run.before ≡ []
-  pub not_at_end_before : run.was_at_end ≡ false
-  pub no_failure_before : run.failures_before ≡ 0
 
 -- an engine of one file, of two or of three, was run on the files at these paths, which were asked for in this order, and nothing else was
 pub record RunsOnFile {H I O : Type 0} (calls : HostCalls H I O) (read : SourceView I) (IsRun : SourceRun → SinkRun → Result Status Fault → Type 0) (from : H) (path : List ℕ) (out : SinkRun) (outcome : Result Status Fault) (to : H) : Type 0 where
@@ -222,68 +205,6 @@ abbrev pub RunsSurvey : {H I O : Type 0} → HostCalls H I O → SourceView I �
 RunsSurvey calls read wrote from trace files search out outcome to =
     RunsSurveyIf (takes_none files) calls read wrote from (inputs_of_survey trace files) files search out outcome to
 
--- ---- a batch on files
-
--- the files at these paths were handed out to be read, one after the other, and this was found in each
-abbrev pub FindsInFiles : {H I O : Type 0} → HostCalls H I O → SourceView I → H → List (List ℕ) → List (List PieceVerdict) → H → Type 0
-FindsInFiles calls read from [] [] to = to ≡ from
-FindsInFiles {H} calls read from (path ∷ paths) (findings ∷ others) to =
-    (file : SourceRun) × (between : H) × ReadsFile calls read from path file between × AreFindings file findings × FindsInFiles calls read between paths others to
-FindsInFiles calls read from paths found to = ⊥
-
--- the lines of what was found, file by file
-abbrev pub lines_of_files : List (List ℕ) → List (List PieceVerdict) → List ℕ
-lines_of_files (path ∷ paths) (findings ∷ others) = batch_lines path 0 findings ++ lines_of_files paths others
-lines_of_files paths found = []
-
--- what was found in all of them
-abbrev pub all_findings : List (List PieceVerdict) → List PieceVerdict
-all_findings [] = []
-all_findings (findings ∷ others) = findings ++ all_findings others
-
--- each file was read, standard output took a line for each finding, and the outcome is that of all findings
-pub record FinishesFiles {H I O : Type 0} (calls : HostCalls H I O) (read : SourceView I) (from : H) (paths : List (List ℕ)) (out : SinkRun) (result : Result Status Fault) (to : H) : Type 0 where
-  pub found : List (List PieceVerdict)
-  pub finds : FindsInFiles calls read from paths found to
-  pub whole : TakesWhole out (lines_of_files paths found)
-  pub result_is : result ≡ outcome_of (all_findings found)
-
--- Some files were read, and in the next one standard output failed, or there was no memory. It took a front of the lines of those files and of some
--- findings in this one, and no other file was handed out.
-pub record StopsInFile {H I O : Type 0} (calls : HostCalls H I O) (read : SourceView I) (from : H) (paths : List (List ℕ)) (out : SinkRun) (result : Result Status Fault) (to : H) : Type 0 where
-  pub first : List (List ℕ)
-  pub path : List ℕ
-  pub further : List (List ℕ)
-  pub paths_are : paths ≡ first ++ path ∷ further
-  pub found : List (List PieceVerdict)
-  pub between : H
-  pub finds : FindsInFiles calls read from first found between
-  pub file : SourceRun
-  pub reads : ReadsFile calls read between path file to
-  pub findings : List PieceVerdict
-  pub some : AreSomeFindings file findings
-  pub front : AppendsFront out.before out.now (lines_of_files first found ++ batch_lines path 0 findings)
-  pub fault : SinkFault
-  pub failures : out.failures_now ≡ out.failures_before + failures_told fault
-  pub result_is : result ≡ Err (fault_of_sink fault)
-
--- the engine that decides many traces was run on the files at these paths, in their order
-abbrev pub RunsBatch : {H I O : Type 0} → HostCalls H I O → SourceView I → H → List (List ℕ) → SinkRun → Result Status Fault → H → Type 0
-RunsBatch calls read from paths out result to = FinishesFiles calls read from paths out result to ⊎ StopsInFile calls read from paths out result to
-
--- as it goes on: the file at this path was handed out to be read, and its traces were decided, after this was counted
-pub record DecidesFile {H I O : Type 0} (calls : HostCalls H I O) (read : SourceView I) (from : H) (path : List ℕ) (counted : VerdictTally) (out : SinkRun) (result : Result VerdictTally SinkFault) (to : H) : Type 0 where
-  pub file : SourceRun
-  pub reads : ReadsFile calls read from path file to
-  pub runs : IsRunOfBatch path file counted out result
-
--- these files were read, standard output took their lines, and the findings were counted
-pub record HasDecided {H I O : Type 0} (calls : HostCalls H I O) (read : SourceView I) (from : H) (paths : List (List ℕ)) (tally : VerdictTally) (out : SinkRun) (to : H) : Type 0 where
-  pub found : List (List PieceVerdict)
-  pub finds : FindsInFiles calls read from paths found to
-  pub whole : TakesWhole out (lines_of_files paths found)
-  pub tallied : tally ≡ tally_with_all no_tally (all_findings found)
-
 -- ---- a line
 
 -- the search of these numbers, with its progress reported or not
@@ -320,7 +241,7 @@ RunsLine calls read wrote from (Verify trace cert numbers progress) out outcome 
 RunsLine calls read wrote from (Survey trace files numbers progress) out outcome to =
     RunsSurvey calls read wrote from trace files (survey_of numbers progress) out outcome to
 RunsLine calls read wrote from Refusals out outcome to = WritesList out outcome × (to ≡ from)
-RunsLine calls read wrote from (Batch traces numbers) out outcome to = RunsBatch calls read from (texts traces.items) out outcome to
+RunsLine calls read wrote from (Batch traces numbers output) out outcome to = RunsBatchWith calls read output from (texts traces.items) out outcome to
 
 -- ---- standard streams and exit statuses
 

@@ -31,7 +31,7 @@ inputs_of (Recheck trace cert part) = several_inputs trace cert part
 inputs_of (Part trace names shows_names) = several_inputs trace names None
 inputs_of (Verify trace cert numbers progress) = one_input trace
 inputs_of (Survey trace files numbers progress) = one_or_two_inputs trace files.hint
-inputs_of (Batch traces numbers) = no_input
+inputs_of (Batch traces numbers output) = no_input
 inputs_of Refusals = no_input
 
 -- the path is that of standard input
@@ -55,5 +55,5 @@ repeats_among was_met (path ∷ paths) = (was_met && is_input path) || repeats_a
 
 -- the line would read standard input twice
 abbrev pub reads_input_twice : Line → Bool
-reads_input_twice (Batch traces numbers) = repeats_among false (texts traces.items)
+reads_input_twice (Batch traces numbers output) = repeats_among false (texts traces.items)
 reads_input_twice line = repeats_input (inputs_of line)

@@ -1,6 +1,9 @@
 pub mod ArgumentFault
+pub mod BatchRuns
 pub mod Clashes
 pub mod CommandRun
 pub mod ExitStatus
+pub mod FormedRuns
 pub mod Inputs
+pub mod ReadFiles
 pub mod Spelling

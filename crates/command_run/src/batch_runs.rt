@@ -3,7 +3,7 @@ ghost use Rattle.std.specs.Prelude.{◌≡◌};
 ghost use Rattle.clap.specs.Walk.{texts};
 ghost use Rattle.command_host.specs.Streams.{source_view};
 ghost use Rattle.command_line.specs.CommandLine.{AreBatchNumbers};
-ghost use Rattle.command_run.specs.CommandRun.{DecidesFile, RunsBatch};
+ghost use Rattle.command_run.specs.BatchRuns.{DecidesFile, RunsBatch};
 ghost use Rattle.verdict_report.specs.Fault.{fault_of_sink};
 ghost use Rattle.verdict_report.specs.Runs.{sink_run};
 
@@ -21,17 +21,17 @@ use survey::BySaturation;
 use verdict_report::{Fault, Status};
 
 /// The most steps of the survey of a long trace, as `survey` takes them without an option.
-const SURVEY_STEPS: u64 = 1_000_000_000;
+pub(crate) const SURVEY_STEPS: u64 = 1_000_000_000;
 
 /// How the traces of a batch are searched.
 #[derive(Clone, Copy)]
 pub(crate) struct BatchSearch {
     /// How many threads decide traces.
-    workers: u32,
+    pub(crate) workers: u32,
     /// How a trace of at most 160 operations is searched.
-    short: Options,
+    pub(crate) short: Options,
     /// How a longer one is searched after its survey.
-    long: Options,
+    pub(crate) long: Options,
 }
 
 /// The searches of these numbers. Each trace is searched by one thread.
@@ -56,7 +56,7 @@ pub(crate) fn batch_of(numbers: BatchNumbers) -> BatchSearch
 }
 
 /// The refusal of a sink.
-fn refusal_of_sink(fault: SinkFault) -> Fault
+pub(crate) fn refusal_of_sink(fault: SinkFault) -> Fault
     ensures { result ≡ fault_of_sink fault }
 {
     match fault {
@@ -85,7 +85,7 @@ fn decide_file<'p, R: Threads + Wait + Sync, H: Host<'p>, W: Sink>(
     run_batch(
         alloc,
         rt,
-        traces.as_bytes(),
+        traces,
         &mut file,
         tally,
         search.workers,

@@ -1,16 +1,16 @@
 //! Why a line is refused before anything is opened.
-ghost use Rattle.std.specs.Prelude.{◌≡◌, None, Some, if◌then◌else◌};
-ghost use Rattle.command_run.specs.Clashes.{AreOneFile, ClashesBy, ClashesIfOne, ClashesOfWritten, Compares, FindsClash, IsOneFile, clash_line, pairings_of, pairings_of_picture, pairings_of_picture_and_survey, pairings_of_picture_and_verify, pairings_of_survey, pairings_of_verify};
+ghost use Rattle.std.specs.Prelude.{◌≡◌, ◌&&◌, None, Some, false, if◌then◌else◌, not};
+ghost use Rattle.command_run.specs.Clashes.{AreOneFile, ClashesBy, ClashesIf, ClashesIfOne, ClashesOfBatch, ClashesOfFolder, ClashesOfOutput, ClashesOfOutputIf, ClashesOfWritten, Compares, FindsClash, IsOneFile, clash_line, pairings_of, pairings_of_picture, pairings_of_picture_and_survey, pairings_of_picture_and_verify, pairings_of_survey, pairings_of_verify};
 ghost use Rattle.command_run.specs.CommandRun.{Prints};
 ghost use Rattle.verdict_report.specs.Runs.{sink_run};
 
 use crate::inputs::reads_input_twice;
 use crate::telling::{REFUSED, print_text};
 use command_host::Host;
-use command_line::{CommandLine, Line, SurveyFiles};
+use command_line::{BatchOutput, CommandLine, Line, SurveyFiles};
 use dimacs::Sink;
 
-/// Why a line is refused before anything is opened: two of its files are one.
+/// Why a line is refused before anything is opened: two of its files are one, or a batch cannot write what is asked for.
 #[derive(Clone, Copy)]
 pub enum Clash {
     /// Two files that are read are standard input.
@@ -43,6 +43,10 @@ pub enum Clash {
     PartIsHint,
     /// The picture would.
     PictureIsHint,
+    /// The folder for what is kept has something.
+    FolderIsUsed,
+    /// Schedules are asked for, and no objects of JSON in which they would stand.
+    SchedulesWithoutJson,
 }
 
 /// The line that reports the clash.
@@ -65,6 +69,8 @@ fn text_of_clash(clash: Clash) -> &'static [u8]
         Clash::NamesIsHint => b"error: --names and --hint name one file\n",
         Clash::PartIsHint => b"error: --part and --hint name one file\n",
         Clash::PictureIsHint => b"error: --picture and --hint name one file\n",
+        Clash::FolderIsUsed => b"error: --keep names no folder that is new or empty\n",
+        Clash::SchedulesWithoutJson => b"error: --schedules wants --json\n",
     }
 }
 
@@ -248,6 +254,77 @@ fn clash_of_written<'p, H: Host<'p>>(host: &mut H, asked: &CommandLine<'p>) -> O
     clash_of_picture(host, found, asked.picture, &asked.line)
 }
 
+/// The clash, if the folder at this path is neither new nor empty.
+fn clash_of_folder<'p, H: Host<'p>>(host: &mut H, folder: Option<&'p str>) -> Option<Clash>
+    ensures { ClashesOfFolder H.calls host.old folder.entry result host.new }
+{
+    match folder {
+        Some(folder) => {
+            if host.is_free(folder) {
+                None
+            } else {
+                Some(Clash::FolderIsUsed)
+            }
+        }
+        None => None,
+    }
+}
+
+/// The clash of what a batch writes beside its verdicts.
+fn clash_of_output<'p, H: Host<'p>>(host: &mut H, output: BatchOutput<'p>) -> Option<Clash>
+    ensures { ClashesOfOutputIf (output.entry.schedules && not output.entry.json) H.calls host.old output.entry result host.new }
+{
+    if output.schedules && !output.json {
+        Some(Clash::SchedulesWithoutJson)
+    } else {
+        clash_of_folder(host, output.keep)
+    }
+}
+
+/// The clash that was found before, or else that of what a batch writes.
+fn or_output<'p, H: Host<'p>>(
+    host: &mut H,
+    found: Option<Clash>,
+    output: BatchOutput<'p>,
+) -> Option<Clash>
+    ensures { ClashesOfOutput H.calls host.old found output.entry result host.new }
+{
+    match found {
+        Some(found) => Some(found),
+        None => clash_of_output(host, output),
+    }
+}
+
+/// The clash that was found before, or else that of a batch.
+fn clash_of_batch<'p, H: Host<'p>>(
+    host: &mut H,
+    found: Option<Clash>,
+    line: &Line<'p>,
+) -> Option<Clash>
+    ensures { ClashesOfBatch H.calls host.old found line.now result host.new }
+{
+    match line {
+        Line::Batch { output, .. } => or_output(host, found, *output),
+        Line::Verify { .. } => found,
+        Line::Survey { .. } => found,
+        Line::Judge { .. } => found,
+        Line::Cnf { .. } => found,
+        Line::Decode { .. } => found,
+        Line::Lrat { .. } => found,
+        Line::Recheck { .. } => found,
+        Line::Part { .. } => found,
+        Line::Refusals => found,
+    }
+}
+
+/// The first clash of what is written.
+fn clash_of_all<'p, H: Host<'p>>(host: &mut H, asked: &CommandLine<'p>) -> Option<Clash>
+    ensures { ClashesIf false H.calls host.old asked.now result host.new }
+{
+    let found = clash_of_written(host, asked);
+    clash_of_batch(host, found, &asked.line)
+}
+
 /// Why the line is refused before anything is opened, or nothing.
 pub(crate) fn clash_of<'p, H: Host<'p>>(host: &mut H, asked: &CommandLine<'p>) -> Option<Clash>
     ensures { ClashesBy H.calls host.old asked.now result host.new }
@@ -255,6 +332,6 @@ pub(crate) fn clash_of<'p, H: Host<'p>>(host: &mut H, asked: &CommandLine<'p>) -
     if reads_input_twice(&asked.line) {
         Some(Clash::InputTwice)
     } else {
-        clash_of_written(host, asked)
+        clash_of_all(host, asked)
     }
 }

@@ -12,7 +12,8 @@ ghost use Rattle.verdict_report.specs.LratEngine.{IsRunOfLrat};
 ghost use Rattle.verdict_report.specs.RecheckEngine.{IsRunOfRecheck};
 ghost use Rattle.verdict_report.specs.Runs.{sink_run};
 
-use crate::batch_runs::{batch_of, decide_traces};
+use crate::batch_runs::batch_of;
+use crate::formed_runs::decide_batch;
 use crate::kept_run::KeptRun;
 use crate::opening::open;
 use crate::refusals::write_refusals;
@@ -319,9 +320,13 @@ pub(crate) fn run_engine<'p, R: Threads + Wait + Sync, G: Gate + Sync, H: Host<'
             )
         }
         Line::Refusals => write_refusals(alloc, out),
-        Line::Batch { traces, numbers } => {
+        Line::Batch {
+            traces,
+            numbers,
+            output,
+        } => {
             let search = batch_of(*numbers);
-            decide_traces(alloc, rt, host, traces.as_slice(), &search, out)
+            decide_batch(alloc, rt, host, traces.as_slice(), &search, *output, out)
         }
     }
 }

@@ -3,10 +3,12 @@
 
 mod arguments;
 mod batch_runs;
+mod beside;
 mod clash;
 mod command;
 mod engine_runs;
 mod explaining;
+mod formed_runs;
 mod hinted_runs;
 mod inputs;
 mod kept_run;

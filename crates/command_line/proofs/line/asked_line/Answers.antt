@@ -338,7 +338,7 @@ returns-in-Some-subcommand_matches-8-clause-line c =
 -- ---- batch
 
 batch_fits : AllFit (passes batch_built.rules) batch_built.rules
-batch_fits = (fits batch_built.rules _ refl refl refl refl, (fits batch_built.rules _ refl refl refl refl, (fits batch_built.rules _ refl refl refl refl, (fits batch_built.rules _ refl refl refl refl, (fits batch_built.rules _ refl refl refl refl, (fits batch_built.rules _ refl refl refl refl, (fits batch_built.rules _ refl refl refl refl, tt)))))))
+batch_fits = (fits batch_built.rules _ refl refl refl refl, (fits batch_built.rules _ refl refl refl refl, (fits batch_built.rules _ refl refl refl refl, (fits batch_built.rules _ refl refl refl refl, (fits batch_built.rules _ refl refl refl refl, (fits batch_built.rules _ refl refl refl refl, (fits batch_built.rules _ refl refl refl refl, (fits batch_built.rules _ refl refl refl refl, (fits batch_built.rules _ refl refl refl refl, (fits batch_built.rules _ refl refl refl refl, tt))))))))))
 
 batch_met : (c : In-Some-subcommand_matches-9) → EntersAs (texts c.args.words.now) (codes "batch") (found_of c.in-Some-subcommand_matches-9.batch.now)
 batch_met c =
@@ -353,6 +353,8 @@ batch_line-requires c =
       workers = has_workers batch_built.rules found refl (read (codes "workers") refl);
       split = has_number batch_built.rules found (codes "split") 0 10 refl (read (codes "split") refl);
       budget = has_number batch_built.rules found (codes "budget") 0 1000000000 refl (read (codes "budget") refl);
+      json = has_flag batch_built.rules found (codes "json") refl (read (codes "json") refl);
+      schedules = has_flag batch_built.rules found (codes "schedules") refl (read (codes "schedules") refl);
       explain = has_flag batch_built.rules found (codes "explain") refl (read (codes "explain") refl);
       no_explain = has_flag batch_built.rules found (codes "no-explain") refl (read (codes "no-explain") refl);
     }

@@ -1,5 +1,4 @@
-use Rattle.std.proofs.Common.{◌∙◌, subst, sym}
-use Rattle.batch_report.specs.BatchEngine.{IsRunOfBatch}
+use Rattle.std.proofs.Common.{◌∙◌}
 use Rattle.verdict_report.specs.Runs.{source_run, sink_run}
 use Rattle.command_run.proofs.RunLemmas.{reads_file}
 use Rattle.command_run.proofs.batch_runs.decide_file.Goals as goal
@@ -10,5 +9,5 @@ returns g c =
     record {
       file = file;
       reads = reads_file c.open-file.result.source c.run_batch.new.traces.source c.open-file.ensures.opens c.open-file.ensures.handed_out c.open-file.ensures.is_at_end c.open-file.ensures.failures (c.run_batch.ensures.same_traces ∙ c.open-file.ensures.path);
-      runs = subst (λ name. IsRunOfBatch name file c.args.tally (sink_run g.W.Sink.written g.W.Sink.failures c.args.out.now c.run_batch.new.out) c.run_batch.result) c.as_bytes.ensures.value c.run_batch.ensures.run;
+      runs = c.run_batch.ensures.run;
     }

@@ -2,7 +2,7 @@ use Rattle.std.specs.Borrow.{Bor}
 use Rattle.std.proofs.Common.{◌<◌, ◌≡◌, List, ℕ, [], drop, length, subst, suc, sym, take, take_all, arith}
 use Rattle.clap.specs.Walk.{texts}
 use Rattle.command_host.specs.Streams.{source_view}
-use Rattle.command_run.specs.CommandRun.{HasDecided}
+use Rattle.command_run.specs.BatchRuns.{HasDecided}
 use Rattle.verdict_report.specs.Runs.{sink_run}
 use Rattle.command_run.proofs.BatchLemmas.{decides_more, finishes, none_decided, stops_here, texts_around, texts_more}
 use Rattle.command_run.proofs.batch_runs.decide_traces.Goals as goal

@@ -1,7 +1,7 @@
 use Rattle.std.proofs.Common.{take}
 use Rattle.clap.specs.Walk.{texts}
 use Rattle.command_host.specs.Streams.{source_view}
-use Rattle.command_run.specs.CommandRun.{HasDecided}
+use Rattle.command_run.specs.BatchRuns.{HasDecided}
 use Rattle.verdict_report.specs.Runs.{sink_run}
 use Rattle.command_run.proofs.batch_runs.decide_traces.Given as goal
 

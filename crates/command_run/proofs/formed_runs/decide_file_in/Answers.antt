@@ -1,0 +1,12 @@
+use Rattle.std.proofs.Common.{◌∙◌}
+use Rattle.verdict_report.specs.Runs.{source_run}
+use Rattle.command_run.proofs.RunLemmas.{reads_file}
+use Rattle.command_run.proofs.formed_runs.decide_file_in.Goals as goal
+
+pub returns : goal.returns
+returns g c = record {
+  file = source_run g.H.Input.Source.handed_out g.H.Input.Source.is_at_end g.H.Input.Source.failures c.open-file.result.source c.run_batch_in.new.traces.source;
+  opened = c.open-file.new.host;
+  reads = reads_file c.open-file.result.source c.run_batch_in.new.traces.source c.open-file.ensures.opens c.open-file.ensures.handed_out c.open-file.ensures.is_at_end c.open-file.ensures.failures (c.run_batch_in.ensures.same_traces ∙ c.open-file.ensures.path);
+  runs = c.run_batch_in.ensures.run;
+}
