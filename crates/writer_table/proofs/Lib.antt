@@ -1,3 +1,5 @@
+pub mod NumberLemmas
+pub mod OrderedLemmas
 pub mod RunLemmas
 pub mod TableLemmas
 pub mod WriterLemmas

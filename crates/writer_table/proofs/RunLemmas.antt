@@ -1,14 +1,15 @@
 -- One operation more in runs.
-use Rattle.std.proofs.Common.{◌≡◌, ◌≢◌, ◌⊎◌, ◌<◌, ◌≤◌, ◌-◌, ℕ, Bool, true, false, List, [], ◌∷◌, ◌++◌, length, get_or, set, refl, ap, sym, ◌∙◌, arith, inl, inr, subst}
+use Rattle.std.proofs.Common.{◌≡◌, ◌≢◌, ◌⊎◌, ◌<◌, ◌-◌, ℕ, Bool, true, false, List, [], ◌∷◌, ◌++◌, length, get_or, set, refl, ap, sym, ◌∙◌, arith, inl, inr, subst}
 use Rattle.std.specs.Bool.{MatchBool}
-use Rattle.std.specs.List.{Contains}
+use Rattle.std.specs.List.{All, Contains}
 use Rattle.std.proofs.lemmas.Bool.{cases_order}
 use Rattle.std.proofs.lemmas.List.{get_or_default, set-get_or, get_or-set_other, get_or-set_same, length-set}
 use Rattle.std.proofs.lemmas.List.Elements.{Contains-append_left, Contains-append_right, Contains-append_cases}
 use Rattle.trace_semantics.proofs.ElementLemmas.{head_in, none_in, cases_in}
 use Rattle.writer_table.specs.declared.runs.Run.{Run}
 use Rattle.writer_table.specs.Longer.{IsLonger}
-use Rattle.writer_table.specs.Runs.{IsIn, HasOneMore}
+use Rattle.writer_table.specs.Runs.{AreUpTo, IsIn, HasOneMore}
+use Rattle.writer_table.proofs.OrderedLemmas.{up_to_appended, up_to_longer}
 
 -- a list of one element has that alone
 in_one : {X : Type 0} (x y : X) → Contains (x ∷ []) y → x ≡ y
@@ -42,11 +43,12 @@ module _ {X : Type 0} (xs : List X) (i : ℕ) (v : X) (low : i < length xs) wher
       ]
 
 -- a run of one place is appended
-pub run_more : (runs : List Run) (run : Run) (place : ℕ) → run.places ≡ place ∷ [] → HasOneMore runs (runs ++ run ∷ []) run.process place
-run_more runs run place e = record {
+pub run_more : (runs : List Run) (run : Run) (place : ℕ) → run.places ≡ place ∷ [] → ((k : ℕ) → k < place → AreUpTo runs run.process k → All (λ (r : Run). r.process < run.process) runs) → HasOneMore runs (runs ++ run ∷ []) run.process place
+run_more runs run place e past = record {
   here = (run, Contains-append_right runs (run ∷ []) run (head_in run []), refl, subst (λ l. Contains l place) (sym e) (head_in place []));
   kept = λ q k h. (h.0, Contains-append_left runs (run ∷ []) h.0 h.1, h.2, h.3);
   only = λ q k h. from q k h (Contains-append_cases runs (run ∷ []) h.0 h.1);
+  ordered = λ k less so. up_to_appended runs run place k e less (past k less so) so;
 }
   where
     from : (q k : ℕ) → (h : IsIn (runs ++ run ∷ []) q k) → Contains runs h.0 ⊎ Contains (run ∷ []) h.0 → IsIn runs q k ⊎ ((q ≡ run.process) × (k ≡ place))
@@ -61,6 +63,7 @@ place_more runs i old new place low at called longer = record {
   here = (new, set_here runs i new low, called, subst (λ l. Contains l place) (sym longer) (Contains-append_right old.places (place ∷ []) place (head_in place [])));
   kept = λ q k h. stays q k h (set_kept runs i new low h.0 h.1);
   only = λ q k h. from q k h (set_cases runs i new low h.0 h.1);
+  ordered = λ k less so. up_to_longer runs i old new place k low at called longer less so;
 }
   where
     stays : (q k : ℕ) → (h : IsIn runs q k) → (get_or runs i h.0 ≡ h.0) ⊎ Contains (set runs i new) h.0 → IsIn (set runs i new) q k

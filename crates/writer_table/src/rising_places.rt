@@ -34,8 +34,9 @@ impl Model for RisingPlaces {
 }
 
 impl RisingPlaces {
-    ghost use Rattle.std.specs.Prelude.{◌≡◌, ◌++◌, ◌∷◌, [], IfOk};
+    ghost use Rattle.std.specs.Prelude.{◌≡◌, ◌++◌, ◌∷◌, [], false, IfOk};
     ghost use Rattle.std.specs.Bool.{MatchBool};
+    ghost use Rattle.std.specs.List.{Contains};
 
     /// The list of this place alone.
     pub fn of_one(alloc: Global, place: u32) -> Result<RisingPlaces, AllocError>
@@ -48,7 +49,8 @@ impl RisingPlaces {
 
     /// Appends the place and returns whether it did: one below the last is not appended.
     pub fn push(&mut self, place: u32) -> Result<bool, AllocError>
-        ensures { IfOk result (λ done. MatchBool done (self.new ≡ self.old ++ place ∷ []) (self.new ≡ self.old)) }
+        ensures places { IfOk result (λ done. MatchBool done (self.new ≡ self.old ++ place ∷ []) (self.new ≡ self.old)) }
+        ensures over { IfOk result (λ done. done ≡ false → (k : ℕ) × Contains self.old k × (place < k)) }
     {
         let count = self.places.len();
         if count > 0 && self.places[count - 1] > place {

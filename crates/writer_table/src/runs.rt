@@ -1,8 +1,9 @@
 //! Places of operations by process.
 
-ghost use Rattle.std.specs.Prelude.{◌≡◌, IfOk};
+ghost use Rattle.std.specs.Prelude.{◌≡◌, ◌<◌, false, ℕ, IfOk};
 ghost use Rattle.std.specs.Bool.{MatchBool};
-ghost use Rattle.writer_table.specs.Runs.{HasOneMore};
+ghost use Rattle.std.specs.List.{All, Contains};
+ghost use Rattle.writer_table.specs.Runs.{AreUpTo, HasOneMore};
 
 use crate::rising_places::RisingPlaces;
 use std::alloc::{AllocError, Global};
@@ -20,7 +21,8 @@ impl Run {
 
     /// Appends the place, if it is not below the last, and returns whether it did.
     fn push(&mut self, place: u32) -> Result<bool, AllocError>
-        ensures { IfOk result (λ done. MatchBool done (IsLonger self.old self.new place) (self.new ≡ self.old)) }
+        ensures longer { IfOk result (λ done. MatchBool done (IsLonger self.old self.new place) (self.new ≡ self.old)) }
+        ensures over { IfOk result (λ done. done ≡ false → (k : ℕ) × Contains self.old.places k × (place < k)) }
     {
         let done = self.places.push(place)?;
         Ok(done)
@@ -29,7 +31,8 @@ impl Run {
 
 /// Appends the place to the last run, if that is of the process and goes no further, and returns whether it did.
 fn extend_last(runs: &mut Vec<Run>, process: u32, place: u32) -> Result<bool, AllocError>
-    ensures { IfOk result (λ done. MatchBool done (HasOneMore runs.old.items runs.new.items process place) (runs.new.items ≡ runs.old.items)) }
+    ensures more { IfOk result (λ done. MatchBool done (HasOneMore runs.old.items runs.new.items process place) (runs.new.items ≡ runs.old.items)) }
+    ensures past { IfOk result (λ done. done ≡ false → (k : ℕ) → k < place → AreUpTo runs.old.items process k → All (λ run. run.process < process) runs.old.items) }
 {
     let count = runs.len();
     if count == 0 || runs[count - 1].process != process {

@@ -59,6 +59,8 @@ fn narrow(count: usize) -> Result<u32, AllocError>
 }
 
 impl<'a> TraceWriters<'a> {
+    ghost use Rattle.std.specs.List.{All};
+    ghost use Rattle.writer_table.specs.WriterClasses.{AreNumbersApart, HasNumber};
     ghost use Rattle.writer_table.specs.Writers.{HoldsFirst, HoldsWriters, runs_at};
 
     /// The classes of what the processes write.
@@ -67,7 +69,9 @@ impl<'a> TraceWriters<'a> {
         processes: &'a [Process],
         by_value: bool,
     ) -> Result<WriterClasses<'a>, AllocError>
-        ensures { IfOk result (λ classes. classes.by_value ≡ by_value) }
+        ensures kind { IfOk result (λ classes. classes.by_value ≡ by_value) }
+        ensures apart { IfOk result AreNumbersApart }
+        ensures have { IfOk result (λ classes. All (λ process. All (HasNumber classes) process.operations) processes.now) }
     {
         let mut classes = WriterClasses::new(alloc, by_value);
         for process in processes {

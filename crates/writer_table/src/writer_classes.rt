@@ -13,12 +13,14 @@ pub struct WriterClasses<'a> {
 }
 
 impl<'a> WriterClasses<'a> {
-    ghost use Rattle.std.specs.Prelude.{◌≡◌, map, OnOk, IfOk, if◌then◌else◌};
-    ghost use Rattle.writer_table.specs.WriterClasses.{class_of, class_left};
+    ghost use Rattle.std.specs.Prelude.{◌≡◌, map, OnOk, IfOk, IsSome, if◌then◌else◌};
+    ghost use Rattle.std.specs.List.{All};
+    ghost use Rattle.writer_table.specs.WriterClasses.{AreNumbersApart, HasMoreNumbers, HasNumber, class_of, class_left, number_of};
 
     /// No numbers yet.
     pub fn new(alloc: Global, by_value: bool) -> WriterClasses<'a>
-        ensures { result.by_value ≡ by_value }
+        ensures kind { result.by_value ≡ by_value }
+        ensures apart { AreNumbersApart result }
     {
         WriterClasses {
             by_value,
@@ -45,24 +47,37 @@ impl<'a> WriterClasses<'a> {
 
     /// Gives what leaves the value at the location a number, if it has none.
     fn add(&mut self, location: &'a [u8], value: u64) -> Result<(), AllocError>
-        ensures { OnOk result (self.new.by_value ≡ self.old.by_value) }
+        ensures more { OnOk result (HasMoreNumbers self.old self.new) }
+        ensures has { OnOk result (IsSome (number_of self.new location.now value)) }
     {
         let key = (location, self.key(value));
         if self.numbers.get(&key).is_none() {
-            let number = self.numbers.len().saturating_add(1);
+            let Some(number) = self.numbers.len().checked_add(1) else {
+                return Err(AllocError);
+            };
             self.numbers.insert(key, number)?;
         }
         Ok(())
     }
 
+    /// Gives the operation a number, if it writes.
+    fn add_op(&mut self, op: &'a Op) -> Result<(), AllocError>
+        ensures more { OnOk result (HasMoreNumbers self.old self.new) }
+        ensures has { OnOk result (HasNumber self.new op.now) }
+    {
+        match op.written_value() {
+            Some(value) => self.add(op.location().as_bytes(), value),
+            None => Ok(()),
+        }
+    }
+
     /// Gives each of the operations that writes a number.
     pub fn add_all(&mut self, operations: &'a [Op]) -> Result<(), AllocError>
-        ensures { OnOk result (self.new.by_value ≡ self.old.by_value) }
+        ensures more { OnOk result (HasMoreNumbers self.old self.new) }
+        ensures has { OnOk result (All (HasNumber self.new) operations.now) }
     {
         for op in operations {
-            if let Some(value) = op.written_value() {
-                self.add(op.location().as_bytes(), value)?;
-            }
+            self.add_op(op)?;
         }
         Ok(())
     }

@@ -1,5 +1,4 @@
-use Rattle.std.proofs.Common.{length, get_or, ap, sym, ◌∙◌, arith}
-use Rattle.std.specs.Prelude.{Some, None}
+use Rattle.std.specs.Prelude.{None}
 use Rattle.std.proofs.lemmas.Option.{slice_get-get_or}
 use Rattle.writer_table.proofs.TableLemmas.{first_next}
 use Rattle.writer_table.proofs.trace_writers.add_classes.Goals as goal

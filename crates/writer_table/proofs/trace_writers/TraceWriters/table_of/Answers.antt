@@ -1,4 +1,4 @@
-use Rattle.std.proofs.Common.{List, map, length, get_or, ap, sym, ◌∙◌, subst}
+use Rattle.std.proofs.Common.{List, map, length, ap, sym, ◌∙◌, subst}
 use Rattle.std.specs.Prelude.{Option, ℕ}
 use Rattle.trace_semantics.specs.declared.trace.Process.{Process}
 use Rattle.writer_table.specs.PlaceTable.{HasFirst}

@@ -1,5 +1,7 @@
-use Rattle.std.proofs.Common.{◌≡◌}
+use Rattle.std.proofs.Common.{take}
+use Rattle.std.specs.List.{All}
+use Rattle.writer_table.specs.WriterClasses.{HasMoreNumbers, HasNumber}
 use Rattle.writer_table.proofs.writer_classes.WriterClasses.add_all.Given as goal
 
 abbrev pub invariant-loop-op : goal.invariant-loop-op
-invariant-loop-op l = l.self.by_value ≡ l.fn.self.by_value
+invariant-loop-op l = HasMoreNumbers l.fn.self l.self × All (HasNumber l.self) (take l.op-index l.operations)
