@@ -1,15 +1,14 @@
 -- Clauses that say orders, one order more.
-use Rattle.std.proofs.Common.{◌≡◌, ◌≤◌, ◌⊎◌, ◌+◌, ◌-◌, ◌<◌, ℕ, suc, ℤ, pos, negsuc, List, [], ◌∷◌, ◌++◌, length, get_or, Bool, true, false, ◌&&◌, refl, ap, sym, ◌∙◌, arith, inl, inr, subst}
-use Rattle.std.specs.Prelude.{nat_abs, nat_lt, nat_le}
-use Rattle.std.specs.List.{Contains, list_all}
-use Rattle.std.proofs.lemmas.Bool.{and_parts, and_from, leb-true, ltb-true}
+use Rattle.std.proofs.Common.{◌≡◌, ◌≤◌, ◌⊎◌, ◌-◌, ℕ, zero, suc, ℤ, pos, negsuc, List, [], ◌∷◌, ◌++◌, length, get_or, true, refl, ap, sym, ◌∙◌, arith, inl, inr, subst}
+use Rattle.std.specs.Prelude.{nat_abs, neg_ℤ}
+use Rattle.std.specs.List.{Contains}
 use Rattle.std.proofs.lemmas.List.{get_or_append_left, length-append}
 use Rattle.std.proofs.lemmas.List.Elements.{Contains-append_left, Contains-push, Contains-push_cases}
 use Rattle.dimacs.specs.Literal.{is_literal_up_to, is_clause_up_to}
 use Rattle.trace_semantics.proofs.ElementLemmas.{all_pass, pass_all, none_in}
 use Rattle.order_clauses.specs.declared.order_pair.OrderPair.{OrderPair}
 use Rattle.order_clauses.specs.ClauseOf.{IsClauseOf, IsPut}
-use Rattle.order_clauses.specs.Literals.{IsPairOf, SaysOrder}
+use Rattle.order_clauses.specs.Literals.{SaysOrder}
 use Rattle.order_clauses.specs.OrderVariables.{nowhere, pair_of, order_of, IsExtended}
 use Rattle.order_clauses.specs.Turned.{turned}
 
@@ -83,3 +82,14 @@ clause_next old new orders literals after order z more said put h = record { ove
     only : (y : ℤ) → Contains literals y ⊎ (z ≡ y) → Contains (orders ++ order ∷ []) (order_of new y)
     only y (inl d) = Contains-append_left orders (order ∷ []) (order_of new y) (so.only y d)
     only y (inr e) = subst (λ x. Contains (orders ++ order ∷ []) (order_of new x)) e (subst (λ o. Contains (orders ++ order ∷ []) o) (sym said.says) (Contains-push orders order))
+
+turned_literal : (pairs : List OrderPair) (n : ℕ) (z : ℤ) → is_literal_up_to n z ≡ true → order_of pairs (neg_ℤ z) ≡ turned (order_of pairs z)
+turned_literal pairs n (pos zero) h = absurd (let least = (literal_least n (pos zero) h).0 in omega (arith, least))
+turned_literal pairs n (pos (suc k)) h = refl
+turned_literal pairs n (negsuc k) h = refl
+
+-- the literal that says the opposite is there, so the opposite is among the orders
+pub opposite_there : (old new orders : List OrderPair) (literals : List ℤ) (order : OrderPair) (z : ℤ) → IsExtended old new → SaysOrder new z order → IsClauseOf old orders literals → Contains literals (neg_ℤ z) → Contains orders (turned order)
+opposite_there old new orders literals order z more said h c =
+    let over = all_pass (is_literal_up_to (length old)) literals h.over (neg_ℤ z) c in
+    subst (λ o. Contains orders o) (sym (order_same old new more (neg_ℤ z) over) ∙ turned_literal new (length new) z said.over ∙ ap turned said.says) (h.only (neg_ℤ z) c)

@@ -1,14 +1,13 @@
 -- One clause more that holds in each legal schedule.
-use Rattle.std.proofs.Common.{◌≡◌, ℕ, suc, ℤ, pos, negsuc, List, [], ◌∷◌, ◌++◌, map, length, true, refl, ap, sym, ◌∙◌, inl, inr, subst}
-use Rattle.std.specs.List.{All, Contains, list_all}
+use Rattle.std.proofs.Common.{◌≡◌, ℤ, pos, negsuc, List, [], ◌∷◌, ◌++◌, length, true, refl, ap, sym, ◌∙◌, inl, inr, subst}
+use Rattle.std.specs.List.{Contains}
 use Rattle.std.proofs.lemmas.List.Elements.{All-contains, All-push, Contains-push_cases}
 use Rattle.dimacs.specs.Literal.{is_literal_up_to, is_clause_up_to}
 use Rattle.trace_semantics.specs.declared.operation.OpName.{OpName}
-use Rattle.trace_semantics.specs.Legal.{IsLegal}
 use Rattle.trace_semantics.specs.Trace.{TraceValue}
 use Rattle.trace_semantics.proofs.ElementLemmas.{all_pass, pass_all, from_map, to_map, none_in}
 use Rattle.restriction.proofs.OrderedPairLemmas.{all_from}
-use Rattle.order_reasons.specs.Orders.{HoldsIn, HoldsOfSchedules, order_said, orders_said}
+use Rattle.order_reasons.specs.Orders.{HoldsOfSchedules, order_said, orders_said}
 use Rattle.order_clauses.specs.declared.order_pair.OrderPair.{OrderPair}
 use Rattle.order_clauses.specs.ClauseOf.{IsClauseOf}
 use Rattle.order_clauses.specs.Numbered.{named_order, named_orders}

@@ -1,13 +1,10 @@
 -- Variables and literals of orders.
-use Rattle.std.proofs.Common.{◌≡◌, ◌≤◌, ◌<◌, ◌+◌, ◌-◌, ℕ, zero, suc, ℤ, pos, negsuc, List, [], ◌∷◌, ◌++◌, length, get_or, true, refl, ap, sym, ◌∙◌, arith, subst, append_assoc}
-use Rattle.std.specs.Prelude.{neg_ℤ}
+use Rattle.std.proofs.Common.{◌≡◌, ◌<◌, ◌+◌, ◌-◌, ℕ, List, [], ◌∷◌, ◌++◌, length, get_or, ap, sym, ◌∙◌, arith, append_assoc}
 use Rattle.std.proofs.lemmas.List.{append-nil, get_or_append_left, length-append}
 use Rattle.std.proofs.Math.Seq.{get_or-append_seam}
-use Rattle.dimacs.specs.Literal.{is_literal_up_to}
 use Rattle.order_clauses.specs.declared.order_pair.OrderPair.{OrderPair}
-use Rattle.order_clauses.specs.Literals.{IsPairOf, SaysOrder}
-use Rattle.order_clauses.specs.OrderVariables.{nowhere, pair_of, order_of, IsExtended}
-use Rattle.order_clauses.specs.Turned.{turned}
+use Rattle.order_clauses.specs.Literals.{IsPairOf}
+use Rattle.order_clauses.specs.OrderVariables.{nowhere, IsExtended}
 
 pub extended_same : (pairs : List OrderPair) → IsExtended pairs pairs
 extended_same pairs = ([], sym (append-nil pairs))

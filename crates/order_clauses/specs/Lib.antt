@@ -5,3 +5,4 @@ pub mod Numbered
 pub mod OrderVariables
 pub mod ReasonList
 pub mod Turned
+pub mod Unmade

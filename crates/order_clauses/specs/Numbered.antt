@@ -1,5 +1,5 @@
 -- Operations by numbers, and orders of them.
-use Rattle.std.specs.Prelude.{ℕ, ◌<◌, List, [], map, length, slice_index_or, IsSome}
+use Rattle.std.specs.Prelude.{◌<◌, List, [], map, length, slice_index_or, IsSome}
 use Rattle.trace_semantics.specs.declared.operation.OpName.{OpName}
 use Rattle.trace_semantics.specs.declared.trace.Process.{Process}
 use Rattle.trace_semantics.specs.Trace.{TraceValue, operation_at}

@@ -1,5 +1,5 @@
 -- What variables and literals say of orders, if the variables are numbered from 1 and each has a pair of operations.
-use Rattle.std.specs.Prelude.{◌≡◌, ◌-◌, ℕ, suc, ℤ, pos, negsuc, List, ◌++◌, map, slice_index_or}
+use Rattle.std.specs.Prelude.{◌≡◌, ◌-◌, ℕ, suc, ℤ, pos, negsuc, List, ◌++◌, slice_index_or}
 use Rattle.std.specs.List.{Contains}
 use Rattle.writer_table.specs.declared.operation_place.OperationPlace.{OperationPlace}
 use Rattle.order_clauses.specs.declared.order_pair.OrderPair.{OrderPair}

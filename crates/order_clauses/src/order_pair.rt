@@ -10,7 +10,7 @@ pub struct OrderPair {
 }
 
 impl OrderPair {
-    ghost use Rattle.std.specs.Prelude.{◌≡◌};
+    ghost use Rattle.std.specs.Prelude.{◌≡◌, ◌==◌};
     ghost use Rattle.order_clauses.specs.Turned.{turned};
 
     /// The second operation stands before the first.
@@ -30,7 +30,9 @@ impl OrderPair {
     }
 
     /// Returns whether both operations are of one process.
-    pub fn is_of_one_process(self) -> bool {
+    pub fn is_of_one_process(self) -> bool
+        ensures { result ≡ (self.first.process == self.second.process) }
+    {
         self.first.process == self.second.process
     }
 }

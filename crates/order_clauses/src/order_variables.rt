@@ -37,9 +37,10 @@ fn is_pair_of(pairs: &[OrderPair], variable: u32, pair: OrderPair) -> bool
 }
 
 impl OrderVariables {
-    ghost use Rattle.std.specs.Prelude.{[], IfOk, IfSome, OnOk};
+    ghost use Rattle.std.specs.Prelude.{[], None, IfOk, IfSome, OnOk};
     ghost use Rattle.order_clauses.specs.OrderVariables.{IsExtended};
     ghost use Rattle.order_clauses.specs.Literals.{SaysOrder};
+    ghost use Rattle.order_clauses.specs.Unmade.{AreFull};
 
     /// No variables yet.
     pub fn new(alloc: Global) -> OrderVariables
@@ -74,6 +75,7 @@ impl OrderVariables {
     fn add(&mut self, pair: OrderPair) -> Result<Option<u32>, AllocError>
         ensures extended { OnOk result (IsExtended self.old self.new) }
         ensures pair { IfOk result (λ found. IfSome found (λ variable. IsPairOf self.new variable pair)) }
+        ensures full { IfOk result (λ found. found ≡ None → AreFull self.new) }
     {
         let count = self.pairs.len();
         if count >= MAX_VARIABLE as usize {
@@ -89,6 +91,7 @@ impl OrderVariables {
     fn variable(&mut self, pair: OrderPair) -> Result<Option<u32>, AllocError>
         ensures extended { OnOk result (IsExtended self.old self.new) }
         ensures pair { IfOk result (λ found. IfSome found (λ variable. IsPairOf self.new variable pair)) }
+        ensures full { IfOk result (λ found. found ≡ None → AreFull self.new) }
     {
         if let Some(variable) = self.find(pair) {
             return Ok(Some(variable));
@@ -102,6 +105,7 @@ impl OrderVariables {
     pub fn literal(&mut self, order: OrderPair) -> Result<Option<Lit>, AllocError>
         ensures extended { OnOk result (IsExtended self.old self.new) }
         ensures says { IfOk result (λ found. IfSome found (λ literal. SaysOrder self.new literal order)) }
+        ensures full { IfOk result (λ found. found ≡ None → AreFull self.new) }
     {
         let rising = order.is_rising();
         let pair = if rising { order } else { order.turned() };

@@ -1,10 +1,11 @@
 //! The clauses that a certificate names.
 
-ghost use Rattle.std.specs.Prelude.{◌≡◌, ◌++◌, ◌∷◌, [], List, IfOk, OnOk};
+ghost use Rattle.std.specs.Prelude.{◌≡◌, ◌⊎◌, ◌++◌, ◌∷◌, [], List, IfOk, OnOk};
 ghost use Rattle.order_clauses.specs.ClauseOf.{IsClauseOf};
 ghost use Rattle.order_clauses.specs.OrderVariables.{IsExtended};
 ghost use Rattle.order_clauses.specs.declared.order_pair.OrderPair.{OrderPair as Order};
-ghost use Rattle.order_clauses.specs.declared.reason_list.ClauseOutcome.TheVariants.{Made};
+ghost use Rattle.order_clauses.specs.Unmade.{AreAlwaysTrue, AreFull, IsAlwaysTrue};
+ghost use Rattle.order_clauses.specs.declared.reason_list.ClauseOutcome.TheVariants.{Made, AlwaysTrue, TooManyVariables};
 
 use crate::literal_places::LiteralPlaces;
 use crate::order_pair::OrderPair;
@@ -40,6 +41,8 @@ fn put_order(
 ) -> Result<ClauseOutcome, AllocError>
     ensures extended { OnOk result (IsExtended variables.old variables.new) }
     ensures says { IfOk result (λ outcome. outcome ≡ Made → (orders : List Order) → IsClauseOf variables.old orders literals.old.items → IsClauseOf variables.new (orders ++ order ∷ []) literals.new.items) }
+    ensures always { IfOk result (λ outcome. outcome ≡ AlwaysTrue → (orders : List Order) → IsClauseOf variables.old orders literals.old.items → IsAlwaysTrue orders order) }
+    ensures full { IfOk result (λ outcome. outcome ≡ TooManyVariables → AreFull variables.new) }
 {
     if order.is_of_one_process() {
         return Ok(ClauseOutcome::AlwaysTrue);
@@ -63,6 +66,9 @@ fn put_orders(
 ) -> Result<ClauseOutcome, AllocError>
     ensures extended { OnOk result (IsExtended variables.old variables.new) }
     ensures says { IfOk result (λ outcome. outcome ≡ Made → literals.old.items ≡ [] → IsClauseOf variables.new orders.now literals.new.items) }
+    ensures none { IfOk result (λ outcome. orders.now ≡ [] → outcome ≡ Made) }
+    ensures always { IfOk result (λ outcome. outcome ≡ AlwaysTrue → literals.old.items ≡ [] → AreAlwaysTrue orders.now) }
+    ensures full { IfOk result (λ outcome. outcome ≡ TooManyVariables → AreFull variables.new) }
 {
     for order in orders {
         let outcome = put_order(variables, places, literals, *order)?;
@@ -105,6 +111,9 @@ impl ReasonList {
     /// Appends the clause that one of the orders stands.
     pub fn add(&mut self, alloc: Global, orders: &[OrderPair]) -> Result<ClauseOutcome, AllocError>
         ensures appended { IfOk result (λ outcome. outcome ≡ Made → IsAppended self.old self.new orders.now) }
+        ensures none { IfOk result (λ outcome. orders.now ≡ [] → outcome ≡ Made) }
+        ensures always { IfOk result (λ outcome. outcome ≡ AlwaysTrue → AreAlwaysTrue orders.now) }
+        ensures full { IfOk result (λ outcome. outcome ≡ TooManyVariables → AreFull self.new.variables) }
         ensures hold { OnOk result ((t : TraceValue) → HoldsOfSchedules t (named_orders t orders.now) → HoldReasons t self.old.variables self.old.clauses.items → HoldReasons t self.new.variables self.new.clauses.items) }
     {
         let mut literals = Vec::with_capacity(alloc, orders.len())?;
@@ -119,6 +128,7 @@ impl ReasonList {
     /// Numbers the pair of the order, if it has no variable yet. No clause changes.
     pub fn number(&mut self, order: OrderPair) -> Result<ClauseOutcome, AllocError>
         ensures same { OnOk result (HasSameClauses self.old self.new) }
+        ensures numbered { IfOk result (λ outcome. (outcome ≡ Made) ⊎ ((outcome ≡ TooManyVariables) × AreFull self.new.variables)) }
         ensures hold { OnOk result ((t : TraceValue) → HoldReasons t self.old.variables self.old.clauses.items → HoldReasons t self.new.variables self.new.clauses.items) }
     {
         match self.variables.literal(order)? {

@@ -1,4 +1,4 @@
-use Rattle.std.proofs.Common.{◌≡◌, List, ◌∷◌, ◌++◌, [], sym, ◌∙◌, subst, ap, rules}
+use Rattle.std.proofs.Common.{◌≡◌, List, sym, ◌∙◌, subst, rules}
 use Rattle.std.specs.Prelude.{ℤ}
 use Rattle.order_clauses.specs.declared.reason_list.ClauseOutcome.TheVariants.{Made}
 use Rattle.order_clauses.specs.declared.reason_list.ReasonList.{ReasonList}
