@@ -1,6 +1,5 @@
 -- What makers append, one order after the other.
-use Rattle.std.proofs.Common.{◌≡◌, ◌<◌, ◌⊎◌, List, [], ◌∷◌, ◌++◌, ap, sym, subst, inl, inr}
-use Rattle.std.specs.List.{Contains}
+use Rattle.std.proofs.Common.{List, [], ◌∷◌, ◌++◌, ap, sym, subst, inl, inr}
 use Rattle.std.proofs.lemmas.List.Elements.{Contains-push_cases}
 use Rattle.order_clauses.specs.declared.order_pair.OrderPair.{OrderPair}
 use Rattle.reason_clauses.specs.AddedOrders.{AddsOnly, IsOpen, IsOrder}
@@ -16,3 +15,13 @@ adds_over old mid new P Q weaker first second o c = elim (second o c) [
   | inl d ↦ first o d
   | inr h ↦ inr (weaker o h.0, h.1)
 ]
+
+pub adds_weaker : (old new : List OrderPair) (P Q : OrderPair → Type 0) → ((o : OrderPair) → P o → Q o) → AddsOnly old new P → AddsOnly old new Q
+adds_weaker old new P Q weaker so o c = elim (so o c) [
+  | inl d ↦ inl d
+  | inr h ↦ inr (weaker o h.0, h.1)
+]
+
+-- first orders of one kind, then of another
+pub adds_both : (old mid new : List OrderPair) (P Q R : OrderPair → Type 0) → ((o : OrderPair) → P o → R o) → ((o : OrderPair) → Q o → R o) → AddsOnly old mid P → AddsOnly mid new Q → AddsOnly old new R
+adds_both old mid new P Q R left right first second = adds_over old mid new Q R right (adds_weaker old mid P R left first) second

@@ -7,5 +7,10 @@ pub mod NumberLemmas
 pub mod NumberedLemmas
 pub mod OwnLemmas
 pub mod PairLemmas
+pub mod PieceLemmas
+pub mod PutLemmas
+pub mod ReaderLemmas
 pub mod RefusedLemmas
+pub mod RunLemmas
 pub mod SourceLemmas
+pub mod StretchLemmas

@@ -15,3 +15,8 @@ module _ (P Q : ReasonCause → Type 0) where
   pub refusal_on : {A : Type 0} (r : Result A (PlainFault ReasonCause)) (refusal : PlainFault ReasonCause) → IsErrAnd r (λ other. other ≡ refusal) → ((cause : ReasonCause) → P cause → Q cause) → IsRefusedBy P refusal → IfErr r (IsRefusedBy Q)
   refusal_on (Ok x) refusal e f h = absurd e
   refusal_on (Err other) refusal e f h = weaker f other (subst (λ o. IsRefusedBy P o) (sym e) h)
+
+  -- a result is handed on, with a refusal for a weaker cause
+  pub result_on : {A : Type 0} (r : Result A (PlainFault ReasonCause)) → ((cause : ReasonCause) → P cause → Q cause) → IfErr r (IsRefusedBy P) → IfErr r (IsRefusedBy Q)
+  result_on (Ok x) f h = tt
+  result_on (Err refusal) f h = weaker f refusal h

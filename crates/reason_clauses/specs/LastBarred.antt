@@ -1,5 +1,5 @@
 -- Which possible last writers of a location the new orders of a clause bar.
-use Rattle.std.specs.Prelude.{◌≡◌, ◌≢◌, ◌⊎◌, ℕ, List, Option, Some, None, IsSome, IfSome}
+use Rattle.std.specs.Prelude.{◌≡◌, ◌≢◌, ◌⊎◌, ◌<◌, ℕ, List, length, Option, Some, None, IsSome, IfSome}
 use Rattle.std.specs.List.{All, Contains}
 use Rattle.trace_semantics.specs.declared.operation.Op.{Op}
 use Rattle.trace_semantics.specs.declared.operation.OpName.{OpName}
@@ -7,6 +7,7 @@ use Rattle.trace_semantics.specs.Trace.{TraceValue, value_of}
 use Rattle.trace_semantics.specs.ValueAfter.{value_left_at}
 use Rattle.restriction.specs.Restriction.{left_by}
 use Rattle.writer_table.specs.declared.operation_place.OperationPlace.{OperationPlace}
+use Rattle.writer_table.specs.Runs.{IsIn}
 use Rattle.writer_table.specs.declared.runs.Run.{Run}
 use Rattle.order_clauses.specs.declared.order_pair.OrderPair.{OrderPair}
 use Rattle.order_clauses.specs.Numbered.{named, IsKnown}
@@ -15,7 +16,6 @@ use Rattle.reason_clauses.specs.declared.barring.MainPiece.{MainPiece}
 use Rattle.reason_clauses.specs.declared.barring.MainPiece.TheVariants.{Plain, Witness, Between}
 use Rattle.reason_clauses.specs.declared.pieces.ProcessPieces.{ProcessPieces}
 use Rattle.reason_clauses.specs.declared.pieces.SourcePieces.{SourcePieces}
-use Rattle.reason_clauses.specs.Barred.{IsKnownRun}
 use Rattle.reason_clauses.specs.Makers.{read_by}
 use Rattle.reason_clauses.specs.Numbered.{at_number, AreIn}
 
@@ -45,11 +45,29 @@ pub record AreGivenLate (t : TraceValue) (location : List ℕ) (pieces : SourceP
 abbrev pub HasWriter : TraceValue → List ℕ → Type 0
 HasWriter t location = (w : OpName) × IsSome (value_left_at t location w)
 
--- each clause that has the new orders bars what may be the last writer of the location in the run
-abbrev pub IsLastRunBarred : TraceValue → List OrderPair → List ℕ → SourcePieces → Run → Type 0
-IsLastRunBarred t new location pieces run = (clause : List (OpName × OpName)) → AreIn t new clause → AreGivenLate t location pieces → IsKnownRun t run → (k e : ℕ) → Contains run.places k →
-    value_left_at t location (named t (at_number run.process k)) ≡ Some e → MayBeFinal (value_of t.final_values location) e → IsLastBarred t clause location (named t (at_number run.process k))
+-- the operation, if the trace has it, does not write the location
+abbrev pub IsUnwrittenBy : TraceValue → List ℕ → OperationPlace → Type 0
+IsUnwrittenBy t location n = IsKnown t n → value_left_at t location (named t n) ≡ None
 
--- the same in each of the runs
-abbrev pub AreLastRunsBarred : TraceValue → List OrderPair → List ℕ → SourcePieces → List Run → Type 0
-AreLastRunsBarred t new location pieces runs = (run : Run) → Contains runs run → IsLastRunBarred t new location pieces run
+-- the runs have each operation that writes the location
+abbrev pub HasAllWriters : TraceValue → List ℕ → List Run → Type 0
+HasAllWriters t location runs = (q k d : ℕ) → q < length t.processes → value_left_at t location (named t (at_number q k)) ≡ Some d → IsIn runs q k
+
+-- the places of the run are those of the operations of its process that write the location
+pub record IsWriterRun (t : TraceValue) (location : List ℕ) (run : Run) : Type 0 where
+  pub all : (k d : ℕ) → IsKnown t (at_number run.process k) → value_left_at t location (named t (at_number run.process k)) ≡ Some d → Contains run.places k
+  pub only : (k : ℕ) → Contains run.places k → IsKnown t (at_number run.process k) × IsSome (value_left_at t location (named t (at_number run.process k)))
+
+-- of each process that writes the location one run has all operations that do, and the runs have no others
+pub record AreWriterRuns (t : TraceValue) (location : List ℕ) (runs : List Run) : Type 0 where
+  pub all : HasAllWriters t location runs
+  pub each : (run : Run) → Contains runs run → IsWriterRun t location run
+
+-- each clause that has the new orders bars what may be the last writer of the location in the process
+abbrev pub IsLastOfProcessBarred : TraceValue → List OrderPair → List ℕ → SourcePieces → ℕ → Type 0
+IsLastOfProcessBarred t new location pieces process = (clause : List (OpName × OpName)) → AreIn t new clause → AreGivenLate t location pieces → (k e : ℕ) → IsKnown t (at_number process k) →
+    value_left_at t location (named t (at_number process k)) ≡ Some e → MayBeFinal (value_of t.final_values location) e → IsLastBarred t clause location (named t (at_number process k))
+
+-- the same in each process that one of the runs is of
+abbrev pub AreLastsBarred : TraceValue → List OrderPair → List ℕ → SourcePieces → List Run → Type 0
+AreLastsBarred t new location pieces runs = (run : Run) → Contains runs run → IsLastOfProcessBarred t new location pieces run.process

@@ -1,7 +1,11 @@
 //! What bars sources of a reading operation.
 
-ghost use Rattle.std.specs.Prelude.{◌≤◌, ⊤, OnOk};
-ghost use Rattle.reason_clauses.specs.Numbered.{Grows, MakesHidden, MakesApart, BarsPlaces, IsGivenWitness, IsGivenFront, IsInHidden, IsFrom, IsInMain, AreTaken};
+ghost use Rattle.std.specs.Prelude.{◌≡◌, ◌≤◌, ◌⊎◌, ⊤, Some, OnOk, IfErr};
+ghost use Rattle.reason_clauses.specs.AddedOrders.{AddsOnly, IsOrder};
+ghost use Rattle.reason_clauses.specs.RefusedBy.{IsRefusedBy};
+ghost use Rattle.reason_clauses.specs.StretchOrders.{IsTakenOrder, IsRestOrder, IsTakenRefused, IsRestRefused};
+ghost use Rattle.reason_clauses.specs.declared.cause.ReasonCause.TheVariants.{HidesItself};
+ghost use Rattle.reason_clauses.specs.Numbered.{at_number, Grows, MakesHidden, MakesApart, BarsPlaces, IsGivenWitness, IsGivenFront, IsInHidden, IsFrom, IsInMain, AreTaken};
 ghost use Rattle.reason_clauses.specs.Mains.{IsGivenMain};
 
 use crate::cause::{ReasonCause, ReasonRefusal};
@@ -21,6 +25,7 @@ pub fn bar_hidden(
 ) -> Result<(), AllocError>
     ensures grows { OnOk result (Grows orders.old.items orders.new.items) }
     ensures hidden { OnOk result (MakesHidden orders.new.items reader witness bound) }
+    ensures only { OnOk result (AddsOnly orders.old.items orders.new.items (λ o. IsOrder witness bound o ⊎ IsOrder reader witness o)) }
 {
     push_order(orders, witness, bound)?;
     push_order(orders, reader, witness)?;
@@ -36,6 +41,7 @@ pub fn bar_apart(
 ) -> Result<(), AllocError>
     ensures grows { OnOk result (Grows orders.old.items orders.new.items) }
     ensures apart { OnOk result (MakesApart orders.new.items reader bound between) }
+    ensures only { OnOk result (AddsOnly orders.old.items orders.new.items (λ o. IsOrder bound between o ⊎ IsOrder between reader o)) }
 {
     push_order(orders, bound, between)?;
     push_order(orders, between, reader)?;
@@ -63,6 +69,8 @@ fn bar_up_to(
 ) -> Result<(), ReasonRefusal>
     ensures grows { OnOk result (Grows orders.old.items orders.new.items) }
     ensures bars { OnOk result (BarsPlaces orders.new.items reader process (λ t location d. IsGivenWitness t location d reader witness) (λ n p. (p ≤ place) × (place ≤ n))) }
+    ensures only { OnOk result (AddsOnly orders.old.items orders.new.items (λ o. IsOrder witness (at_number process place) o ⊎ IsOrder reader witness o)) }
+    ensures refused { IfErr result (IsRefusedBy (λ cause. (witness ≡ at_number process place) × (cause ≡ HidesItself))) }
 {
     let bound = OperationPlace { process, place };
     if are_same(witness, bound) {
@@ -82,6 +90,8 @@ fn bar_front(
 ) -> Result<(), ReasonRefusal>
     ensures grows { OnOk result (Grows orders.old.items orders.new.items) }
     ensures bars { OnOk result (BarsPlaces orders.new.items reader process (λ t location d. IsGivenFront t location d reader witness) (IsInHidden s)) }
+    ensures only { OnOk result (AddsOnly orders.old.items orders.new.items (IsTakenOrder reader process s witness)) }
+    ensures refused { IfErr result (IsRefusedBy (IsTakenRefused process s witness)) }
 {
     if s.hidden == 0 {
         return Ok(());
@@ -102,6 +112,7 @@ fn bar_from(
 ) -> Result<(), AllocError>
     ensures grows { OnOk result (Grows orders.old.items orders.new.items) }
     ensures bars { OnOk result (BarsPlaces orders.new.items reader process (λ t location d. ⊤) (IsFrom place)) }
+    ensures only { OnOk result (AddsOnly orders.old.items orders.new.items (λ o. (1 ≤ place) × IsOrder (at_number process place) reader o)) }
 {
     if place == 0 {
         return Ok(());
@@ -120,6 +131,8 @@ fn bar_main(
 ) -> Result<(), ReasonRefusal>
     ensures grows { OnOk result (Grows orders.old.items orders.new.items) }
     ensures bars { OnOk result (BarsPlaces orders.new.items reader process (λ t location d. IsGivenMain t location d reader main) (IsInMain s)) }
+    ensures only { OnOk result (AddsOnly orders.old.items orders.new.items (IsRestOrder reader process s main)) }
+    ensures refused { IfErr result (IsRefusedBy (IsRestRefused process s main)) }
 {
     if s.first == 0 {
         return Ok(());
@@ -155,6 +168,8 @@ pub fn bar_process(
 ) -> Result<(), ReasonRefusal>
     ensures grows { OnOk result (Grows orders.old.items orders.new.items) }
     ensures bars { OnOk result (BarsPlaces orders.new.items reader process (λ t location d. IsGivenFront t location d reader witness × IsGivenMain t location d reader main) (AreTaken s)) }
+    ensures only { OnOk result (AddsOnly orders.old.items orders.new.items (λ o. IsTakenOrder reader process s witness o ⊎ IsRestOrder reader process s main o)) }
+    ensures refused { IfErr result (IsRefusedBy (λ cause. IsTakenRefused process s witness cause ⊎ IsRestRefused process s main cause)) }
 {
     bar_front(orders, reader, process, s, witness)?;
     bar_from(orders, reader, process, s.later)?;

@@ -1,25 +1,30 @@
 //! The clause that a location has a last writer.
 
-ghost use Rattle.std.specs.Prelude.{◌≡◌, ◌≢◌, ◌⊎◌, true, false, ℕ, List, [], Some, IfSome, OnOk};
+ghost use Rattle.std.specs.Prelude.{◌≡◌, ◌≢◌, true, false, ℕ, List, Some, IfSome, OnOk, IfOk, IfErr};
+ghost use Rattle.std.specs.Bool.{MatchBool};
 ghost use Rattle.std.specs.List.{All};
 ghost use Rattle.trace_semantics.specs.Trace.{TraceValue, value_of};
+ghost use Rattle.writer_table.specs.declared.operation_place.OperationPlace.{OperationPlace as Place};
 ghost use Rattle.order_reasons.specs.Orders.{HoldsOfSchedules};
 ghost use Rattle.order_clauses.specs.Numbered.{named_orders};
-ghost use Rattle.reason_clauses.specs.LastBarred.{DoesHideLate, IsGivenLate, AreGivenLate, IsLastRunBarred, AreLastRunsBarred, MayBeFinal, HasWriter, witness_of};
+ghost use Rattle.reason_clauses.specs.AddedOrders.{AddsOnly};
+ghost use Rattle.reason_clauses.specs.LastBarred.{AreGivenLate, AreLastsBarred, AreWriterRuns, DoesHideLate, HasWriter, IsGivenLate, IsLastOfProcessBarred, IsUnwrittenBy, IsWriterRun, MayBeFinal, witness_of};
+ghost use Rattle.reason_clauses.specs.LastRefused.{AreNotGivenLate, IsLastOrder, IsLastRefused, IsLastWriterRefused, IsNoLateWitness, IsPossibleLast, IsWitnessOf, late_taker};
 ghost use Rattle.reason_clauses.specs.Made.{Makes, IsLastOf};
-ghost use Rattle.reason_clauses.specs.Numbered.{Grows};
+ghost use Rattle.reason_clauses.specs.Numbered.{Grows, at_number};
+ghost use Rattle.reason_clauses.specs.RefusedBy.{IsRefusedBy};
 ghost use Rattle.reason_clauses.specs.Tables.{HoldTables};
+ghost use Rattle.reason_clauses.specs.declared.cause.ReasonCause.TheVariants.{NoWriter};
 
 use crate::barring::MainPiece;
 use crate::cause::{ReasonCause, ReasonRefusal};
 use crate::held_at::{is_held_at, value_at};
 use crate::lookups::{are_same, operation_of};
 use crate::orders::push_order;
-use crate::own::last_of;
+use crate::own::{last_of, left_there};
 use crate::pieces::{ProcessPieces, SourcePieces};
 use crate::writer_tables::WriterTables;
 use order_clauses::order_pair::OrderPair;
-use restriction::left_value::left_at;
 use trace_semantics::operation::Op;
 use trace_semantics::trace::Trace;
 use writer_table::operation_place::OperationPlace;
@@ -27,7 +32,8 @@ use writer_table::runs::Run;
 
 /// Returns whether the operation writes the location, or reads another value there than the final one, if there is one.
 fn hides_late(op: &Op, location: &[u8], final_value: Option<u64>) -> bool
-    ensures { result ≡ true → DoesHideLate location.now final_value op.now }
+    ensures only { result ≡ true → DoesHideLate location.now final_value op.now }
+    ensures found { DoesHideLate location.now final_value op.now → result ≡ true }
 {
     if op.location().as_bytes() != location {
         return false;
@@ -51,7 +57,8 @@ fn want_late(
     location: &[u8],
     final_value: Option<u64>,
 ) -> Result<(), ReasonRefusal>
-    ensures { OnOk result (value_of trace.now.final_values location.now ≡ final_value → IsGivenLate trace.now location.now witness) }
+    ensures given { OnOk result (value_of trace.now.final_values location.now ≡ final_value → IsGivenLate trace.now location.now witness) }
+    ensures refused { IfErr result (IsRefusedBy (λ cause. value_of trace.now.final_values location.now ≡ final_value → IsNoLateWitness trace.now location.now witness cause)) }
 {
     let op = operation_of(trace, witness)?;
     if !hides_late(op, location, final_value) {
@@ -67,7 +74,8 @@ fn want_late_front(
     location: &[u8],
     final_value: Option<u64>,
 ) -> Result<(), ReasonRefusal>
-    ensures { OnOk result (value_of trace.now.final_values location.now ≡ final_value → IfSome witness (IsGivenLate trace.now location.now)) }
+    ensures given { OnOk result (value_of trace.now.final_values location.now ≡ final_value → IfSome witness (IsGivenLate trace.now location.now)) }
+    ensures refused { IfErr result (IsRefusedBy (λ cause. value_of trace.now.final_values location.now ≡ final_value → (x : Place) × (witness ≡ Some x) × IsNoLateWitness trace.now location.now x cause)) }
 {
     match witness {
         Some(x) => want_late(trace, x, location, final_value),
@@ -82,7 +90,8 @@ fn want_late_fronts(
     location: &[u8],
     final_value: Option<u64>,
 ) -> Result<(), ReasonRefusal>
-    ensures { OnOk result (value_of trace.now.final_values location.now ≡ final_value → All (λ p. IfSome p.witness (IsGivenLate trace.now location.now)) pieces.now) }
+    ensures given { OnOk result (value_of trace.now.final_values location.now ≡ final_value → All (λ p. IfSome p.witness (IsGivenLate trace.now location.now)) pieces.now) }
+    ensures refused { IfErr result (IsRefusedBy (λ cause. value_of trace.now.final_values location.now ≡ final_value → (x : Place) × IsWitnessOf pieces.now x × IsNoLateWitness trace.now location.now x cause)) }
 {
     for piece in pieces {
         want_late_front(trace, piece.witness, location, final_value)?;
@@ -108,19 +117,21 @@ pub fn want_late_pieces(
     location: &[u8],
     final_value: Option<u64>,
 ) -> Result<(), ReasonRefusal>
-    ensures { OnOk result (value_of trace.now.final_values location.now ≡ final_value → AreGivenLate trace.now location.now pieces.now) }
+    ensures given { OnOk result (value_of trace.now.final_values location.now ≡ final_value → AreGivenLate trace.now location.now pieces.now) }
+    ensures refused { IfErr result (IsRefusedBy (λ cause. value_of trace.now.final_values location.now ≡ final_value → AreNotGivenLate trace.now location.now pieces.now cause)) }
 {
     want_late_fronts(trace, pieces.processes(), location, final_value)?;
     want_late_front(trace, main_witness(pieces), location, final_value)?;
     Ok(())
 }
 
-/// The witness of the piece that takes this place of the process, if one does.
-pub fn late_witness(pieces: &SourcePieces, process: u32, place: u32) -> Option<OperationPlace>
-    ensures { (t : TraceValue) (location : List ℕ) → AreGivenLate t location pieces.now → IfSome result (IsGivenLate t location) }
+/// The witness of the piece that takes the operation, if one does.
+pub fn late_witness(pieces: &SourcePieces, n: OperationPlace) -> Option<OperationPlace>
+    ensures given { (t : TraceValue) (location : List ℕ) → AreGivenLate t location pieces.now → IfSome result (IsGivenLate t location) }
+    ensures taker { result ≡ late_taker pieces.now n }
 {
-    let piece = pieces.of_process(process);
-    if place <= piece.bound {
+    let piece = pieces.of_process(n.process);
+    if n.place <= piece.bound {
         return piece.witness;
     }
     main_witness(pieces)
@@ -128,7 +139,8 @@ pub fn late_witness(pieces: &SourcePieces, process: u32, place: u32) -> Option<O
 
 /// Returns whether the value may be the final one.
 pub fn may_be_final(final_value: Option<u64>, left: u64) -> bool
-    ensures { result ≡ false → MayBeFinal final_value left → ⊥ }
+    ensures found { result ≡ false → MayBeFinal final_value left → ⊥ }
+    ensures only { result ≡ true → MayBeFinal final_value left }
 {
     match final_value {
         Some(value) => value == left,
@@ -136,7 +148,8 @@ pub fn may_be_final(final_value: Option<u64>, left: u64) -> bool
     }
 }
 
-/// Bars what may be the last writer in a run: the last of the run, if it leaves the final value or there is none.
+/// Bars what may be the last writer in a process: the last of its run, if it leaves the final value or there is none. Returns whether the
+/// run has an operation.
 fn bar_last(
     trace: &Trace,
     location: &[u8],
@@ -144,34 +157,37 @@ fn bar_last(
     run: &Run,
     pieces: &SourcePieces,
     orders: &mut Vec<OrderPair>,
-) -> Result<(), ReasonRefusal>
+) -> Result<bool, ReasonRefusal>
+    requires final_value { value_of trace.now.final_values location.now ≡ final_value }
+    requires run { IsWriterRun trace.now location.now run.now }
     ensures grows { OnOk result (Grows orders.old.items orders.new.items) }
-    ensures bars { OnOk result (value_of trace.now.final_values location.now ≡ final_value → IsLastRunBarred trace.now orders.new.items location.now pieces.now run.now) }
-    ensures writes { OnOk result (HasWriter trace.now location.now) }
+    ensures bars { OnOk result (IsLastOfProcessBarred trace.now orders.new.items location.now pieces.now run.now.process) }
+    ensures writes { IfOk result (λ does. MatchBool does (HasWriter trace.now location.now) ((k : ℕ) → IsUnwrittenBy trace.now location.now (at_number run.now.process k))) }
+    ensures only { OnOk result (AddsOnly orders.old.items orders.new.items (IsLastOrder trace.now location.now pieces.now)) }
+    ensures refused { IfErr result (IsRefusedBy (λ cause. (w : Place) × IsPossibleLast trace.now location.now w × IsLastWriterRefused pieces.now w cause)) }
 {
     trace.recall_invariant();
     let bound = OperationPlace {
         process: run.process,
         place: last_of(&run.places),
     };
-    let op = operation_of(trace, bound)?;
-    let Some(left) = left_at(op, location) else {
-        return Err(ReasonRefusal::For(ReasonCause::NoOperation));
+    let Some(left) = left_there(trace, bound, location) else {
+        return Ok(false);
     };
     if !may_be_final(final_value, left) {
-        return Ok(());
+        return Ok(true);
     }
-    let Some(x) = late_witness(pieces, run.process, bound.place) else {
+    let Some(x) = late_witness(pieces, bound) else {
         return Err(ReasonRefusal::For(ReasonCause::LastLeft));
     };
     if are_same(x, bound) {
         return Err(ReasonRefusal::For(ReasonCause::HidesItself));
     }
     push_order(orders, x, bound)?;
-    Ok(())
+    Ok(true)
 }
 
-/// Bars what may be the last writer in these runs.
+/// Bars what may be the last writer in these runs, and returns whether they have an operation.
 fn bar_lasts(
     trace: &Trace,
     location: &[u8],
@@ -179,19 +195,26 @@ fn bar_lasts(
     runs: &[Run],
     pieces: &SourcePieces,
     orders: &mut Vec<OrderPair>,
-) -> Result<(), ReasonRefusal>
-    ensures bars { OnOk result (value_of trace.now.final_values location.now ≡ final_value → AreLastRunsBarred trace.now orders.new.items location.now pieces.now runs.now) }
-    ensures writes { OnOk result ((runs.now ≡ []) ⊎ HasWriter trace.now location.now) }
+) -> Result<bool, ReasonRefusal>
+    requires final_value { value_of trace.now.final_values location.now ≡ final_value }
+    requires runs { AreWriterRuns trace.now location.now runs.now }
+    ensures bars { OnOk result (AreLastsBarred trace.now orders.new.items location.now pieces.now runs.now) }
+    ensures writes { IfOk result (λ does. MatchBool does (HasWriter trace.now location.now) (HasWriter trace.now location.now → ⊥)) }
+    ensures only { OnOk result (AddsOnly orders.old.items orders.new.items (IsLastOrder trace.now location.now pieces.now)) }
+    ensures refused { IfErr result (IsRefusedBy (λ cause. (w : Place) × IsPossibleLast trace.now location.now w × IsLastWriterRefused pieces.now w cause)) }
 {
+    let mut is_written = false;
     for run in runs {
-        bar_last(trace, location, final_value, run, pieces, orders)?;
+        let writes = bar_last(trace, location, final_value, run, pieces, orders)?;
+        is_written |= writes;
     }
-    Ok(())
+    Ok(is_written)
 }
 
 /// Refuses a location whose final value is the initial one, or that has none.
 fn want_lost(trace: &Trace, location: &[u8], final_value: Option<u64>) -> Result<(), ReasonRefusal>
-    ensures { OnOk result ((d : ℕ) × (final_value ≡ Some d) × (value_of trace.now.initial location.now ≢ Some d)) }
+    ensures lost { OnOk result ((d : ℕ) × (final_value ≡ Some d) × (value_of trace.now.initial location.now ≢ Some d)) }
+    ensures refused { IfErr result (IsRefusedBy (λ cause. ((d : ℕ) → final_value ≡ Some d → value_of trace.now.initial location.now ≡ Some d) × (cause ≡ NoWriter))) }
 {
     let Some(value) = final_value else {
         return Err(ReasonRefusal::For(ReasonCause::NoWriter));
@@ -214,15 +237,17 @@ pub fn last_clause(
     requires { HoldTables trace.now writers.now }
     ensures made { OnOk result (Makes trace.now orders.new.items (IsLastOf trace.now location.now)) }
     ensures holds { OnOk result (HoldsOfSchedules trace.now (named_orders trace.now orders.new.items)) }
+    ensures only { OnOk result (AddsOnly orders.old.items orders.new.items (IsLastOrder trace.now location.now pieces.now)) }
+    ensures refused { IfErr result (IsRefusedBy (IsLastRefused trace.now location.now pieces.now)) }
 {
     trace.recall_invariant();
     let final_value = value_at(trace.final_values(), location);
     want_late_pieces(trace, pieces, location, final_value)?;
     let runs = writers.by_location.runs(location, 0);
-    if runs.is_empty() {
-        want_lost(trace, location, final_value)?;
+    let is_written = bar_lasts(trace, location, final_value, runs, pieces, orders)?;
+    if is_written {
         return Ok(());
     }
-    bar_lasts(trace, location, final_value, runs, pieces, orders)?;
+    want_lost(trace, location, final_value)?;
     Ok(())
 }

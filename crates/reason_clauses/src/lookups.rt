@@ -1,12 +1,14 @@
 //! Operations of a trace by their numbers, and what they say of a value.
 
-ghost use Rattle.std.specs.Prelude.{◌≡◌, ◌<◌, true, length, None, IfSome, OnOk, IfOk, IfErr};
+ghost use Rattle.std.specs.Prelude.{◌≡◌, ◌<◌, true, length, None, Some, IfSome, OnOk, IfOk, IfErr};
 ghost use Rattle.std.specs.Str.{bytes_eq};
 ghost use Rattle.order_clauses.specs.Numbered.{named, IsKnown};
 ghost use Rattle.order_reasons.specs.Sources.{AllowsWriter};
+ghost use Rattle.writer_table.specs.declared.operation_place.OperationPlace.{OperationPlace as Place};
 ghost use Rattle.reason_clauses.specs.Numbered.{IsGivenWitness, IsGivenFront};
 ghost use Rattle.reason_clauses.specs.Makers.{IsNumberOf, DoesHide};
 ghost use Rattle.reason_clauses.specs.RefusedBy.{IsMissingNumber, IsRefusedBy};
+ghost use Rattle.reason_clauses.specs.SourceRefused.{IsNoWitness};
 
 use crate::cause::{ReasonCause, ReasonRefusal};
 use trace_semantics::name::Name;
@@ -54,7 +56,8 @@ pub fn are_same(first: OperationPlace, second: OperationPlace) -> bool
 
 /// Returns whether the operation writes the location, or reads another value there.
 fn hides(op: &Op, location: &[u8], value: u64) -> bool
-    ensures { result ≡ true → DoesHide location.now value op.now }
+    ensures only { result ≡ true → DoesHide location.now value op.now }
+    ensures found { DoesHide location.now value op.now → result ≡ true }
 {
     if op.location().as_bytes() != location {
         return false;
@@ -76,7 +79,8 @@ fn is_witness(
     location: &[u8],
     value: u64,
 ) -> bool
-    ensures { result ≡ true → IsKnown trace.now reader → IsGivenWitness trace.now location.now value reader witness }
+    ensures only { result ≡ true → IsKnown trace.now reader → IsGivenWitness trace.now location.now value reader witness }
+    ensures found { IsGivenWitness trace.now location.now value reader witness → result ≡ true }
 {
     trace.recall_invariant();
     if are_same(witness, reader) {
@@ -96,7 +100,8 @@ pub fn want_witness(
     location: &[u8],
     value: u64,
 ) -> Result<(), ReasonRefusal>
-    ensures { OnOk result (IsKnown trace.now reader → IsGivenWitness trace.now location.now value reader witness) }
+    ensures given { OnOk result (IsKnown trace.now reader → IsGivenWitness trace.now location.now value reader witness) }
+    ensures refused { IfErr result (IsRefusedBy (IsNoWitness trace.now location.now value reader witness)) }
 {
     if is_witness(trace, reader, witness, location, value) {
         Ok(())
@@ -113,7 +118,8 @@ pub fn want_front(
     location: &[u8],
     value: u64,
 ) -> Result<(), ReasonRefusal>
-    ensures { OnOk result (IsKnown trace.now reader → IsGivenFront trace.now location.now value reader witness) }
+    ensures given { OnOk result (IsKnown trace.now reader → IsGivenFront trace.now location.now value reader witness) }
+    ensures refused { IfErr result (IsRefusedBy (λ cause. (x : Place) × (witness ≡ Some x) × IsNoWitness trace.now location.now value reader x cause)) }
 {
     match witness {
         Some(x) => want_witness(trace, reader, x, location, value),
@@ -150,7 +156,8 @@ pub fn is_named(trace: &Trace, n: OperationPlace, name: &OpName) -> bool
 
 /// Returns whether a value may be from the operation, by what is said of it.
 pub fn is_from(trace: &Trace, origin: &Origin, n: OperationPlace) -> bool
-    ensures { n.process < length trace.now.processes → AllowsWriter origin.now (named trace.now n) → result ≡ true }
+    ensures found { n.process < length trace.now.processes → AllowsWriter origin.now (named trace.now n) → result ≡ true }
+    ensures only { result ≡ true → AllowsWriter origin.now (named trace.now n) }
 {
     match origin {
         Origin::Any => true,

@@ -1,15 +1,16 @@
 //! The source that a reader may have in its own process.
 
-ghost use Rattle.std.specs.Prelude.{◌≡◌, ◌≤◌, ◌<◌, ◌-◌, ℕ, length, slice_index, false, true, Some, IfOk};
+ghost use Rattle.std.specs.Prelude.{◌≡◌, ◌≤◌, ◌<◌, ◌-◌, ◌⊎◌, ℕ, length, slice_index, false, true, Some, None, IsSome};
 ghost use Rattle.std.specs.List.{Contains};
 ghost use Rattle.trace_semantics.specs.ValueAfter.{value_left_at};
 ghost use Rattle.writer_table.specs.Runs.{IsIn};
 ghost use Rattle.writer_table.specs.Writers.{HoldsWriters};
-ghost use Rattle.order_clauses.specs.Numbered.{named};
+ghost use Rattle.order_clauses.specs.Numbered.{named, IsKnown};
+ghost use Rattle.reason_clauses.specs.Numbered.{at_number};
 ghost use Rattle.reason_clauses.specs.OwnLast.{IsOwnLast, IsOwnSource};
+ghost use Rattle.reason_clauses.specs.PossibleSources.{IsOwnExact};
 
-use crate::cause::{ReasonCause, ReasonRefusal};
-use crate::lookups::{is_from, operation_of};
+use crate::lookups::{find_operation, is_from};
 use restriction::left_value::left_at;
 use trace_semantics::operation::Origin;
 use trace_semantics::trace::Trace;
@@ -29,7 +30,8 @@ fn last_of_first(places: &[u32], count: usize) -> u32
 
 /// The last of the places, or 0.
 pub fn last_of(places: &RisingPlaces) -> u32
-    ensures { (k : ℕ) → Contains places.now k → k ≤ result }
+    ensures above { (k : ℕ) → Contains places.now k → k ≤ result }
+    ensures member { 1 ≤ result → Contains places.now result }
 {
     let slice = places.as_slice();
     last_of_first(slice, slice.len())
@@ -49,17 +51,23 @@ fn later_of(last: u32, run: &Run, process: u32, bound: u32) -> u32
     ensures least { last ≤ result }
     ensures above { (k : ℕ) → run.now.process ≡ process → Contains run.now.places k → k ≤ bound → k ≤ result }
     ensures within { last ≤ bound → result ≤ bound }
+    ensures member { (result ≡ last) ⊎ ((run.now.process ≡ process) × Contains run.now.places result) }
 {
     if run.process != process {
         return last;
     }
-    last.max(last_to(&run.places, bound))
+    let later = last_to(&run.places, bound);
+    if later <= last {
+        return last;
+    }
+    later
 }
 
 /// The last place of the process in the runs up to the bound, or 0.
 fn last_in(runs: &[Run], process: u32, bound: u32) -> u32
     ensures above { (k : ℕ) → IsIn runs.now process k → k ≤ bound → k ≤ result }
     ensures within { result ≤ bound }
+    ensures member { (result ≡ 0) ⊎ IsIn runs.now process result }
 {
     let mut last = 0;
     for run in runs {
@@ -68,46 +76,34 @@ fn last_in(runs: &[Run], process: u32, bound: u32) -> u32
     last
 }
 
+/// Returns what the operation leaves at the location; none if the trace has no such operation, or it writes nothing there.
+pub fn left_there(trace: &Trace, n: OperationPlace, location: &[u8]) -> Option<u64>
+    ensures known { IsSome result → IsKnown trace.now n }
+    ensures same { IsKnown trace.now n → value_left_at trace.now location.now (named trace.now n) ≡ result }
+{
+    match find_operation(trace, n) {
+        Some(op) => left_at(op, location),
+        None => None,
+    }
+}
+
 /// The place of the last operation before the reader in its process that writes the location; 0 if there is none.
-fn own_last(
-    trace: &Trace,
-    locations: &TraceWriters,
-    reader: OperationPlace,
-    location: &[u8],
-) -> Result<u32, ReasonRefusal>
+fn own_last(trace: &Trace, locations: &TraceWriters, reader: OperationPlace, location: &[u8]) -> u32
     requires holds { HoldsWriters trace.now locations.now }
     requires kind { locations.now.classes.by_value ≡ false }
-    ensures { IfOk result (IsOwnLast trace.now reader location.now) }
+    ensures { IsOwnLast trace.now reader location.now result }
 {
     trace.recall_invariant();
     let bound = reader.place.saturating_sub(1);
-    let last = last_in(locations.runs(location, 0), reader.process, bound);
-    if last == 0 {
-        return Ok(0);
-    }
-    let n = OperationPlace {
-        process: reader.process,
-        place: last,
-    };
-    let op = operation_of(trace, n)?;
-    if left_at(op, location).is_none() {
-        return Err(ReasonRefusal::For(ReasonCause::NoOperation));
-    }
-    Ok(last)
+    last_in(locations.runs(location, 0), reader.process, bound)
 }
 
 /// Returns whether the operation leaves the value at the location.
-fn leaves(
-    trace: &Trace,
-    n: OperationPlace,
-    location: &[u8],
-    value: u64,
-) -> Result<bool, ReasonRefusal>
-    ensures { IfOk result (λ does. value_left_at trace.now location.now (named trace.now n) ≡ Some value → does ≡ true) }
+fn leaves(trace: &Trace, n: OperationPlace, location: &[u8], value: u64) -> bool
+    ensures found { IsKnown trace.now n → value_left_at trace.now location.now (named trace.now n) ≡ Some value → result ≡ true }
+    ensures only { result ≡ true → IsKnown trace.now n × (value_left_at trace.now location.now (named trace.now n) ≡ Some value) }
 {
-    let op = operation_of(trace, n)?;
-    let left = left_at(op, location);
-    Ok(left == Some(value))
+    left_there(trace, n, location) == Some(value)
 }
 
 /// The place of the source that the reader may have in its own process, or 0: the last writer of the location before it, if it leaves
@@ -119,25 +115,22 @@ pub fn own_source(
     location: &[u8],
     value: u64,
     origin: &Origin,
-) -> Result<u32, ReasonRefusal>
+) -> u32
     requires holds { HoldsWriters trace.now locations.now }
     requires kind { locations.now.classes.by_value ≡ false }
-    ensures { IfOk result (IsOwnSource trace.now reader origin.now location.now value) }
+    ensures source { IsOwnSource trace.now reader origin.now location.now value result }
+    ensures exact { IsOwnExact trace.now reader origin.now location.now value result }
 {
-    trace.recall_invariant();
-    let last = own_last(trace, locations, reader, location)?;
+    let last = own_last(trace, locations, reader, location);
     let n = OperationPlace {
         process: reader.process,
         place: last,
     };
-    if last == 0 {
-        return Ok(0);
-    }
-    if !leaves(trace, n, location, value)? {
-        return Ok(0);
+    if !leaves(trace, n, location, value) {
+        return 0;
     }
     if !is_from(trace, origin, n) {
-        return Ok(0);
+        return 0;
     }
-    Ok(last)
+    last
 }

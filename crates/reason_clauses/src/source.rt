@@ -1,18 +1,25 @@
 //! The clause that a reading operation has a source.
 
-ghost use Rattle.std.specs.Prelude.{◌≡◌, ◌≤◌, true, ℕ, List, IfSome, OnOk};
+ghost use Rattle.std.specs.Prelude.{◌≡◌, ◌≤◌, true, ℕ, Some, None, List, IfSome, OnOk, IfErr};
 ghost use Rattle.std.specs.List.{All, Contains};
-ghost use Rattle.trace_semantics.specs.Operation.{origin_of};
+ghost use Rattle.trace_semantics.specs.Operation.{origin_of, value_read};
+ghost use Rattle.trace_semantics.specs.declared.operation.Origin.{Origin as Said};
 ghost use Rattle.trace_semantics.specs.Trace.{TraceValue};
 ghost use Rattle.writer_table.specs.declared.operation_place.OperationPlace.{OperationPlace as Place};
 ghost use Rattle.order_reasons.specs.Orders.{HoldsOfSchedules};
 ghost use Rattle.order_reasons.specs.Sources.{AllowsInitial, AllowsWriter, IsSourceClause};
 ghost use Rattle.order_clauses.specs.Numbered.{named, named_orders, IsKnown};
+ghost use Rattle.reason_clauses.specs.AddedOrders.{AddsOnly};
 ghost use Rattle.reason_clauses.specs.Barred.{IsPlaceBarred, IsRunBarred, AreRunsBarred, IsStartBarred, AreSourcesBarred};
 ghost use Rattle.reason_clauses.specs.Made.{Makes};
 ghost use Rattle.reason_clauses.specs.Mains.{IsGivenMain};
 ghost use Rattle.reason_clauses.specs.Numbered.{Grows, IsGivenFront, IsTaken, AreUpTo, at_number};
 ghost use Rattle.reason_clauses.specs.Pieces.{AreGiven};
+ghost use Rattle.reason_clauses.specs.LastRefused.{IsWitnessOf};
+ghost use Rattle.reason_clauses.specs.RefusedBy.{IsRefusedBy};
+ghost use Rattle.reason_clauses.specs.PossibleSources.{AreWholeRuns, IsInitialPossible, IsOtherRun, IsOwnExact, IsWholeRun};
+ghost use Rattle.reason_clauses.specs.SourceRefused.{AreNotGiven, IsInitialOrder, IsInitialWitness, IsMainNotGiven, IsNoWitness, IsReaderOrder, IsReaderRefused, IsSourceOrder, IsSourceRefused, IsStretchOrder};
+ghost use Rattle.reason_clauses.specs.StretchOrders.{AreStretchesOf};
 ghost use Rattle.reason_clauses.specs.Tables.{HoldTables};
 
 use crate::barring::{MainPiece, bar_process};
@@ -32,7 +39,8 @@ use writer_table::runs::Run;
 
 /// The origin of the value that the operation reads, as the trace says it.
 pub fn origin(op: &Op) -> Option<&Origin>
-    ensures { IfSome result (λ said. said.now ≡ origin_of op.now) }
+    ensures said { IfSome result (λ said. said.now ≡ origin_of op.now) }
+    ensures none { result ≡ None → value_read op.now ≡ None }
 {
     match op {
         Op::Read { origin, .. } => Some(origin),
@@ -49,7 +57,8 @@ fn want_fronts(
     value: u64,
     pieces: &[ProcessPieces],
 ) -> Result<(), ReasonRefusal>
-    ensures { OnOk result (IsKnown trace.now reader → All (λ p. IsGivenFront trace.now location.now value reader p.witness) pieces.now) }
+    ensures given { OnOk result (IsKnown trace.now reader → All (λ p. IsGivenFront trace.now location.now value reader p.witness) pieces.now) }
+    ensures refused { IfErr result (IsRefusedBy (λ cause. (x : Place) × IsWitnessOf pieces.now x × IsNoWitness trace.now location.now value reader x cause)) }
 {
     for piece in pieces {
         want_front(trace, reader, piece.witness, location, value)?;
@@ -65,7 +74,8 @@ fn want_main(
     value: u64,
     main: MainPiece,
 ) -> Result<(), ReasonRefusal>
-    ensures { OnOk result (IsKnown trace.now reader → IsGivenMain trace.now location.now value reader main) }
+    ensures given { OnOk result (IsKnown trace.now reader → IsGivenMain trace.now location.now value reader main) }
+    ensures refused { IfErr result (IsRefusedBy (IsMainNotGiven trace.now location.now value reader main)) }
 {
     match main {
         MainPiece::Plain => Ok(()),
@@ -85,7 +95,8 @@ pub fn want_pieces(
     value: u64,
     pieces: &SourcePieces,
 ) -> Result<(), ReasonRefusal>
-    ensures { OnOk result (IsKnown trace.now reader → AreGiven trace.now location.now value reader pieces.now) }
+    ensures given { OnOk result (IsKnown trace.now reader → AreGiven trace.now location.now value reader pieces.now) }
+    ensures refused { IfErr result (IsRefusedBy (AreNotGiven trace.now location.now value reader pieces.now)) }
 {
     want_fronts(trace, reader, location, value, pieces.processes())?;
     want_front(trace, reader, pieces.initial(), location, value)?;
@@ -97,6 +108,7 @@ pub fn want_pieces(
 fn stretches_named(trace: &Trace, name: &OpName, run: &Run, piece: ProcessPieces) -> Stretches
     ensures taken { (k : ℕ) → IsKnown trace.now (at_number run.now.process k) → Contains run.now.places k → named trace.now (at_number run.now.process k) ≡ name.now → IsTaken result k }
     ensures most { (n : ℕ) → All (λ p. p ≤ n) run.now.places → AreUpTo result n }
+    ensures only { AreStretchesOf (λ k. Contains run.now.places k × (named trace.now (at_number run.now.process k) ≡ name.now)) piece.bound piece.limit result }
 {
     let place = u32::from(name.place);
     let n = OperationPlace {
@@ -119,6 +131,7 @@ pub fn stretches_allowed(
 ) -> Stretches
     ensures taken { All (λ p. 1 ≤ p) run.now.places → (k : ℕ) → IsKnown trace.now (at_number run.now.process k) → Contains run.now.places k → AllowsWriter origin.now (named trace.now (at_number run.now.process k)) → IsTaken result k }
     ensures most { (n : ℕ) → All (λ p. p ≤ n) run.now.places → AreUpTo result n }
+    ensures only { AreStretchesOf (λ k. Contains run.now.places k × AllowsWriter origin.now (named trace.now (at_number run.now.process k))) piece.bound piece.limit result }
 {
     match origin {
         Origin::Any => stretches_of(&run.places, piece.bound, piece.limit),
@@ -137,6 +150,8 @@ fn bar_own(
 ) -> Result<(), ReasonRefusal>
     ensures grows { OnOk result (Grows orders.old.items orders.new.items) }
     ensures bars { OnOk result (IsPlaceBarred trace.now orders.new.items reader pieces.now (at_number reader.process own)) }
+    ensures only { OnOk result ((origin : Said) (location : List ℕ) (d : ℕ) → IsOwnExact trace.now reader origin location d own → AddsOnly orders.old.items orders.new.items (IsStretchOrder trace.now reader pieces.now origin location d)) }
+    ensures refused { IfErr result (IsRefusedBy (λ cause. (origin : Said) (location : List ℕ) (d : ℕ) → IsOwnExact trace.now reader origin location d own → IsReaderRefused trace.now reader pieces.now origin location d cause)) }
 {
     trace.recall_invariant();
     if own == 0 {
@@ -166,6 +181,8 @@ fn bar_other(
 ) -> Result<(), ReasonRefusal>
     ensures grows { OnOk result (Grows orders.old.items orders.new.items) }
     ensures bars { OnOk result ((own : ℕ) → IsRunBarred trace.now orders.new.items reader origin.now own pieces.now run.now) }
+    ensures only { OnOk result ((location : List ℕ) (d : ℕ) → IsOtherRun trace.now reader location d run.now → AddsOnly orders.old.items orders.new.items (IsStretchOrder trace.now reader pieces.now origin.now location d)) }
+    ensures refused { IfErr result (IsRefusedBy (λ cause. (location : List ℕ) (d : ℕ) → IsOtherRun trace.now reader location d run.now → IsReaderRefused trace.now reader pieces.now origin.now location d cause)) }
 {
     trace.recall_invariant();
     let piece = pieces.of_process(run.process);
@@ -193,6 +210,8 @@ fn bar_run(
 ) -> Result<(), ReasonRefusal>
     ensures grows { OnOk result (Grows orders.old.items orders.new.items) }
     ensures bars { OnOk result (IsRunBarred trace.now orders.new.items reader origin.now own pieces.now run.now) }
+    ensures only { OnOk result ((location : List ℕ) (d : ℕ) → IsWholeRun trace.now location d run.now → IsOwnExact trace.now reader origin.now location d own → AddsOnly orders.old.items orders.new.items (IsStretchOrder trace.now reader pieces.now origin.now location d)) }
+    ensures refused { IfErr result (IsRefusedBy (λ cause. (location : List ℕ) (d : ℕ) → IsWholeRun trace.now location d run.now → IsOwnExact trace.now reader origin.now location d own → IsReaderRefused trace.now reader pieces.now origin.now location d cause)) }
 {
     if run.process == reader.process {
         bar_own(trace, reader, own, pieces, orders)?;
@@ -214,6 +233,8 @@ fn bar_runs(
 ) -> Result<(), ReasonRefusal>
     ensures grows { OnOk result (Grows orders.old.items orders.new.items) }
     ensures bars { OnOk result (AreRunsBarred trace.now orders.new.items reader origin.now own pieces.now runs.now) }
+    ensures only { OnOk result ((location : List ℕ) (d : ℕ) → AreWholeRuns trace.now location d runs.now → IsOwnExact trace.now reader origin.now location d own → AddsOnly orders.old.items orders.new.items (IsStretchOrder trace.now reader pieces.now origin.now location d)) }
+    ensures refused { IfErr result (IsRefusedBy (λ cause. (location : List ℕ) (d : ℕ) → AreWholeRuns trace.now location d runs.now → IsOwnExact trace.now reader origin.now location d own → IsReaderRefused trace.now reader pieces.now origin.now location d cause)) }
 {
     for run in runs {
         bar_run(trace, reader, origin, own, run, pieces, orders)?;
@@ -223,7 +244,8 @@ fn bar_runs(
 
 /// Returns whether a value may be the initial one, by what is said of it.
 pub fn is_from_start(origin: &Origin) -> bool
-    ensures { AllowsInitial origin.now → result ≡ true }
+    ensures found { AllowsInitial origin.now → result ≡ true }
+    ensures only { result ≡ true → AllowsInitial origin.now }
 {
     match origin {
         Origin::Any => true,
@@ -232,9 +254,22 @@ pub fn is_from_start(origin: &Origin) -> bool
     }
 }
 
+/// Returns whether a reader may read the value at the location as the initial one, by what is said of where it comes from.
+fn may_be_initial(trace: &Trace, location: &[u8], value: u64, origin: &Origin) -> bool
+    ensures found { IsInitialPossible trace.now origin.now location.now value → result ≡ true }
+    ensures only { result ≡ true → IsInitialPossible trace.now origin.now location.now value }
+{
+    if !is_from_start(origin) {
+        return false;
+    }
+    is_held_at(trace.initial(), location, value)
+}
+
 /// The witness of the pieces against the initial value.
 fn start_witness(pieces: &SourcePieces) -> Option<OperationPlace>
-    ensures { (t : TraceValue) (location : List ℕ) (d : ℕ) (r : Place) → AreGiven t location d r pieces.now → IsGivenFront t location d r result }
+    ensures given { (t : TraceValue) (location : List ℕ) (d : ℕ) (r : Place) → AreGiven t location d r pieces.now → IsGivenFront t location d r result }
+    ensures found { (x : Place) → IsInitialWitness pieces.now x → result ≡ Some x }
+    ensures only { (x : Place) → result ≡ Some x → IsInitialWitness pieces.now x }
 {
     if pieces.initial().is_some() {
         return pieces.initial();
@@ -258,8 +293,10 @@ fn bar_start(
 ) -> Result<(), ReasonRefusal>
     ensures grows { OnOk result (Grows orders.old.items orders.new.items) }
     ensures bars { OnOk result (IsStartBarred trace.now orders.new.items reader origin.now pieces.now location.now value) }
+    ensures only { OnOk result (AddsOnly orders.old.items orders.new.items (IsInitialOrder trace.now reader pieces.now origin.now location.now value)) }
+    ensures refused { IfErr result (IsRefusedBy (IsReaderRefused trace.now reader pieces.now origin.now location.now value)) }
 {
-    if !is_from_start(origin) || !is_held_at(trace.initial(), location, value) {
+    if !may_be_initial(trace, location, value, origin) {
         return Ok(());
     }
     let Some(x) = start_witness(pieces) else {
@@ -281,10 +318,12 @@ fn bar_sources(
     orders: &mut Vec<OrderPair>,
 ) -> Result<(), ReasonRefusal>
     requires { HoldTables trace.now writers.now }
-    ensures { OnOk result (AreSourcesBarred trace.now orders.new.items reader origin.now pieces.now location.now value) }
+    ensures bars { OnOk result (AreSourcesBarred trace.now orders.new.items reader origin.now pieces.now location.now value) }
+    ensures only { OnOk result (AddsOnly orders.old.items orders.new.items (IsReaderOrder trace.now reader pieces.now origin.now location.now value)) }
+    ensures refused { IfErr result (IsRefusedBy (IsReaderRefused trace.now reader pieces.now origin.now location.now value)) }
 {
     trace.recall_invariant();
-    let own = own_source(trace, &writers.by_location, reader, location, value, origin)?;
+    let own = own_source(trace, &writers.by_location, reader, location, value, origin);
     let runs = writers.by_value.runs(location, value);
     bar_runs(trace, reader, origin, own, runs, pieces, orders)?;
     bar_start(trace, reader, location, value, origin, pieces, orders)?;
@@ -302,6 +341,8 @@ pub fn source_clause(
     requires { HoldTables trace.now writers.now }
     ensures made { OnOk result (Makes trace.now orders.new.items (λ clause. IsSourceClause trace.now clause (named trace.now reader))) }
     ensures holds { OnOk result (HoldsOfSchedules trace.now (named_orders trace.now orders.new.items)) }
+    ensures only { OnOk result (AddsOnly orders.old.items orders.new.items (IsSourceOrder trace.now reader pieces.now)) }
+    ensures refused { IfErr result (IsRefusedBy (IsSourceRefused trace.now reader pieces.now)) }
 {
     let op = operation_of(trace, reader)?;
     let Some(value) = op.value_read() else {

@@ -1,8 +1,9 @@
 //! The sources of one process, in three stretches.
 
-ghost use Rattle.std.specs.Prelude.{◌≡◌, ◌≤◌, ◌<◌, ℕ, length, slice_index};
+ghost use Rattle.std.specs.Prelude.{◌≡◌, ◌≤◌, ◌<◌, ◌⊎◌, ℕ, length, slice_index};
 ghost use Rattle.std.specs.List.{All, Contains};
 ghost use Rattle.reason_clauses.specs.Numbered.{IsTaken, AreUpTo};
+ghost use Rattle.reason_clauses.specs.StretchOrders.{AreStretchesOf, AreNoStretches, AreCut};
 ghost use Rattle.std.specs.List.Sorted.{IsNonDecreasing};
 
 use writer_table::rising_places::RisingPlaces;
@@ -32,6 +33,7 @@ fn cut(places: &[u32], hidden: usize, before: usize) -> Stretches
     requires before { before ≤ length places.now }
     ensures taken { All (λ p. 1 ≤ p) places.now → (p : ℕ) → Contains places.now p → IsTaken result p }
     ensures most { (n : ℕ) → All (λ p. p ≤ n) places.now → AreUpTo result n }
+    ensures cut { AreCut places.now hidden before result }
 {
     let start = if hidden < before { before } else { hidden };
     let up_to = place_if(places, 0, hidden, hidden.saturating_sub(1));
@@ -46,23 +48,33 @@ fn cut(places: &[u32], hidden: usize, before: usize) -> Stretches
     }
 }
 
+/// The number of the places before the limit. A limit of 0 is none, so that all are.
+fn count_before(places: &RisingPlaces, limit: u32) -> usize
+    ensures within { result ≤ length places.now }
+    ensures first { (k : ℕ) → k < result → (limit ≡ 0) ⊎ (slice_index places.now k < limit) }
+    ensures others { (k : ℕ) → result ≤ k → k < length places.now → (1 ≤ limit) × (limit ≤ slice_index places.now k) }
+{
+    if limit == 0 {
+        return places.as_slice().len();
+    }
+    places.count_to(limit - 1)
+}
+
 /// Returns the stretches of the places. A limit of 0 is none.
 pub fn stretches_of(places: &RisingPlaces, bound: u32, limit: u32) -> Stretches
     ensures taken { All (λ p. 1 ≤ p) places.now → (p : ℕ) → Contains places.now p → IsTaken result p }
     ensures most { (n : ℕ) → All (λ p. p ≤ n) places.now → AreUpTo result n }
+    ensures only { AreStretchesOf (Contains places.now) bound limit result }
 {
     let hidden = places.count_to(bound);
-    let before = if limit == 0 {
-        places.as_slice().len()
-    } else {
-        places.count_to(limit - 1)
-    };
+    let before = count_before(places, limit);
     cut(places.as_slice(), hidden, before)
 }
 
 /// Returns the stretches of no places.
 pub fn no_stretches() -> Stretches
-    ensures { (n : ℕ) → AreUpTo result n }
+    ensures most { (n : ℕ) → AreUpTo result n }
+    ensures none { AreNoStretches result }
 {
     Stretches {
         hidden: 0,
@@ -76,6 +88,7 @@ pub fn no_stretches() -> Stretches
 pub fn stretches_of_one(place: u32, bound: u32, limit: u32) -> Stretches
     ensures taken { 1 ≤ place → IsTaken result place }
     ensures most { AreUpTo result place }
+    ensures only { AreStretchesOf (λ k. k ≡ place) bound limit result }
 {
     let mut s = Stretches {
         hidden: 0,

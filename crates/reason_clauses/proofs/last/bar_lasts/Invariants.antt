@@ -1,7 +1,12 @@
-use Rattle.std.proofs.Common.{◌≡◌, ◌⊎◌, take}
-use Rattle.trace_semantics.specs.Trace.{value_of}
-use Rattle.reason_clauses.specs.LastBarred.{AreLastRunsBarred, HasWriter}
+use Rattle.std.proofs.Common.{take}
+use Rattle.reason_clauses.specs.AddedOrders.{AddsOnly}
+use Rattle.reason_clauses.specs.LastBarred.{AreLastsBarred}
+use Rattle.reason_clauses.specs.LastRefused.{IsLastOrder}
+use Rattle.reason_clauses.proofs.LastLemmas.{IsWrittenOr}
 use Rattle.reason_clauses.proofs.last.bar_lasts.Given as goal
 
 abbrev pub invariant-loop-run : goal.invariant-loop-run
-invariant-loop-run l = (value_of l.trace.final_values l.location ≡ l.final_value → AreLastRunsBarred l.trace l.orders.items l.location l.pieces (take l.run-index l.runs)) × ((l.run-index ≡ 0) ⊎ HasWriter l.trace l.location)
+invariant-loop-run l =
+    AreLastsBarred l.trace l.orders.items l.location l.pieces (take l.run-index l.runs)
+    × IsWrittenOr l.is_written l.trace l.location (take l.run-index l.runs)
+    × AddsOnly l.fn.orders.items l.orders.items (IsLastOrder l.trace l.location l.pieces)
