@@ -1,17 +1,16 @@
 -- What pieces leave of a location's last writers, beside what they bar, is all that may be the last one.
 use Rattle.std.proofs.Common.{◌≡◌, ◌⊎◌, ◌<◌, ◌≤◌, ◌+◌, ℕ, List, [], ◌∷◌, ◌++◌, take, length, get_or, refl, ap, sym, ◌∙◌, arith, inl, inr, subst}
-use Rattle.std.specs.Prelude.{Some, false, is_some}
+use Rattle.std.specs.Prelude.{Some, None, false, is_some}
 use Rattle.std.specs.List.{Contains}
-use Rattle.std.specs.Option.{option_and_then}
 use Rattle.std.proofs.lemmas.Bool.{cases_order}
 use Rattle.std.proofs.lemmas.List.{take_more}
 use Rattle.std.proofs.lemmas.List.Elements.{Contains-push_cases}
 use Rattle.std.proofs.lemmas.Option.{same_Some}
-use Rattle.trace_semantics.specs.declared.operation.Op.{Op}
 use Rattle.trace_semantics.specs.declared.operation.OpName.{OpName}
 use Rattle.trace_semantics.specs.Trace.{TraceValue, IsTrace, value_of}
 use Rattle.trace_semantics.specs.ValueAfter.{value_left_at}
-use Rattle.restriction.specs.Restriction.{left_by}
+use Rattle.trace_semantics.proofs.ElementLemmas.{none_in}
+use Rattle.writer_table.specs.declared.operation_place.OperationPlace.{OperationPlace}
 use Rattle.writer_table.specs.declared.runs.Run.{Run}
 use Rattle.writer_table.specs.declared.trace_writers.TraceWriters.{TraceWriters}
 use Rattle.writer_table.specs.Writers.{HoldsWriters, runs_at}
@@ -19,25 +18,23 @@ use Rattle.order_reasons.specs.Sources.{BarsLastWriters, IsLastBarred}
 use Rattle.order_clauses.specs.declared.order_pair.OrderPair.{OrderPair}
 use Rattle.order_clauses.specs.Numbered.{named, IsKnown}
 use Rattle.reason_clauses.specs.declared.pieces.SourcePieces.{SourcePieces}
-use Rattle.reason_clauses.specs.LastBarred.{AreGivenLate, HasWriter, MayBeFinal}
-use Rattle.reason_clauses.specs.Makers.{IsNumberOf}
+use Rattle.reason_clauses.specs.LastBarred.{AreGivenLate, HasWriter, IsUnwrittenBy, MayBeFinal}
 use Rattle.reason_clauses.specs.Numbered.{AreIn, Grows, at_number}
 use Rattle.reason_clauses.proofs.LastLemmas.{in_runs}
-use Rattle.reason_clauses.proofs.MakerLemmas.{number_known}
 use Rattle.reason_clauses.proofs.NumberedLemmas.{in_order}
 use Rattle.reason_clauses.proofs.OwnLemmas.{in_table}
 use Rattle.reason_clauses.proofs.SourceLemmas.{table_known}
 use Rattle.reason_counting.specs.declared.left_sources.LeftSources.{LeftSources}
 use Rattle.reason_counting.specs.declared.left_sources.LeftStretch.{LeftStretch}
-use Rattle.reason_counting.specs.Left.{AreMore, IsLeft, IsLeftAt, IsLeftBy}
-use Rattle.reason_counting.specs.LeftEnds.{AreLastRunsLeft, IsLastRunLeft}
+use Rattle.reason_counting.specs.Left.{AreMore, IsLeft, IsLeftAt, IsLeftBy, KeepsOnly}
+use Rattle.reason_counting.specs.LeftEnds.{AreLastRunsLeft, AreOtherEnds, IsLastRunLeft, IsOneStretch, IsOtherEnd}
 use Rattle.reason_counting.proofs.LeftLemmas.{either_more}
 
 -- of a run all but the last are barred by it, and it is barred or left
-pub last_run_left : (t : TraceValue) (new : List OrderPair) (left : List LeftStretch) (location : List ℕ) (pieces : SourcePieces) (run : Run) (last value : ℕ) (op : Op) → ((k : ℕ) → Contains run.places k → k ≤ last) → IsNumberOf t (at_number run.process last) op → left_by location op ≡ Some value →
+pub last_run_left : (t : TraceValue) (new : List OrderPair) (left : List LeftStretch) (location : List ℕ) (pieces : SourcePieces) (run : Run) (last value : ℕ) → ((k : ℕ) → Contains run.places k → k ≤ last) → IsKnown t (at_number run.process last) → value_left_at t location (named t (at_number run.process last)) ≡ Some value →
     ((clause : List (OpName × OpName)) → AreIn t new clause → AreGivenLate t location pieces → IsKnown t (at_number run.process last) → MayBeFinal (value_of t.final_values location) value → IsLastBarred t clause location (named t (at_number run.process last)) ⊎ IsLeftAt left value run.process last) →
     IsLastRunLeft t new left location pieces run
-last_run_left t new left location pieces run last value op most number leaves_last bar clause all given runs k e there leaves final_one =
+last_run_left t new left location pieces run last value most last_known left_there bar clause all given runs k e there leaves final_one =
     elim (cases_order k last) [
       | inl same ↦ (
           let is : e ≡ value = same_Some e value (sym leaves ∙ (ap (λ i. value_left_at t location (named t (at_number run.process i))) same ∙ left_there)) in
@@ -53,12 +50,25 @@ last_run_left t new left location pieces run last value op most number leaves_la
       })
       | inr (inr over) ↦ absurd (let up = most k there in omega (arith, up, over))
     ]
-  where
-    last_known : IsKnown t (at_number run.process last)
-    last_known = number_known t (at_number run.process last) op number
 
-    left_there : value_left_at t location (named t (at_number run.process last)) ≡ Some value
-    left_there = ap (option_and_then (left_by location)) number.1 ∙ leaves_last
+-- a process that does not write the location has no last writer of it
+pub none_left : (t : TraceValue) (new : List OrderPair) (left : List LeftStretch) (location : List ℕ) (pieces : SourcePieces) (run : Run) → ((k : ℕ) → IsUnwrittenBy t location (at_number run.process k)) → IsLastRunLeft t new left location pieces run
+none_left t new left location pieces run silent clause all given runs k e there leaves final_one = absurd (let none = silent k (runs k there) in let clash : None ≡ Some e = sym none ∙ leaves in cc)
+
+-- only the operation that was appended is new
+pub keeps_one : (left : List LeftStretch) (n : OperationPlace) (value : ℕ) → KeepsOnly left (left ++ (record { process = n.process; value = value; first = n.place; last = n.place }) ∷ []) (IsOneStretch n value)
+keeps_one left n value x c =
+    elim (Contains-push_cases left (record { process = n.process; value = value; first = n.place; last = n.place }) x c) [
+      | inl d ↦ inl d
+      | inr e ↦ inr (sym e)
+    ]
+
+pub are_ends : (t : TraceValue) (location : List ℕ) (pieces : SourcePieces) (left : LeftSources) → left.location.now ≡ location → left.is_initial_left ≡ false → (start : List LeftStretch) → start ≡ [] → KeepsOnly start left.stretches.items (IsOtherEnd t location pieces) → AreOtherEnds t location pieces left
+are_ends t location pieces left same initial start none stretches = record { location_is = same; stretches = λ x c. other x (stretches x c); initial = initial }
+  where
+    other : (x : LeftStretch) → Contains start x ⊎ IsOtherEnd t location pieces x → IsOtherEnd t location pieces x
+    other x (inl c) = absurd (none_in x (subst (λ l. Contains l x) none c))
+    other x (inr h) = h
 
 -- the runs so far, and one more
 pub lasts_left_more : (t : TraceValue) (old new : List OrderPair) (left more : List LeftStretch) (location : List ℕ) (pieces : SourcePieces) (runs : List Run) (i : ℕ) (run : Run) → i < length runs → get_or runs i run ≡ run → Grows old new → AreMore left more → AreLastRunsLeft t old left location pieces (take i runs) →

@@ -29,13 +29,15 @@ use Rattle.reason_clauses.specs.Makers.{IsNumberOf}
 use Rattle.reason_clauses.specs.Numbered.{AreIn, Grows, MakesSay, at_number, IsGivenFront, IsTaken, AreUpTo, AreTaken, BarsPlaces}
 use Rattle.reason_clauses.specs.OwnLast.{IsOwnSource}
 use Rattle.reason_clauses.specs.Pieces.{AreGiven}
+use Rattle.reason_clauses.specs.StretchOrders.{IsTakenOrder, BeforeHidden, AfterHidden, FromLater, IsRestOrder, BeforeRest, AfterRest, RestToBetween, RestFromBetween, RestToReader, IsTakenRefused, TakenItself, TakenUnwitnessed, IsRestRefused}
+use Rattle.reason_clauses.specs.declared.cause.ReasonCause.{ReasonCause}
 use Rattle.reason_clauses.proofs.MakerLemmas.{number_known}
 use Rattle.reason_clauses.proofs.NumberLemmas.{writes_by_number, numbers_apart}
 use Rattle.reason_clauses.proofs.OwnLemmas.{left_known, in_table}
 use Rattle.reason_clauses.proofs.SourceLemmas.{all_of, highest, front_given, table_known}
 use Rattle.reason_counting.specs.declared.left_sources.LeftSources.{LeftSources}
 use Rattle.reason_counting.specs.declared.left_sources.LeftStretch.{LeftStretch}
-use Rattle.reason_counting.specs.Left.{without_main, AreMore, IsLeftAt, IsMainLeft, IsPlaceLeft, IsRunLeft, AreRunsLeft, IsStartLeft, IsLeftBy, AreSourcesLeft, IsLeft}
+use Rattle.reason_counting.specs.Left.{without_main, AreMore, IsMainStretch, KeepsOnly, IsLeftAt, IsMainLeft, IsPlaceLeft, IsRunLeft, AreRunsLeft, IsStartLeft, IsLeftBy, AreSourcesLeft, IsLeft}
 
 pub more_same : (left : List LeftStretch) → AreMore left left
 more_same left x c = c
@@ -50,6 +52,40 @@ stretch_more left s x c = Contains-append_left left (s ∷ []) x c
 pub stretch_here : (left : List LeftStretch) (value process : ℕ) (s : Stretches) → IsMainLeft (left ++ (record { process = process; value = value; first = s.first; last = s.last }) ∷ []) value process s
 stretch_here left value process s k some low high =
     (record { process = process; value = value; first = s.first; last = s.last }, in_middle left (record { process = process; value = value; first = s.first; last = s.last }) [], refl, refl, low, high)
+
+pub keeps_none : (left : List LeftStretch) (Is : LeftStretch → Type 0) → KeepsOnly left left Is
+keeps_none left Is x c = inl c
+
+-- only the stretch that was appended is new
+pub keeps_main : (left : List LeftStretch) (value process : ℕ) (s : Stretches) → 1 ≤ s.first → KeepsOnly left (left ++ (record { process = process; value = value; first = s.first; last = s.last }) ∷ []) (IsMainStretch value process s)
+keeps_main left value process s some x c =
+    elim (Contains-push_cases left (record { process = process; value = value; first = s.first; last = s.last }) x c) [
+      | inl d ↦ inl d
+      | inr e ↦ inr (subst (λ (y : LeftStretch). IsMainStretch value process s y) e (record { some = some; value_is = refl; process_is = refl; first_is = refl; last_is = refl }))
+    ]
+
+pub keeps_over : (old mid new : List LeftStretch) (P Q : LeftStretch → Type 0) → ((x : LeftStretch) → P x → Q x) → KeepsOnly old mid Q → KeepsOnly mid new P → KeepsOnly old new Q
+keeps_over old mid new P Q weaker first second x c = elim (second x c) [
+  | inl d ↦ first x d
+  | inr h ↦ inr (weaker x h)
+]
+
+-- without the main stretch no orders of it are asked for
+pub taken_orders : (r : OperationPlace) (process : ℕ) (s : Stretches) (witness : Option OperationPlace) (o : OrderPair) → IsTakenOrder r process (without_main s) witness o ⊎ IsRestOrder r process (without_main s) Plain o → IsTakenOrder r process s witness o
+taken_orders r process s witness o (inl (BeforeHidden x some is h)) = BeforeHidden x some is h
+taken_orders r process s witness o (inl (AfterHidden x some is h)) = AfterHidden x some is h
+taken_orders r process s witness o (inl (FromLater some h)) = FromLater some h
+taken_orders r process s witness o (inr (BeforeRest x some is h)) = absurd (omega (arith, some))
+taken_orders r process s witness o (inr (AfterRest x some is h)) = absurd (omega (arith, some))
+taken_orders r process s witness o (inr (RestToBetween u some is h)) = absurd (omega (arith, some))
+taken_orders r process s witness o (inr (RestFromBetween u some is h)) = absurd (omega (arith, some))
+taken_orders r process s witness o (inr (RestToReader some is h)) = absurd (omega (arith, some))
+
+-- nor is it refused
+pub taken_refusals : (process : ℕ) (s : Stretches) (witness : Option OperationPlace) (cause : ReasonCause) → IsTakenRefused process (without_main s) witness cause ⊎ IsRestRefused process (without_main s) Plain cause → IsTakenRefused process s witness cause
+taken_refusals process s witness cause (inl (TakenItself some is e)) = TakenItself some is e
+taken_refusals process s witness cause (inl (TakenUnwitnessed some is e)) = TakenUnwitnessed some is e
+taken_refusals process s witness cause (inr h) = absurd (let some = h.0 in omega (arith, some))
 
 -- the place that was appended is left
 pub one_here : (left : List LeftStretch) (value process place : ℕ) → IsLeftAt (left ++ (record { process = process; value = value; first = place; last = place }) ∷ []) value process place

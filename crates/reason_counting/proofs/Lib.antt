@@ -1,6 +1,9 @@
 pub mod CountLemmas
 pub mod EndLemmas
+pub mod EnoughLemmas
+pub mod KeptLemmas
 pub mod LeftLemmas
 pub mod MemberLemmas
+pub mod OtherLemmas
 pub mod TallyLemmas
 pub mod WaitLemmas

@@ -1,14 +1,15 @@
 -- Operations of which each waits for one of them are a waiting set.
-use Rattle.std.proofs.Common.{◌≡◌, ◌⊎◌, ◌<◌, ◌≤◌, ◌+◌, ℕ, List, [], ◌∷◌, ◌++◌, map, length, get_or, set, take, take_all, true, false, refl, ap, sym, ◌∙◌, arith, inl, inr, subst}
+use Rattle.std.proofs.Common.{◌≡◌, ◌⊎◌, ◌<◌, ◌≤◌, ◌+◌, ℕ, List, [], ◌∷◌, ◌++◌, map, length, get_or, replicate, set, take, take_all, true, false, refl, ap, sym, ◌∙◌, arith, inl, inr, subst}
 use Rattle.std.specs.Prelude.{IsSome}
 use Rattle.std.specs.List.{Contains}
 use Rattle.std.proofs.lemmas.Bool.{cases_order}
-use Rattle.std.proofs.lemmas.List.{get_or_default, get_or-set_same, get_or-set_other, map-append, take_more}
+use Rattle.std.proofs.lemmas.List.{get_or_default, get_or_past, get_or-replicate, length-replicate, get_or-set_same, get_or-set_other, map-append, take_more}
 use Rattle.std.proofs.lemmas.List.Elements.{All-contains, Contains-append_left}
 use Rattle.trace_semantics.specs.declared.operation.OpName.{OpName}
 use Rattle.trace_semantics.specs.Operation.{location_of}
 use Rattle.trace_semantics.specs.Trace.{TraceValue, IsTrace, operation_at}
-use Rattle.trace_semantics.proofs.ElementLemmas.{in_middle, from_map, to_map}
+use Rattle.trace_semantics.proofs.ElementLemmas.{in_middle, from_map, none_in, to_map}
+use Rattle.trace_semantics.proofs.NameLemmas.{earlier_known, known_named}
 use Rattle.forced_order.specs.Order.{IsInProgramOrder}
 use Rattle.writer_table.specs.declared.operation_place.OperationPlace.{OperationPlace}
 use Rattle.writer_table.specs.declared.trace_writers.TraceWriters.{TraceWriters}
@@ -17,6 +18,8 @@ use Rattle.order_clauses.specs.Numbered.{named, IsKnown}
 use Rattle.order_reasons.specs.Reasons.{IsUpTo}
 use Rattle.order_reasons.specs.Sources.{LeftBy, InitialAt, IsBarred, IsInitialBarred, BarsSources}
 use Rattle.order_reasons.specs.Waiting.{ComesLater, ForOperation, ForSource, IsBehindOne, IsWaitingClause, Waits}
+use Rattle.reason_clauses.specs.declared.cause.ReasonCause.{ReasonCause}
+use Rattle.reason_clauses.specs.declared.pieces.SourcePieces.{SourcePieces}
 use Rattle.reason_clauses.specs.Numbered.{AreIn, Grows, MakesSay, at_number}
 use Rattle.reason_clauses.proofs.NumberLemmas.{numbers_apart}
 use Rattle.reason_clauses.proofs.NumberedLemmas.{up_to}
@@ -25,7 +28,9 @@ use Rattle.reason_counting.specs.declared.left_sources.LeftSources.{LeftSources}
 use Rattle.reason_counting.specs.declared.left_sources.LeftStretch.{LeftStretch}
 use Rattle.reason_counting.specs.declared.waiting.Waiter.{Waiter}
 use Rattle.reason_counting.specs.Left.{IsLeft, IsLeftBy}
-use Rattle.reason_counting.specs.WaitingSet.{AreBehind, HoldMembers, IsStretchBehind, MustWait, operations_of}
+use Rattle.reason_counting.specs.OtherSources.{AreOthers}
+use Rattle.reason_counting.specs.WaitingRefused.{BySource, IsSomeBehindRefused, IsSourceWaitRefused, MayComeFirst}
+use Rattle.reason_counting.specs.WaitingSet.{AreBehind, AreFirst, AreFirstKnown, HoldMembers, IsStretchBehind, MustWait, operations_of}
 
 -- one member more, of which the table says nothing, or whose place it has
 pub members_more : (members : List OperationPlace) (n : OperationPlace) (first : List ℕ) → HoldMembers members first → HoldMembers (members ++ n ∷ []) first
@@ -50,10 +55,50 @@ members_with members n first low h q some =
         let kept : get_or (set first n.process n.place) q 0 ≡ get_or first q 0 = get_or-set_other first n.process q n.place 0 apart in
         subst (λ k. Contains (members ++ n ∷ []) (at_number q k)) (sym kept) (members_more members n first h q (omega (arith, some, kept)))
 
+pub no_waiters : (waiters : List Waiter) → length waiters ≡ 0 → waiters ≡ []
+no_waiters [] e = refl
+no_waiters (first ∷ rest) e = absurd (cc)
+
+-- a table of zeros has the place of no member
+pub no_places : (n : ℕ) (first : List ℕ) → first ≡ replicate n 0 → HoldMembers [] first
+no_places n first e q some = absurd (let zero_there : get_or first q 0 ≡ 0 = ap (λ l. get_or l q 0) e ∙ zero_at in omega (arith, some, zero_there))
+  where
+    zero_at : get_or {A = ℕ} (replicate n 0) q 0 ≡ 0
+    zero_at = elim (cases_order q n) [
+      | inl same ↦ get_or_past (replicate n 0) q 0 (let long = length-replicate {A = ℕ} n 0 in omega (arith, same, long))
+      | inr (inl low) ↦ get_or-replicate n q 0 0 low
+      | inr (inr high) ↦ get_or_past (replicate n 0) q 0 (let long = length-replicate {A = ℕ} n 0 in omega (arith, high, long))
+    ]
+
+pub no_members : (first : List ℕ) → AreFirst [] first
+no_members first m c inside some = absurd (none_in m c)
+
+pub first_next : (waiters : List Waiter) (n : ℕ) (waiter : Waiter) (first : List ℕ) → n < length waiters → AreFirst (operations_of (take n waiters) ++ (get_or waiters n waiter).operation ∷ []) first → AreFirst (operations_of (take (n + 1) waiters)) first
+first_next waiters n waiter first low h =
+    subst (λ l. AreFirst l first) (sym (ap operations_of (take_more waiters n waiter low) ∙ map-append (λ (w : Waiter). w.operation) (take n waiters) (get_or waiters n waiter ∷ []))) h
+
+pub first_all : (waiters : List Waiter) (n : ℕ) (first : List ℕ) → length waiters ≤ n → AreFirst (operations_of (take n waiters)) first → AreFirst (operations_of waiters) first
+first_all waiters n first most h = subst (λ l. AreFirst (operations_of l) first) (take_all n waiters most) h
+
+-- a table that has a place for each process of the trace
+pub first_known : (t : TraceValue) (members : List OperationPlace) (first : List ℕ) → length first ≡ length t.processes → AreFirst members first → AreFirstKnown t members first
+first_known t members first long h m c known = h m c (let low = known.0 in omega (arith, long, low)) (known_named t (named t m) known.1).least
+
+-- where the table has no place for a process, or a later one, all members there come after the operation
+pub may_come_first : (t : TraceValue) (members : List OperationPlace) (first : List ℕ) (n : OperationPlace) (place : ℕ) → AreFirstKnown t members first → place ≡ get_or first n.process 0 → (place ≡ 0) ⊎ (n.place < place) → MayComeFirst t members n
+may_come_first t members first n place h e before m c known same =
+    let at = h m c known in
+    let is : get_or first m.process 0 ≡ place = ap (λ q. get_or first q 0) same ∙ sym e in
+    elim before [
+      | inl none ↦ absurd (let some = at.0 in omega (arith, some, is, none))
+      | inr less ↦ (let most = at.1 in omega (arith, less, is, most))
+    ]
+
 -- the least place of its process that a member has is that of a member
-pub behind_member : (t : TraceValue) (members : List OperationPlace) (first : List ℕ) (n : OperationPlace) (place : ℕ) → HoldMembers members first → place ≡ get_or first n.process 0 → 1 ≤ place → place ≤ n.place → IsKnown t n → IsKnown t (at_number n.process place) →
+pub behind_member : (t : TraceValue) → IsTrace t → (members : List OperationPlace) (first : List ℕ) (n : OperationPlace) (place : ℕ) → HoldMembers members first → place ≡ get_or first n.process 0 → 1 ≤ place → place ≤ n.place → IsKnown t n →
     IsBehindOne t (map (named t) members) (named t n)
-behind_member t members first n place h e some low known z_known =
+behind_member t ok members first n place h e some low known =
+    let z_known : IsKnown t (at_number n.process place) = (known.0, earlier_known t ok (named t (at_number n.process place)) (named t n) known.1 refl some low) in
     let there : Contains members (at_number n.process place) = subst (λ k. Contains members (at_number n.process k)) (sym e) (h n.process (omega (arith, e, some))) in
     (named t (at_number n.process place), to_map (named t) members (at_number n.process place) there, up_to t (at_number n.process place) n z_known known refl low)
 
@@ -96,6 +141,13 @@ waits_for_source t writers members new r left none behind bars clause all =
       initial = λ held allowed. or_later (IsInitialBarred t clause (location_of b.op) b.value (named t r)) (IsLeft t writers left (InitialAt (location_of b.op))) (ComesLater t (map (named t) members) (InitialAt (location_of b.op)))
           (λ h. absurd (let is = h.0 in let clash : true ≡ false = sym is ∙ none in cc)) (b.initial held allowed);
     })
+
+-- a stretch of sources that no piece takes is refused for its first source
+pub source_first : (t : TraceValue) (members : List OperationPlace) (r : OperationPlace) (pieces : SourcePieces) (left : LeftSources) → AreOthers t r pieces left → (cause : ReasonCause) → IsSomeBehindRefused t members left.stretches.items cause → IsSourceWaitRefused t members r pieces cause
+source_first t members r pieces left others cause (x, listed, inl missing) = absurd (missing.0 (others.stretches x listed).first.known)
+source_first t members r pieces left others cause (x, listed, inr (before, e)) =
+    let other = others.stretches x listed in
+    BySource others.op others.value (at_number x.process x.first) others.number others.reads other.first other.first_other before e
 
 pub waits_more : (t : TraceValue) (old new : List OrderPair) (members : List OperationPlace) (x : OperationPlace) → Grows old new → MustWait t old members x → MustWait t new members x
 waits_more t old new members x grows h clause all = h clause (grows t clause all)

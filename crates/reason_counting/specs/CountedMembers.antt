@@ -4,6 +4,7 @@ use Rattle.std.specs.List.{All, Contains}
 use Rattle.trace_semantics.specs.declared.operation.OpName.{OpName}
 use Rattle.trace_semantics.specs.Trace.{TraceValue, IsTrace}
 use Rattle.trace_semantics.specs.ValueAfter.{value_left_at}
+use Rattle.writer_table.specs.declared.operation_place.OperationPlace.{OperationPlace}
 use Rattle.writer_table.specs.declared.runs.Run.{Run}
 use Rattle.writer_table.specs.declared.trace_writers.TraceWriters.{TraceWriters}
 use Rattle.writer_table.specs.Writers.{runs_at}
@@ -57,6 +58,18 @@ AreDistinct members n = (i j : ℕ) (d : CountedMember) → i < j → j < n → 
 -- the places of the run in the stretch are kept
 abbrev pub IsRunKept : DistinctSources → LeftStretch → Run → Type 0
 IsRunKept kept stretch run = run.process ≡ stretch.process → (k : ℕ) → Contains run.places k → stretch.first ≤ k → k ≤ stretch.last → Contains kept.operations.items (at_number run.process k)
+
+-- n is at one of these places of the process, and in the stretch
+abbrev pub IsOfPlaces : LeftStretch → ℕ → List ℕ → OperationPlace → Type 0
+IsOfPlaces stretch process places n = (k : ℕ) × Contains places k × (n ≡ at_number process k) × (stretch.first ≤ k) × (k ≤ stretch.last)
+
+-- n is of one of the runs, and in the stretch
+abbrev pub IsOfRuns : LeftStretch → List Run → OperationPlace → Type 0
+IsOfRuns stretch runs n = (run : Run) × Contains runs run × (run.process ≡ stretch.process) × IsOfPlaces stretch run.process run.places n
+
+-- n is a writer of the location in one of the stretches
+abbrev pub IsOfStretches : TraceWriters → List ℕ → List LeftStretch → OperationPlace → Type 0
+IsOfStretches writers location stretches n = (x : LeftStretch) × Contains stretches x × IsOfRuns x (runs_at writers location x.value) n
 
 -- so are those of all runs of the stretch
 abbrev pub IsStretchKept : TraceWriters → List ℕ → DistinctSources → LeftStretch → Type 0

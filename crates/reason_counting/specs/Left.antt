@@ -28,6 +28,18 @@ without_main s = record { hidden = s.hidden; later = s.later; first = 0; last = 
 abbrev pub AreMore : List LeftStretch → List LeftStretch → Type 0
 AreMore old new = (x : LeftStretch) → Contains old x → Contains new x
 
+-- each of the new stretches is an old one, or one of this kind
+abbrev pub KeepsOnly : List LeftStretch → List LeftStretch → (LeftStretch → Type 0) → Type 0
+KeepsOnly old new Is = (x : LeftStretch) → Contains new x → Contains old x ⊎ Is x
+
+-- x is the main stretch of the process, of writers of the value
+pub record IsMainStretch (value process : ℕ) (s : Stretches) (x : LeftStretch) : Type 0 where
+  pub some : 1 ≤ s.first
+  pub value_is : x.value ≡ value
+  pub process_is : x.process ≡ process
+  pub first_is : x.first ≡ s.first
+  pub last_is : x.last ≡ s.last
+
 -- a stretch of these, of writers of the value, has the place of the process
 abbrev pub IsLeftAt : List LeftStretch → ℕ → ℕ → ℕ → Type 0
 IsLeftAt left value process place = (x : LeftStretch) × Contains left x × (x.value ≡ value) × (x.process ≡ process) × (x.first ≤ place) × (place ≤ x.last)

@@ -1,7 +1,10 @@
 pub mod CountedMembers
+pub mod CountingRefused
 pub mod Counts
 pub mod DistinctSources
 pub mod Left
 pub mod LeftEnds
+pub mod OtherSources
 pub mod Tallies
+pub mod WaitingRefused
 pub mod WaitingSet

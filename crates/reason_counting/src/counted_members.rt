@@ -1,19 +1,25 @@
 //! The clause of updates and ends of locations that are more than their sources, by pieces.
 
-ghost use Rattle.std.specs.Prelude.{◌≡◌, ◌≤◌, ◌<◌, ◌+◌, true, false, ℕ, List, IsSome, length, slice_index_or, OnOk, IfOk};
+ghost use Rattle.std.specs.Prelude.{◌≡◌, ◌≤◌, ◌<◌, ◌+◌, ◌⊎◌, true, false, ℕ, List, IsSome, length, slice_index_or, OnOk, IfOk, IfErr};
 ghost use Rattle.std.specs.List.{All, Contains};
 ghost use Rattle.trace_semantics.specs.Trace.{TraceValue};
 ghost use Rattle.trace_semantics.specs.ValueAfter.{value_left_at};
+ghost use Rattle.writer_table.specs.Writers.{runs_at};
 ghost use Rattle.order_clauses.specs.Numbered.{named, named_orders, IsKnown};
 ghost use Rattle.order_reasons.specs.Counting.{IsCountingClause};
 ghost use Rattle.order_reasons.specs.Orders.{HoldsOfSchedules};
 ghost use Rattle.order_reasons.specs.Sources.{ValueSource, BarsSources};
+ghost use Rattle.reason_clauses.specs.AddedOrders.{AddsOnly};
 ghost use Rattle.reason_clauses.specs.Made.{Makes};
 ghost use Rattle.reason_clauses.specs.Numbered.{Grows, at_number};
+ghost use Rattle.reason_clauses.specs.RefusedBy.{IsRefusedBy};
 ghost use Rattle.reason_clauses.specs.Tables.{HoldTables};
-ghost use Rattle.reason_counting.specs.CountedMembers.{AreDistinct, AreFirstBarred, AreTwo, BarsMember, IsMemberBarred, IsMemberKnown, IsRunKept, IsStretchKept, needs_listed};
-ghost use Rattle.reason_counting.specs.DistinctSources.{HasAll, HasLocation, sources_kept};
+ghost use Rattle.reason_clauses.specs.declared.cause.ReasonCause.TheVariants.{EnoughSources};
+ghost use Rattle.reason_counting.specs.CountedMembers.{AreDistinct, AreFirstBarred, AreTwo, BarsMember, IsMemberBarred, IsMemberKnown, IsOfPlaces, IsOfRuns, IsOfStretches, IsRunKept, IsStretchKept, needs_listed};
+ghost use Rattle.reason_counting.specs.CountingRefused.{AreEnoughLeft, AreLeftTo, IsCountingOrder, IsCountingRefused, IsInitialToSome, IsLeftInitial, IsLeftOperation, IsLeftToSome, IsMemberOrder, IsMemberRefused, IsNoWriting, IsSameMember, IsSomeMemberRefused, IsTwiceRefused};
+ghost use Rattle.reason_counting.specs.DistinctSources.{AreNone, HasAll, HasLocation, KeptOnly, sources_kept};
 ghost use Rattle.reason_counting.specs.Left.{IsLeft};
+ghost use Rattle.reason_counting.specs.OtherSources.{AreOthers, IsPartOrder, IsPartRefused};
 ghost use Rattle.reason_counting.specs.declared.counted_members.CountedMember.{CountedMember as Member};
 
 use crate::distinct_sources::{DistinctSources, is_one_location};
@@ -50,6 +56,7 @@ fn keep_place(
 ) -> Result<(), AllocError>
     ensures more { OnOk result (HasAll kept.old kept.new) }
     ensures there { OnOk result (stretch.first ≤ place → place ≤ stretch.last → Contains kept.new.operations.items (at_number process place)) }
+    ensures only { OnOk result (KeptOnly kept.old kept.new (λ n. (n ≡ at_number process place) × (stretch.first ≤ place) × (place ≤ stretch.last)) (λ a. ⊥)) }
 {
     if place < stretch.first {
         return Ok(());
@@ -70,6 +77,7 @@ fn keep_places(
 ) -> Result<(), AllocError>
     ensures more { OnOk result (HasAll kept.old kept.new) }
     ensures there { OnOk result (All (λ k. stretch.first ≤ k → k ≤ stretch.last → Contains kept.new.operations.items (at_number process k)) places.now) }
+    ensures only { OnOk result (KeptOnly kept.old kept.new (IsOfPlaces stretch process places.now) (λ a. ⊥)) }
 {
     for place in places {
         keep_place(process, *place, stretch, kept)?;
@@ -81,6 +89,7 @@ fn keep_places(
 fn keep_run(run: &Run, stretch: LeftStretch, kept: &mut DistinctSources) -> Result<(), AllocError>
     ensures more { OnOk result (HasAll kept.old kept.new) }
     ensures there { OnOk result (IsRunKept kept.new stretch run.now) }
+    ensures only { OnOk result (KeptOnly kept.old kept.new (λ n. (run.now.process ≡ stretch.process) × IsOfPlaces stretch run.now.process run.now.places n) (λ a. ⊥)) }
 {
     if run.process != stretch.process {
         return Ok(());
@@ -97,6 +106,7 @@ fn keep_runs(
 ) -> Result<(), AllocError>
     ensures more { OnOk result (HasAll kept.old kept.new) }
     ensures there { OnOk result (All (IsRunKept kept.new stretch) runs.now) }
+    ensures only { OnOk result (KeptOnly kept.old kept.new (IsOfRuns stretch runs.now) (λ a. ⊥)) }
 {
     for run in runs {
         keep_run(run, stretch, kept)?;
@@ -113,6 +123,7 @@ fn keep_stretch(
 ) -> Result<(), AllocError>
     ensures more { OnOk result (HasAll kept.old kept.new) }
     ensures there { OnOk result (IsStretchKept writers.now location.now kept.new stretch) }
+    ensures only { OnOk result (KeptOnly kept.old kept.new (IsOfRuns stretch (runs_at writers.now location.now stretch.value)) (λ a. ⊥)) }
 {
     let runs = writers.runs(location, stretch.value);
     keep_runs(runs, stretch, kept)?;
@@ -128,6 +139,7 @@ fn keep_stretches(
 ) -> Result<(), AllocError>
     ensures more { OnOk result (HasAll kept.old kept.new) }
     ensures there { OnOk result (All (IsStretchKept writers.now location.now kept.new) stretches.now) }
+    ensures only { OnOk result (KeptOnly kept.old kept.new (IsOfStretches writers.now location.now stretches.now) (λ a. ⊥)) }
 {
     for stretch in stretches {
         keep_stretch(writers, location, *stretch, kept)?;
@@ -139,6 +151,7 @@ fn keep_stretches(
 fn keep_start<'a>(left: &LeftSources<'a>, kept: &mut DistinctSources<'a>) -> Result<(), AllocError>
     ensures more { OnOk result (HasAll kept.old kept.new) }
     ensures there { OnOk result (left.now.is_initial_left ≡ true → HasLocation kept.new.locations.items left.now.location.now) }
+    ensures only { OnOk result (KeptOnly kept.old kept.new (λ n. ⊥) (λ a. (left.now.is_initial_left ≡ true) × (a ≡ left.now.location.now))) }
 {
     if !left.is_initial_left {
         return Ok(());
@@ -155,6 +168,7 @@ fn keep_left<'a>(
 ) -> Result<(), AllocError>
     ensures more { OnOk result (HasAll kept.old kept.new) }
     ensures there { OnOk result ((t : TraceValue) (s : ValueSource) → IsLeft t writers.now left.now s → Contains (sources_kept t kept.new) s) }
+    ensures only { OnOk result (KeptOnly kept.old kept.new (IsOfStretches writers.now left.now.location.now left.now.stretches.items) (λ a. (left.now.is_initial_left ≡ true) × (a ≡ left.now.location.now))) }
 {
     keep_stretches(writers, left.location, left.stretches.as_slice(), kept)?;
     keep_start(left, kept)?;
@@ -163,7 +177,8 @@ fn keep_left<'a>(
 
 /// Refuses an operation that writes nothing. One that reads, too, is an update.
 fn want_writing(trace: &Trace, n: OperationPlace) -> Result<(), ReasonRefusal>
-    ensures { OnOk result (IsKnown trace.now n × ((location : List ℕ) × IsSome (value_left_at trace.now location (named trace.now n)))) }
+    ensures writes { OnOk result (IsKnown trace.now n × ((location : List ℕ) × IsSome (value_left_at trace.now location (named trace.now n)))) }
+    ensures refused { IfErr result (IsRefusedBy (IsNoWriting trace.now n)) }
 {
     let op = operation_of(trace, n)?;
     let location = op.location().as_bytes();
@@ -185,6 +200,9 @@ fn left_of_update<'a>(
     requires { HoldTables trace.now writers.now }
     ensures grows { OnOk result (Grows orders.old.items orders.new.items) }
     ensures bars { IfOk result (λ left. IsKnown trace.now n × Makes trace.now orders.new.items (λ clause. ((location : List ℕ) × IsSome (value_left_at trace.now location (named trace.now n))) × BarsSources trace.now clause (named trace.now n) (IsLeft trace.now writers.now.by_value left))) }
+    ensures only { OnOk result (AddsOnly orders.old.items orders.new.items (IsPartOrder trace.now n pieces.now)) }
+    ensures left { IfOk result (AreOthers trace.now n pieces.now) }
+    ensures refused { IfErr result (IsRefusedBy (λ cause. IsNoWriting trace.now n cause ⊎ IsPartRefused trace.now n pieces.now cause)) }
 {
     want_writing(trace, n)?;
     let left = left_sources(alloc, trace, writers, n, pieces, orders)?;
@@ -202,6 +220,9 @@ fn left_of_member<'a>(
     requires { HoldTables trace.now writers.now }
     ensures grows { OnOk result (Grows orders.old.items orders.new.items) }
     ensures bars { IfOk result (λ left. IsMemberKnown trace.now member.now × Makes trace.now orders.new.items (λ clause. BarsMember trace.now clause (IsLeft trace.now writers.now.by_value left) member.now)) }
+    ensures only { OnOk result (AddsOnly orders.old.items orders.new.items (IsMemberOrder trace.now member.now)) }
+    ensures left { IfOk result (AreLeftTo trace.now member.now) }
+    ensures refused { IfErr result (IsRefusedBy (IsMemberRefused trace.now member.now)) }
 {
     match member {
         CountedMember::Update(n, pieces) => {
@@ -226,7 +247,11 @@ fn bar_member<'a>(
     ensures grows { OnOk result (Grows orders.old.items orders.new.items) }
     ensures more { OnOk result (HasAll kept.old kept.new) }
     ensures bars { OnOk result (IsMemberBarred trace.now orders.new.items kept.new member.now) }
+    ensures only { OnOk result (AddsOnly orders.old.items orders.new.items (IsMemberOrder trace.now member.now)) }
+    ensures keeps { OnOk result (KeptOnly kept.old kept.new (IsLeftOperation trace.now member.now) (IsLeftInitial trace.now member.now)) }
+    ensures refused { IfErr result (IsRefusedBy (IsMemberRefused trace.now member.now)) }
 {
+    trace.recall_invariant();
     let left = left_of_member(alloc, trace, writers, member, orders)?;
     keep_left(&writers.by_value, &left, kept)?;
     Ok(())
@@ -234,7 +259,8 @@ fn bar_member<'a>(
 
 /// Refuses sources that are not fewer than this.
 fn want_fewer(kept: &DistinctSources, count: usize) -> Result<(), ReasonRefusal>
-    ensures { OnOk result (length kept.now.operations.items + length kept.now.locations.items < count) }
+    ensures fewer { OnOk result (length kept.now.operations.items + length kept.now.locations.items < count) }
+    ensures refused { IfErr result (IsRefusedBy (λ cause. (cause ≡ EnoughSources) × (count ≤ length kept.now.operations.items + length kept.now.locations.items))) }
 {
     if kept.are_fewer(count) {
         Ok(())
@@ -253,7 +279,10 @@ fn bar_members<'a>(
     kept: &mut DistinctSources<'a>,
 ) -> Result<(), ReasonRefusal>
     requires { HoldTables trace.now writers.now }
-    ensures { OnOk result (AreFirstBarred trace.now orders.new.items kept.new members.now (length members.now)) }
+    ensures barred { OnOk result (AreFirstBarred trace.now orders.new.items kept.new members.now (length members.now)) }
+    ensures only { OnOk result (AddsOnly orders.old.items orders.new.items (IsCountingOrder trace.now members.now)) }
+    ensures keeps { OnOk result (KeptOnly kept.old kept.new (IsLeftToSome trace.now members.now) (IsInitialToSome trace.now members.now)) }
+    ensures refused { IfErr result (IsRefusedBy (λ cause. IsSomeMemberRefused trace.now members.now cause ⊎ ((cause ≡ EnoughSources) × (AreNone kept.old → AreEnoughLeft trace.now members.now)))) }
 {
     for k in 0..members.len() {
         bar_member(alloc, trace, writers, &members[k], orders, kept)?;
@@ -264,7 +293,8 @@ fn bar_members<'a>(
 
 /// Returns whether both need one source.
 fn is_one_member(x: &CountedMember, y: &CountedMember) -> bool
-    ensures { result ≡ false → AreTwo x.now y.now }
+    ensures apart { result ≡ false → AreTwo x.now y.now }
+    ensures same { result ≡ true → IsSameMember x.now y.now }
 {
     match x {
         CountedMember::Update(m, _pieces) => match y {
@@ -281,7 +311,8 @@ fn is_one_member(x: &CountedMember, y: &CountedMember) -> bool
 /// Refuses a member that is one of those before it.
 fn want_new(members: &[CountedMember], k: usize) -> Result<(), ReasonRefusal>
     requires { k < length members.now }
-    ensures { OnOk result ((j : ℕ) (d : Member) → j < k → AreTwo (slice_index_or members.now j d) (slice_index_or members.now k d)) }
+    ensures apart { OnOk result ((j : ℕ) (d : Member) → j < k → AreTwo (slice_index_or members.now j d) (slice_index_or members.now k d)) }
+    ensures refused { IfErr result (IsRefusedBy (IsTwiceRefused members.now)) }
 {
     for j in 0..k {
         if is_one_member(&members[j], &members[k]) {
@@ -293,7 +324,8 @@ fn want_new(members: &[CountedMember], k: usize) -> Result<(), ReasonRefusal>
 
 /// Refuses members of which two need one source.
 fn want_distinct(members: &[CountedMember]) -> Result<(), ReasonRefusal>
-    ensures { OnOk result (AreDistinct members.now (length members.now)) }
+    ensures distinct { OnOk result (AreDistinct members.now (length members.now)) }
+    ensures refused { IfErr result (IsRefusedBy (IsTwiceRefused members.now)) }
 {
     for k in 0..members.len() {
         want_new(members, k)?;
@@ -312,11 +344,13 @@ pub fn counting_clause<'a>(
     requires { HoldTables trace.now writers.now }
     ensures made { OnOk result ((left : List ValueSource) × Makes trace.now orders.new.items (λ clause. IsCountingClause trace.now clause (needs_listed trace.now members.now) left)) }
     ensures holds { OnOk result (HoldsOfSchedules trace.now (named_orders trace.now orders.new.items)) }
+    ensures only { OnOk result (AddsOnly orders.old.items orders.new.items (IsCountingOrder trace.now members.now)) }
+    ensures refused { IfErr result (IsRefusedBy (IsCountingRefused trace.now members.now)) }
 {
     too_few_sources();
     trace.recall_invariant();
     want_distinct(members)?;
-    let mut kept = DistinctSources::new(alloc, trace)?;
+    let mut kept = DistinctSources::new(alloc);
     bar_members(alloc, trace, writers, members, orders, &mut kept)?;
     want_fewer(&kept, members.len())?;
     Ok(())

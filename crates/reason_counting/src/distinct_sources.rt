@@ -1,46 +1,34 @@
 //! Sources, each once.
 
-ghost use Rattle.std.specs.Prelude.{◌≡◌, ◌<◌, ◌+◌, true, length, OnOk};
+ghost use Rattle.std.specs.Prelude.{◌≡◌, ◌≤◌, ◌<◌, ◌+◌, true, false, [], length, slice_index_or, OnOk};
 ghost use Rattle.std.specs.List.{Contains};
 ghost use Rattle.std.specs.Str.{bytes_eq};
-ghost use Rattle.reason_counting.specs.DistinctSources.{HasAll, HasLocation};
+ghost use Rattle.writer_table.specs.declared.operation_place.OperationPlace.{OperationPlace as Place};
+ghost use Rattle.reason_counting.specs.DistinctSources.{AreApart, HasAll, HasLocation, KeptOnly};
 
+use reason_clauses::lookups::are_same;
 use std::alloc::{AllocError, Global};
-use trace_semantics::trace::Trace;
+use std::collections::HashMap;
 use writer_table::operation_place::OperationPlace;
 
 /// Operations, each once, and locations whose initial value is a source, each once.
 #[derive(Drop)]
 pub struct DistinctSources<'a> {
-    /// For each process how many operations those before it have.
-    starts: Vec<usize>,
-    /// For each operation of the trace its place among those that are kept. It is looked at again before it is relied on.
-    places: Vec<usize>,
+    /// For each operation, by its process and its place there, where it stands among those that are kept. It is looked at again before it is relied on.
+    places: HashMap<(u32, u32), usize>,
     operations: Vec<OperationPlace>,
     locations: Vec<&'a [u8]>,
 }
 
-/// Returns whether both are one operation.
-fn is_one(first: OperationPlace, second: OperationPlace) -> bool
-    ensures { result ≡ true → first ≡ second }
-{
-    if first.process != second.process {
-        return false;
-    }
-    if first.place != second.place {
-        return false;
-    }
-    true
-}
-
 /// Returns whether the operation stands at this place.
 fn is_at(operations: &[OperationPlace], place: usize, n: OperationPlace) -> bool
-    ensures { result ≡ true → Contains operations.now n }
+    ensures there { result ≡ true → Contains operations.now n }
+    ensures other { result ≡ false → (d : Place) → place < length operations.now → slice_index_or operations.now place d ≡ n → ⊥ }
 {
     if place >= operations.len() {
         return false;
     }
-    is_one(operations[place], n)
+    are_same(operations[place], n)
 }
 
 /// Returns whether both are one location.
@@ -52,10 +40,11 @@ pub fn is_one_location(first: &[u8], second: &[u8]) -> bool
 
 /// Returns whether the location is among these.
 fn has_location(locations: &[&[u8]], location: &[u8]) -> bool
-    ensures { result ≡ true → HasLocation locations.now location.now }
+    ensures there { result ≡ true → HasLocation locations.now location.now }
+    ensures other { result ≡ false → HasLocation locations.now location.now → ⊥ }
 {
-    for k in 0..locations.len() {
-        if is_one_location(locations[k], location) {
+    for other in locations {
+        if is_one_location(other, location) {
             return true;
         }
     }
@@ -64,56 +53,39 @@ fn has_location(locations: &[&[u8]], location: &[u8]) -> bool
 
 impl<'a> DistinctSources<'a> {
     /// None yet.
-    pub fn new(alloc: Global, trace: &Trace) -> Result<DistinctSources<'a>, AllocError> {
-        let mut starts = Vec::new(alloc);
-        let mut count = 0usize;
-        for process in trace.processes() {
-            starts.push(count)?;
-            count = count.wrapping_add(process.operations.as_slice().len());
-        }
-        Ok(DistinctSources {
-            starts,
-            places: vec![in alloc; 0; count]?,
+    pub fn new(alloc: Global) -> DistinctSources<'a>
+        ensures operations { result.operations.items ≡ [] }
+        ensures locations { result.locations.items ≡ [] }
+    {
+        DistinctSources {
+            places: HashMap::new(alloc),
             operations: Vec::new(alloc),
             locations: Vec::new(alloc),
-        })
-    }
-
-    /// The number of the operation among all of the trace, counted from 0.
-    fn number(&self, n: OperationPlace) -> usize {
-        let q = n.process as usize;
-        if q < self.starts.len() {
-            self.starts[q]
-                .wrapping_add(n.place as usize)
-                .wrapping_sub(1)
-        } else {
-            usize::MAX
         }
     }
 
     /// Returns whether the operation is kept.
     fn has(&self, n: OperationPlace) -> bool
-        ensures { result ≡ true → Contains self.now.operations.items n }
+        ensures kept { result ≡ true → Contains self.now.operations.items n }
+        ensures other { result ≡ false → AreApart self.now → Contains self.now.operations.items n → ⊥ }
     {
-        let number = self.number(n);
-        if number >= self.places.len() {
-            return false;
+        match self.places.get(&(n.process, n.place)) {
+            Some(place) => is_at(self.operations.as_slice(), *place, n),
+            None => false,
         }
-        is_at(self.operations.as_slice(), self.places[number], n)
     }
 
     /// Keeps the operation.
     pub fn keep(&mut self, n: OperationPlace) -> Result<(), AllocError>
         ensures more { OnOk result (HasAll self.old self.new) }
         ensures kept { OnOk result (Contains self.new.operations.items n) }
+        ensures only { OnOk result (KeptOnly self.old self.new (λ m. m ≡ n) (λ a. ⊥)) }
     {
         if self.has(n) {
             return Ok(());
         }
-        let number = self.number(n);
-        if number < self.places.len() {
-            self.places[number] = self.operations.len();
-        }
+        let place = self.operations.len();
+        self.places.insert((n.process, n.place), place)?;
         self.operations.push(n)?;
         Ok(())
     }
@@ -122,6 +94,7 @@ impl<'a> DistinctSources<'a> {
     pub fn keep_initial(&mut self, location: &'a [u8]) -> Result<(), AllocError>
         ensures more { OnOk result (HasAll self.old self.new) }
         ensures kept { OnOk result (HasLocation self.new.locations.items location.now) }
+        ensures only { OnOk result (KeptOnly self.old self.new (λ m. ⊥) (λ a. a ≡ location.now)) }
     {
         if has_location(self.locations.as_slice(), location) {
             return Ok(());
@@ -132,7 +105,8 @@ impl<'a> DistinctSources<'a> {
 
     /// Returns whether they are fewer.
     pub fn are_fewer(&self, count: usize) -> bool
-        ensures { result ≡ true → length self.now.operations.items + length self.now.locations.items < count }
+        ensures enough { result ≡ false → count ≤ length self.now.operations.items + length self.now.locations.items }
+        ensures fewer { result ≡ true → length self.now.operations.items + length self.now.locations.items < count }
     {
         let kept = self.operations.as_slice().len();
         if kept >= count {

@@ -1,14 +1,21 @@
 //! What pieces leave of the sources of a reader.
 
-ghost use Rattle.std.specs.Prelude.{◌≡◌, ℕ, List, OnOk, IfOk};
+ghost use Rattle.std.specs.Prelude.{◌≡◌, ◌⊎◌, true, ℕ, List, OnOk, IfOk, IfErr};
 ghost use Rattle.trace_semantics.specs.declared.operation.OpName.{OpName};
+ghost use Rattle.trace_semantics.specs.declared.operation.Origin.{Origin as Source};
 ghost use Rattle.order_clauses.specs.Numbered.{named};
 ghost use Rattle.order_reasons.specs.Sources.{BarsSources};
+ghost use Rattle.reason_clauses.specs.AddedOrders.{AddsOnly};
 ghost use Rattle.reason_clauses.specs.Numbered.{Grows, AreIn, AreTaken, BarsPlaces, IsGivenFront, at_number};
 ghost use Rattle.reason_clauses.specs.Mains.{IsGivenMain};
+ghost use Rattle.reason_clauses.specs.PossibleSources.{AreWholeRuns, IsOtherRun, IsOwnExact, IsWholeRun};
+ghost use Rattle.reason_clauses.specs.RefusedBy.{IsRefusedBy};
+ghost use Rattle.reason_clauses.specs.SourceRefused.{IsInitialOrder, IsPartlyRefused, IsPieceOrder};
+ghost use Rattle.reason_clauses.specs.StretchOrders.{IsTakenOrder, IsTakenRefused};
 ghost use Rattle.reason_clauses.specs.Tables.{HoldTables};
 ghost use Rattle.reason_clauses.specs.declared.barring.MainPiece.TheVariants.{Plain};
-ghost use Rattle.reason_counting.specs.Left.{AreMore, AreRunsLeft, AreSourcesLeft, IsLeft, IsMainLeft, IsPlaceLeft, IsRunLeft, IsStartLeft, without_main};
+ghost use Rattle.reason_counting.specs.Left.{AreMore, AreRunsLeft, AreSourcesLeft, IsLeft, IsMainLeft, IsMainStretch, KeepsOnly, IsPlaceLeft, IsRunLeft, IsStartLeft, without_main};
+ghost use Rattle.reason_counting.specs.OtherSources.{AreOthers, IsInitialOther, IsOtherStretch, IsPartOrder, IsPartRefused, TakesOnly};
 
 use order_clauses::order_pair::OrderPair;
 use reason_clauses::barring::{MainPiece, bar_process};
@@ -54,6 +61,7 @@ fn keep_main(
 ) -> Result<(), AllocError>
     ensures more { OnOk result (AreMore left.old.items left.new.items) }
     ensures kept { OnOk result (IsMainLeft left.new.items value process s) }
+    ensures only { OnOk result (KeepsOnly left.old.items left.new.items (IsMainStretch value process s)) }
 {
     if s.first == 0 {
         return Ok(());
@@ -81,6 +89,9 @@ fn bar_taken(
     ensures more { OnOk result (AreMore left.old.items left.new.items) }
     ensures bars { OnOk result (BarsPlaces orders.new.items reader process (λ t location d. IsGivenFront t location d reader witness × IsGivenMain t location d reader Plain) (AreTaken (without_main s))) }
     ensures kept { OnOk result (IsMainLeft left.new.items value process s) }
+    ensures only { OnOk result (AddsOnly orders.old.items orders.new.items (IsTakenOrder reader process s witness)) }
+    ensures left { OnOk result (KeepsOnly left.old.items left.new.items (IsMainStretch value process s)) }
+    ensures refused { IfErr result (IsRefusedBy (IsTakenRefused process s witness)) }
 {
     let taken = Stretches {
         hidden: s.hidden,
@@ -106,6 +117,8 @@ fn bar_taken_own(
     ensures grows { OnOk result (Grows orders.old.items orders.new.items) }
     ensures more { OnOk result (AreMore left.old.items left.new.items) }
     ensures bars { OnOk result (IsPlaceLeft trace.now orders.new.items left.new.items value reader pieces.now (at_number reader.process own)) }
+    ensures only { OnOk result ((origin : Source) (location : List ℕ) → IsOwnExact trace.now reader origin location value own → TakesOnly trace.now reader pieces.now origin location value orders.old.items orders.new.items left.old.items left.new.items) }
+    ensures refused { IfErr result (IsRefusedBy (λ cause. (origin : Source) (location : List ℕ) → IsOwnExact trace.now reader origin location value own → IsPartlyRefused trace.now reader pieces.now origin location value cause)) }
 {
     trace.recall_invariant();
     if own == 0 {
@@ -139,6 +152,8 @@ fn bar_taken_other(
     ensures grows { OnOk result (Grows orders.old.items orders.new.items) }
     ensures more { OnOk result (AreMore left.old.items left.new.items) }
     ensures bars { OnOk result ((own : ℕ) → IsRunLeft trace.now orders.new.items left.new.items value reader origin.now own pieces.now run.now) }
+    ensures only { OnOk result ((location : List ℕ) → IsOtherRun trace.now reader location value run.now → TakesOnly trace.now reader pieces.now origin.now location value orders.old.items orders.new.items left.old.items left.new.items) }
+    ensures refused { IfErr result (IsRefusedBy (λ cause. (location : List ℕ) → IsOtherRun trace.now reader location value run.now → IsPartlyRefused trace.now reader pieces.now origin.now location value cause)) }
 {
     trace.recall_invariant();
     let piece = pieces.of_process(run.process);
@@ -162,6 +177,8 @@ fn bar_taken_run(
     ensures grows { OnOk result (Grows orders.old.items orders.new.items) }
     ensures more { OnOk result (AreMore left.old.items left.new.items) }
     ensures bars { OnOk result (IsRunLeft trace.now orders.new.items left.new.items value reader origin.now own pieces.now run.now) }
+    ensures only { OnOk result ((location : List ℕ) → IsOwnExact trace.now reader origin.now location value own → IsWholeRun trace.now location value run.now → TakesOnly trace.now reader pieces.now origin.now location value orders.old.items orders.new.items left.old.items left.new.items) }
+    ensures refused { IfErr result (IsRefusedBy (λ cause. (location : List ℕ) → IsOwnExact trace.now reader origin.now location value own → IsWholeRun trace.now location value run.now → IsPartlyRefused trace.now reader pieces.now origin.now location value cause)) }
 {
     if run.process == reader.process {
         bar_taken_own(trace, reader, value, own, pieces, orders, left)?;
@@ -185,6 +202,8 @@ fn bar_taken_runs(
 ) -> Result<(), ReasonRefusal>
     ensures grows { OnOk result (Grows orders.old.items orders.new.items) }
     ensures bars { OnOk result (AreRunsLeft trace.now orders.new.items left.new.items value reader origin.now own pieces.now runs.now) }
+    ensures only { OnOk result ((location : List ℕ) → IsOwnExact trace.now reader origin.now location value own → AreWholeRuns trace.now location value runs.now → TakesOnly trace.now reader pieces.now origin.now location value orders.old.items orders.new.items left.old.items left.new.items) }
+    ensures refused { IfErr result (IsRefusedBy (λ cause. (location : List ℕ) → IsOwnExact trace.now reader origin.now location value own → AreWholeRuns trace.now location value runs.now → IsPartlyRefused trace.now reader pieces.now origin.now location value cause)) }
 {
     for run in runs {
         bar_taken_run(trace, reader, value, origin, own, run, pieces, orders, left)?;
@@ -204,6 +223,9 @@ fn bar_taken_start(
 ) -> Result<bool, ReasonRefusal>
     ensures grows { OnOk result (Grows orders.old.items orders.new.items) }
     ensures bars { IfOk result (λ is_left. IsStartLeft trace.now orders.new.items is_left reader origin.now pieces.now location.now value) }
+    ensures only { OnOk result (AddsOnly orders.old.items orders.new.items (IsInitialOrder trace.now reader pieces.now origin.now location.now value)) }
+    ensures left { IfOk result (λ is_left. is_left ≡ true → IsInitialOther trace.now pieces.now origin.now location.now value) }
+    ensures refused { IfErr result (IsRefusedBy (λ cause. ⊥)) }
 {
     if !is_from_start(origin) || !is_held_at(trace.initial(), location, value) {
         return Ok(false);
@@ -230,9 +252,13 @@ fn bar_taken_sources(
     requires { HoldTables trace.now writers.now }
     ensures grows { OnOk result (Grows orders.old.items orders.new.items) }
     ensures bars { IfOk result (λ is_left. AreSourcesLeft trace.now writers.now.by_value orders.new.items left.new.items is_left reader origin.now pieces.now location.now value) }
+    ensures only { OnOk result (AddsOnly orders.old.items orders.new.items (λ o. IsPieceOrder trace.now reader pieces.now origin.now location.now value o ⊎ IsInitialOrder trace.now reader pieces.now origin.now location.now value o)) }
+    ensures stretches { OnOk result (KeepsOnly left.old.items left.new.items (IsOtherStretch trace.now reader pieces.now origin.now location.now value)) }
+    ensures left { IfOk result (λ is_left. is_left ≡ true → IsInitialOther trace.now pieces.now origin.now location.now value) }
+    ensures refused { IfErr result (IsRefusedBy (IsPartlyRefused trace.now reader pieces.now origin.now location.now value)) }
 {
     trace.recall_invariant();
-    let own = own_source(trace, &writers.by_location, reader, location, value, origin)?;
+    let own = own_source(trace, &writers.by_location, reader, location, value, origin);
     let runs = writers.by_value.runs(location, value);
     bar_taken_runs(
         trace, reader, value, origin, own, runs, pieces, orders, left,
@@ -253,6 +279,9 @@ pub fn left_sources<'a>(
     requires { HoldTables trace.now writers.now }
     ensures grows { OnOk result (Grows orders.old.items orders.new.items) }
     ensures bars { IfOk result (λ left. (clause : List (OpName × OpName)) → AreIn trace.now orders.new.items clause → BarsSources trace.now clause (named trace.now reader) (IsLeft trace.now writers.now.by_value left)) }
+    ensures only { OnOk result (AddsOnly orders.old.items orders.new.items (IsPartOrder trace.now reader pieces.now)) }
+    ensures left { IfOk result (AreOthers trace.now reader pieces.now) }
+    ensures refused { IfErr result (IsRefusedBy (IsPartRefused trace.now reader pieces.now)) }
 {
     let op = operation_of(trace, reader)?;
     let Some(value) = op.value_read() else {

@@ -1,14 +1,18 @@
 //! The clause that of some operations one comes first.
 
-ghost use Rattle.std.specs.Prelude.{◌≡◌, ◌∷◌, ◌++◌, [], List, map, OnOk, IfOk, slice_index_or};
+ghost use Rattle.std.specs.Prelude.{◌≡◌, ◌≤◌, ◌<◌, ◌⊎◌, true, false, ◌∷◌, ◌++◌, [], List, length, map, OnOk, IfOk, IfErr, slice_index_or};
 ghost use Rattle.writer_table.specs.declared.operation_place.OperationPlace.{OperationPlace as Place};
 ghost use Rattle.order_clauses.specs.Numbered.{named, named_orders, IsKnown};
 ghost use Rattle.order_reasons.specs.Orders.{HoldsOfSchedules};
 ghost use Rattle.order_reasons.specs.Waiting.{IsBehindOne, IsWaitingClause};
+ghost use Rattle.reason_clauses.specs.AddedOrders.{AddsOnly, IsOrder};
 ghost use Rattle.reason_clauses.specs.Made.{Makes};
-ghost use Rattle.reason_clauses.specs.Numbered.{Grows};
+ghost use Rattle.reason_clauses.specs.Numbered.{Grows, at_number};
+ghost use Rattle.reason_clauses.specs.RefusedBy.{IsRefusedBy};
 ghost use Rattle.reason_clauses.specs.Tables.{HoldTables};
-ghost use Rattle.reason_counting.specs.WaitingSet.{AreBehind, HoldMembers, IsStretchBehind, MustWait, operations_of};
+ghost use Rattle.reason_counting.specs.OtherSources.{IsPartOrder};
+ghost use Rattle.reason_counting.specs.WaitingRefused.{IsAwaitedOrder, IsAwaitedRefused, IsBehindRefused, IsSomeBehindRefused, IsSourceWaitRefused, IsWaitRefused, IsWaitingOrder, IsWaitingRefused};
+ghost use Rattle.reason_counting.specs.WaitingSet.{AreBehind, AreFirst, AreFirstKnown, HoldMembers, IsStretchBehind, MustWait, operations_of};
 
 use crate::left_sources::{LeftStretch, left_sources};
 use order_clauses::order_pair::OrderPair;
@@ -38,12 +42,22 @@ pub struct Waiter {
     pub awaited: WaitsFor,
 }
 
+/// Returns whether a place comes before another one, or there is no other one. Places are counted from 1.
+fn is_earlier(place: u32, other: u32) -> bool
+    ensures earlier { result ≡ true → (1 ≤ place) × ((other ≡ 0) ⊎ (place < other)) }
+    ensures later { result ≡ false → 1 ≤ place → (1 ≤ other) × (other ≤ place) }
+{
+    place != 0 && (other == 0 || place < other)
+}
+
 /// Keeps the place of the operation, if it is the first of its process.
 fn keep_first(first: &mut Vec<u32>, n: OperationPlace)
-    ensures { (members : List Place) → HoldMembers members first.old.items → HoldMembers (members ++ n ∷ []) first.new.items }
+    ensures held { (members : List Place) → HoldMembers members first.old.items → HoldMembers (members ++ n ∷ []) first.new.items }
+    ensures first { (members : List Place) → AreFirst members first.old.items → AreFirst (members ++ n ∷ []) first.new.items }
+    ensures long { length first.new.items ≡ length first.old.items }
 {
     let q = n.process as usize;
-    if q < first.len() && (first[q] == 0 || n.place < first[q]) {
+    if q < first.len() && is_earlier(n.place, first[q]) {
         first[q] = n.place;
     }
 }
@@ -54,7 +68,9 @@ fn first_waiting(
     processes: usize,
     waiters: &[Waiter],
 ) -> Result<Vec<u32>, AllocError>
-    ensures { IfOk result (λ first. HoldMembers (operations_of waiters.now) first.items) }
+    ensures held { IfOk result (λ first. HoldMembers (operations_of waiters.now) first.items) }
+    ensures first { IfOk result (λ first. AreFirst (operations_of waiters.now) first.items) }
+    ensures long { IfOk result (λ first. length first.items ≡ processes) }
 {
     let mut first = vec![in alloc; 0; processes]?;
     for k in 0..waiters.len() {
@@ -75,17 +91,14 @@ fn first_in(first: &[u32], process: u32) -> u32
 fn want_behind(trace: &Trace, first: &[u32], n: OperationPlace) -> Result<(), ReasonRefusal>
     ensures known { OnOk result (IsKnown trace.now n) }
     ensures behind { OnOk result ((members : List Place) → HoldMembers members first.now → IsBehindOne trace.now (map (named trace.now) members) (named trace.now n)) }
+    ensures refused { IfErr result (IsRefusedBy (λ cause. (members : List Place) → AreFirstKnown trace.now members first.now → IsBehindRefused trace.now members n cause)) }
 {
+    trace.recall_invariant();
     let _op = operation_of(trace, n)?;
     let place = first_in(first, n.process);
     if place == 0 || n.place < place {
         return Err(ReasonRefusal::For(ReasonCause::SourceBefore));
     }
-    let z = OperationPlace {
-        process: n.process,
-        place,
-    };
-    let _member = operation_of(trace, z)?;
     Ok(())
 }
 
@@ -99,6 +112,8 @@ fn wait_for_operation(
 ) -> Result<(), ReasonRefusal>
     ensures grows { OnOk result (Grows orders.old.items orders.new.items) }
     ensures waits { OnOk result ((members : List Place) → HoldMembers members first.now → MustWait trace.now orders.new.items members operation) }
+    ensures only { OnOk result (AddsOnly orders.old.items orders.new.items (IsOrder operation other)) }
+    ensures refused { IfErr result (IsRefusedBy (λ cause. (members : List Place) → AreFirstKnown trace.now members first.now → IsWaitRefused trace.now members operation other cause)) }
 {
     trace.recall_invariant();
     if are_same(operation, other) {
@@ -114,9 +129,10 @@ fn wait_for_operation(
 fn want_stretch_behind(
     trace: &Trace,
     first: &[u32],
-    stretch: LeftStretch,
+    stretch: &LeftStretch,
 ) -> Result<(), ReasonRefusal>
-    ensures { OnOk result ((members : List Place) → HoldMembers members first.now → IsStretchBehind trace.now members stretch) }
+    ensures behind { OnOk result ((members : List Place) → HoldMembers members first.now → IsStretchBehind trace.now members stretch.now) }
+    ensures refused { IfErr result (IsRefusedBy (λ cause. (members : List Place) → AreFirstKnown trace.now members first.now → IsBehindRefused trace.now members (at_number stretch.now.process stretch.now.first) cause)) }
 {
     let n = OperationPlace {
         process: stretch.process,
@@ -131,10 +147,11 @@ fn want_all_behind(
     first: &[u32],
     stretches: &[LeftStretch],
 ) -> Result<(), ReasonRefusal>
-    ensures { OnOk result ((members : List Place) → HoldMembers members first.now → AreBehind trace.now members stretches.now) }
+    ensures behind { OnOk result ((members : List Place) → HoldMembers members first.now → AreBehind trace.now members stretches.now) }
+    ensures refused { IfErr result (IsRefusedBy (λ cause. (members : List Place) → AreFirstKnown trace.now members first.now → IsSomeBehindRefused trace.now members stretches.now cause)) }
 {
     for stretch in stretches {
-        want_stretch_behind(trace, first, *stretch)?;
+        want_stretch_behind(trace, first, stretch)?;
     }
     Ok(())
 }
@@ -152,6 +169,8 @@ fn wait_for_source(
     requires { HoldTables trace.now writers.now }
     ensures grows { OnOk result (Grows orders.old.items orders.new.items) }
     ensures waits { OnOk result ((members : List Place) → HoldMembers members first.now → MustWait trace.now orders.new.items members reader) }
+    ensures only { OnOk result (AddsOnly orders.old.items orders.new.items (IsPartOrder trace.now reader pieces.now)) }
+    ensures refused { IfErr result (IsRefusedBy (λ cause. (members : List Place) → AreFirstKnown trace.now members first.now → IsSourceWaitRefused trace.now members reader pieces.now cause)) }
 {
     let left = left_sources(alloc, trace, writers, reader, pieces, orders)?;
     if left.is_initial_left {
@@ -173,6 +192,8 @@ fn wait_for(
     requires { HoldTables trace.now writers.now }
     ensures grows { OnOk result (Grows orders.old.items orders.new.items) }
     ensures waits { OnOk result ((members : List Place) → HoldMembers members first.now → MustWait trace.now orders.new.items members waiter.now.operation) }
+    ensures only { OnOk result (AddsOnly orders.old.items orders.new.items (IsAwaitedOrder trace.now waiter.now.operation waiter.now.awaited)) }
+    ensures refused { IfErr result (IsRefusedBy (λ cause. (members : List Place) → AreFirstKnown trace.now members first.now → IsAwaitedRefused trace.now members waiter.now.operation waiter.now.awaited cause)) }
 {
     match &waiter.awaited {
         WaitsFor::Operation(other) => {
@@ -205,6 +226,8 @@ pub fn waiting_clause(
     requires { HoldTables trace.now writers.now }
     ensures made { OnOk result (Makes trace.now orders.new.items (λ clause. IsWaitingClause trace.now clause (map (named trace.now) (operations_of waiters.now)))) }
     ensures holds { OnOk result (HoldsOfSchedules trace.now (named_orders trace.now orders.new.items)) }
+    ensures only { OnOk result (AddsOnly orders.old.items orders.new.items (IsWaitingOrder trace.now waiters.now)) }
+    ensures refused { IfErr result (IsRefusedBy (IsWaitingRefused trace.now waiters.now)) }
 {
     one_comes_first();
     let count = waiters.len();

@@ -1,5 +1,9 @@
-use Rattle.std.proofs.Common.{sym, subst}
+use Rattle.std.proofs.Common.{ℕ, List, sym, subst}
+use Rattle.trace_semantics.specs.declared.operation.Origin.{Origin}
 use Rattle.writer_table.specs.declared.operation_place.OperationPlace.{OperationPlace}
+use Rattle.reason_clauses.specs.PossibleSources.{IsOtherRun, IsOwnExact, IsWholeRun}
+use Rattle.reason_clauses.specs.SourceRefused.{IsPartlyRefused}
+use Rattle.reason_clauses.proofs.RefusedLemmas.{refusal_on}
 use Rattle.reason_counting.specs.Left.{IsPlaceLeft}
 use Rattle.reason_counting.proofs.left_sources.bar_taken_run.Goals as goal
 
@@ -11,3 +15,29 @@ returns-in_ok-bar_taken_own-clause-bars c known k there allowed own_is =
 
 pub returns-in_ok-bar_taken_other-clause-bars : goal.returns-in_ok-bar_taken_other-clause-bars
 returns-in_ok-bar_taken_other-clause-bars c = c.in_ok-bar_taken_other.ensures.bars c.args.own
+
+pub returns-in_ok-bar_taken_own-clause-only : goal.returns-in_ok-bar_taken_own-clause-only
+returns-in_ok-bar_taken_own-clause-only c location may whole = c.in_ok-bar_taken_own.ensures.only c.args.origin.now location may
+
+pub returns-in_ok-bar_taken_other-clause-only : goal.returns-in_ok-bar_taken_other-clause-only
+returns-in_ok-bar_taken_other-clause-only c location may whole = c.in_ok-bar_taken_other.ensures.only location (whole, c.if-run-reader.false)
+
+pub returns-in_err-bar_taken_own-clause-refused : goal.returns-in_err-bar_taken_own-clause-refused
+returns-in_err-bar_taken_own-clause-refused c =
+    let t = c.args.trace.now in
+    let r = c.args.reader in
+    let d = c.args.value in
+    let pieces = c.args.pieces.now in
+    refusal_on (λ cause. (origin : Origin) (location : List ℕ) → IsOwnExact t r origin location d c.args.own → IsPartlyRefused t r pieces origin location d cause)
+    (λ cause. (location : List ℕ) → IsOwnExact t r c.args.origin.now location d c.args.own → IsWholeRun t location d c.args.run.now → IsPartlyRefused t r pieces c.args.origin.now location d cause) c.from_residual.result c.in_err-bar_taken_own.field-0.0 c.from_residual.ensures.1
+    (λ cause h location may whole. h c.args.origin.now location may) c.in_err-bar_taken_own.ensures.refused
+
+pub returns-in_err-bar_taken_other-clause-refused : goal.returns-in_err-bar_taken_other-clause-refused
+returns-in_err-bar_taken_other-clause-refused c =
+    let t = c.args.trace.now in
+    let r = c.args.reader in
+    let d = c.args.value in
+    let pieces = c.args.pieces.now in
+    refusal_on (λ cause. (location : List ℕ) → IsOtherRun t r location d c.args.run.now → IsPartlyRefused t r pieces c.args.origin.now location d cause)
+    (λ cause. (location : List ℕ) → IsOwnExact t r c.args.origin.now location d c.args.own → IsWholeRun t location d c.args.run.now → IsPartlyRefused t r pieces c.args.origin.now location d cause) c.from_residual-in_err-bar_taken_other.result c.in_err-bar_taken_other.field-0.0 c.from_residual-in_err-bar_taken_other.ensures.1
+    (λ cause h location may whole. h location (whole, c.if-run-reader.false)) c.in_err-bar_taken_other.ensures.refused

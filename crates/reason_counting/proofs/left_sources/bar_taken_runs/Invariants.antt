@@ -1,7 +1,12 @@
-use Rattle.std.proofs.Common.{take}
+use Rattle.std.proofs.Common.{ℕ, List, take}
 use Rattle.reason_clauses.specs.Numbered.{Grows}
+use Rattle.reason_clauses.specs.PossibleSources.{AreWholeRuns, IsOwnExact}
 use Rattle.reason_counting.specs.Left.{AreRunsLeft}
+use Rattle.reason_counting.specs.OtherSources.{TakesOnly}
 use Rattle.reason_counting.proofs.left_sources.bar_taken_runs.Given as goal
 
 abbrev pub invariant-loop-run : goal.invariant-loop-run
-invariant-loop-run l = Grows l.fn.orders.items l.orders.items × AreRunsLeft l.trace l.orders.items l.left.items l.value l.reader l.origin l.own l.pieces (take l.run-index l.runs)
+invariant-loop-run l =
+    Grows l.fn.orders.items l.orders.items
+    × AreRunsLeft l.trace l.orders.items l.left.items l.value l.reader l.origin l.own l.pieces (take l.run-index l.runs)
+    × ((location : List ℕ) → IsOwnExact l.trace l.reader l.origin location l.value l.own → AreWholeRuns l.trace location l.value l.runs → TakesOnly l.trace l.reader l.pieces l.origin location l.value l.fn.orders.items l.orders.items l.fn.left.items l.left.items)
