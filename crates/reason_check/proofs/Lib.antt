@@ -1,6 +1,8 @@
 pub mod AcceptedLemmas
+pub mod GatheredLemmas
 pub mod LawLemmas
 pub mod LineLemmas
+pub mod MemberLemmas
 pub mod OutcomeLemmas
 pub mod PlaceLemmas
 pub mod ReadSoFar

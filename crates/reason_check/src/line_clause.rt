@@ -3,17 +3,19 @@
 ghost use Rattle.std.specs.Prelude.{◌≡◌, ◌≢◌, ◌↔◌, ◌⊎◌, [], map, OnOk, IfOk, IfErr};
 ghost use Rattle.order_clauses.specs.Appended.{IsAppended};
 ghost use Rattle.order_clauses.specs.Numbered.{named};
-ghost use Rattle.order_clauses.specs.declared.reason_list.ClauseOutcome.TheVariants.{Made};
+ghost use Rattle.order_clauses.specs.declared.reason_list.ClauseOutcome.TheVariants.{Made, AlwaysTrue, TooManyVariables};
 ghost use Rattle.order_reasons.specs.Reasons.{IsPairClause};
 ghost use Rattle.order_reasons.specs.Sources.{IsSourceClause};
-ghost use Rattle.reason_clauses.specs.CycleRefused.{IsCycleRefused};
+ghost use Rattle.reason_clauses.specs.AddedOrders.{IsOrder};
+ghost use Rattle.reason_clauses.specs.CycleRefused.{IsCycleRefused, IsTurnedStep};
 ghost use Rattle.reason_clauses.specs.Made.{IsCycleOf, IsLastOf};
 ghost use Rattle.reason_clauses.specs.PairRefused.{IsPairRefused};
 ghost use Rattle.reason_clauses.specs.RefusedBy.{IsRefusedBy};
 ghost use Rattle.reason_clauses.specs.Tables.{HoldTables};
+ghost use Rattle.reason_clauses.specs.declared.cause.ReasonCause.TheVariants.{AlwaysTrue as NeverFalse, TooManyVariables as TooMany};
 ghost use Rattle.reason_counting.specs.Counts.{AreTooFew};
 ghost use Rattle.reason_check.specs.LineClauses.{IsCountingOf, IsWaitingOf};
-ghost use Rattle.reason_check.specs.RefusedByTrace.{IsEnough, IsNoClause, IsNumberingRefused, IsRefusedByTrace};
+ghost use Rattle.reason_check.specs.RefusedByTrace.{IsCountingLineRefused, IsEnough, IsLastLineRefused, IsNoClause, IsNumberingRefused, IsRefusedByTrace, IsSourceLineRefused, IsUnmade, IsWaitingLineRefused};
 ghost use Rattle.reason_check.specs.Taken.{HasNext, IsPassed, IsTaken};
 ghost use Rattle.reason_check.specs.declared.line_clause.LineOutcome.TheVariants.{Derivation, Refuted};
 
@@ -52,7 +54,7 @@ pub enum LineOutcome {
 /// The refusal of what was to be made a clause, unless it was made.
 fn refuse_outcome(outcome: ClauseOutcome) -> Result<(), ReasonRefusal>
     ensures made { OnOk result (outcome ≡ Made) }
-    ensures refused { IfErr result (IsRefusedBy IsNoClause) }
+    ensures refused { IfErr result (IsRefusedBy (λ cause. ((outcome ≡ AlwaysTrue) × (cause ≡ NeverFalse)) ⊎ ((outcome ≡ TooManyVariables) × (cause ≡ TooMany)))) }
 {
     match outcome {
         ClauseOutcome::Made => Ok(()),
@@ -71,7 +73,8 @@ fn add_orders(
 ) -> Result<LineOutcome, ReasonRefusal>
     ensures appended { OnOk result (IsAppended list.old list.new orders.now) }
     ensures outcome { IfOk result (λ outcome. ((outcome ≡ Refuted) ↔ (orders.now ≡ [])) × (outcome ≢ Derivation)) }
-    ensures refused { IfErr result (IsRefusedBy IsNoClause) }
+    ensures refused { IfErr result (IsRefusedBy (IsUnmade orders.now list.new.variables)) }
+    ensures none { orders.now ≡ [] → IfErr result (IsRefusedBy (λ cause. ⊥)) }
 {
     let outcome = list.add(alloc, orders)?;
     refuse_outcome(outcome)?;
@@ -90,7 +93,7 @@ fn add_cycle(
     list: &mut ReasonList,
 ) -> Result<LineOutcome, ReasonRefusal>
     ensures made { IfOk result (HasNext trace.now (IsCycleOf trace.now (map (named trace.now) operations.now)) list.old list.new) }
-    ensures refused { IfErr result (IsRefusedBy (λ cause. IsCycleRefused trace.now operations.now cause ⊎ IsNoClause cause)) }
+    ensures refused { IfErr result (IsRefusedBy (λ cause. IsCycleRefused trace.now operations.now cause ⊎ IsNoClause (IsTurnedStep operations.now) cause)) }
 {
     let mut orders = Vec::new(alloc);
     cycle_clause(trace, operations, &mut orders)?;
@@ -106,7 +109,7 @@ fn add_before(
     list: &mut ReasonList,
 ) -> Result<LineOutcome, ReasonRefusal>
     ensures made { IfOk result (HasNext trace.now (λ clause. IsPairClause trace.now clause (named trace.now pair.first) (named trace.now pair.second)) list.old list.new) }
-    ensures refused { IfErr result (IsRefusedBy (λ cause. IsPairRefused trace.now pair cause ⊎ IsNoClause cause)) }
+    ensures refused { IfErr result (IsRefusedBy (λ cause. IsPairRefused trace.now pair cause ⊎ IsNoClause (IsOrder pair.first pair.second) cause)) }
 {
     let mut orders = Vec::new(alloc);
     pair_clause(trace, before.place(pair), pair, &mut orders)?;
@@ -123,7 +126,8 @@ fn add_source(
     list: &mut ReasonList,
 ) -> Result<LineOutcome, ReasonRefusal>
     requires tables { HoldTables trace.now writers.now }
-    ensures { IfOk result (HasNext trace.now (λ clause. IsSourceClause trace.now clause (named trace.now reader)) list.old list.new) }
+    ensures made { IfOk result (HasNext trace.now (λ clause. IsSourceClause trace.now clause (named trace.now reader)) list.old list.new) }
+    ensures refused { IfErr result (IsRefusedBy (IsSourceLineRefused trace.now reader pieces.now)) }
 {
     let gathered = gather(alloc, pieces)?;
     let mut orders = Vec::new(alloc);
@@ -141,7 +145,8 @@ fn add_last(
     list: &mut ReasonList,
 ) -> Result<LineOutcome, ReasonRefusal>
     requires tables { HoldTables trace.now writers.now }
-    ensures { IfOk result (HasNext trace.now (IsLastOf trace.now location.now) list.old list.new) }
+    ensures made { IfOk result (HasNext trace.now (IsLastOf trace.now location.now) list.old list.new) }
+    ensures refused { IfErr result (IsRefusedBy (IsLastLineRefused trace.now location.now pieces.now)) }
 {
     let gathered = gather_late(alloc, pieces)?;
     let mut orders = Vec::new(alloc);
@@ -158,7 +163,8 @@ fn add_counting<'a>(
     list: &mut ReasonList,
 ) -> Result<LineOutcome, ReasonRefusal>
     requires tables { HoldTables trace.now writers.now }
-    ensures { IfOk result (HasNext trace.now (IsCountingOf trace.now) list.old list.new) }
+    ensures made { IfOk result (HasNext trace.now (IsCountingOf trace.now) list.old list.new) }
+    ensures refused { IfErr result (IsRefusedBy (IsCountingLineRefused trace.now parts.now)) }
 {
     let members = gather_members(alloc, parts)?;
     let mut orders = Vec::new(alloc);
@@ -175,7 +181,8 @@ fn add_waiting(
     list: &mut ReasonList,
 ) -> Result<LineOutcome, ReasonRefusal>
     requires tables { HoldTables trace.now writers.now }
-    ensures { IfOk result (HasNext trace.now (IsWaitingOf trace.now) list.old list.new) }
+    ensures made { IfOk result (HasNext trace.now (IsWaitingOf trace.now) list.old list.new) }
+    ensures refused { IfErr result (IsRefusedBy (IsWaitingLineRefused trace.now parts.now)) }
 {
     let waiters = gather_waiters(alloc, parts)?;
     let mut orders = Vec::new(alloc);
@@ -192,7 +199,7 @@ fn add_too_few(
     list: &mut ReasonList,
 ) -> Result<LineOutcome, ReasonRefusal>
     ensures made { IfOk result (HasNext trace.now (λ clause. (clause ≡ []) × AreTooFew trace.now location.now value) list.old list.new) }
-    ensures refused { IfErr result (IsRefusedBy (λ cause. IsEnough trace.now location.now value cause ⊎ IsNoClause cause)) }
+    ensures refused { IfErr result (IsRefusedBy (IsEnough trace.now location.now value)) }
 {
     too_few_sources(trace, location, value)?;
     add_orders(alloc, &[], list)

@@ -1,13 +1,14 @@
-use Rattle.std.proofs.Common.{◌⊎◌, inl, List, subst, sym}
+use Rattle.std.proofs.Common.{◌⊎◌, inl, List, [], subst, sym}
 use Rattle.trace_semantics.specs.declared.operation.OpName.{OpName}
 use Rattle.order_clauses.specs.Numbered.{named}
 use Rattle.order_clauses.specs.declared.order_pair.OrderPair.{OrderPair}
 use Rattle.order_reasons.specs.Reasons.{IsPairClause}
 use Rattle.reason_clauses.specs.Made.{Makes}
+use Rattle.reason_clauses.specs.AddedOrders.{AddsOnly, IsOrder}
 use Rattle.reason_clauses.specs.PairRefused.{IsPairRefused}
 use Rattle.reason_clauses.proofs.RefusedLemmas.{refusal_on}
 use Rattle.reason_check.specs.RefusedByTrace.{IsNoClause}
-use Rattle.reason_check.proofs.OutcomeLemmas.{unmade_line}
+use Rattle.reason_check.proofs.OutcomeLemmas.{from_none, unmade_line}
 use Rattle.reason_check.proofs.LineLemmas.{next_if_made}
 use Rattle.reason_check.proofs.line_clause.add_before.Goals as goal
 
@@ -19,9 +20,11 @@ returns-clause-made c =
     (subst (λ (l : List OrderPair). Makes t l Is) (sym c.as_slice.ensures.value) c.in_ok-pair_clause.ensures.made) c.add_orders.result c.add_orders.ensures.appended c.add_orders.ensures.outcome
 
 pub returns-clause-refused : goal.returns-clause-refused
-returns-clause-refused c = unmade_line (IsPairRefused c.args.trace.now c.args.pair) c.add_orders.result c.add_orders.ensures.refused
+returns-clause-refused c =
+    let asked = IsOrder c.args.pair.first c.args.pair.second in
+    unmade_line asked c.as_slice.result.now (subst (λ (l : List OrderPair). AddsOnly [] l asked) (sym c.as_slice.ensures.value) (from_none asked c.new-orders.result.items c.pair_clause.new.orders.items c.new-orders.ensures.items c.in_ok-pair_clause.ensures.only)) (IsPairRefused c.args.trace.now c.args.pair) c.add_orders.new.list.variables c.add_orders.result c.add_orders.ensures.refused
 
 pub returns-in_err-pair_clause-clause-refused : goal.returns-in_err-pair_clause-clause-refused
 returns-in_err-pair_clause-clause-refused c =
     let Is = IsPairRefused c.args.trace.now c.args.pair in
-    refusal_on Is (λ cause. Is cause ⊎ IsNoClause cause) c.from_residual.result c.in_err-pair_clause.field-0.0 c.from_residual.ensures.1 (λ cause h. inl h) c.in_err-pair_clause.ensures.refused
+    refusal_on Is (λ cause. Is cause ⊎ IsNoClause (IsOrder c.args.pair.first c.args.pair.second) cause) c.from_residual.result c.in_err-pair_clause.field-0.0 c.from_residual.ensures.1 (λ cause h. inl h) c.in_err-pair_clause.ensures.refused

@@ -1,0 +1,14 @@
+use Rattle.std.proofs.Common.{sym, subst, take}
+use Rattle.std.proofs.lemmas.List.{take_more}
+use Rattle.reason_check.specs.Members.{AreMembers, IsMemberPartRefused}
+use Rattle.reason_check.proofs.MemberLemmas.{part_refused}
+use Rattle.reason_check.proofs.gathered_pieces.gather_members.Goals as goal
+
+pub returns-in_err-take_member-clause-refused : goal.returns-in_err-take_member-clause-refused
+returns-in_err-take_member-clause-refused c =
+    part_refused IsMemberPartRefused (λ front. AreMembers front c.loop-part.members.items) c.from_residual.result c.in_err-take_member.field-0.0 c.args.parts.now c.loop-part.part-index _ c.from_residual.ensures.1 c.loop-part-test.true c.loop-part.invariant c.in_err-take_member.ensures.refused
+
+pub loop-part-preserved : goal.loop-part-preserved
+loop-part-preserved c =
+    subst (λ l. AreMembers l c.take_member.new.members.items) (sym (take_more c.args.parts.now c.loop-part.part-index _ c.loop-part-test.true))
+    (c.in_ok-take_member.ensures.gathered (take c.loop-part.part-index c.args.parts.now) c.loop-part.invariant)
