@@ -69,6 +69,8 @@ pub struct Analysis {
     /// The marked pairs of no decision.
     base_pairs: Vec<u32>,
     pub(crate) grounds: ClauseGrounds,
+    /// For each learned clause whether the last core rests on it.
+    pub(crate) is_needed: Vec<bool>,
     pub(crate) steps: u64,
 }
 
@@ -94,6 +96,7 @@ impl Drop for Analysis {
             used: _used,
             base_pairs: _base_pairs,
             grounds: _grounds,
+            is_needed: _is_needed,
             steps: _,
         } = self;
     }
@@ -121,6 +124,7 @@ impl Analysis {
             used: Vec::new(alloc),
             base_pairs: Vec::new(alloc),
             grounds: ClauseGrounds::new(alloc)?,
+            is_needed: Vec::new(alloc),
             steps: 0,
         })
     }

@@ -1,6 +1,6 @@
 //! What learned clauses rest on.
 
-use order_sets::tables::{at, size};
+use order_sets::tables::{at, piece, size};
 use std::alloc::{AllocError, Global};
 
 /// Lists, one behind the other.
@@ -50,6 +50,15 @@ impl GroundLists {
     /// The place behind its last entry.
     pub(crate) fn end(&self, number: u32) -> u32 {
         self.begin(number.wrapping_add(1))
+    }
+
+    /// The list of this number.
+    pub(crate) fn list(&self, number: u32) -> &[u32] {
+        piece(
+            self.entries.as_slice(),
+            self.begin(number),
+            self.end(number),
+        )
     }
 
     /// The entry at this place.

@@ -30,8 +30,8 @@ impl Analysis {
         if !self.grounds.is_whole() {
             return Ok(None);
         }
-        let mut is_taken = vec![in alloc; false; self.grounds.count() as usize]?;
-        self.take_used(order, &mut is_taken)?;
+        self.is_needed = vec![in alloc; false; self.grounds.count() as usize]?;
+        self.take_used(order)?;
         for number in (0..self.highest.wrapping_add(1)).rev() {
             self.steps = self.steps.wrapping_add(1);
             if self.is_spent(order) {
@@ -41,24 +41,30 @@ impl Analysis {
                 let pair = order.pairs().pair(number);
                 self.name_ends(pair)?;
                 self.ask_reason(order, clauses, pair)?;
-                self.take_used(order, &mut is_taken)?;
+                self.take_used(order)?;
             }
         }
         Ok(Some(self.all_named(alloc)?))
     }
 
+    /// Returns whether the core that was found last rests on the learned clause, be it by way of others.
+    pub fn is_needed(&self, clause: u32) -> bool {
+        at(self.is_needed.as_slice(), clause, false)
+    }
+
+    /// The operations that the derivation of the learned clause names, if there was room for them.
+    pub fn named_by(&self, clause: u32) -> &[u32] {
+        self.grounds.operations.list(clause)
+    }
+
     /// Takes over what the clauses rest on that were used.
-    fn take_used(
-        &mut self,
-        order: &Propagation<'_>,
-        is_taken: &mut Vec<bool>,
-    ) -> Result<(), AllocError> {
+    fn take_used(&mut self, order: &Propagation<'_>) -> Result<(), AllocError> {
         for _ in 0..u64::MAX {
             let Some(clause) = self.used.pop() else {
                 break;
             };
-            if !at(is_taken.as_slice(), clause, true) {
-                put(is_taken.as_mut_slice(), clause, true);
+            if !at(self.is_needed.as_slice(), clause, true) {
+                put(self.is_needed.as_mut_slice(), clause, true);
                 self.take_grounds(order, clause)?;
             }
         }

@@ -54,8 +54,9 @@ const LARGEST_GAIN: u64 = 1 << 50;
 pub struct LearnedClauses {
     literals: Vec<Literal>,
     clauses: Vec<LearnedClause>,
-    /// The numbers of those that are looked at, rising.
+    /// The numbers of those that are looked at, rising, and the most of them.
     kept: Vec<u32>,
+    most: u32,
     activities: Vec<u64>,
     gain: u64,
 }
@@ -67,6 +68,7 @@ impl Drop for LearnedClauses {
             literals: _literals,
             clauses: _clauses,
             kept: _kept,
+            most: _,
             activities: _activities,
             gain: _,
         } = self;
@@ -89,9 +91,18 @@ impl LearnedClauses {
             literals: Vec::new(alloc),
             clauses: Vec::new(alloc),
             kept: Vec::new(alloc),
+            most: MOST_CLAUSES,
             activities: vec![in alloc; 0; operations as usize]?,
             gain: FIRST_GAIN,
         })
+    }
+
+    /// No clause, for some of those that a walk over such a log has learned, in their order: each is looked at here as long as it was there.
+    pub fn for_replay(alloc: Global, operations: u32) -> Result<LearnedClauses, AllocError> {
+        let mut clauses = LearnedClauses::new(alloc, operations)?;
+        // Half of the long ones are given up at a time, so of the last ones twice as many are kept as there were.
+        clauses.most = MOST_CLAUSES.wrapping_mul(2);
+        Ok(clauses)
     }
 
     /// The number of clauses.
@@ -142,7 +153,7 @@ impl LearnedClauses {
         if self.gain > LARGEST_GAIN {
             self.divide_activities();
         }
-        if size(self.kept.as_slice()) > MOST_CLAUSES {
+        if size(self.kept.as_slice()) > self.most {
             self.give_up_half();
         }
         Ok(number)
@@ -171,7 +182,7 @@ impl LearnedClauses {
             let clause = self.clause(number);
             let is_short = clause.end.wrapping_sub(clause.begin) <= SHORT;
             let count_given_up = place.wrapping_sub(left);
-            if is_short || count_given_up >= MOST_CLAUSES / 2 {
+            if is_short || count_given_up >= self.most / 2 {
                 put(self.kept.as_mut_slice(), left, number);
                 left = left.wrapping_add(1);
             } else {

@@ -21,4 +21,4 @@ mod step_hints;
 mod stuck_heads;
 
 pub use order_certificate::{LogNames, NamedPlace, OrderCertificate};
-pub use replaying::{certificate_of_clauses, certificate_of_conflict, certificate_of_takers};
+pub use replaying::{certificate_of_conflict, certificate_of_learning, certificate_of_takers};

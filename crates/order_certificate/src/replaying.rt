@@ -4,11 +4,17 @@ use crate::explanation::Explanation;
 use crate::order_certificate::OrderCertificate;
 use crate::stuck_heads::StuckHeads;
 use closed_rows::PairReason;
-use conflict_analysis::{LearnedClauses, Literal};
+use conflict_analysis::{LearnedClauses, Learning, Literal};
 use numbered_log::{Budget, NumberedLog};
 use order_propagation::{Propagated, Propagation, Stop};
-use order_sets::tables::size;
+use order_sets::tables::{put, size};
 use std::alloc::{AllocError, Global};
+
+/// The number of places behind the literals of a clause up to which readers are looked at first.
+const NEAR: u32 = 40;
+
+/// The most looks at the same readers, as long as something new comes of each.
+const MOST_LOOKS: u32 = 8;
 
 /// The certificate of the conflict in which the propagation of the order ended, without a decision. None if a reason has no line, or if the
 /// budget is spent before.
@@ -35,12 +41,34 @@ pub fn certificate_of_takers(
     Ok(OrderCertificate::of(explanation, step))
 }
 
-/// The certificate of a log that a walk has refuted which learned these clauses: each is derived anew, from the clauses before it. None if that
-/// does not end in a conflict again, if a reason has no line, or if the budget is spent before.
-pub fn certificate_of_clauses(
+/// The certificate of a log that walks have refuted which have learned this: each clause is derived anew, from those before it. If there is a core,
+/// the operations that the refutation names, what does not belong to it is passed over: that takes a small part of the steps. If that fails, all is
+/// derived, with three fourths of the budget. None if no conflict comes of it again, if a reason has no line, or if the budget is spent before.
+pub fn certificate_of_learning(
     alloc: Global,
     log: &NumberedLog,
-    learned: &LearnedClauses,
+    learning: &Learning,
+    core: Option<&[u32]>,
+    budget: &mut Budget,
+) -> Result<Option<OrderCertificate>, AllocError> {
+    if core.is_some() {
+        let certificate = certificate_within(alloc, log, learning, core, budget)?;
+        if certificate.is_some() {
+            return Ok(certificate);
+        }
+    }
+    let kept = budget.share(budget.left() / 4);
+    let certificate = certificate_within(alloc, log, learning, None, budget)?;
+    budget.give_back(kept);
+    Ok(certificate)
+}
+
+/// The certificate by what belongs to the core, or by all there is.
+fn certificate_within(
+    alloc: Global,
+    log: &NumberedLog,
+    learning: &Learning,
+    core: Option<&[u32]>,
     budget: &mut Budget,
 ) -> Result<Option<OrderCertificate>, AllocError> {
     let mut order = Propagation::new(alloc, log, *budget)?;
@@ -49,12 +77,49 @@ pub fn certificate_of_clauses(
         Propagated::Spent => None,
         Propagated::Done => {
             let mut replay = ClauseReplay::new(alloc, log)?;
-            let step = replay.derive_all(&mut order, learned)?;
+            let step = match core {
+                Some(operations) => replay.derive_needed(&mut order, learning, operations)?,
+                None => replay.derive_all(&mut order, &learning.clauses)?,
+            };
             OrderCertificate::of(replay.explanation, step)
         }
     };
     *budget = order.budget();
     Ok(certificate)
+}
+
+/// Has no other reading operations be looked at than these.
+fn look_only_at(
+    alloc: Global,
+    order: &mut Propagation<'_>,
+    operations: &[u32],
+) -> Result<(), AllocError> {
+    let mut is_wanted = vec![in alloc; false; order.log().count() as usize]?;
+    for operation in operations {
+        put(is_wanted.as_mut_slice(), *operation, true);
+    }
+    order.look_only_at(is_wanted.as_slice());
+    Ok(())
+}
+
+/// The largest place of the operations in their processes.
+fn last_place(log: &NumberedLog, operations: &[u32]) -> u32 {
+    let mut last: u32 = 0;
+    for operation in operations {
+        last = last.max(log.operation(*operation).place);
+    }
+    last
+}
+
+/// The largest place of the literals' operations in their processes.
+fn last_literal(log: &NumberedLog, literals: &[Literal]) -> u32 {
+    let mut last: u32 = 0;
+    for literal in literals {
+        let first = log.operation(literal.first).place;
+        let second = log.operation(literal.second).place;
+        last = last.max(first.max(second));
+    }
+    last
 }
 
 /// The clauses that were derived anew, with their steps.
@@ -79,7 +144,7 @@ impl ClauseReplay {
         Ok(ClauseReplay {
             alloc,
             explanation: Explanation::new(alloc, log.count(), true)?,
-            clauses: LearnedClauses::new(alloc, log.count())?,
+            clauses: LearnedClauses::for_replay(alloc, log.count())?,
         })
     }
 
@@ -102,25 +167,98 @@ impl ClauseReplay {
         self.explain(order, false, &[])
     }
 
-    /// Derives the clause from the conflict that its literals make when they are all turned round, and adds it. Without such a conflict it is
-    /// left out.
+    /// Does the same with the clauses of the core alone.
+    fn derive_needed(
+        &mut self,
+        order: &mut Propagation<'_>,
+        learning: &Learning,
+        core: &[u32],
+    ) -> Result<Option<u32>, AllocError> {
+        look_only_at(self.alloc, order, core)?;
+        if self.follow(order, core)? {
+            return self.explain(order, true, &[]);
+        }
+        for number in 0..learning.clauses.count() {
+            if order.budget().is_spent() {
+                break;
+            }
+            if learning.analysis.is_needed(number) {
+                match self.derive_within_reach(order, learning, number, core)? {
+                    Replayed::Done => {}
+                    Replayed::Refuted(step) => return Ok(step),
+                }
+            }
+        }
+        self.explain(order, false, &[])
+    }
+
+    /// Derives the clause of this number, and adds it. What a walk has derived was near to the literals, mostly, or else near to the operations that
+    /// the derivation has named. At last all is in reach.
+    fn derive_within_reach(
+        &mut self,
+        order: &mut Propagation<'_>,
+        learning: &Learning,
+        number: u32,
+        core: &[u32],
+    ) -> Result<Replayed, AllocError> {
+        let literals = learning.clauses.literals(number);
+        let named = learning.analysis.named_by(number);
+        let near = last_literal(order.log(), literals).saturating_add(NEAR);
+        order.set_reach(near);
+        let mut step = self.find_step(order, literals, named)?;
+        if step.is_none() {
+            let far = last_place(order.log(), named).saturating_add(NEAR);
+            order.set_reach(far);
+            step = self.find_step(order, literals, named)?;
+        }
+        if step.is_none() {
+            order.set_reach(0);
+            step = self.find_step(order, literals, named)?;
+        }
+        self.add_derived(order, literals, step, core)
+    }
+
+    /// Derives the clause, and adds it.
     fn derive_clause(
         &mut self,
         order: &mut Propagation<'_>,
         literals: &[Literal],
     ) -> Result<Replayed, AllocError> {
-        let has_conflict = self.turn_round(order, literals)?;
+        let step = self.find_step(order, literals, &[])?;
+        self.add_derived(order, literals, step, &[])
+    }
+
+    /// Derives the clause from the conflict that its literals make when they are all turned round, which may take a further look at these
+    /// readers. Returns its step; none if there is no such conflict.
+    fn find_step(
+        &mut self,
+        order: &mut Propagation<'_>,
+        literals: &[Literal],
+        readers: &[u32],
+    ) -> Result<Option<u32>, AllocError> {
+        let has_conflict = self.turn_round(order, literals, readers)?;
         let mut step = None;
         if has_variables(order.log(), literals) {
             step = self.explain(order, has_conflict, literals)?;
         }
         order.take_back(0);
+        Ok(step)
+    }
+
+    /// Adds the clause that this step derives; without a step it is left out.
+    fn add_derived(
+        &mut self,
+        order: &mut Propagation<'_>,
+        literals: &[Literal],
+        step: Option<u32>,
+        core: &[u32],
+    ) -> Result<Replayed, AllocError> {
         let Some(derived) = step else {
             return Ok(Replayed::Done);
         };
         self.explanation.clause_steps.push(derived)?;
         self.clauses.add(literals)?;
-        self.settle(order, literals)
+        self.settle(order, literals, core)
     }
 
     /// Derives the clause of these literals from the conflict, or else from operations that are stuck.
@@ -148,6 +286,7 @@ impl ClauseReplay {
         &mut self,
         order: &mut Propagation<'_>,
         literals: &[Literal],
+        readers: &[u32],
     ) -> Result<bool, AllocError> {
         for literal in literals {
             match order.decide(literal.second, literal.first) {
@@ -156,21 +295,44 @@ impl ClauseReplay {
                 Err(Stop::OutOfMemory) => return Err(AllocError),
             }
         }
-        Ok(self.clauses.propagate(order)? == Propagated::Conflict)
+        self.follow(order, readers)
     }
 
-    /// Propagates the order with the clause that was added last.
+    /// Propagates, and looks at the readers again as long as something new follows. Returns whether that ends in a conflict.
+    fn follow(&mut self, order: &mut Propagation<'_>, readers: &[u32]) -> Result<bool, AllocError> {
+        for _ in 0..MOST_LOOKS {
+            let before = order.pairs().count();
+            order.look_again_at(readers);
+            if self.clauses.propagate(order)? == Propagated::Conflict {
+                return Ok(true);
+            }
+            if order.pairs().count() == before {
+                break;
+            }
+        }
+        Ok(false)
+    }
+
+    /// Propagates the order with the clause that was added last. If something new follows, it may of these readers too.
     fn settle(
         &mut self,
         order: &mut Propagation<'_>,
         literals: &[Literal],
+        core: &[u32],
     ) -> Result<Replayed, AllocError> {
         let clause = self.clauses.count().wrapping_sub(1);
+        let before = order.pairs().count();
         let mut has_conflict = false;
         if size(literals) == 1 {
             has_conflict = add_unit(order, literals, clause)?;
         }
-        if !has_conflict && self.clauses.propagate(order)? != Propagated::Conflict {
+        if !has_conflict {
+            has_conflict = self.follow(order, &[])?;
+        }
+        if !has_conflict && order.pairs().count() != before {
+            has_conflict = self.follow(order, core)?;
+        }
+        if !has_conflict {
             return Ok(Replayed::Done);
         }
         let step = self.explanation.explain(order, &self.clauses, &[])?;

@@ -74,6 +74,11 @@ impl Agenda {
         Ok(())
     }
 
+    /// Has the reader count as one that waits, without a turn: it is not looked at until a round begins. A reader that waits has its turn before.
+    pub fn let_sleep(&mut self, reader: u32) {
+        put(self.waits.as_mut_slice(), reader, true);
+    }
+
     /// Returns whether the reader waits.
     #[inline(always)]
     pub fn waits(&self, reader: u32) -> bool {

@@ -8,6 +8,25 @@ use order_sets::tables::at;
 const FEW_READERS: u32 = 24;
 
 impl<'a> Propagation<'a> {
+    /// Has no other reading operation be looked at than those of which that is wanted, by number. It is called when nothing waits, and holds until
+    /// the next round.
+    pub fn look_only_at(&mut self, is_wanted: &[bool]) {
+        for number in 0..self.log.count() {
+            if !at(is_wanted, number, true) {
+                self.agenda.let_sleep(number);
+            }
+        }
+    }
+
+    /// Has those of these operations wait that read, unless they are never looked at: what wakes a reader may be missed.
+    pub fn look_again_at(&mut self, operations: &[u32]) {
+        for operation in operations {
+            if self.log.operation(*operation).reads {
+                self.agenda.add(*operation);
+            }
+        }
+    }
+
     /// More stands before the operation.
     #[inline(always)]
     pub(crate) fn wake_raised(&mut self, number: u32, operation: Operation, has_news: bool) {

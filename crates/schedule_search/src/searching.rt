@@ -5,7 +5,7 @@ use crate::counted_cores::{operations_of, takers_of_class};
 use crate::estimated_places::EstimatedPlaces;
 use crate::first_propagation::propagate_at_first;
 use crate::guessed_windows::guess_window;
-use conflict_analysis::{LearnedClauses, Learning, core_of_conflict};
+use conflict_analysis::{Learning, core_of_conflict};
 use numbered_log::{Budget, NumberedLog};
 use order_propagation::{Propagated, Propagation, TrailMark};
 use order_sets::tables::{at, size};
@@ -165,10 +165,10 @@ impl ScheduleSearch {
         }
     }
 
-    /// The clauses that walks have learned of the log, in their order; none if nothing was walked over.
-    pub fn learned(&self) -> Option<&LearnedClauses> {
+    /// Gives what walks have learned of the log; none if nothing was walked over.
+    pub fn learned(&self) -> Option<&Learning> {
         match &self.learning {
-            Some(learning) => Some(&learning.clauses),
+            Some(learning) => Some(learning),
             None => None,
         }
     }
@@ -338,6 +338,7 @@ impl ScheduleSearch {
         let manners = (manner.deciding, most);
         let mut walk = PlacingWalk::new(alloc, order, places.as_slice(), manners, learning)?;
         let ending = walk.run(alloc, order)?;
+        give_back(order, rest);
         self.most_placed = self.most_placed.max(walk.most_placed());
         if ending == WalkEnding::Scheduled {
             self.schedule = Vec::from_slice(alloc, walk.placed())?;
@@ -348,7 +349,6 @@ impl ScheduleSearch {
         self.keep_learning(walk.into_learning());
         order.set_reach(0);
         order.take_back(0);
-        give_back(order, rest);
         Ok(ending)
     }
 

@@ -4,7 +4,7 @@ use crate::local_reads::ReducedLog;
 use crate::reading::log_names;
 use numbered_log::NumberedLog;
 use order_certificate::{
-    OrderCertificate, certificate_of_clauses, certificate_of_conflict, certificate_of_takers,
+    OrderCertificate, certificate_of_conflict, certificate_of_learning, certificate_of_takers,
 };
 use order_propagation::Propagation;
 use schedule_search::ScheduleSearch;
@@ -61,7 +61,8 @@ fn certificate_by_numbers(
 ) -> Result<Option<OrderCertificate>, AllocError> {
     if let Some(learned) = search.learned() {
         let mut budget = order.budget();
-        let certificate = certificate_of_clauses(alloc, &reduced.log, learned, &mut budget)?;
+        let core = search.core();
+        let certificate = certificate_of_learning(alloc, &reduced.log, learned, core, &mut budget)?;
         order.set_budget(budget);
         return Ok(certificate);
     }

@@ -225,8 +225,8 @@ impl NamedFinding {
     }
 }
 
-/// A schedule, or the operations from which a contradiction follows. A quarter of the budget is kept for what comes after: a core that is
-/// not made smaller is often too large to be refuted.
+/// A schedule, or the operations from which a contradiction follows. A quarter of the budget is kept for what comes after: a certificate, which
+/// takes a small part of what the walks have taken, and then a smaller core, since one that stays as it is is often too large to be refuted.
 fn walk_over(
     alloc: Global,
     log: &NumberedLog,
@@ -239,12 +239,14 @@ fn walk_over(
     let mut order = Propagation::new(alloc, &reduced.log, *budget)?;
     let mut search = ScheduleSearch::new(alloc);
     let ending = search.run(alloc, &mut order, hint.as_slice())?;
+    *budget = order.budget();
+    budget.give_back(kept);
+    order.set_budget(*budget);
     let mut certificate = None;
     if ending == SearchEnding::Refuted {
         certificate = certificate_of(alloc, &reduced, &mut order, &search)?;
     }
     *budget = order.budget();
-    budget.give_back(kept);
     Ok(Walked {
         numbers: numbers_of(alloc, log, &reduced, &search, ending)?,
         certificate,
