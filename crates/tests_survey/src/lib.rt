@@ -4,6 +4,8 @@
 #[cfg(test)]
 mod beams;
 #[cfg(test)]
+mod buffered_runs;
+#[cfg(test)]
 mod certified_surveys;
 #[cfg(test)]
 mod expectations;

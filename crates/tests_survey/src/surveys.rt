@@ -1,5 +1,6 @@
 //! What is reported of traces with the help of a survey, and of a surveyor that lies.
 
+use crate::buffered_runs::buffered_run;
 use crate::expectations::{ample, expect};
 use crate::lying_surveyors::{Liar, Lie};
 use crate::traces::{
@@ -222,6 +223,19 @@ fn knows_why_an_earlier_walk_has_learned_a_pair(rt: HostRuntime) {
         finds_core(rt.alloc(), &rt, LEARNED_BEFORE, 500_000),
         25,
     );
+}
+
+// A walk refutes this run by many clauses, and takes most of the budget. The certificate is made of the few clauses on which the refutation rests: to
+// derive all of them anew would take more than is left.
+#[test]
+fn certifies_what_a_long_walk_has_refuted(rt: HostRuntime) {
+    let text = ample(&rt, buffered_run(rt.alloc(), 1016, 600));
+    let trace = ample(&rt, read_trace(rt.alloc(), text.as_str().as_bytes()));
+    let survey = BySaturation { budget: 4_500_000 };
+    let overview = ample(&rt, survey.survey(rt.alloc(), &trace, &[]));
+    let is_first = matches!(&overview.finding, Finding::Reasons(_text));
+    let is_second = matches!(&overview.otherwise, Finding::Reasons(_text));
+    expect(&rt, is_first || is_second, 28);
 }
 
 // By hand: Q.1 reads what P.2 leaves, Q.2 the initial value that P.1 writes over, and no cycle is of these four. P.3 stands in a comment alone.
