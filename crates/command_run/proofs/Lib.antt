@@ -1,3 +1,4 @@
+mod AskedLemmas
 mod BatchLemmas
 mod FormedLemmas
 mod KeptLemmas

@@ -1,4 +1,6 @@
 pub mod ArgumentFault
+pub mod AskedFiles
+pub mod AskedTexts
 pub mod BatchRuns
 pub mod Clashes
 pub mod CommandRun

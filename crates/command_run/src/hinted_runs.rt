@@ -1,17 +1,15 @@
 //! The engine that decides long traces, on a trace that is open and on a hint, or on none.
 //!
-//! A hint is a file, or [`NoText`] in its place. So there are a function with the file, one without, and one that chooses, for each of the two
-//! engines: the one that writes a certificate, and the one that does not.
-ghost use Rattle.std.specs.Prelude.{◌≡◌, None, Ok, Some};
+//! There are two engines: the one that writes a certificate, and the one that does not.
+ghost use Rattle.std.specs.Prelude.{◌≡◌, Ok};
 ghost use Rattle.command_host.specs.Streams.{source_view};
 ghost use Rattle.command_run.specs.CommandRun.{CertifiesHinted, SurveysHinted};
 ghost use Rattle.survey_report.specs.SurveyEngine.{IsRunOfCertifiedSurvey, IsRunOfSurvey, TellsExtent};
 ghost use Rattle.verdict_report.specs.Runs.{source_run, sink_run};
 ghost use Rattle.verdict_report.specs.declared.status.Status.TheVariants.{Unknown};
 
+use crate::asked_text::open_asked;
 use crate::kept_run::KeptRun;
-use crate::no_text::NoText;
-use crate::opening::open;
 use command_host::{Host, SearchRequest};
 use cube_jobs::{Gate, OpenGate};
 use dimacs::Sink;
@@ -120,48 +118,6 @@ fn certify<
     }
 }
 
-/// Does what [`survey`] does, with the hint in the file at this path.
-fn survey_hinted<'p, R: Threads + Wait + Sync, G: Gate + Sync, H: Host<'p>, T: Source, W: Sink>(
-    alloc: Global,
-    rt: &R,
-    progress: &G,
-    host: &mut H,
-    trace: &mut T,
-    path: &'p str,
-    search: &SearchRequest,
-    out: &mut W,
-    kept: &mut KeptRun,
-) -> Result<Status, Fault>
-    ensures surveys { SurveysHinted H.calls (source_view H.Input.handed_out H.Input.is_at_end H.Input.failures H.Input.path)
-        host.old (source_run T.handed_out T.is_at_end T.failures trace.old trace.new) (Some path.entry) search.now
-        (sink_run W.written W.failures out.old out.new) result host.new }
-    ensures same_trace { T.path trace.new ≡ T.path trace.old }
-{
-    let mut hint = open(alloc, host, path, kept.keeps);
-    let outcome = survey(alloc, rt, progress, host, trace, &mut hint, search, out);
-    kept.second = hint.into_text();
-    outcome
-}
-
-/// Does what [`survey`] does, without a hint.
-fn survey_unhinted<'p, R: Threads + Wait + Sync, G: Gate + Sync, H: Host<'p>, T: Source, W: Sink>(
-    alloc: Global,
-    rt: &R,
-    progress: &G,
-    host: &mut H,
-    trace: &mut T,
-    search: &SearchRequest,
-    out: &mut W,
-) -> Result<Status, Fault>
-    ensures surveys { SurveysHinted H.calls (source_view H.Input.handed_out H.Input.is_at_end H.Input.failures H.Input.path)
-        host.old (source_run T.handed_out T.is_at_end T.failures trace.old trace.new) None search.now
-        (sink_run W.written W.failures out.old out.new) result host.new }
-    ensures same_trace { T.path trace.new ≡ T.path trace.old }
-{
-    let mut hint = NoText::new();
-    survey(alloc, rt, progress, host, trace, &mut hint, search, out)
-}
-
 /// Does what [`survey`] does, with the hint in a file if there is a path for it.
 pub(crate) fn survey_with<
     'p,
@@ -186,96 +142,10 @@ pub(crate) fn survey_with<
         (sink_run W.written W.failures out.old out.new) result host.new }
     ensures same_trace { T.path trace.new ≡ T.path trace.old }
 {
-    match path {
-        Some(path) => survey_hinted(alloc, rt, progress, host, trace, path, search, out, kept),
-        None => survey_unhinted(alloc, rt, progress, host, trace, search, out),
-    }
-}
-
-/// Does what [`certify`] does, with the hint in the file at this path.
-fn certify_hinted<
-    'p,
-    R: Threads + Wait + Sync,
-    G: Gate + Sync,
-    H: Host<'p>,
-    T: Source,
-    C: Sink,
-    N: Sink,
-    P: Sink,
-    W: Sink,
->(
-    alloc: Global,
-    rt: &R,
-    progress: &G,
-    host: &mut H,
-    trace: &mut T,
-    path: &'p str,
-    search: &SearchRequest,
-    cert: &mut C,
-    names: &mut N,
-    part: &mut P,
-    out: &mut W,
-    kept: &mut KeptRun,
-) -> Result<Status, Fault>
-    ensures certifies { CertifiesHinted H.calls (source_view H.Input.handed_out H.Input.is_at_end H.Input.failures H.Input.path)
-        host.old (source_run T.handed_out T.is_at_end T.failures trace.old trace.new) (Some path.entry) search.now
-        (sink_run C.written C.failures cert.old cert.new)
-        (sink_run N.written N.failures names.old names.new)
-        (sink_run P.written P.failures part.old part.new)
-        (sink_run W.written W.failures out.old out.new)
-        result host.new }
-    ensures same_trace { T.path trace.new ≡ T.path trace.old }
-    ensures same_cert { C.path cert.new ≡ C.path cert.old }
-    ensures same_names { N.path names.new ≡ N.path names.old }
-    ensures same_part { P.path part.new ≡ P.path part.old }
-{
-    let mut hint = open(alloc, host, path, kept.keeps);
-    let outcome = certify(
-        alloc, rt, progress, host, trace, &mut hint, search, cert, names, part, out,
-    );
+    let mut hint = open_asked(alloc, host, path, kept.keeps);
+    let outcome = survey(alloc, rt, progress, host, trace, &mut hint, search, out);
     kept.second = hint.into_text();
     outcome
-}
-
-/// Does what [`certify`] does, without a hint.
-fn certify_unhinted<
-    'p,
-    R: Threads + Wait + Sync,
-    G: Gate + Sync,
-    H: Host<'p>,
-    T: Source,
-    C: Sink,
-    N: Sink,
-    P: Sink,
-    W: Sink,
->(
-    alloc: Global,
-    rt: &R,
-    progress: &G,
-    host: &mut H,
-    trace: &mut T,
-    search: &SearchRequest,
-    cert: &mut C,
-    names: &mut N,
-    part: &mut P,
-    out: &mut W,
-) -> Result<Status, Fault>
-    ensures certifies { CertifiesHinted H.calls (source_view H.Input.handed_out H.Input.is_at_end H.Input.failures H.Input.path)
-        host.old (source_run T.handed_out T.is_at_end T.failures trace.old trace.new) None search.now
-        (sink_run C.written C.failures cert.old cert.new)
-        (sink_run N.written N.failures names.old names.new)
-        (sink_run P.written P.failures part.old part.new)
-        (sink_run W.written W.failures out.old out.new)
-        result host.new }
-    ensures same_trace { T.path trace.new ≡ T.path trace.old }
-    ensures same_cert { C.path cert.new ≡ C.path cert.old }
-    ensures same_names { N.path names.new ≡ N.path names.old }
-    ensures same_part { P.path part.new ≡ P.path part.old }
-{
-    let mut hint = NoText::new();
-    certify(
-        alloc, rt, progress, host, trace, &mut hint, search, cert, names, part, out,
-    )
 }
 
 /// Does what [`certify`] does, with the hint in a file if there is a path for it.
@@ -315,12 +185,10 @@ pub(crate) fn certify_with<
     ensures same_names { N.path names.new ≡ N.path names.old }
     ensures same_part { P.path part.new ≡ P.path part.old }
 {
-    match path {
-        Some(path) => certify_hinted(
-            alloc, rt, progress, host, trace, path, search, cert, names, part, out, kept,
-        ),
-        None => certify_unhinted(
-            alloc, rt, progress, host, trace, search, cert, names, part, out,
-        ),
-    }
+    let mut hint = open_asked(alloc, host, path, kept.keeps);
+    let outcome = certify(
+        alloc, rt, progress, host, trace, &mut hint, search, cert, names, part, out,
+    );
+    kept.second = hint.into_text();
+    outcome
 }

@@ -2,6 +2,8 @@
 #![tactic(auto)]
 
 mod arguments;
+mod asked_file;
+mod asked_text;
 mod batch_runs;
 mod beside;
 mod clash;
@@ -12,8 +14,6 @@ mod formed_runs;
 mod hinted_runs;
 mod inputs;
 mod kept_run;
-mod no_file;
-mod no_text;
 mod opening;
 mod picturing;
 mod refusals;

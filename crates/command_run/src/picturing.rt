@@ -58,11 +58,12 @@ fn write_picture<W: Sink>(picture: &[u8], file: &mut W)
     add_picture(picture, file);
 }
 
-/// Draws the answer, which says whether the trace is consistent, by the trace that was kept.
+/// Draws the answer, which says whether the trace is consistent, by the trace that was kept, if a picture is asked for.
 fn draw_answer<W: Sink>(
     alloc: Global,
     line: &Line<'_>,
     is_consistent: bool,
+    is_drawn: bool,
     kept: &KeptRun,
     file: &mut W,
 )
@@ -70,17 +71,18 @@ fn draw_answer<W: Sink>(
     ensures same { W.path file.new ≡ W.path file.old }
 {
     let picture = match &kept.first.bytes {
-        Some(bytes) => picture_of(alloc, line, is_consistent, bytes.as_slice()),
-        None => Vec::new(alloc),
+        Some(bytes) if is_drawn => picture_of(alloc, line, is_consistent, bytes.as_slice()),
+        _ => Vec::new(alloc),
     };
     write_picture(picture.as_slice(), file);
 }
 
-/// Draws the outcome of this status into the file, if it says whether there is a legal schedule.
+/// Draws the outcome of this status into the file, if it says whether there is a legal schedule and a picture is asked for.
 pub(crate) fn draw_outcome<W: Sink>(
     alloc: Global,
     line: &Line<'_>,
     status: u8,
+    is_drawn: bool,
     kept: &KeptRun,
     file: &mut W,
 )
@@ -88,6 +90,6 @@ pub(crate) fn draw_outcome<W: Sink>(
     ensures same { W.path file.new ≡ W.path file.old }
 {
     if status <= 1 {
-        draw_answer(alloc, line, status == 0, kept, file);
+        draw_answer(alloc, line, status == 0, is_drawn, kept, file);
     }
 }

@@ -1,18 +1,16 @@
 //! The engine that decides long traces, on the files of a line.
 //!
-//! Each of three files may be asked for: the certificate, the names of a core, and its part, which is the trace of these operations alone. Each
-//! has a sink of a type of its own, a file or [`NoFile`]. So there are a function with the file, one without, and one that chooses, for each of the
-//! three, and they call each other in the order in which the files are made: certificate, names, part. Then the trace is opened, and then the hint
-//! (`hinted_runs.rt`).
-ghost use Rattle.std.specs.Prelude.{◌≡◌, None, Some};
+//! Each of three files may be asked for: the certificate, the names of a core, and its part, which is the trace of these operations alone. They are made in
+//! this order, before the trace is opened and then the hint (`hinted_runs.rt`), and are given back in the other one.
+ghost use Rattle.std.specs.Prelude.{◌≡◌};
 ghost use Rattle.command_host.specs.Streams.{sink_view, source_view};
 ghost use Rattle.command_run.specs.CommandRun.{CertifiesSurveyed, RunsSurvey, RunsSurveyed, TakesCore, TakesNamesAndPart, TakesPart, inputs_of_survey, takes_none};
 ghost use Rattle.verdict_report.specs.Runs.{sink_run};
 
+use crate::asked_file::{close_asked, make_asked};
 use crate::hinted_runs::{certify_with, survey_with};
 use crate::inputs::SurveyInputs;
 use crate::kept_run::KeptRun;
-use crate::no_file::NoFile;
 use crate::opening::open;
 use command_host::{Host, SearchRequest};
 use command_line::SurveyFiles;
@@ -89,86 +87,7 @@ fn certify_opened<
     outcome
 }
 
-/// Does so with two sinks, and no file for the part.
-fn part_nowhere<
-    'p,
-    R: Threads + Wait + Sync,
-    G: Gate + Sync,
-    H: Host<'p>,
-    C: Sink,
-    N: Sink,
-    W: Sink,
->(
-    alloc: Global,
-    rt: &R,
-    progress: &G,
-    host: &mut H,
-    inputs: SurveyInputs<'p>,
-    search: &SearchRequest,
-    cert: &mut C,
-    names: &mut N,
-    out: &mut W,
-    kept: &mut KeptRun,
-) -> Result<Status, Fault>
-    ensures runs { TakesPart H.calls (source_view H.Input.handed_out H.Input.is_at_end H.Input.failures H.Input.path)
-        (sink_view H.Output.written H.Output.failures H.Output.path)
-        host.old inputs.entry None search.now
-        (sink_run C.written C.failures cert.old cert.new)
-        (sink_run N.written N.failures names.old names.new)
-        (sink_run W.written W.failures out.old out.new)
-        result host.new }
-    ensures same_cert { C.path cert.new ≡ C.path cert.old }
-    ensures same_names { N.path names.new ≡ N.path names.old }
-{
-    let mut part = NoFile::new();
-    certify_opened(
-        alloc, rt, progress, host, inputs, search, cert, names, &mut part, out, kept,
-    )
-}
-
-/// Does so with two sinks, and a file for the part. It is made or opened first, and `Device` is answered if that is not possible.
-fn part_in_file<
-    'p,
-    R: Threads + Wait + Sync,
-    G: Gate + Sync,
-    H: Host<'p>,
-    C: Sink,
-    N: Sink,
-    W: Sink,
->(
-    alloc: Global,
-    rt: &R,
-    progress: &G,
-    host: &mut H,
-    inputs: SurveyInputs<'p>,
-    path: &'p str,
-    search: &SearchRequest,
-    cert: &mut C,
-    names: &mut N,
-    out: &mut W,
-    kept: &mut KeptRun,
-) -> Result<Status, Fault>
-    ensures runs { TakesPart H.calls (source_view H.Input.handed_out H.Input.is_at_end H.Input.failures H.Input.path)
-        (sink_view H.Output.written H.Output.failures H.Output.path)
-        host.old inputs.entry (Some path.entry) search.now
-        (sink_run C.written C.failures cert.old cert.new)
-        (sink_run N.written N.failures names.old names.new)
-        (sink_run W.written W.failures out.old out.new)
-        result host.new }
-    ensures same_cert { C.path cert.new ≡ C.path cert.old }
-    ensures same_names { N.path names.new ≡ N.path names.old }
-{
-    let Ok(mut made) = host.create(path, false) else {
-        return Err(Fault::Device);
-    };
-    let outcome = certify_opened(
-        alloc, rt, progress, host, inputs, search, cert, names, &mut made, out, kept,
-    );
-    host.close(made);
-    outcome
-}
-
-/// Does so with two sinks, and a file for the part if there is a path for it.
+/// Does so with two sinks, and a file for the part if there is a path for it. It is made or opened first, and `Device` is answered if that is not possible.
 fn with_part<'p, R: Threads + Wait + Sync, G: Gate + Sync, H: Host<'p>, C: Sink, N: Sink, W: Sink>(
     alloc: Global,
     rt: &R,
@@ -192,76 +111,17 @@ fn with_part<'p, R: Threads + Wait + Sync, G: Gate + Sync, H: Host<'p>, C: Sink,
     ensures same_cert { C.path cert.new ≡ C.path cert.old }
     ensures same_names { N.path names.new ≡ N.path names.old }
 {
-    match path {
-        Some(path) => part_in_file(
-            alloc, rt, progress, host, inputs, path, search, cert, names, out, kept,
-        ),
-        None => part_nowhere(
-            alloc, rt, progress, host, inputs, search, cert, names, out, kept,
-        ),
-    }
-}
-
-/// Does so with the certificate's sink, and no file for the names.
-fn names_nowhere<'p, R: Threads + Wait + Sync, G: Gate + Sync, H: Host<'p>, C: Sink, W: Sink>(
-    alloc: Global,
-    rt: &R,
-    progress: &G,
-    host: &mut H,
-    inputs: SurveyInputs<'p>,
-    part: Option<&'p str>,
-    search: &SearchRequest,
-    cert: &mut C,
-    out: &mut W,
-    kept: &mut KeptRun,
-) -> Result<Status, Fault>
-    ensures runs { TakesNamesAndPart H.calls (source_view H.Input.handed_out H.Input.is_at_end H.Input.failures H.Input.path)
-        (sink_view H.Output.written H.Output.failures H.Output.path)
-        host.old inputs.entry None part.entry search.now
-        (sink_run C.written C.failures cert.old cert.new)
-        (sink_run W.written W.failures out.old out.new)
-        result host.new }
-    ensures same_cert { C.path cert.new ≡ C.path cert.old }
-{
-    let mut names = NoFile::new();
-    with_part(
-        alloc, rt, progress, host, inputs, part, search, cert, &mut names, out, kept,
-    )
-}
-
-/// Does so with the certificate's sink, and a file for the names, which is made or opened before that for the part.
-fn names_in_file<'p, R: Threads + Wait + Sync, G: Gate + Sync, H: Host<'p>, C: Sink, W: Sink>(
-    alloc: Global,
-    rt: &R,
-    progress: &G,
-    host: &mut H,
-    inputs: SurveyInputs<'p>,
-    path: &'p str,
-    part: Option<&'p str>,
-    search: &SearchRequest,
-    cert: &mut C,
-    out: &mut W,
-    kept: &mut KeptRun,
-) -> Result<Status, Fault>
-    ensures runs { TakesNamesAndPart H.calls (source_view H.Input.handed_out H.Input.is_at_end H.Input.failures H.Input.path)
-        (sink_view H.Output.written H.Output.failures H.Output.path)
-        host.old inputs.entry (Some path.entry) part.entry search.now
-        (sink_run C.written C.failures cert.old cert.new)
-        (sink_run W.written W.failures out.old out.new)
-        result host.new }
-    ensures same_cert { C.path cert.new ≡ C.path cert.old }
-{
-    let Ok(mut file) = host.create(path, false) else {
+    let Ok(mut part) = make_asked(host, path) else {
         return Err(Fault::Device);
     };
-    let outcome = with_part(
-        alloc, rt, progress, host, inputs, part, search, cert, &mut file, out, kept,
+    let outcome = certify_opened(
+        alloc, rt, progress, host, inputs, search, cert, names, &mut part, out, kept,
     );
-    host.close(file);
+    close_asked(host, part);
     outcome
 }
 
-/// Does so with the certificate's sink, and a file for the names if there is a path for it.
+/// Does so with the certificate's sink, and a file for the names if there is a path for it, which is made or opened before that for the part.
 fn with_names<'p, R: Threads + Wait + Sync, G: Gate + Sync, H: Host<'p>, C: Sink, W: Sink>(
     alloc: Global,
     rt: &R,
@@ -283,99 +143,52 @@ fn with_names<'p, R: Threads + Wait + Sync, G: Gate + Sync, H: Host<'p>, C: Sink
         result host.new }
     ensures same_cert { C.path cert.new ≡ C.path cert.old }
 {
-    match path {
-        Some(path) => names_in_file(
-            alloc, rt, progress, host, inputs, path, part, search, cert, out, kept,
-        ),
-        None => names_nowhere(
-            alloc, rt, progress, host, inputs, part, search, cert, out, kept,
-        ),
-    }
-}
-
-/// Does so with no file for the certificate.
-fn cert_nowhere<'p, R: Threads + Wait + Sync, G: Gate + Sync, H: Host<'p>, W: Sink>(
-    alloc: Global,
-    rt: &R,
-    progress: &G,
-    host: &mut H,
-    inputs: SurveyInputs<'p>,
-    names: Option<&'p str>,
-    part: Option<&'p str>,
-    search: &SearchRequest,
-    out: &mut W,
-    kept: &mut KeptRun,
-) -> Result<Status, Fault>
-    ensures { TakesCore H.calls (source_view H.Input.handed_out H.Input.is_at_end H.Input.failures H.Input.path)
-        (sink_view H.Output.written H.Output.failures H.Output.path)
-        host.old inputs.entry None names.entry part.entry search.now
-        (sink_run W.written W.failures out.old out.new)
-        result host.new }
-{
-    let mut cert = NoFile::new();
-    with_names(
-        alloc, rt, progress, host, inputs, names, part, search, &mut cert, out, kept,
-    )
-}
-
-/// Does so with a file for the certificate, which is made or opened before the others.
-fn cert_in_file<'p, R: Threads + Wait + Sync, G: Gate + Sync, H: Host<'p>, W: Sink>(
-    alloc: Global,
-    rt: &R,
-    progress: &G,
-    host: &mut H,
-    inputs: SurveyInputs<'p>,
-    path: &'p str,
-    names: Option<&'p str>,
-    part: Option<&'p str>,
-    search: &SearchRequest,
-    out: &mut W,
-    kept: &mut KeptRun,
-) -> Result<Status, Fault>
-    ensures { TakesCore H.calls (source_view H.Input.handed_out H.Input.is_at_end H.Input.failures H.Input.path)
-        (sink_view H.Output.written H.Output.failures H.Output.path)
-        host.old inputs.entry (Some path.entry) names.entry part.entry search.now
-        (sink_run W.written W.failures out.old out.new)
-        result host.new }
-{
-    let Ok(mut file) = host.create(path, false) else {
+    let Ok(mut names) = make_asked(host, path) else {
         return Err(Fault::Device);
     };
-    let outcome = with_names(
-        alloc, rt, progress, host, inputs, names, part, search, &mut file, out, kept,
+    let outcome = with_part(
+        alloc, rt, progress, host, inputs, part, search, cert, &mut names, out, kept,
     );
-    host.close(file);
+    close_asked(host, names);
     outcome
 }
 
-/// Does so with a file for each that there is a path for.
-fn with_cert<'p, R: Threads + Wait + Sync, G: Gate + Sync, H: Host<'p>, W: Sink>(
+/// Does so with a file for each that there is a path for. That for the certificate is made or opened first.
+fn with_core<'p, R: Threads + Wait + Sync, G: Gate + Sync, H: Host<'p>, W: Sink>(
     alloc: Global,
     rt: &R,
     progress: &G,
     host: &mut H,
     inputs: SurveyInputs<'p>,
-    path: Option<&'p str>,
-    names: Option<&'p str>,
-    part: Option<&'p str>,
+    files: SurveyFiles<'p>,
     search: &SearchRequest,
     out: &mut W,
     kept: &mut KeptRun,
 ) -> Result<Status, Fault>
     ensures { TakesCore H.calls (source_view H.Input.handed_out H.Input.is_at_end H.Input.failures H.Input.path)
         (sink_view H.Output.written H.Output.failures H.Output.path)
-        host.old inputs.entry path.entry names.entry part.entry search.now
+        host.old inputs.entry files.entry.cert files.entry.names files.entry.part search.now
         (sink_run W.written W.failures out.old out.new)
         result host.new }
 {
-    match path {
-        Some(path) => cert_in_file(
-            alloc, rt, progress, host, inputs, path, names, part, search, out, kept,
-        ),
-        None => cert_nowhere(
-            alloc, rt, progress, host, inputs, names, part, search, out, kept,
-        ),
-    }
+    let Ok(mut cert) = make_asked(host, files.cert) else {
+        return Err(Fault::Device);
+    };
+    let outcome = with_names(
+        alloc,
+        rt,
+        progress,
+        host,
+        inputs,
+        files.names,
+        files.part,
+        search,
+        &mut cert,
+        out,
+        kept,
+    );
+    close_asked(host, cert);
+    outcome
 }
 
 /// The files that are read.
@@ -418,18 +231,6 @@ pub(crate) fn survey_file<'p, R: Threads + Wait + Sync, G: Gate + Sync, H: Host<
     if takes_none(files) {
         survey_opened(alloc, rt, progress, host, inputs, search, out, kept)
     } else {
-        with_cert(
-            alloc,
-            rt,
-            progress,
-            host,
-            inputs,
-            files.cert,
-            files.names,
-            files.part,
-            search,
-            out,
-            kept,
-        )
+        with_core(alloc, rt, progress, host, inputs, files, search, out, kept)
     }
 }
