@@ -72,7 +72,7 @@ complete -c vsc -n '__fish_seen_subcommand_from batch' -l split -x -d 'Splits fi
 complete -c vsc -n '__fish_seen_subcommand_from batch' -l budget -x -d 'Most conflicts a cube, 0 to 1000000000 [default: 100000]'
 complete -c vsc -n '__fish_seen_subcommand_from batch' -l json -d 'Writes each line as an object of JSON'
 complete -c vsc -n '__fish_seen_subcommand_from batch' -l schedules -d 'Puts the schedule of each CONSISTENT into its object'
-complete -c vsc -n '__fish_seen_subcommand_from batch' -l keep -x -a '(__fish_complete_directories)' -d 'Keeps what shows each INCONSISTENT in FOLDER, new or empty'
+complete -c vsc -n '__fish_seen_subcommand_from batch' -l keep -x -a '(__fish_complete_directories)' -d 'Keeps what shows an INCONSISTENT in FOLDER, new or empty'
 complete -c vsc -n '__fish_seen_subcommand_from batch' -l explain -d 'Changes nothing: this command writes no notes'
 complete -c vsc -n '__fish_seen_subcommand_from batch' -l no-explain -d 'Writes no notes, even if standard error is a terminal'
 complete -c vsc -n '__fish_seen_subcommand_from batch' -s h -l help -d 'Print help'

@@ -41,9 +41,7 @@ number: its trace, its certificate, a picture, and the names of its part.
 
 Example, which can be pasted:
     printf 'vsc 1\\nproc P\\nW x 1\\nvsc 1\\nproc P\\nR x 1\\n' | vsc batch -
-Its lines are:
-    -:1 CONSISTENT
-    -:2 INCONSISTENT cubes=1
+It prints '-:1 CONSISTENT' and '-:2 INCONSISTENT cubes=1'.
 
 Exit status, of which the first of 4, 1, 2, 3 counts:
     0  each answer is CONSISTENT
@@ -100,7 +98,7 @@ fn keep_argument<'a>(alloc: Global) -> Arg<'a>
         alloc,
         "keep",
         "FOLDER",
-        "Keeps what shows each INCONSISTENT in FOLDER, new or empty",
+        "Keeps what shows an INCONSISTENT in FOLDER, new or empty",
     )
 }
 
