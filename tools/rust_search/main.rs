@@ -22,8 +22,10 @@ use std::env;
 use std::fs;
 use std::time::Instant;
 
-/// The looks that are one step, as in a small log of `survey`.
-const LOOKS: u64 = 4;
+/// The looks that are one step in a log of this size, as in `survey`.
+fn looks_of_step(log: &NumberedLog) -> u64 {
+    4 + u64::from(log.count()) * u64::from(log.processes()) / (1 << 22)
+}
 
 const STEPS: u64 = 1_000_000_000;
 
@@ -115,7 +117,7 @@ fn main() {
     let steps = words.get(2).map_or(STEPS, |word| number(word));
     let (log, names) = log_of(&text);
     let hint = hint_of(&names, words.get(3));
-    let mut budget = Budget::new(steps * LOOKS);
+    let mut budget = Budget::new(steps * looks_of_step(&log));
     let _kept = budget.share(budget.left() / 4);
     let begun = Instant::now();
     let mut order = Propagation::new(Global, &log, budget).expect("memory");
@@ -126,5 +128,6 @@ fn main() {
         SearchEnding::Unknown => "unknown",
     };
     let seconds = begun.elapsed().as_secs_f64();
-    println!("{ending}, {} of {} placed, {seconds:.2} s", search.most_placed(), log.count());
+    let core = search.core().map_or(String::new(), |core| format!(", a core of {}", core.len()));
+    println!("{ending}{core}, {} of {} placed, {seconds:.2} s", search.most_placed(), log.count());
 }
