@@ -1,8 +1,8 @@
--- Files that are written or read if they are asked for.
+-- Files that are written if they are asked for.
 use Rattle.std.specs.Borrow.{Bor}
-use Rattle.std.specs.Prelude.{◌≡◌, ℕ, Bool, false, List, [], ◌∷◌, Option, None, Some}
+use Rattle.std.specs.Prelude.{◌≡◌, ℕ, false, List, [], ◌∷◌, Option, None, Some}
 use Rattle.command_host.specs.HostCalls.{HostCalls}
-use Rattle.command_host.specs.Streams.{SinkView, SourceView}
+use Rattle.command_host.specs.Streams.{SinkView}
 use Rattle.command_run.specs.declared.asked_file.AskedFile.{AskedFile}
 use Rattle.command_run.specs.declared.asked_file.AskedFile.TheVariants.{Made, Nowhere}
 

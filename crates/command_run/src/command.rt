@@ -2,7 +2,7 @@
 ghost use Rattle.clap.specs.Walk.{texts};
 ghost use Rattle.command_host.specs.Streams.{sink_view, source_view};
 ghost use Rattle.command_line.specs.CommandLine.{IsWithinRanges, is_explained};
-ghost use Rattle.command_run.specs.CommandRun.{EndsAsked, EndsDrawn, EndsExplained, EndsLine, EndsRun, EndsWords, ExplainsFault, ReportsFault, RunsLine, TellsOutcome};
+ghost use Rattle.command_run.specs.CommandRun.{EndsAsked, EndsDrawn, EndsLine, EndsWords, ExplainsFault, ReportsFault};
 ghost use Rattle.command_run.specs.ExitStatus.{IsExitStatus};
 ghost use Rattle.verdict_report.specs.declared.fault.Fault.TheVariants.{Device};
 ghost use Rattle.verdict_report.specs.Runs.{sink_run};
@@ -21,7 +21,7 @@ use dimacs::Sink;
 use std::alloc::Global;
 use std::sync::Wait;
 use std::thread::Threads;
-use verdict_report::{Fault, Status, exit_status};
+use verdict_report::{Fault, exit_status};
 
 /// Runs the engine of the line, reports a refusal on standard error, and explains the outcome there if that is asked for.
 fn run_asked<'p, R: Threads + Wait + Sync, G: Gate + Sync, H: Host<'p>, O: Sink + Recalls, E: Sink>(
